@@ -1,0 +1,11 @@
+pub mod Boxes
+pub mod Pixels
+pub mod Cuts
+pub mod Choice
+pub mod Simple
+pub mod Trees
+pub mod Changes
+pub mod States
+pub mod Refits
+pub mod Steps
+pub mod Runs

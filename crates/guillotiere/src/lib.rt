@@ -1,0 +1,11 @@
+//! A dynamic allocator of rectangles inside one large texture: a port of the Rust crate `guillotiere` 0.7.0.
+#![tactic(auto)]
+
+mod error;
+mod geometry;
+pub mod laws;
+mod options;
+
+pub use error::AtlasError;
+pub use geometry::{Point, Rectangle, Size, point2, size2};
+pub use options::{AllocatorOptions, DEFAULT_OPTIONS};
