@@ -66,6 +66,11 @@ pub record IsPick (free : List Box) (o : Options) (r : Sides) (f : Box) : Type 0
   pub best : IsBest free o r f
   pub first : (b : Box) → IsBest free o r b → ComesFirst f b
 
--- no free box has room for a request
+-- a positive request whose rounded sides fit a free box
+pub record HasRoom (free : List Box) (o : Options) (s : Sides) : Type 0 where
+  pub positive : IsPositive s
+  pub box : Box
+  pub fitting : IsFitting free (rounded o s) box
+
 abbrev pub HasNoRoom : (free : List Box) → Options → Sides → Type 0
-HasNoRoom free o s = IsPositive s → (b : Box) → Contains free b → Fits (rounded o s) (box_sides b) → ⊥
+HasNoRoom free o s = HasRoom free o s → ⊥

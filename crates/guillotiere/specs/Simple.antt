@@ -5,7 +5,7 @@ use Rattle.guillotiere.specs.declared.error.AtlasError.TheVariants.{Memory, Slot
 use Rattle.guillotiere.specs.declared.geometry.Rectangle.{Rectangle}
 use Rattle.guillotiere.specs.Boxes.{Sides, Box, IsPositive, IsNonempty, IsWithin, AreDisjoint, AreSameBoxes, box_at, box_sides, whole_box}
 use Rattle.guillotiere.specs.Cuts.{rest_of}
-use Rattle.guillotiere.specs.Choice.{Options, AreValid, rounded, IsPick, HasNoRoom}
+use Rattle.guillotiere.specs.Choice.{Options, AreValid, rounded, IsPick, HasRoom, HasNoRoom}
 use Rattle.guillotiere.specs.Pixels.{box_of}
 
 -- The order of the free boxes has no meaning.
@@ -58,7 +58,7 @@ abbrev pub SimpleStep : SimpleState → (request : Sides) → SimpleAnswer → S
 SimpleStep old r NoRoom new = HasNoRoom old.free old.options r × (new ≡ old)
 SimpleStep old r (Granted box) new = SimplyGrants old r box new
 -- memory is asked for only where there is room
-SimpleStep old r (Refused Memory) new = (HasNoRoom old.free old.options r → ⊥) × (new ≡ old)
+SimpleStep old r (Refused Memory) new = HasRoom old.free old.options r × (new ≡ old)
 SimpleStep old r (Refused Slots) new = ⊥
 SimpleStep old r (Refused NotLive) new = ⊥
 
