@@ -9,3 +9,9 @@ pub mod States
 pub mod Refits
 pub mod Steps
 pub mod Runs
+pub mod Slots
+pub mod Numbered
+pub mod Standing
+pub mod Lists
+pub mod Reading
+pub mod Stored
