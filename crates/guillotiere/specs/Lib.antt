@@ -15,3 +15,4 @@ pub mod Standing
 pub mod Lists
 pub mod Reading
 pub mod Stored
+pub mod Holdings
