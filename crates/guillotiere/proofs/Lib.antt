@@ -1,4 +1,7 @@
+pub mod TreeBasics
+pub mod TreeIds
 pub mod TreeNormal
+pub mod TreeReleases
 pub mod TreeTiling
 pub mod TreeLive
 pub mod TreeUndone

@@ -9,10 +9,8 @@ use Rattle.guillotiere.specs.Boxes.Axis.{Horizontal, Vertical}
 use Rattle.guillotiere.specs.Trees.{slot_count, Members, Tree, ids, total, nodes, IsCut, IsWellFormed, is_idle, IsNormal}
 use Rattle.guillotiere.specs.Trees.Members.{End, Free, Alloc, Seq}
 use Rattle.guillotiere.specs.Changes.{free_before, seq_before, nf, mark, release, lengthened, lengthened_to, widened, grown_members, grown, grow_need}
+use Rattle.guillotiere.proofs.TreeBasics.{one_if, other_twice, side_positive, longer_side}
 use Rattle.guillotiere.proofs.TreeGrowth.{total-nf, total-mark}
-
-abbrev one_if : Bool → ℕ
-one_if b = cond b 1 0
 
 -- the normal form is normal, where no sequence is empty
 
@@ -90,10 +88,6 @@ ids-mark p s (Seq e inner rest) =
     subst₂ (λ j k. j ≤ k) (sym (sum_by-append (λ k. one_if (p k)) (ids (mark s inner)) (ids (mark s rest)))) (sym (sum_by-append (λ k. one_if (p k)) (ids inner) (ids rest)))
     (let both : count_by p (ids (mark s inner)) + count_by p (ids (mark s rest)) ≤ count_by p (ids inner) + count_by p (ids rest) = omega arith in both)
 
-positive : (axis : Axis) (size : Sides) → IsPositive size → 0 < side axis size
-positive Horizontal size h = h.0
-positive Vertical size h = h.1
-
 pub release_well_formed : (size : Sides) (s : ℕ → Bool) (t : Tree) → IsWellFormed size t → IsWellFormed size (release s t)
 release_well_formed size s t well = record {
   nonempty = well.nonempty;
@@ -106,7 +100,7 @@ release_well_formed size s t well = record {
 }
 
 pub release_normal : (size : Sides) (s : ℕ → Bool) (t : Tree) → IsWellFormed size t → IsNormal (release s t).members
-release_normal size s t well = normal-nf (side (other t.axis) size) (mark s t.members) (positive (other t.axis) size well.nonempty) (cut-mark s _ t.members well.cut)
+release_normal size s t well = normal-nf (side (other t.axis) size) (mark s t.members) (side_positive (other t.axis) size well.nonempty) (cut-mark s _ t.members well.cut)
 
 -- growth
 
@@ -195,10 +189,6 @@ record KeptTree (size : Sides) (t : Tree) : Type 0 where
   pub cut : IsCut (side (other t.axis) size) t.members
   pub normal : IsNormal t.members
 
-other_twice : (axis : Axis) → axis ≡ other (other axis)
-other_twice Horizontal = refl
-other_twice Vertical = refl
-
 kept-widened : (old new : Sides) (axis : Axis) (m : Members) → IsPositive old → side (other axis) old ≤ side (other axis) new → Kept (side (other axis) old) (side axis new) m
     → KeptTree new (widened (side (other axis) old) (side (other axis) new) axis m)
 kept-widened old new axis m pos le k = by_test (ltb u n) refl
@@ -214,7 +204,7 @@ kept-widened old new axis m pos le k = by_test (ltb u n) refl
         let lt : u < n = ltb-true u n is in
         record {
           sum = let back : u + (n - u + 0) ≡ n = omega arith in back;
-          cut = (positive (other axis) old pos, k.sum ∙ ap (λ a. side a new) (other_twice axis), k.cut, (let d : 0 < n - u = omega arith in d, tt));
+          cut = (side_positive (other axis) old pos, k.sum ∙ ap (λ a. side a new) (sym (other_twice axis)), k.cut, (let d : 0 < n - u = omega arith in d, tt));
           normal = (k.busy, k.normal, (refl, tt));
         }
     by_test false is =
@@ -222,19 +212,15 @@ kept-widened old new axis m pos le k = by_test (ltb u n) refl
         let same : u ≡ n = omega arith in
         record { sum = k.sum; cut = subst (λ j. IsCut j m) same k.cut; normal = k.normal }
 
-sides : (axis : Axis) (old new : Sides) → Fits old new → side axis old ≤ side axis new
-sides Horizontal old new h = h.0
-sides Vertical old new h = h.1
-
 longer_positive : (old new : Sides) → IsPositive old → Fits old new → IsPositive new
 longer_positive old new p f = (omega (arith, p.0, f.0), omega (arith, p.1, f.1))
 
 kept-grown : (old new : Sides) (axis : Axis) (m : Members) → IsPositive old → Fits old new → total m ≡ side axis old → IsCut (side (other axis) old) m → IsNormal m → KeptTree new (grown_members old new axis m)
-kept-grown old new axis End pos fit sum cut normal = absurd (let p : 0 < side axis old = positive axis old pos in omega arith)
-kept-grown old new axis (Free e End) pos fit sum cut normal = record { sum = omega arith; cut = (positive axis new (longer_positive old new pos fit), tt); normal = (refl, tt) }
+kept-grown old new axis End pos fit sum cut normal = absurd (let p : 0 < side axis old = side_positive axis old pos in omega arith)
+kept-grown old new axis (Free e End) pos fit sum cut normal = record { sum = omega arith; cut = (side_positive axis new (longer_positive old new pos fit), tt); normal = (refl, tt) }
 kept-grown old new axis m pos fit sum cut normal =
-    kept-widened old new axis (lengthened_to (side axis old) (side axis new) m) pos (sides (other axis) old new fit)
-    (kept-lengthened_to (side (other axis) old) (side axis old) (side axis new) m (sides axis old new fit) (record { sum = sum; cut = cut; normal = normal; busy = refl }))
+    kept-widened old new axis (lengthened_to (side axis old) (side axis new) m) pos (longer_side (other axis) old new fit)
+    (kept-lengthened_to (side (other axis) old) (side axis old) (side axis new) m (longer_side axis old new fit) (record { sum = sum; cut = cut; normal = normal; busy = refl }))
 
 ids-widened : (u n : ℕ) (axis : Axis) (m : Members) → ids (widened u n axis m).members ≡ ids m
 ids-widened u n axis m = by_test (ltb u n)

@@ -4,19 +4,15 @@ use Rattle.std.specs.List.{count_by, Contains}
 use Rattle.std.proofs.lemmas.List.Sums.{sum_by-cons, sum_by-append, get_or-le-sum_by}
 use Rattle.std.proofs.lemmas.List.Elements.{filter_map-append}
 use Rattle.std.proofs.lemmas.Bool.{eqb-true, eqb-false, eq-eqb, le-leb, lt-ltb, le-ltb, and_from, true≢false}
-use Rattle.guillotiere.specs.Boxes.{Axis, Position, Sides, Box, other, same_axis, side, sized, moved, box_at, origin, box_sides, same_box, covers, Fits, IsPositive, IsNonempty}
+use Rattle.guillotiere.specs.Boxes.{Axis, Position, Sides, Box, other, same_axis, side, sized, moved, box_at, origin, box_sides, same_box, covers, Fits, IsPositive, IsNonempty, IsInside}
 use Rattle.guillotiere.specs.Boxes.Axis.{Horizontal, Vertical}
 use Rattle.guillotiere.specs.Cuts.{Cut, cut, cut_axis, cap}
 use Rattle.guillotiere.specs.Cuts.Cut.{Whole, Strip, Corner}
 use Rattle.guillotiere.specs.Trees.{Grant, grant, slot_count, Members, Tree, Leaf, leaves, tree_leaves, ids, free_at, ungranted, free_boxes, live, total, nodes, IsCut, IsWellFormed, begins_free, is_idle, IsNormal}
 use Rattle.guillotiere.specs.Trees.Members.{End, Free, Alloc, Seq}
 use Rattle.guillotiere.specs.Changes.{put, placed, place, need, needed, place_need}
-use Rattle.guillotiere.proofs.TreeUndone.{same_box-true}
+use Rattle.guillotiere.proofs.TreeBasics.{one_if, moved-twice, same_box-true, same_box-itself, live_among, free_among, live_among-seq, free_among-seq}
 use Rattle.guillotiere.proofs.TreeTiling.{squares_of_leaves}
-use Rattle.guillotiere.proofs.TreeLive.{live_among, live_among-seq, moved-twice}
-
-abbrev one_if : Bool → ℕ
-one_if b = cond b 1 0
 
 -- what a cut says of the sides
 abbrev pub CutSays : Cut → (whole r : Sides) → Type 0
@@ -160,12 +156,6 @@ live-put (Corner Horizontal) Vertical o e across id r rest says fit = refl
 live-put (Corner Vertical) Horizontal o e across id r rest says fit = refl
 
 -- in members
-
-abbrev pub free_among : Axis → Position → ℕ → Members → List Box
-free_among axis o across m = ungranted (leaves axis o across m)
-
-pub free_among-seq : (axis : Axis) (o : Position) (across e : ℕ) (inner rest : Members) → free_among axis o across (Seq e inner rest) ≡ free_among (other axis) o e inner ++ free_among axis (moved axis o e) across rest
-free_among-seq axis o across e inner rest = filter_map-append (λ (l : Leaf). free_at l.owner l.box) (leaves (other axis) o e inner) (leaves axis (moved axis o e) across rest)
 
 -- how many free leaves have the box
 abbrev pub hits : Box → List Box → ℕ
@@ -398,9 +388,6 @@ hits_once size t f r well pos fit =
     let one : count_by (λ (l : Leaf). covers f.min.x f.min.y l.box) (tree_leaves size t) ≤ 1 = min_inside size t well f.min.x f.min.y in
     omega arith
 
-same_box-itself : (b : Box) → same_box b b ≡ true
-same_box-itself b = and_from _ _ (and_from _ _ (eq-eqb b.min.x b.min.x refl) (eq-eqb b.min.y b.min.y refl)) (and_from _ _ (eq-eqb b.max.x b.max.x refl) (eq-eqb b.max.y b.max.y refl))
-
 hits_some : (f : Box) (bs : List Box) → Contains bs f → 1 ≤ hits f bs
 hits_some f bs at =
     let here : one_if (same_box (get_or bs at.0 f) f) ≤ hits f bs = get_or-le-sum_by (λ b. one_if (same_box b f)) bs at.0 f at.1 in
@@ -475,3 +462,45 @@ nodes-placed f r id axis o across (Seq e inner rest) =
 
 pub place_nodes : (size : Sides) (t : Tree) (f : Box) (r : Sides) (id : ℕ) → nodes (place size f r id t).members ≡ nodes t.members + place_need size f r t
 place_nodes size t f r id = nodes-placed f r id t.axis origin (side (other t.axis) size) t.members
+
+-- a placing adds at most four nodes
+
+need-most : (c : Cut) (axis : Axis) → need c axis ≤ 4
+need-most Whole axis = omega arith
+need-most (Strip a) axis = by_axis (same_axis a axis)
+  where
+    by_axis : (b : Bool) → cond b 1 2 ≤ 4
+    by_axis true = omega arith
+    by_axis false = omega arith
+need-most (Corner a) axis = by_axis (same_axis a axis)
+  where
+    by_axis : (b : Bool) → cond b 3 4 ≤ 4
+    by_axis true = omega arith
+    by_axis false = omega arith
+
+needed-most : (f : Box) (r : Sides) (axis : Axis) (o : Position) (across : ℕ) (m : Members) → needed f r axis o across m ≤ 4 * hits f (free_among axis o across m)
+needed-most f r axis o across End = omega arith
+needed-most f r axis o across (Free e rest) =
+    by_test (same_box (box_at o (sized axis e across)) f) (hits-free f axis o across e rest) (needed-most f r axis (moved axis o e) across rest) (need-most (cut (box_sides f) r) axis)
+  where
+    by_test : (b : Bool) → hits f (free_among axis o across (Free e rest)) ≡ one_if b + hits f (free_among axis (moved axis o e) across rest)
+        → needed f r axis (moved axis o e) across rest ≤ 4 * hits f (free_among axis (moved axis o e) across rest) → need (cut (box_sides f) r) axis ≤ 4
+        → cond b (need (cut (box_sides f) r) axis) 0 + needed f r axis (moved axis o e) across rest ≤ 4 * hits f (free_among axis o across (Free e rest))
+    by_test true is h most = omega arith
+    by_test false is h most = omega arith
+needed-most f r axis o across (Alloc i e rest) = needed-most f r axis (moved axis o e) across rest
+needed-most f r axis o across (Seq e inner rest) =
+    let sum : hits f (free_among axis o across (Seq e inner rest)) ≡ hits f (free_among (other axis) o e inner) + hits f (free_among axis (moved axis o e) across rest) = hits-seq f axis o across e inner rest in
+    let a : needed f r (other axis) o e inner ≤ 4 * hits f (free_among (other axis) o e inner) = needed-most f r (other axis) o e inner in
+    let b : needed f r axis (moved axis o e) across rest ≤ 4 * hits f (free_among axis (moved axis o e) across rest) = needed-most f r axis (moved axis o e) across rest in
+    omega arith
+
+pub place_most : (size : Sides) (t : Tree) (f : Box) (r : Sides) → IsWellFormed size t → IsPositive r → Fits r (box_sides f) → place_need size f r t ≤ 4
+place_most size t f r well pos fit =
+    let all : place_need size f r t ≤ 4 * hits f (free_boxes size t) = needed-most f r t.axis origin (side (other t.axis) size) t.members in
+    let once : hits f (free_boxes size t) ≤ 1 = hits_once size t f r well pos fit in
+    omega arith
+
+-- a request that fits a box lies inside it
+pub request_inside : (f : Box) (r : Sides) → IsPositive r → Fits r (box_sides f) → IsInside (box_at f.min r) f
+request_inside f r pos fit = (omega arith, omega arith, omega (arith, pos.0, fit.0), omega (arith, pos.1, fit.1))
