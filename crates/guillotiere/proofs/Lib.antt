@@ -10,3 +10,4 @@ pub mod TreePlacing
 pub mod TreeKept
 pub mod TreeGrowth
 pub mod TreeRoom
+pub mod TreeCounts

@@ -11,6 +11,8 @@ use Rattle.guillotiere.specs.Trees.Members.{End, Free, Alloc, Seq}
 use Rattle.guillotiere.specs.Changes.{free_before, seq_before, nf, mark, release, lengthened, lengthened_to, widened, grown_members, grown, grow_need}
 use Rattle.guillotiere.proofs.TreeBasics.{one_if, other_twice, side_positive, longer_side}
 use Rattle.guillotiere.proofs.TreeGrowth.{total-nf, total-mark}
+use Rattle.guillotiere.specs.TreeLaws.{IsReleased}
+use Rattle.guillotiere.proofs.TreeLive.{live_release}
 
 -- the normal form is normal, where no sequence is empty
 
@@ -102,6 +104,9 @@ release_well_formed size s t well = record {
 pub release_normal : (size : Sides) (s : ℕ → Bool) (t : Tree) → IsWellFormed size t → IsNormal (release s t).members
 release_normal size s t well = normal-nf (side (other t.axis) size) (mark s t.members) (side_positive (other t.axis) size well.nonempty) (cut-mark s _ t.members well.cut)
 
+pub release_keeps : (size : Sides) (s : ℕ → Bool) (t : Tree) → IsWellFormed size t → IsReleased size s t
+release_keeps size s t well = record { well_formed = release_well_formed size s t well; normal = release_normal size s t well; live = live_release size s t }
+
 -- growth
 
 total-lengthened : (d : ℕ) (m : Members) → total (lengthened d m) ≡ total m + d
@@ -139,15 +144,6 @@ normal-lengthened d (Free e (Alloc id k rest)) n = (refl, normal-lengthened d (A
 normal-lengthened d (Free e (Seq k inner rest)) n = (refl, normal-lengthened d (Seq k inner rest) n.1)
 normal-lengthened d (Alloc id e rest) n = normal-lengthened d rest n
 normal-lengthened d (Seq e inner rest) n = (n.0, n.1, normal-lengthened d rest n.2)
-
-nodes-lengthened : (d : ℕ) (m : Members) → (nodes m ≤ nodes (lengthened d m)) × (nodes (lengthened d m) ≤ nodes m + 1)
-nodes-lengthened d End = (omega arith, omega arith)
-nodes-lengthened d (Free e End) = (omega arith, omega arith)
-nodes-lengthened d (Free e (Free k rest)) = let h : (nodes (Free k rest) ≤ nodes (lengthened d (Free k rest))) × (nodes (lengthened d (Free k rest)) ≤ nodes (Free k rest) + 1) = nodes-lengthened d (Free k rest) in (omega (arith, h.0), omega (arith, h.1))
-nodes-lengthened d (Free e (Alloc id k rest)) = let h : (nodes (Alloc id k rest) ≤ nodes (lengthened d (Alloc id k rest))) × (nodes (lengthened d (Alloc id k rest)) ≤ nodes (Alloc id k rest) + 1) = nodes-lengthened d (Alloc id k rest) in (omega (arith, h.0), omega (arith, h.1))
-nodes-lengthened d (Free e (Seq k inner rest)) = let h : (nodes (Seq k inner rest) ≤ nodes (lengthened d (Seq k inner rest))) × (nodes (lengthened d (Seq k inner rest)) ≤ nodes (Seq k inner rest) + 1) = nodes-lengthened d (Seq k inner rest) in (omega (arith, h.0), omega (arith, h.1))
-nodes-lengthened d (Alloc id e rest) = let h : (nodes rest ≤ nodes (lengthened d rest)) × (nodes (lengthened d rest) ≤ nodes rest + 1) = nodes-lengthened d rest in (omega (arith, h.0), omega (arith, h.1))
-nodes-lengthened d (Seq e inner rest) = let h : (nodes rest ≤ nodes (lengthened d rest)) × (nodes (lengthened d rest) ≤ nodes rest + 1) = nodes-lengthened d rest in (omega (arith, h.0), omega (arith, h.1))
 
 -- what is kept when members that are not idle are lengthened to a new side
 record Kept (across b : ℕ) (m : Members) : Type 0 where
@@ -251,72 +247,3 @@ grown_kept old new t well normal fit =
       },
       kept.normal,
     )
-
--- counts of nodes
-
-nodes-lengthened_to : (a b : ℕ) (m : Members) → (nodes m ≤ nodes (lengthened_to a b m)) × (nodes (lengthened_to a b m) ≤ nodes m + 1)
-nodes-lengthened_to a b m = by_test (ltb a b)
-  where
-    by_test : (x : Bool) → (nodes m ≤ nodes (cond x (lengthened (b - a) m) m)) × (nodes (cond x (lengthened (b - a) m) m) ≤ nodes m + 1)
-    by_test true = nodes-lengthened (b - a) m
-    by_test false = (omega arith, omega arith)
-
-nodes-widened : (u n : ℕ) (axis : Axis) (m : Members) → (nodes m ≤ nodes (widened u n axis m).members) × (nodes (widened u n axis m).members ≤ nodes m + 2)
-nodes-widened u n axis m = by_test (ltb u n)
-  where
-    grows : Bool → Tree
-    grows x = cond x (record { axis = other axis; members = Seq u m (Free (n - u) End) }) (record { axis = axis; members = m })
-
-    by_test : (x : Bool) → (nodes m ≤ nodes (grows x).members) × (nodes (grows x).members ≤ nodes m + 2)
-    by_test true = (omega arith, omega arith)
-    by_test false = (omega arith, omega arith)
-
-nodes-grown : (old new : Sides) (axis : Axis) (m : Members) → (nodes m ≤ nodes (grown_members old new axis m).members) × (nodes (grown_members old new axis m).members ≤ nodes m + 3)
-nodes-grown old new axis (Free e End) = (omega arith, omega arith)
-nodes-grown old new axis m = joined (nodes-widened (side (other axis) old) (side (other axis) new) axis (lengthened_to (side axis old) (side axis new) m)) (nodes-lengthened_to (side axis old) (side axis new) m)
-  where
-    joined : {a b c : ℕ} → (b ≤ c) × (c ≤ b + 2) → (a ≤ b) × (b ≤ a + 1) → (a ≤ c) × (c ≤ a + 3)
-    joined p q = (omega arith, omega arith)
-
--- a growth adds at most three nodes
-pub grow_nodes : (old new : Sides) (t : Tree) → (nodes (grown old new t).members ≡ nodes t.members + grow_need old new t) × (grow_need old new t ≤ 3)
-grow_nodes old new t =
-    let h : (nodes t.members ≤ nodes (grown old new t).members) × (nodes (grown old new t).members ≤ nodes t.members + 3) = nodes-grown old new t.axis t.members in
-    back _ _ h
-  where
-    back : (a b : ℕ) → (a ≤ b) × (b ≤ a + 3) → (b ≡ a + (b - a)) × (b - a ≤ 3)
-    back a b h = (omega arith, omega arith)
-
-nodes-free_before : (e : ℕ) (m : Members) → nodes (free_before e m) ≤ 1 + nodes m
-nodes-free_before e (Free k rest) = omega arith
-nodes-free_before e End = omega arith
-nodes-free_before e (Alloc id k rest) = omega arith
-nodes-free_before e (Seq k inner rest) = omega arith
-
-nodes-seq_before : (e : ℕ) (inner m : Members) → nodes (seq_before e inner m) ≤ 1 + nodes inner + nodes m
-nodes-seq_before e (Free k End) m = let h : nodes (free_before e m) ≤ 1 + nodes m = nodes-free_before e m in omega arith
-nodes-seq_before e inner m = omega arith
-
-nodes-nf : (m : Members) → nodes (nf m) ≤ nodes m
-nodes-nf End = omega arith
-nodes-nf (Free e rest) = let h : nodes (free_before e (nf rest)) ≤ 1 + nodes (nf rest) = nodes-free_before e (nf rest) in let k : nodes (nf rest) ≤ nodes rest = nodes-nf rest in omega arith
-nodes-nf (Alloc id e rest) = let k : nodes (nf rest) ≤ nodes rest = nodes-nf rest in omega arith
-nodes-nf (Seq e inner rest) =
-    let h : nodes (seq_before e (nf inner) (nf rest)) ≤ 1 + nodes (nf inner) + nodes (nf rest) = nodes-seq_before e (nf inner) (nf rest) in
-    let i : nodes (nf inner) ≤ nodes inner = nodes-nf inner in
-    let k : nodes (nf rest) ≤ nodes rest = nodes-nf rest in
-    omega arith
-
-nodes-mark : (s : ℕ → Bool) (m : Members) → nodes (mark s m) ≡ nodes m
-nodes-mark s End = refl
-nodes-mark s (Free e rest) = ap (λ k. 1 + k) (nodes-mark s rest)
-nodes-mark s (Alloc id e rest) = by_test (s id) (nodes-mark s rest)
-  where
-    by_test : (b : Bool) → nodes (mark s rest) ≡ nodes rest → nodes (cond b (Free e (mark s rest)) (Alloc id e (mark s rest))) ≡ 1 + nodes rest
-    by_test true h = ap (λ k. 1 + k) h
-    by_test false h = ap (λ k. 1 + k) h
-nodes-mark s (Seq e inner rest) = ap₂ (λ i k. 1 + i + k) (nodes-mark s inner) (nodes-mark s rest)
-
--- a freeing adds no node
-pub release_nodes : (s : ℕ → Bool) (t : Tree) → nodes (release s t).members ≤ nodes t.members
-release_nodes s t = subst (λ k. nodes (nf (mark s t.members)) ≤ k) (nodes-mark s t.members) (nodes-nf (mark s t.members))

@@ -13,6 +13,8 @@ use Rattle.guillotiere.specs.Trees.Members.{End, Free, Alloc, Seq}
 use Rattle.guillotiere.specs.Changes.{put, placed, place, need, needed, place_need}
 use Rattle.guillotiere.proofs.TreeBasics.{one_if, moved-twice, same_box-true, same_box-itself, live_among, free_among, live_among-seq, free_among-seq}
 use Rattle.guillotiere.proofs.TreeTiling.{squares_of_leaves}
+use Rattle.guillotiere.specs.TreeLaws.{IsPlaceable, IsPlaced}
+use Rattle.std.proofs.Math.Nat.{add_comm}
 
 -- what a cut says of the sides
 abbrev pub CutSays : Cut → (whole r : Sides) → Type 0
@@ -103,19 +105,6 @@ normal-put (Corner a) axis e across p q id rest apart normal = by_axis (same_axi
     by_axis : (b : Bool) → IsNormal (cond b (Seq p (Alloc id q (Free (across - q) End)) (Free (e - p) rest)) (Seq e (Seq q (Alloc id p (Free (e - p) End)) (Free (across - q) End)) rest))
     by_axis true = (refl, (refl, tt), (apart, normal))
     by_axis false = (refl, (refl, (refl, tt), (refl, tt)), normal)
-
-nodes-put : (c : Cut) (axis : Axis) (e across p q id : ℕ) (rest : Members) → nodes (put c axis e across p q id rest) ≡ 1 + need c axis + nodes rest
-nodes-put Whole axis e across p q id rest = refl
-nodes-put (Strip a) axis e across p q id rest = by_axis (same_axis a axis)
-  where
-    by_axis : (b : Bool) → nodes (cond b (Alloc id p (Free (e - p) rest)) (Seq e (Alloc id q (Free (across - q) End)) rest)) ≡ 1 + cond b 1 2 + nodes rest
-    by_axis true = omega arith
-    by_axis false = omega arith
-nodes-put (Corner a) axis e across p q id rest = by_axis (same_axis a axis)
-  where
-    by_axis : (b : Bool) → nodes (cond b (Seq p (Alloc id q (Free (across - q) End)) (Free (e - p) rest)) (Seq e (Seq q (Alloc id p (Free (e - p) End)) (Free (across - q) End)) rest)) ≡ 1 + cond b 3 4 + nodes rest
-    by_axis true = omega arith
-    by_axis false = omega arith
 
 cut-put : (c : Cut) (axis : Axis) (e across id : ℕ) (r : Sides) (rest : Members) → CutSays c (sized axis e across) r → IsPositive r → 0 < e → IsCut across rest
     → IsCut across (put c axis e across (side axis r) (side (other axis) r) id rest)
@@ -437,70 +426,14 @@ place_live size t f r id p well at pos fit =
     let one : hits f (free_boxes size t) ≡ 1 = omega arith in
     live-placed p f r id pos fit t.axis origin (side (other t.axis) size) t.members ∙ ap (λ k. count_by p (live size t) + k * one_if (p (grant id (box_at f.min r)))) one ∙ ap (λ k. count_by p (live size t) + k) (omega arith)
 
-nodes-placed : (f : Box) (r : Sides) (id : ℕ) (axis : Axis) (o : Position) (across : ℕ) (m : Members) → nodes (placed f r id axis o across m) ≡ nodes m + needed f r axis o across m
-nodes-placed f r id axis o across End = omega arith
-nodes-placed f r id axis o across (Free e rest) = by_test (same_box (box_at o (sized axis e across)) f) (nodes-placed f r id axis (moved axis o e) across rest)
-  where
-    after : Members
-    after = placed f r id axis (moved axis o e) across rest
-
-    more : ℕ
-    more = needed f r axis (moved axis o e) across rest
-
-    by_test : (b : Bool) → nodes after ≡ nodes rest + more
-        → nodes (cond b (put (cut (box_sides f) r) axis e across (side axis r) (side (other axis) r) id after) (Free e after)) ≡ 1 + nodes rest + (cond b (need (cut (box_sides f) r) axis) 0 + more)
-    by_test true h = nodes-put (cut (box_sides f) r) axis e across (side axis r) (side (other axis) r) id after ∙ regroup_nodes (need (cut (box_sides f) r) axis) (nodes after) (nodes rest) more h
-      where
-        regroup_nodes : (k a b c : ℕ) → a ≡ b + c → 1 + k + a ≡ 1 + b + (k + c)
-        regroup_nodes k a b c h = omega arith
-    by_test false h = omega arith
-nodes-placed f r id axis o across (Alloc i e rest) = ap (λ k. 1 + k) (nodes-placed f r id axis (moved axis o e) across rest) ∙ omega arith
-nodes-placed f r id axis o across (Seq e inner rest) =
-    let within : nodes (placed f r id (other axis) o e inner) ≡ nodes inner + needed f r (other axis) o e inner = nodes-placed f r id (other axis) o e inner in
-    let after : nodes (placed f r id axis (moved axis o e) across rest) ≡ nodes rest + needed f r axis (moved axis o e) across rest = nodes-placed f r id axis (moved axis o e) across rest in
-    omega arith
-
-pub place_nodes : (size : Sides) (t : Tree) (f : Box) (r : Sides) (id : ℕ) → nodes (place size f r id t).members ≡ nodes t.members + place_need size f r t
-place_nodes size t f r id = nodes-placed f r id t.axis origin (side (other t.axis) size) t.members
-
--- a placing adds at most four nodes
-
-need-most : (c : Cut) (axis : Axis) → need c axis ≤ 4
-need-most Whole axis = omega arith
-need-most (Strip a) axis = by_axis (same_axis a axis)
-  where
-    by_axis : (b : Bool) → cond b 1 2 ≤ 4
-    by_axis true = omega arith
-    by_axis false = omega arith
-need-most (Corner a) axis = by_axis (same_axis a axis)
-  where
-    by_axis : (b : Bool) → cond b 3 4 ≤ 4
-    by_axis true = omega arith
-    by_axis false = omega arith
-
-needed-most : (f : Box) (r : Sides) (axis : Axis) (o : Position) (across : ℕ) (m : Members) → needed f r axis o across m ≤ 4 * hits f (free_among axis o across m)
-needed-most f r axis o across End = omega arith
-needed-most f r axis o across (Free e rest) =
-    by_test (same_box (box_at o (sized axis e across)) f) (hits-free f axis o across e rest) (needed-most f r axis (moved axis o e) across rest) (need-most (cut (box_sides f) r) axis)
-  where
-    by_test : (b : Bool) → hits f (free_among axis o across (Free e rest)) ≡ one_if b + hits f (free_among axis (moved axis o e) across rest)
-        → needed f r axis (moved axis o e) across rest ≤ 4 * hits f (free_among axis (moved axis o e) across rest) → need (cut (box_sides f) r) axis ≤ 4
-        → cond b (need (cut (box_sides f) r) axis) 0 + needed f r axis (moved axis o e) across rest ≤ 4 * hits f (free_among axis o across (Free e rest))
-    by_test true is h most = omega arith
-    by_test false is h most = omega arith
-needed-most f r axis o across (Alloc i e rest) = needed-most f r axis (moved axis o e) across rest
-needed-most f r axis o across (Seq e inner rest) =
-    let sum : hits f (free_among axis o across (Seq e inner rest)) ≡ hits f (free_among (other axis) o e inner) + hits f (free_among axis (moved axis o e) across rest) = hits-seq f axis o across e inner rest in
-    let a : needed f r (other axis) o e inner ≤ 4 * hits f (free_among (other axis) o e inner) = needed-most f r (other axis) o e inner in
-    let b : needed f r axis (moved axis o e) across rest ≤ 4 * hits f (free_among axis (moved axis o e) across rest) = needed-most f r axis (moved axis o e) across rest in
-    omega arith
-
-pub place_most : (size : Sides) (t : Tree) (f : Box) (r : Sides) → IsWellFormed size t → IsPositive r → Fits r (box_sides f) → place_need size f r t ≤ 4
-place_most size t f r well pos fit =
-    let all : place_need size f r t ≤ 4 * hits f (free_boxes size t) = needed-most f r t.axis origin (side (other t.axis) size) t.members in
-    let once : hits f (free_boxes size t) ≤ 1 = hits_once size t f r well pos fit in
-    omega arith
-
 -- a request that fits a box lies inside it
 pub request_inside : (f : Box) (r : Sides) → IsPositive r → Fits r (box_sides f) → IsInside (box_at f.min r) f
 request_inside f r pos fit = (omega arith, omega arith, omega (arith, pos.0, fit.0), omega (arith, pos.1, fit.1))
+
+pub place_keeps : (size : Sides) (t : Tree) (f : Box) (r : Sides) (id : ℕ) → IsWellFormed size t → IsPlaceable size t f r id → IsPlaced size t f r id
+place_keeps size t f r id well fits = record {
+  well_formed = place_well_formed size t f r id well fits.positive fits.fits fits.unused;
+  normal = place_normal size t f r id;
+  live = λ p. place_live size t f r id p well fits.is_free fits.positive fits.fits ∙ add_comm _ _ ∙ sym (sum_by-cons (λ g. one_if (p g)) (grant id (box_at f.min r)) (live size t));
+  inside = request_inside f r fits.positive fits.fits;
+}

@@ -5,14 +5,15 @@ use Rattle.std.proofs.lemmas.Bool.{ltb-false}
 use Rattle.std.proofs.lemmas.List.Elements.{All-nil, All-cons}
 use Rattle.guillotiere.specs.Boxes.{Axis, Position, Sides, Box, other, side, sized, moved, box_at, box_sides, origin, Fits, IsInside}
 use Rattle.guillotiere.specs.Boxes.Axis.{Horizontal, Vertical}
-use Rattle.guillotiere.specs.Trees.{Grant, grant, Members, Tree, total, IsCut, IsWellFormed, free_boxes, live}
+use Rattle.guillotiere.specs.Trees.{IsNormal, Grant, grant, Members, Tree, total, IsCut, IsWellFormed, free_boxes, live}
 use Rattle.guillotiere.specs.Trees.Members.{End, Free, Alloc, Seq}
 use Rattle.guillotiere.specs.Changes.{free_before, seq_before, nf, mark, release, lengthened, lengthened_to, widened, grown_members, grown}
-use Rattle.guillotiere.specs.TreeLaws.{LiesInOneOf}
+use Rattle.guillotiere.specs.TreeLaws.{IsGrown, LiesInOneOf}
 use Rattle.guillotiere.proofs.TreeBasics.{other_twice, longer_side, moved-twice, turned, live_among, free_among, live_among-seq, free_among-seq}
 use Rattle.guillotiere.proofs.TreeGrowth.{total-nf}
 use Rattle.guillotiere.proofs.TreeIds.{Contains-first, Contains-later, Contains-none, Contains-cons_cases}
-use Rattle.guillotiere.proofs.TreeKept.{cut-mark}
+use Rattle.guillotiere.proofs.TreeKept.{grown_kept, cut-mark}
+use Rattle.guillotiere.proofs.TreeLive.{live_grown}
 
 -- b lies in one of these, by recursion
 abbrev pub LiesAmong : Box → List Box → Type 0
@@ -224,3 +225,8 @@ freed_has_room size t s g well at chosen = (room.0, room.1, room.2, sides_inside
 -- each earlier free box lies in a free box after a growth
 pub grown_room : (old new : Sides) (t : Tree) → IsWellFormed old t → Fits old new → All (LiesInOneOf (free_boxes new (grown old new t))) (free_boxes old t)
 grown_room old new t well fit = all_lie (free_boxes old t) (free_boxes new (grown old new t)) (λ b at. room-grown b old new t.axis t.members well.along fit (among_itself b (free_boxes old t) at))
+
+pub grown_keeps : (old new : Sides) (t : Tree) → IsWellFormed old t → IsNormal t.members → Fits old new → IsGrown old new t
+grown_keeps old new t well normal fit =
+    let kept : IsWellFormed new (grown old new t) × IsNormal (grown old new t).members = grown_kept old new t well normal fit in
+    record { well_formed = kept.0; normal = kept.1; live = live_grown old new t fit; free = grown_room old new t well fit }
