@@ -17,3 +17,4 @@ pub mod Lists
 pub mod Reading
 pub mod Stored
 pub mod Holdings
+pub mod Replies

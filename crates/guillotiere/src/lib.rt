@@ -1,13 +1,19 @@
 //! A dynamic allocator of rectangles inside one large texture: a port of the Rust crate `guillotiere` 0.7.0.
 #![tactic(auto)]
 
+mod allocation;
+mod atlas;
 mod error;
 mod geometry;
 pub mod laws;
 mod lists;
 mod options;
 mod slots;
+mod store;
+mod turns;
 
+pub use allocation::{AllocId, Allocation, SlotCount};
+pub use atlas::AtlasAllocator;
 pub use error::AtlasError;
 pub use geometry::{Point, Rectangle, Size, point2, size2};
 pub use options::{AllocatorOptions, DEFAULT_OPTIONS};
