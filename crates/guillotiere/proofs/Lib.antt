@@ -1,0 +1,9 @@
+pub mod TreeNormal
+pub mod TreeTiling
+pub mod TreeLive
+pub mod TreeUndone
+pub mod TreeIdle
+pub mod TreePlacing
+pub mod TreeKept
+pub mod TreeGrowth
+pub mod TreeRoom
