@@ -1,0 +1,4 @@
+pub mod Frames
+pub mod Suffixes
+pub mod Closing
+pub mod Marking
