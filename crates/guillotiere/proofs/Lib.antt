@@ -7,3 +7,7 @@ pub mod TreePlacing
 pub mod TreeKept
 pub mod TreeGrowth
 pub mod TreeRoom
+pub mod Frames
+pub mod Suffixes
+pub mod Closing
+pub mod Marking
