@@ -1,4 +1,7 @@
+pub mod TreeBasics
+pub mod TreeIds
 pub mod TreeNormal
+pub mod TreeReleases
 pub mod TreeTiling
 pub mod TreeLive
 pub mod TreeUndone
@@ -11,3 +14,4 @@ pub mod Frames
 pub mod Suffixes
 pub mod Closing
 pub mod Marking
+pub mod TreeCounts
