@@ -15,3 +15,7 @@ pub mod Suffixes
 pub mod Closing
 pub mod Marking
 pub mod TreeCounts
+pub mod Joining
+pub mod JoiningWrites
+pub mod Lifting
+pub mod LiftingWrites
