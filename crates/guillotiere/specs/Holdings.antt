@@ -1,21 +1,15 @@
 -- How the calls on slots and lists change what they hold. No public clause cites this module.
-use Rattle.std.specs.Prelude.{ℕ, ◌+◌, ◌≡◌, ◌≤◌, ◌==◌, ◌⊎◌, Bool, List, length, if◌then◌else◌}
+use Rattle.std.specs.Prelude.{ℕ, ◌+◌, ◌≡◌, ◌≤◌, ◌==◌, ◌⊎◌, Bool, true, false, List, ◌∷◌, length, vec_capacity, if◌then◌else◌}
 use Rattle.guillotiere.specs.declared.store.Store.{Store}
 use Rattle.guillotiere.specs.declared.slots.Node.{Node}
 use Rattle.guillotiere.specs.declared.slots.NodeKind.TheVariants as kind
-use Rattle.guillotiere.specs.Boxes.{Box}
-use Rattle.guillotiere.specs.Pixels.{rectangle_of}
 use Rattle.guillotiere.specs.Slots.{nodes, node_at}
-use Rattle.guillotiere.specs.Numbered.{Numbered}
-use Rattle.guillotiere.specs.Stored.{Shelf, Holding}
+use Rattle.guillotiere.specs.Numbered.{Numbered, marked, joined, lifted, granted_at, split_at, wrapped_at}
+use Rattle.guillotiere.specs.Stored.{Shelf, Holding, Holds}
 
 -- the stored part of a store
 abbrev pub shelf_of : {A : Type 0} → Store A → Shelf
 shelf_of s = record { slots = s.slots.items; lists = s.lists; unused = s.unused; options = s.options }
-
--- slot i is in hand n times
-abbrev pub with_hand : (i n : ℕ) → Holding → Holding
-with_hand i n h = record h { hand = λ k. if k == i then n else h.hand k }
 
 -- slot i is loose, or isn't
 abbrev pub with_loose : (i : ℕ) → Bool → Holding → Holding
@@ -39,12 +33,43 @@ HasSlotsFor n capacity v h =
 abbrev pub node_in : Shelf → ℕ → Node
 node_in v i = node_at (nodes v.slots) i
 
--- slot i is a free leaf with this box
-pub record IsFreeLeaf (v : Shelf) (i : ℕ) (b : Box) : Type 0 where
-  pub kind : (node_in v i).kind ≡ kind.Free
-  pub area : (node_in v i).area ≡ rectangle_of b
+-- the slots hold some tree
+abbrev pub IsHeld : Shelf → Type 0
+IsHeld v = (h : Holding) × Holds v h
 
--- slot k was taken from what h holds: it is in hand now, and was neither in hand nor used before
-pub record IsTaken (v : Shelf) (h : Holding) (k : ℕ) (spare : List ℕ) : Type 0 where
-  pub holds : Holds v (with_hand k 1 (with_spare spare h))
-  pub hand : h.hand k ≡ 0
+-- slot i is a free leaf that stands in no list
+pub record IsLooseLeaf (v : Shelf) (i : ℕ) (h : Holding) : Type 0 where
+  pub holds : Holds v h
+  pub kind : (node_in v i).kind ≡ kind.Free
+  pub loose : h.loose i ≡ true
+
+-- there are as many slots, and room for as many
+pub record KeepsRoom {A : Type 0} (old new : Store A) : Type 0 where
+  pub slots : length new.slots.items ≡ length old.slots.items
+  pub capacity : vec_capacity new.slots ≡ vec_capacity old.slots
+  pub options : new.options ≡ old.options
+
+-- what a leaf of slot i becomes when it is granted
+abbrev pub after_grant : (i g : ℕ) → Holding → Holding
+after_grant i g h = with_loose i false (with_tree (granted_at i g h.tree) h)
+
+-- slot k takes what a loose leaf of slot i doesn't keep, p of its extent
+abbrev pub after_split : (i k p : ℕ) → Holding → Holding
+after_split i k p h = with_loose k true (with_tree (split_at i k p h.tree) h)
+
+-- slot k is the lone child of what was the loose leaf of slot i
+abbrev pub after_wrap : (i k : ℕ) → Holding → Holding
+after_wrap i k h = with_loose i false (with_loose k true (with_tree (wrapped_at i k h.sequence.width h.tree) h))
+
+-- the granted leaf of slot i is free, and loose
+abbrev pub after_mark : (i : ℕ) → Holding → Holding
+after_mark i h = with_loose i true (with_tree (marked i h.tree) h)
+
+-- the loose leaf of slot i has taken in that of slot j, which is unused
+abbrev pub after_join : (i j : ℕ) → Holding → Holding
+after_join i j h = with_spare (j ∷ h.spare) (with_loose j false (with_tree (joined i h.tree) h))
+
+-- the container of slot i has given way to its lone child of slot c, which is unused
+abbrev pub after_lift : (i c : ℕ) → Holding → Holding
+after_lift i c h =
+    with_spare (c ∷ h.spare) (with_loose c false (with_loose i true (with_tree (lifted i h.tree) h)))

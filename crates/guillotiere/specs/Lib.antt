@@ -15,6 +15,7 @@ pub mod Numbered
 pub mod Standing
 pub mod Lists
 pub mod Reading
+pub mod Parts
 pub mod Stored
 pub mod Holdings
 pub mod Replies

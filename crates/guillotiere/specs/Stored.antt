@@ -1,5 +1,5 @@
 -- What an atlas stores, and that it stands for a state. Public clauses cite `AtlasValue` and `state_of` alone.
-use Rattle.std.specs.Prelude.{ℕ, ◌≡◌, ◌≤◌, Bool, false, List, length}
+use Rattle.std.specs.Prelude.{ℕ, ◌≡◌, ◌≤◌, Bool, false, List, [], length}
 use Rattle.guillotiere.specs.declared.slots.Slot.{Slot}
 use Rattle.guillotiere.specs.declared.slots.Link.{Link}
 use Rattle.guillotiere.specs.declared.lists.FreeList.{FreeList}
@@ -12,7 +12,7 @@ use Rattle.guillotiere.specs.States.{State, IsSound}
 use Rattle.guillotiere.specs.Slots.{nodes, rings, no_slot}
 use Rattle.guillotiere.specs.Numbered.{Numbered, first_slot, numbers}
 use Rattle.guillotiere.specs.Standing.{Sequence, Stands}
-use Rattle.guillotiere.specs.Lists.{AreFiled}
+use Rattle.guillotiere.specs.Lists.{AreFiled, occurs}
 use Rattle.guillotiere.specs.Reading.{tree_of}
 
 -- the slots with their lists
@@ -46,20 +46,20 @@ state_of v =
       kept = length v.stored.shelf.slots;
     }
 
--- the numbered tree that slots stand for, and the lists that run through them
+-- the numbered tree that slots stand for, and the lists that run through them: `spare` are the unused slots, `held k`
+-- those of list k, and `loose` the free slots that stand in no list
 pub record Holding : Type 0 where
   pub sequence : Sequence
   pub tree : Numbered
   pub spare : List ℕ
   pub held : ℕ → List ℕ
-  pub hand : ℕ → ℕ
   pub loose : ℕ → Bool
 
 -- The slots stand for a tree, and the lists are in order.
 pub record Holds (v : Shelf) (h : Holding) : Type 0 where
   pub top : h.sequence.parent ≡ no_slot
   pub stands : Stands (nodes v.slots) h.sequence h.tree
-  pub filed : AreFiled (options_of v.options) (nodes v.slots) (rings v.slots) v.lists v.unused h.spare h.held h.hand h.loose
+  pub filed : AreFiled (options_of v.options) (nodes v.slots) (rings v.slots) v.lists v.unused h.spare h.held (λ i. 0) h.loose
   pub short : length v.slots ≤ 16777216
   pub valid : AreValid (options_of v.options)
   -- extents are positive, and no box passes what an `i32` holds
@@ -67,16 +67,15 @@ pub record Holds (v : Shelf) (h : Holding) : Type 0 where
   pub across : h.sequence.start + h.sequence.width < 2 ^ 31
   pub along : total (erase h.tree) < 2 ^ 31
 
--- nothing is in hand, and each free slot stands in its list
-pub record IsAtRest (h : Holding) : Type 0 where
-  pub hand : (i : ℕ) → h.hand i ≡ 0
-  pub loose : (i : ℕ) → h.loose i ≡ false
+-- no free slot is loose but for these
+abbrev pub IsLooseOnly : List ℕ → Holding → Type 0
+IsLooseOnly ks h = (i : ℕ) → occurs i ks ≡ 0 → h.loose i ≡ false
 
 -- what each stored atlas keeps
 pub record IsAtlas (v : Stored) : Type 0 where
   pub holding : Holding
   pub holds : Holds v.shelf holding
-  pub at_rest : IsAtRest holding
+  pub at_rest : IsLooseOnly [] holding
   pub start : holding.sequence.start ≡ 0
   pub across : holding.sequence.width ≡ side (other holding.sequence.axis) (sides_of v.size)
   pub first : v.first.number ≡ first_slot holding.tree
