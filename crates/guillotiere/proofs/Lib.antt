@@ -6,3 +6,4 @@ pub mod Joining
 pub mod JoiningWrites
 pub mod Lifting
 pub mod LiftingWrites
+pub mod Reading
