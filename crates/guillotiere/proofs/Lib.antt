@@ -7,3 +7,7 @@ pub mod JoiningWrites
 pub mod Lifting
 pub mod LiftingWrites
 pub mod Reading
+pub mod Normal
+pub mod Calm
+pub mod Releasing
+pub mod Settling
