@@ -19,3 +19,8 @@ pub mod Joining
 pub mod JoiningWrites
 pub mod Lifting
 pub mod LiftingWrites
+pub mod Reading
+pub mod Normal
+pub mod Calm
+pub mod Releasing
+pub mod Settling

@@ -16,6 +16,8 @@ pub mod Standing
 pub mod Lists
 pub mod Reading
 pub mod Parts
+pub mod Calm
+pub mod Settling
 pub mod Stored
 pub mod Holdings
 pub mod Replies
