@@ -19,3 +19,5 @@ pub mod Joining
 pub mod JoiningWrites
 pub mod Lifting
 pub mod LiftingWrites
+pub mod Weights
+pub mod Granting

@@ -1,5 +1,5 @@
 -- The two parts of stored slots. No public clause cites this module.
-use Rattle.std.specs.Prelude.{ℕ, List, map, pos, slice_index_or}
+use Rattle.std.specs.Prelude.{ℕ, ◌≡◌, List, map, pos, slice_index_or}
 use Rattle.guillotiere.specs.declared.slots.Slot.{Slot}
 use Rattle.guillotiere.specs.declared.slots.Node.{Node}
 use Rattle.guillotiere.specs.declared.slots.Ring.{Ring}
@@ -57,3 +57,9 @@ use_count kind.Container = 1
 use_count kind.Alloc = 1
 use_count kind.Free = 1
 use_count kind.Unused = 0
+
+-- what a slot is used for, its rectangle and its generation stay
+pub record KeepsUse (old new : Node) : Type 0 where
+  pub kind : new.kind ≡ old.kind
+  pub area : new.area ≡ old.area
+  pub generation : new.generation ≡ old.generation

@@ -6,6 +6,7 @@ mod geometry;
 pub mod laws;
 mod lists;
 mod options;
+mod placing;
 mod slots;
 
 pub use error::AtlasError;
