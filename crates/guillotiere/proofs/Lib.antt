@@ -24,3 +24,5 @@ pub mod Normal
 pub mod Calm
 pub mod Releasing
 pub mod Settling
+pub mod Weights
+pub mod Granting

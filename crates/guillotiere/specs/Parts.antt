@@ -5,7 +5,7 @@ use Rattle.guillotiere.specs.declared.slots.Node.{Node}
 use Rattle.guillotiere.specs.declared.slots.NodeKind.TheVariants as kind
 use Rattle.guillotiere.specs.declared.slots.Orientation.{Orientation}
 use Rattle.guillotiere.specs.declared.slots.Orientation.TheVariants as orientation
-use Rattle.guillotiere.specs.Boxes.{Axis, Box, side, other, box_sides}
+use Rattle.guillotiere.specs.Boxes.{Axis, Box}
 use Rattle.guillotiere.specs.Boxes.Axis.{Horizontal, Vertical}
 use Rattle.guillotiere.specs.Pixels.{box_of, rectangle_of}
 use Rattle.guillotiere.specs.Slots.{axis_of, no_slot}
@@ -54,7 +54,3 @@ inner_node container at unused =
       axis = flipped container.axis;
       generation = unused.generation;
     }
-
--- the side of a leaf across the sequence that holds it
-abbrev pub across_of : Node → ℕ
-across_of leaf = side (other (axis_of leaf.axis)) (box_sides (box_of leaf.area))

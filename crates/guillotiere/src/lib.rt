@@ -8,6 +8,7 @@ mod geometry;
 pub mod laws;
 mod lists;
 mod options;
+mod placing;
 mod slots;
 mod store;
 mod turns;
