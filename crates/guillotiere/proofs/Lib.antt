@@ -1,1 +1,4 @@
 pub mod Cutting
+pub mod Occurrences
+pub mod Unlinking
+pub mod Banding

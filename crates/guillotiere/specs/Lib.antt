@@ -16,3 +16,4 @@ pub mod Standing
 pub mod Lists
 pub mod Reading
 pub mod Stored
+pub mod Links
