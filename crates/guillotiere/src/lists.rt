@@ -1,13 +1,15 @@
 //! The lists of free slots, by class and band, and the list of unused slots: links inside the slots.
-ghost use Rattle.std.specs.Prelude.{◌≡◌, ◌+◌, ◌<◌, ◌≤◌, ℕ, pos, List, ◌∷◌, length};
+ghost use Rattle.std.specs.Prelude.{◌≡◌, ◌+◌, ◌<◌, ◌≤◌, ◌≤ℤ◌, ℕ, pos, List, ◌∷◌, length};
 ghost use Rattle.guillotiere.specs.Boxes.{Fits};
-ghost use Rattle.guillotiere.specs.Pixels.{sides_of};
+ghost use Rattle.guillotiere.specs.Choice.{class_of, reaches};
+ghost use Rattle.guillotiere.specs.Pixels.{sides_of, options_of};
 ghost use Rattle.guillotiere.specs.Slots.{nodes, rings, node_at, ring_at};
 ghost use Rattle.guillotiere.specs.Standing.{IsSlot};
-ghost use Rattle.guillotiere.specs.Lists.{IsList, occurs, without, bounds, band_of};
+ghost use Rattle.guillotiere.specs.Lists.{IsList, occurs, without, bounds, band_of, list_of};
 ghost use Rattle.guillotiere.specs.Links.{IsListed, IsUnlisted, with_next, with_ring_previous};
 
 use crate::geometry::Size;
+use crate::options::AllocatorOptions;
 use crate::slots::{Link, NO_SLOT, Ring, Slot, read_ring, write_ring};
 
 /// How many lists of free slots there are: 8 bands for each of 3 classes.
@@ -21,6 +23,64 @@ pub struct FreeList {
     pub count: u32,
     pub most_width: i32,
     pub most_height: i32,
+}
+
+/// 0 for a lesser side of 1, then 1 for each doubling, at most 7.
+pub fn band(size: Size) -> usize
+    ensures { result ≡ band_of (sides_of size) }
+{
+    let least = size.width.min(size.height);
+    if least < 2 {
+        0
+    } else if least < 4 {
+        1
+    } else if least < 8 {
+        2
+    } else if least < 16 {
+        3
+    } else if least < 32 {
+        4
+    } else if least < 64 {
+        5
+    } else if least < 128 {
+        6
+    } else {
+        7
+    }
+}
+
+// Whether a side is at least the threshold.
+fn is_reached(threshold: i32, size: Size) -> bool
+    requires wide { pos 0 ≤ℤ size.width }
+    requires high { pos 0 ≤ℤ size.height }
+    ensures { result ≡ reaches threshold (sides_of size) }
+{
+    size.width >= threshold || size.height >= threshold
+}
+
+// 2 for a large size, 1 for a medium one and 0 for a small one.
+fn class(options: &AllocatorOptions, size: Size) -> usize
+    requires wide { pos 0 ≤ℤ size.width }
+    requires high { pos 0 ≤ℤ size.height }
+    ensures { result ≡ class_of (options_of options.now) (sides_of size) }
+{
+    if is_reached(options.large_size_threshold, size) {
+        2
+    } else if is_reached(options.small_size_threshold, size) {
+        1
+    } else {
+        0
+    }
+}
+
+/// The number of the list for a rectangle of this size.
+pub fn list_number(options: &AllocatorOptions, size: Size) -> usize
+    requires wide { pos 0 ≤ℤ size.width }
+    requires high { pos 0 ≤ℤ size.height }
+    ensures number { result ≡ list_of (options_of options.now) (sides_of size) }
+    ensures inside { result < LISTS }
+{
+    8 * class(options, size) + band(size)
 }
 
 /// `next` comes after `at` in its list; nothing happens where `at` is no slot.
