@@ -26,3 +26,7 @@ pub mod Releasing
 pub mod Settling
 pub mod Weights
 pub mod Granting
+pub mod Cutting
+pub mod Occurrences
+pub mod Unlinking
+pub mod Banding

@@ -1,6 +1,7 @@
 pub mod Boxes
 pub mod Pixels
 pub mod Cuts
+pub mod Rectangles
 pub mod Choice
 pub mod Simple
 pub mod Trees
@@ -22,3 +23,4 @@ pub mod Settling
 pub mod Stored
 pub mod Holdings
 pub mod Replies
+pub mod Links

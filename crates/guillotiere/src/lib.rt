@@ -3,6 +3,7 @@
 
 mod allocation;
 mod atlas;
+mod cut;
 mod error;
 mod geometry;
 pub mod laws;

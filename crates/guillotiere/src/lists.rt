@@ -1,6 +1,16 @@
 //! The lists of free slots, by class and band, and the list of unused slots: links inside the slots.
+ghost use Rattle.std.specs.Prelude.{◌≡◌, ◌+◌, ◌<◌, ◌≤◌, ◌≤ℤ◌, ℕ, pos, List, ◌∷◌, length};
+ghost use Rattle.guillotiere.specs.Boxes.{Fits};
+ghost use Rattle.guillotiere.specs.Choice.{class_of, reaches};
+ghost use Rattle.guillotiere.specs.Pixels.{sides_of, options_of};
+ghost use Rattle.guillotiere.specs.Slots.{nodes, rings, node_at, ring_at};
+ghost use Rattle.guillotiere.specs.Standing.{IsSlot};
+ghost use Rattle.guillotiere.specs.Lists.{IsList, occurs, without, bounds, band_of, list_of};
+ghost use Rattle.guillotiere.specs.Links.{IsListed, IsUnlisted, with_next, with_ring_previous};
 
-use crate::slots::Link;
+use crate::geometry::Size;
+use crate::options::AllocatorOptions;
+use crate::slots::{Link, NO_SLOT, Ring, Slot, read_ring, write_ring};
 
 /// How many lists of free slots there are: 8 bands for each of 3 classes.
 pub const LISTS: usize = 24;
@@ -13,4 +23,179 @@ pub struct FreeList {
     pub count: u32,
     pub most_width: i32,
     pub most_height: i32,
+}
+
+/// 0 for a lesser side of 1, then 1 for each doubling, at most 7.
+pub fn band(size: Size) -> usize
+    ensures { result ≡ band_of (sides_of size) }
+{
+    let least = size.width.min(size.height);
+    if least < 2 {
+        0
+    } else if least < 4 {
+        1
+    } else if least < 8 {
+        2
+    } else if least < 16 {
+        3
+    } else if least < 32 {
+        4
+    } else if least < 64 {
+        5
+    } else if least < 128 {
+        6
+    } else {
+        7
+    }
+}
+
+// Whether a side is at least the threshold.
+fn is_reached(threshold: i32, size: Size) -> bool
+    requires wide { pos 0 ≤ℤ size.width }
+    requires high { pos 0 ≤ℤ size.height }
+    ensures { result ≡ reaches threshold (sides_of size) }
+{
+    size.width >= threshold || size.height >= threshold
+}
+
+// 2 for a large size, 1 for a medium one and 0 for a small one.
+fn class(options: &AllocatorOptions, size: Size) -> usize
+    requires wide { pos 0 ≤ℤ size.width }
+    requires high { pos 0 ≤ℤ size.height }
+    ensures { result ≡ class_of (options_of options.now) (sides_of size) }
+{
+    if is_reached(options.large_size_threshold, size) {
+        2
+    } else if is_reached(options.small_size_threshold, size) {
+        1
+    } else {
+        0
+    }
+}
+
+/// The number of the list for a rectangle of this size.
+pub fn list_number(options: &AllocatorOptions, size: Size) -> usize
+    requires wide { pos 0 ≤ℤ size.width }
+    requires high { pos 0 ≤ℤ size.height }
+    ensures number { result ≡ list_of (options_of options.now) (sides_of size) }
+    ensures inside { result < LISTS }
+{
+    8 * class(options, size) + band(size)
+}
+
+/// `next` comes after `at` in its list; nothing happens where `at` is no slot.
+pub fn set_ring_next(slots: &mut [Slot], at: Link, next: Link)
+    requires inside { IsSlot (length slots.old) at.number }
+    requires short { length slots.old < 4294967295 }
+    ensures written { rings slots.new ≡ with_next (rings slots.old) at.number next }
+    ensures same_nodes { nodes slots.new ≡ nodes slots.old }
+{
+    if at.number != NO_SLOT {
+        let mut ring = read_ring(slots, at);
+        ring.next = next;
+        write_ring(slots, at, ring);
+    }
+}
+
+/// `previous` comes before `at` in its list; nothing happens where `at` is no slot.
+pub fn set_ring_previous(slots: &mut [Slot], at: Link, previous: Link)
+    requires inside { IsSlot (length slots.old) at.number }
+    requires short { length slots.old < 4294967295 }
+    ensures written { rings slots.new ≡ with_ring_previous (rings slots.old) at.number previous }
+    ensures same_nodes { nodes slots.new ≡ nodes slots.old }
+{
+    if at.number != NO_SLOT {
+        let mut ring = read_ring(slots, at);
+        ring.previous = previous;
+        write_ring(slots, at, ring);
+    }
+}
+
+// The list once a slot with these neighbours has left it; the bounds of an empty list are 0.
+fn list_without(list: FreeList, ring: Ring) -> FreeList
+    requires { 0 < list.count }
+    ensures new_head { ring.previous.number ≡ NO_SLOT → result.head ≡ ring.next }
+    ensures same_head { (ring.previous.number ≡ NO_SLOT → ⊥) → result.head ≡ list.head }
+    ensures new_tail { ring.next.number ≡ NO_SLOT → result.tail ≡ ring.previous }
+    ensures same_tail { (ring.next.number ≡ NO_SLOT → ⊥) → result.tail ≡ list.tail }
+    ensures counted { result.count + 1 ≡ list.count }
+    ensures same_width { 0 < result.count → result.most_width ≡ list.most_width }
+    ensures same_height { 0 < result.count → result.most_height ≡ list.most_height }
+    ensures no_width { result.count ≡ 0 → result.most_width ≡ pos 0 }
+    ensures no_height { result.count ≡ 0 → result.most_height ≡ pos 0 }
+{
+    let is_last = list.count == 1;
+    FreeList {
+        head: if ring.previous.number == NO_SLOT {
+            ring.next
+        } else {
+            list.head
+        },
+        tail: if ring.next.number == NO_SLOT {
+            ring.previous
+        } else {
+            list.tail
+        },
+        count: list.count - 1,
+        most_width: if is_last { 0 } else { list.most_width },
+        most_height: if is_last { 0 } else { list.most_height },
+    }
+}
+
+/// Takes a slot out of its list.
+pub fn unlink(slots: &mut [Slot], list: &mut FreeList, at: Link)
+    requires listed { IsListed (rings slots.old) list.old at.number }
+    requires short { length slots.old < 4294967295 }
+    ensures list { (xs : List ℕ) → IsList (rings slots.old) list.old xs → 0 < occurs at.number xs → IsList (rings slots.new) list.new (without at.number xs) }
+    ensures others { (xs : List ℕ) (k : ℕ) → IsList (rings slots.old) list.old xs → 0 < occurs at.number xs → occurs k xs ≡ 0 → ring_at (rings slots.new) k ≡ ring_at (rings slots.old) k }
+    ensures same_nodes { nodes slots.new ≡ nodes slots.old }
+    ensures bounds { 0 < list.new.count → bounds list.new ≡ bounds list.old }
+    ensures empty_width { list.new.count ≡ 0 → list.new.most_width ≡ pos 0 }
+    ensures empty_height { list.new.count ≡ 0 → list.new.most_height ≡ pos 0 }
+{
+    let ring = read_ring(slots, at);
+    *list = list_without(*list, ring);
+    set_ring_next(slots, ring.previous, ring.next);
+    set_ring_previous(slots, ring.next, ring.previous);
+}
+
+// The list once a slot of this size stands in front.
+fn list_with(list: FreeList, at: Link, size: Size) -> FreeList
+    requires { list.count < 4294967295 }
+    ensures head { result.head ≡ at }
+    ensures new_tail { list.count ≡ 0 → result.tail ≡ at }
+    ensures same_tail { 0 < list.count → result.tail ≡ list.tail }
+    ensures counted { result.count ≡ list.count + 1 }
+    ensures holds { Fits (sides_of size) (bounds result) }
+    ensures raised { Fits (bounds list) (bounds result) }
+{
+    FreeList {
+        head: at,
+        tail: if list.count == 0 { at } else { list.tail },
+        count: list.count + 1,
+        most_width: list.most_width.max(size.width),
+        most_height: list.most_height.max(size.height),
+    }
+}
+
+/// Puts a slot, of a rectangle of this size, in front of a list.
+pub fn push_front(slots: &mut [Slot], list: &mut FreeList, at: Link, size: Size)
+    requires inside { at.number < length slots.old }
+    requires list { IsUnlisted (rings slots.old) list.old at.number }
+    requires short { length slots.old < 4294967295 }
+    ensures list { (xs : List ℕ) → IsList (rings slots.old) list.old xs → occurs at.number xs ≡ 0 → IsList (rings slots.new) list.new (at.number ∷ xs) }
+    ensures others { (xs : List ℕ) (k : ℕ) → IsList (rings slots.old) list.old xs → (k ≡ at.number → ⊥) → occurs k xs ≡ 0 → ring_at (rings slots.new) k ≡ ring_at (rings slots.old) k }
+    ensures same_nodes { nodes slots.new ≡ nodes slots.old }
+    ensures holds { Fits (sides_of size) (bounds list.new) }
+    ensures raised { Fits (bounds list.old) (bounds list.new) }
+{
+    let head = list.head;
+    let none = Link { number: NO_SLOT };
+    let ring = Ring {
+        previous: none,
+        next: head,
+    };
+    write_ring(slots, at, ring);
+    set_ring_previous(slots, head, at);
+    *list = list_with(*list, at, size);
 }

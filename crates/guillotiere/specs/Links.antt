@@ -1,0 +1,59 @@
+-- What the calls on lists of slots make of rings, lists and marks. No public clause cites this module.
+use Rattle.std.specs.Prelude.{ℕ, ◌+◌, ◌≡◌, ◌<◌, ◌==◌, Bool, false, List, ◌∷◌, length, slice_set, if◌then◌else◌}
+use Rattle.guillotiere.specs.declared.slots.Slot.{Slot}
+use Rattle.guillotiere.specs.declared.slots.Link.{Link}
+use Rattle.guillotiere.specs.declared.slots.Node.{Node}
+use Rattle.guillotiere.specs.declared.slots.Ring.{Ring}
+use Rattle.guillotiere.specs.declared.slots.NodeKind.TheVariants as kind
+use Rattle.guillotiere.specs.declared.lists.FreeList.{FreeList}
+use Rattle.guillotiere.specs.declared.geometry.Rectangle.{Rectangle}
+use Rattle.guillotiere.specs.Boxes.{Box, IsNonempty}
+use Rattle.guillotiere.specs.Pixels.{rectangle_of}
+use Rattle.guillotiere.specs.Choice.{Options}
+use Rattle.guillotiere.specs.Slots.{nodes, rings, node_at, ring_at}
+use Rattle.guillotiere.specs.Lists.{IsList, Line, AreFiled, occurs, without, front}
+
+-- slot i stands in some list
+abbrev pub IsListed : List Ring → FreeList → ℕ → Type 0
+IsListed rs list i = (xs : List ℕ) × IsList rs list xs × (0 < occurs i xs)
+
+-- slot i stands not in some list
+abbrev pub IsUnlisted : List Ring → FreeList → ℕ → Type 0
+IsUnlisted rs list i = (xs : List ℕ) × IsList rs list xs × (occurs i xs ≡ 0)
+
+-- `link` comes after slot i in its list; nothing happens where i is no slot
+abbrev pub with_next : List Ring → ℕ → Link → List Ring
+with_next rs i link = slice_set rs i (record (ring_at rs i) { next = link })
+
+-- `link` comes before slot i in its list; nothing happens where i is no slot
+abbrev pub with_ring_previous : List Ring → ℕ → Link → List Ring
+with_ring_previous rs i link = slice_set rs i (record (ring_at rs i) { previous = link })
+
+-- the mark of slot i is `mark`, and the others stay
+abbrev pub with_mark : (ℕ → Bool) → ℕ → Bool → ℕ → Bool
+with_mark loose i mark k = if k == i then mark else loose k
+
+-- the count of slot i is n, and the others stay
+abbrev pub with_count : (ℕ → ℕ) → ℕ → ℕ → ℕ → ℕ
+with_count hand i n k = if k == i then n else hand k
+
+-- slot i is gone from each list
+abbrev pub held_without : (ℕ → List ℕ) → ℕ → ℕ → List ℕ
+held_without held i k = without i (held k)
+
+-- slot i stands first in list m
+abbrev pub held_with : (ℕ → List ℕ) → (m i : ℕ) → ℕ → List ℕ
+held_with held m i k = if k == m then i ∷ held k else held k
+
+-- a rectangle with sides above 0, and no corner below 0
+pub record IsExact (r : Rectangle) : Type 0 where
+  pub box : Box
+  pub is : r ≡ rectangle_of box
+  pub nonempty : IsNonempty box
+
+-- the lists are in order, but for what is in hand or loose
+pub record HasLists (o : Options) (slots : List Slot) (lists : List FreeList) (unused : Link) (loose : ℕ → Bool) : Type 0 where
+  pub spare : List ℕ
+  pub held : ℕ → List ℕ
+  pub hand : ℕ → ℕ
+  pub filed : AreFiled o (nodes slots) (rings slots) lists unused spare held hand loose
