@@ -3,7 +3,9 @@ use Rattle.std.specs.Prelude.{ℕ, ◌+◌, ◌≡◌, ◌≤◌, ◌==◌, ◌�
 use Rattle.guillotiere.specs.declared.store.Store.{Store}
 use Rattle.guillotiere.specs.declared.slots.Node.{Node}
 use Rattle.guillotiere.specs.declared.slots.NodeKind.TheVariants as kind
-use Rattle.guillotiere.specs.Slots.{nodes, node_at}
+use Rattle.guillotiere.specs.Boxes.{side, other, box_sides}
+use Rattle.guillotiere.specs.Pixels.{box_of}
+use Rattle.guillotiere.specs.Slots.{nodes, node_at, axis_of}
 use Rattle.guillotiere.specs.Numbered.{Numbered, marked, joined, lifted, granted_at, split_at, wrapped_at}
 use Rattle.guillotiere.specs.Stored.{Shelf, Holding, Holds}
 
@@ -73,3 +75,7 @@ after_join i j h = with_spare (j ∷ h.spare) (with_loose j false (with_tree (jo
 abbrev pub after_lift : (i c : ℕ) → Holding → Holding
 after_lift i c h =
     with_spare (c ∷ h.spare) (with_loose c false (with_loose i true (with_tree (lifted i h.tree) h)))
+
+-- the side of a leaf across the sequence that holds it
+abbrev pub across_of : Node → ℕ
+across_of leaf = side (other (axis_of leaf.axis)) (box_sides (box_of leaf.area))

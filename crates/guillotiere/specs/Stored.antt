@@ -1,5 +1,5 @@
 -- What an atlas stores, and that it stands for a state. Public clauses cite `AtlasValue` and `state_of` alone.
-use Rattle.std.specs.Prelude.{ℕ, ◌≡◌, ◌≤◌, Bool, false, List, [], length}
+use Rattle.std.specs.Prelude.{ℕ, ◌≡◌, ◌+◌, ◌<◌, ◌≤◌, ◌^◌, Bool, false, List, [], length}
 use Rattle.guillotiere.specs.declared.slots.Slot.{Slot}
 use Rattle.guillotiere.specs.declared.slots.Link.{Link}
 use Rattle.guillotiere.specs.declared.lists.FreeList.{FreeList}
@@ -8,9 +8,10 @@ use Rattle.guillotiere.specs.declared.options.AllocatorOptions.{AllocatorOptions
 use Rattle.guillotiere.specs.Boxes.{other, side}
 use Rattle.guillotiere.specs.Pixels.{sides_of, size_of, options_of}
 use Rattle.guillotiere.specs.Choice.{AreValid}
+use Rattle.guillotiere.specs.Trees.{IsCut, total}
 use Rattle.guillotiere.specs.States.{State, IsSound}
 use Rattle.guillotiere.specs.Slots.{nodes, rings, no_slot}
-use Rattle.guillotiere.specs.Numbered.{Numbered, first_slot, numbers}
+use Rattle.guillotiere.specs.Numbered.{Numbered, erase, first_slot, numbers}
 use Rattle.guillotiere.specs.Standing.{Sequence, Stands}
 use Rattle.guillotiere.specs.Lists.{AreFiled, occurs}
 use Rattle.guillotiere.specs.Reading.{tree_of}

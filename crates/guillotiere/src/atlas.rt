@@ -77,9 +77,28 @@ impl<A: Allocator + Copy> AtlasAllocator<A> {
         AtlasAllocator::with_slot_limit(alloc, size, options, MOST_SLOTS)
     }
 
+    /// The same with a limit on the slots that are used at once. Asks a size that isn't empty, valid options and a limit
+    /// from 1 to 16777216.
+    pub fn with_slot_limit(
+        alloc: A,
+        size: Size,
+        options: &AllocatorOptions,
+        limit: u32,
+    ) -> Result<Self, AtlasError>
+        requires size { IsPositive (sides_of size) }
+        requires options { AreValid (options_of options.now) }
+        requires least { 1 ≤ limit }
+        requires most { limit ≤ MOST_SLOTS }
+        ensures unless { IsOkUnless result AtlasError.Memory }
+        ensures state { IfOk result (λ it. state_of it ≡ started (sides_of size) (options_of options.now) limit) }
+        ensures turns { IfOk result (λ it. it.turns ≡ 0) }
+    {
+        Err(AtlasError::Memory)
+    }
+
     /// The size of the atlas, in pixels.
     pub fn size(&self) -> Size
-        ensures { result ≡ size_of (state_of self.now).size }
+        ensures size { result ≡ size_of (state_of self.now).size }
         ensures sound { IsSound (state_of self.now) }
     {
         self.size

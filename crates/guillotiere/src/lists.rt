@@ -8,6 +8,7 @@ ghost use Rattle.guillotiere.specs.Standing.{IsSlot};
 ghost use Rattle.guillotiere.specs.Lists.{IsList, occurs, without, bounds, band_of, list_of};
 ghost use Rattle.guillotiere.specs.Links.{IsListed, IsUnlisted, with_next, with_ring_previous};
 
+use std::alloc::Allocator;
 use crate::geometry::Size;
 use crate::options::AllocatorOptions;
 use crate::slots::{Link, NO_SLOT, Ring, Slot, read_ring, write_ring};
@@ -198,4 +199,25 @@ pub fn push_front(slots: &mut [Slot], list: &mut FreeList, at: Link, size: Size)
     write_ring(slots, at, ring);
     set_ring_previous(slots, head, at);
     *list = list_with(*list, at, size);
+}
+
+/// stub
+pub fn unlist(slots: &mut [Slot], lists: &mut [FreeList; LISTS], options: &AllocatorOptions, at: Link)
+{
+}
+
+/// stub
+pub fn enlist(slots: &mut [Slot], lists: &mut [FreeList; LISTS], options: &AllocatorOptions, at: Link)
+{
+}
+
+/// stub
+pub fn take_slot<A: Allocator>(slots: &mut Vec<Slot, A>, unused: &mut Link) -> Link
+{
+    *unused
+}
+
+/// stub
+pub fn give_back(slots: &mut [Slot], unused: &mut Link, at: Link)
+{
 }

@@ -11,7 +11,8 @@ ghost use Rattle.guillotiere.specs.Reading.{extent_of};
 ghost use Rattle.guillotiere.specs.Parts.{front_part, back_part, flipped, front_node, back_node, inner_node};
 
 use crate::geometry::{Rectangle, point2};
-use crate::slots::{Link, NO_SLOT, Node, NodeKind, Orientation, Slot, read_node, write_node};
+use crate::cut::Orientation;
+use crate::slots::{Link, NO_SLOT, Node, NodeKind, Slot, read_node, write_node};
 
 /// A free leaf becomes allocated.
 pub fn grant_leaf(slots: &mut [Slot], at: Link)
@@ -106,6 +107,7 @@ pub fn split_leaf(slots: &mut [Slot], at: Link, fresh: Link, extent: i32)
     let second = Node {
         previous: at,
         area: back(leaf.area, leaf.axis, extent),
+        kind: NodeKind::Free,
         generation: unused.generation,
         ..leaf
     };
@@ -138,6 +140,7 @@ pub fn wrap_leaf(slots: &mut [Slot], at: Link, fresh: Link)
         parent: at,
         previous: none,
         next: none,
+        kind: NodeKind::Free,
         axis: across(leaf.axis),
         generation: unused.generation,
         ..leaf

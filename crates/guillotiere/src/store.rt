@@ -2,10 +2,11 @@
 ghost use Rattle.std.specs.Prelude.{◌≡◌, ◌≢◌, ◌+◌, ◌<◌, ◌≤◌, ◌↔◌, ◌⊎◌, ℕ, List, true, false, IsTrue, vec_capacity, length};
 ghost use Rattle.guillotiere.specs.declared.slots.NodeKind.TheVariants.{Alloc, Free, Container};
 ghost use Rattle.guillotiere.specs.Pixels.{natural};
-ghost use Rattle.guillotiere.specs.Slots.{KeepsUse, no_slot};
+ghost use Rattle.guillotiere.specs.Calm.{IsCalmAt, IsCalmBut};
+ghost use Rattle.guillotiere.specs.Slots.{nodes, KeepsUse, no_slot};
 ghost use Rattle.guillotiere.specs.Standing.{IsSlot};
 ghost use Rattle.guillotiere.specs.Reading.{extent_of};
-ghost use Rattle.guillotiere.specs.Parts.{front_node, back_node, inner_node, across_of};
+ghost use Rattle.guillotiere.specs.Parts.{front_node, back_node, inner_node};
 ghost use Rattle.guillotiere.specs.declared.slots.Node.{Node};
 ghost use Rattle.guillotiere.specs.Stored.{Holding, Holds};
 
@@ -28,7 +29,7 @@ pub struct Store<A: Allocator> {
 }
 
 impl<A: Allocator> Store<A> {
-    ghost use Rattle.guillotiere.specs.Holdings.{shelf_of, node_in, HasSlotsFor, IsHeld, IsLooseLeaf, KeepsRoom, with_held, with_loose, with_spare, after_grant, after_split, after_wrap, after_mark, after_join, after_lift};
+    ghost use Rattle.guillotiere.specs.Holdings.{shelf_of, node_in, across_of, HasSlotsFor, IsHeld, IsLooseLeaf, KeepsRoom, with_held, with_loose, with_spare, after_grant, after_split, after_wrap, after_mark, after_join, after_lift};
 
     /// The tree's part of a slot.
     pub fn node(&self, at: Link) -> Node
@@ -53,7 +54,7 @@ impl<A: Allocator> Store<A> {
         requires free { (node_in (shelf_of self.old) at.number).kind ≡ Free }
         ensures kept { (h : Holding) → Holds (shelf_of self.old) h → h.loose at.number ≡ false
             → (held : ℕ → List ℕ) × Holds (shelf_of self.new) (with_loose at.number true (with_held held h)) }
-        ensures nodes { (k : ℕ) → node_in (shelf_of self.new) k ≡ node_in (shelf_of self.old) k }
+        ensures nodes { nodes self.new.slots.items ≡ nodes self.old.slots.items }
         ensures room { KeepsRoom self.old self.new }
         ensures turns { self.new.turns ≡ self.old.turns }
     {
@@ -65,7 +66,7 @@ impl<A: Allocator> Store<A> {
         requires ready { (h : Holding) × IsLooseLeaf (shelf_of self.old) at.number h }
         ensures kept { (h : Holding) → IsLooseLeaf (shelf_of self.old) at.number h
             → (held : ℕ → List ℕ) × Holds (shelf_of self.new) (with_loose at.number false (with_held held h)) }
-        ensures nodes { (k : ℕ) → node_in (shelf_of self.new) k ≡ node_in (shelf_of self.old) k }
+        ensures nodes { nodes self.new.slots.items ≡ nodes self.old.slots.items }
         ensures room { KeepsRoom self.old self.new }
         ensures turns { self.new.turns ≡ self.old.turns }
     {
@@ -154,8 +155,8 @@ impl<A: Allocator> Store<A> {
         requires held { IsHeld (shelf_of self.old) }
         requires granted { (node_in (shelf_of self.old) at.number).kind ≡ Alloc }
         ensures kept { (h : Holding) → Holds (shelf_of self.old) h → Holds (shelf_of self.new) (after_mark at.number h) }
+        ensures calm { ((k : ℕ) → IsCalmAt (nodes self.old.slots.items) k) → IsCalmBut (nodes self.new.slots.items) at.number }
         ensures free { node_in (shelf_of self.new) at.number ≡ record (node_in (shelf_of self.old) at.number) { kind = Free } }
-        ensures others { (k : ℕ) → k ≢ at.number → node_in (shelf_of self.new) k ≡ node_in (shelf_of self.old) k }
         ensures room { KeepsRoom self.old self.new }
         ensures turns { self.new.turns.count ≡ self.old.turns.count + 1 }
     {
@@ -169,6 +170,8 @@ impl<A: Allocator> Store<A> {
         requires next_free { (node_in (shelf_of self.old) (node_in (shelf_of self.old) at.number).next.number).kind ≡ Free }
         ensures kept { (h : Holding) → IsLooseLeaf (shelf_of self.old) at.number h → h.loose (node_in (shelf_of self.old) at.number).next.number ≡ true
             → Holds (shelf_of self.new) (after_join at.number (node_in (shelf_of self.old) at.number).next.number h) }
+        ensures calm { (k : ℕ) → IsCalmBut (nodes self.old.slots.items) k → (k ≡ at.number) ⊎ (k ≡ (node_in (shelf_of self.old) at.number).next.number)
+            → IsCalmBut (nodes self.new.slots.items) at.number }
         ensures free { (node_in (shelf_of self.new) at.number).kind ≡ Free }
         ensures room { KeepsRoom self.old self.new }
         ensures turns { self.new.turns.count ≡ self.old.turns.count + 1 }
@@ -187,6 +190,7 @@ impl<A: Allocator> Store<A> {
         requires nested { (node_in (shelf_of self.old) child.number).parent.number ≢ no_slot }
         ensures kept { (h : Holding) → IsLooseLeaf (shelf_of self.old) child.number h
             → Holds (shelf_of self.new) (after_lift result.number child.number h) }
+        ensures calm { IsCalmBut (nodes self.old.slots.items) child.number → IsCalmBut (nodes self.new.slots.items) result.number }
         ensures parent { result ≡ (node_in (shelf_of self.old) child.number).parent }
         ensures free { (node_in (shelf_of self.new) result.number).kind ≡ Free }
         ensures room { KeepsRoom self.old self.new }
