@@ -1,4 +1,10 @@
 //! Laws over the definitions of docs/MODEL.md, each the contract of a function that does nothing.
+ghost use Rattle.std.specs.Prelude.{◌≡◌, [], ◌∷◌};
+ghost use Rattle.guillotiere.specs.Boxes.Axis.{Horizontal, Vertical};
+ghost use Rattle.guillotiere.specs.Trees.{grant};
+ghost use Rattle.guillotiere.specs.Trees.Members.{End, Free, Alloc};
+ghost use Rattle.guillotiere.specs.Changes.{fresh, only, release, grown};
+ghost use Rattle.guillotiere.specs.Examples.{Shows, sides, box, both, one_corner, other_corner, capped_corner, grown_full, grown_below, quarters, row_of_three, half_between};
 ghost use Rattle.guillotiere.specs.TreeLaws.{LeavesTile, AreasAddUp, ReleasesInAnyOrder, GrantsAreUndone, GrowthAndReleaseSwap, NothingLiveIsOneFree, PlacingsKeepTrees, ReleasesKeepTrees, GrowthsKeepTrees, FreedHasRoom, MembersAreCounted};
 
 /// In a well formed tree of cuts each unit square of the atlas lies in exactly one leaf's box, and no
@@ -60,4 +66,25 @@ pub fn freed_has_room()
 /// three; a freeing none.
 pub fn counts()
     ensures { MembersAreCounted }
+{}
+
+/// Worked examples: what the trees of `specs/Examples.antt` show, by computation.
+pub fn examples()
+    ensures one_corner { Shows (sides 100 100) one_corner (grant 3 (box 0 0 20 60) ∷ []) (box 0 60 20 100 ∷ box 20 0 100 100 ∷ []) 5 }
+    // two sequences give way, one after the other
+    ensures one_corner_freed { release (only 3) one_corner ≡ fresh (sides 100 100) }
+    ensures other_corner { Shows (sides 310 20) other_corner (grant 2 (box 0 0 300 10) ∷ []) (box 300 0 310 10 ∷ box 0 10 310 20 ∷ []) 4 }
+    ensures capped_corner { Shows (sides 200000 200000) capped_corner (grant 2 (box 0 0 50000 100000) ∷ []) (box 50000 0 200000 100000 ∷ box 0 100000 200000 200000 ∷ []) 4 }
+    ensures grown_full { Shows (sides 150 150) grown_full (grant 0 (box 0 0 100 100) ∷ []) (box 0 100 100 150 ∷ box 100 0 150 150 ∷ []) 4 }
+    // the one box runs along the other axis than in a fresh tree
+    ensures grown_full_freed { release (only 0) grown_full ≡ record { axis = Horizontal; members = Free 150 End } }
+    ensures one_box_grows { grown (sides 150 150) (sides 200 160) (release (only 0) grown_full) ≡ record { axis = Horizontal; members = Free 200 End } }
+    // the free box at the end grows, and no member is added
+    ensures grown_below { Shows (sides 100 150) grown_below (grant 0 (box 0 0 100 60) ∷ []) (box 0 60 100 150 ∷ []) 2 }
+    // free boxes of two sequences stay apart
+    ensures quarters_left { Shows (sides 100 100) (release (both 1 3) quarters) (grant 2 (box 50 0 100 50) ∷ grant 4 (box 50 50 100 100) ∷ []) (box 0 0 50 50 ∷ box 0 50 50 100 ∷ []) 6 }
+    ensures quarters_above { Shows (sides 100 100) (release (both 1 2) quarters) (grant 3 (box 0 50 50 100) ∷ grant 4 (box 50 50 100 100) ∷ []) (box 0 0 100 50 ∷ []) 4 }
+    ensures two_of_three_freed { Shows (sides 300 200) (release (only 2) (release (only 3) row_of_three)) (grant 0 (box 0 0 300 100) ∷ grant 4 (box 200 100 300 200) ∷ []) (box 0 100 200 200 ∷ []) 4 }
+    // its neighbours at both sides are free, and two sequences give way
+    ensures half_freed { release (only 5) half_between ≡ record { axis = Vertical; members = Alloc 0 100 (Free 100 End) } }
 {}
