@@ -1,7 +1,6 @@
 -- Worked examples of trees of cuts.
-use Rattle.std.specs.Prelude.{◌≡◌, ℕ, ◌==◌, Bool, ◌||◌, List, [], ◌∷◌}
+use Rattle.std.specs.Prelude.{◌≡◌, ℕ, ◌==◌, Bool, ◌||◌, List}
 use Rattle.guillotiere.specs.Boxes.{Sides, Box}
-use Rattle.guillotiere.specs.Boxes.Axis.{Horizontal}
 use Rattle.guillotiere.specs.Trees.{Tree, Grant, live, free_boxes, nodes}
 use Rattle.guillotiere.specs.Changes.{fresh, place, release, grown, only}
 
