@@ -1,3 +1,4 @@
+pub mod Rounding
 pub mod TreeNormal
 pub mod TreeTiling
 pub mod TreeLive
