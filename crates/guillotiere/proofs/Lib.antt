@@ -1,3 +1,5 @@
+pub mod BoxLists
+pub mod Counting
 pub mod Rounding
 pub mod TreeNormal
 pub mod TreeTiling

@@ -64,16 +64,19 @@ pub record IsRearranged (old : State) (list : Rearrangement) (new : State) : Typ
   pub after : IsPermutation (live_in new) (map (λ t. t.new) list.changes)
   pub sides : All (λ t. box_sides t.new.box ≡ box_sides t.old.box) list.changes
 
--- what a step does
+-- what a step does: a request without room, a refused call and a bad call change nothing
 abbrev pub Does : State → AtlasCall → AtlasReply → State → Type 0
+Does old call NoRoom new = new ≡ old
+Does old call (Refused error) new = new ≡ old
+Does old call BadCall new = new ≡ old
+Does old call (Changed list) new = IsRearranged old list new
 Does old (Allocate r) (Allocated g) new = IsGranted old r g new
 Does old (Deallocate id) Done new = IsFreed old id new
 Does old (Grow n) Done new = IsGrown old new
 Does old Clear Done new = live_in new ≡ []
 Does old (Reset n o) Done new = live_in new ≡ []
-Does old call (Changed list) new = IsRearranged old list new
--- a request without room, a refused call and a bad call change nothing
-Does old call reply new = new ≡ old
+-- no other reply comes
+Does old call reply new = ⊥
 
 -- each step does that
 abbrev pub StepsDo : Type 0
