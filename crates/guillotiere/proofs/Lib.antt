@@ -1,3 +1,6 @@
+pub mod StepKeeping
+pub mod Refitting
+pub mod Outcomes
 pub mod BoxLists
 pub mod Counting
 pub mod Rounding

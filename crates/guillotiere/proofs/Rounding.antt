@@ -2,7 +2,9 @@
 use Rattle.std.proofs.Common.{◌≡◌, ℕ, ◌+◌, ◌-◌, ◌*◌, ◌/◌, ◌%◌, ◌<◌, ◌≤◌, ap, sym, ◌∙◌, arith}
 use Rattle.std.proofs.Math.Nat.{mul-mod_left}
 use Rattle.std.proofs.lemmas.Nat.{div-mul-add, div-add-mod', mod_below}
-use Rattle.guillotiere.specs.Choice.{up}
+use Rattle.guillotiere.specs.Boxes.{Sides, IsPositive}
+use Rattle.guillotiere.specs.Choice.{Options, AreValid, up, rounded}
+use Rattle.guillotiere.specs.States.{IsAligned}
 
 pub up_least : (n a : ℕ) → 0 < a → n ≤ up n a
 up_least n a pos =
@@ -27,3 +29,18 @@ up_same n a pos h =
     let few : a - 1 < a = omega arith in
     let quotient : (n / a * a + (a - 1)) / a ≡ n / a = div-mul-add (n / a) a (a - 1) few in
     ap (λ k. (k + (a - 1)) / a * a) n_is ∙ ap (λ k. k * a) quotient ∙ sym n_is
+
+pub up_positive : (n a : ℕ) → 0 < n → 0 < a → 0 < up n a
+up_positive n a pos step = let least : n ≤ up n a = up_least n a step in omega arith
+
+-- both sides at once
+
+pub rounded_positive : (o : Options) (s : Sides) → AreValid o → IsPositive s → IsPositive (rounded o s)
+rounded_positive o s valid pos = (up_positive s.width o.alignment.width pos.0 valid.0.0, up_positive s.height o.alignment.height pos.1 valid.0.1)
+
+pub rounded_aligned : (o : Options) (s : Sides) → IsAligned o (rounded o s)
+rounded_aligned o s = (up_multiple s.width o.alignment.width, up_multiple s.height o.alignment.height)
+
+pub rounded_same : (o : Options) (s : Sides) → AreValid o → IsAligned o s → rounded o s ≡ s
+rounded_same o s valid aligned =
+    λ i. record { width = up_same s.width o.alignment.width valid.0.0 aligned.0 i; height = up_same s.height o.alignment.height valid.0.1 aligned.1 i }
