@@ -8,11 +8,9 @@ use Rattle.guillotiere.specs.Boxes.{Axis, Position, Sides, Box, other, side, mov
 use Rattle.guillotiere.specs.Trees.{Members, Tree, Leaf, Grant, leaves, tree_leaves, granted, ungranted, live, free_boxes, ids, slot_count, IsWellFormed, IsNormal}
 use Rattle.guillotiere.specs.Trees.Members.{End, Free, Alloc, Seq}
 use Rattle.guillotiere.proofs.Counting.{count_by-weaker, count_by-cons}
-use Rattle.guillotiere.proofs.TreeTiling.{areas_add_up, squares_once, boxes_within, squares_of_leaves}
-use Rattle.guillotiere.proofs.TreeLive.{live_among, live_among-seq}
-use Rattle.guillotiere.proofs.TreeUndone.{same_box-true}
-use Rattle.guillotiere.proofs.TreeIdle.{nothing_live}
-use Rattle.guillotiere.proofs.TreeGrowth.{one_free_box}
+use Rattle.guillotiere.proofs.TreeTiling.{areas_add_up, squares_once, boxes_within}
+use Rattle.guillotiere.proofs.TreeIds.{ids-live}
+use Rattle.guillotiere.proofs.TreeBasics.{same_box-true, same_box-itself}
 
 -- the boxes of grants, and free boxes
 abbrev pub all_boxes : Sides → Tree → List Box
@@ -85,30 +83,13 @@ free_once size t well x y in_x in_y =
           = sum_by-append (λ b. cond (covers x y b) 1 0) (map (λ (g : Grant). g.box) (live size t)) (free_boxes size t) in
     omega arith
 
--- the ids of what is live are the ids of the allocated leaves
-map_append : {A B : Type 0} (f : A → B) (xs ys : List A) → map f (xs ++ ys) ≡ map f xs ++ map f ys
-map_append f [] ys = refl
-map_append f (x ∷ xs) ys = ap (λ k. f x ∷ k) (map_append f xs ys)
-
-ids_among : (axis : Axis) (o : Position) (across : ℕ) (m : Members) → map (λ (g : Grant). g.id) (live_among axis o across m) ≡ ids m
-ids_among axis o across End = refl
-ids_among axis o across (Free e rest) = ids_among axis (moved axis o e) across rest
-ids_among axis o across (Alloc id e rest) = ap (λ k. id ∷ k) (ids_among axis (moved axis o e) across rest)
-ids_among axis o across (Seq e inner rest) =
-    ap (map (λ (g : Grant). g.id)) (live_among-seq axis o across e inner rest)
-    ∙ map_append (λ (g : Grant). g.id) (live_among (other axis) o e inner) (live_among axis (moved axis o e) across rest)
-    ∙ ap₂ ◌++◌ (ids_among (other axis) o e inner) (ids_among axis (moved axis o e) across rest)
-
-pub ids_of_live : (size : Sides) (t : Tree) → map (λ g. g.id) (live size t) ≡ ids t.members
-ids_of_live size t = ids_among t.axis origin (side (other t.axis) size) t.members
-
 count_mapped : (p : ℕ → Bool) (gs : List Grant) → count_by (λ (g : Grant). p g.id) gs ≡ count_by p (map (λ (g : Grant). g.id) gs)
 count_mapped p [] = refl
 count_mapped p (g ∷ gs) = count_by-cons (λ (k : Grant). p k.id) g gs ∙ ap (λ k. cond (p g.id) 1 0 + k) (count_mapped p gs) ∙ sym (count_by-cons p g.id (map (λ (k : Grant). k.id) gs))
 
 -- how often a live id passes a test
 pub count_live : (p : ℕ → Bool) (size : Sides) (t : Tree) → count_by (λ g. p g.id) (live size t) ≡ count_by p (ids t.members)
-count_live p size t = count_mapped p (live size t) ∙ ap (count_by p) (ids_of_live size t)
+count_live p size t = count_mapped p (live size t) ∙ ap (count_by p) (ids-live size t)
 
 same_slot : (id k : ℕ) → (k == id) ≡ true → (k % 2 ^ 24 == id % 2 ^ 24) ≡ true
 same_slot id k h = eq-eqb _ _ (ap (λ j. j % 2 ^ 24) (eqb-true k id h))
@@ -119,13 +100,6 @@ live_few id size t =
     let few : count_by (λ k. k == id) (ids t.members) ≤ slot_count id (ids t.members) = count_by-weaker (λ k. k == id) (λ k. k % 2 ^ 24 == id % 2 ^ 24) (same_slot id) (ids t.members) in
     rw (count_live (λ k. k == id) size t) few
 
--- with nothing live the whole box is free
-none_mapped : (gs : List Grant) → gs ≡ [] → map (λ (g : Grant). g.id) gs ≡ []
-none_mapped gs h = ap (map (λ (g : Grant). g.id)) h
-
-pub free_alone : (size : Sides) (t : Tree) → IsWellFormed size t → IsNormal t.members → live size t ≡ [] → free_boxes size t ≡ whole_box size ∷ []
-free_alone size t well normal none = one_free_box size t (nothing_live size t well normal (sym (ids_of_live size t) ∙ none_mapped (live size t) none))
-
 -- grants can be told apart
 abbrev pub same_grant : Grant → Grant → Bool
 same_grant g h = cond (g.id == h.id) (same_box g.box h.box) false
@@ -133,7 +107,7 @@ same_grant g h = cond (g.id == h.id) (same_box g.box h.box) false
 pub same_grant-itself : (g : Grant) → same_grant g g ≡ true
 same_grant-itself g =
     rw (eq-eqb g.id g.id refl)
-    (and_from _ _ (and_from _ _ (eq-eqb g.box.min.x g.box.min.x refl) (eq-eqb g.box.min.y g.box.min.y refl)) (and_from _ _ (eq-eqb g.box.max.x g.box.max.x refl) (eq-eqb g.box.max.y g.box.max.y refl)))
+    (same_box-itself g.box)
 
 pub same_grant-true : (g h : Grant) → same_grant g h ≡ true → g ≡ h
 same_grant-true g h is = by_test (g.id == h.id) refl is

@@ -4,7 +4,10 @@ pub mod Outcomes
 pub mod BoxLists
 pub mod Counting
 pub mod Rounding
+pub mod TreeBasics
+pub mod TreeIds
 pub mod TreeNormal
+pub mod TreeReleases
 pub mod TreeTiling
 pub mod TreeLive
 pub mod TreeUndone
@@ -13,3 +16,4 @@ pub mod TreePlacing
 pub mod TreeKept
 pub mod TreeGrowth
 pub mod TreeRoom
+pub mod TreeCounts

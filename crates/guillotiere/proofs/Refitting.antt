@@ -9,10 +9,12 @@ use Rattle.guillotiere.specs.Trees.{Tree, Grant, grant, live, free_boxes, ids, s
 use Rattle.guillotiere.specs.Changes.{place}
 use Rattle.guillotiere.specs.States.{IsAligned}
 use Rattle.guillotiere.specs.Refits.{Transfer, Rearrangement, no_changes, with_change, with_failure, refit_sides, refit_nodes, CanRefit, CannotRefit, Refits}
-use Rattle.guillotiere.proofs.Counting.{one_if, count_by-cons, permuted_from_counts}
+use Rattle.guillotiere.proofs.Counting.{count_by-cons, permuted_from_counts}
 use Rattle.guillotiere.proofs.BoxLists.{same_grant, same_grant-itself, same_grant-true}
 use Rattle.guillotiere.proofs.Rounding.{rounded_positive, rounded_aligned, rounded_same}
-use Rattle.guillotiere.proofs.TreePlacing.{place_well_formed, place_normal, place_live, place_nodes}
+use Rattle.guillotiere.proofs.TreeBasics.{one_if}
+use Rattle.guillotiere.proofs.TreePlacing.{place_well_formed, place_normal, place_live}
+use Rattle.guillotiere.proofs.TreeCounts.{place_nodes}
 
 pub sides_at : (o : Position) (s : Sides) → box_sides (box_at o s) ≡ s
 sides_at o s =

@@ -17,13 +17,11 @@ use Rattle.guillotiere.proofs.BoxLists.{live_in_place}
 use Rattle.guillotiere.proofs.Rounding.{rounded_positive}
 use Rattle.guillotiere.proofs.Refitting.{HasAlignedBox, IsMovable, IsRefitted, refitted, place_aligned}
 use Rattle.guillotiere.proofs.Outcomes.{by_outcome}
-use Rattle.guillotiere.proofs.TreePlacing.{place_well_formed, place_normal, place_nodes}
-use Rattle.guillotiere.proofs.TreeKept.{release_well_formed, release_normal, release_nodes, grown_kept, grow_nodes}
+use Rattle.guillotiere.proofs.TreeBasics.{side_positive}
+use Rattle.guillotiere.proofs.TreePlacing.{place_well_formed, place_normal}
+use Rattle.guillotiere.proofs.TreeKept.{release_well_formed, release_normal, grown_kept}
+use Rattle.guillotiere.proofs.TreeCounts.{place_nodes, grow_nodes, release_nodes}
 use Rattle.guillotiere.proofs.TreeLive.{live_release, live_grown}
-
-side_positive : (axis : Axis) (size : Sides) → IsPositive size → 0 < side axis size
-side_positive Horizontal size h = h.0
-side_positive Vertical size h = h.1
 
 some_nodes : (m : Members) → 0 < total m → 1 ≤ nodes m
 some_nodes End h = absurd (omega arith)
@@ -85,7 +83,7 @@ freeing_sound s set sound =
 pub growth_sound : (s : State) (n : Sides) → IsSound s → Fits s.size n → nodes_grown s n ≤ s.limit → IsSound (after_growth s n)
 growth_sound s n sound fit room =
     let kept : IsWellFormed n (grown s.size n s.tree) × IsNormal (grown s.size n s.tree).members = grown_kept s.size n s.tree sound.well_formed sound.normal fit in
-    let count : nodes (grown s.size n s.tree).members ≡ nodes_grown s n = (grow_nodes s.size n s.tree).0 in
+    let count : nodes (grown s.size n s.tree).members ≡ nodes_grown s n = grow_nodes s.size n s.tree in
     record {
       well_formed = kept.0;
       normal = kept.1;

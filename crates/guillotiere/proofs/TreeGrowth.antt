@@ -1,11 +1,12 @@
 -- A growth before or after a freeing.
 use Rattle.std.proofs.Common.{◌≡◌, ℕ, ◌+◌, ◌-◌, ◌<◌, ◌≤◌, Bool, true, false, cond, ltb, [], ◌∷◌, refl, ap, subst, sym, ◌∙◌, arith}
 use Rattle.std.proofs.lemmas.Bool.{ltb-false, true≢false, false≢true}
-use Rattle.guillotiere.specs.Boxes.{Axis, Sides, other, side, sized, box_at, origin, Fits, IsPositive}
+use Rattle.guillotiere.specs.Boxes.{Axis, Sides, other, side, whole_box, sized, box_at, origin, Fits, IsPositive}
 use Rattle.guillotiere.specs.Boxes.Axis.{Horizontal, Vertical}
 use Rattle.guillotiere.specs.Trees.{Members, Tree, total, is_one_free, IsOneFree, IsWellFormed, free_boxes}
 use Rattle.guillotiere.specs.Trees.Members.{End, Free, Alloc, Seq}
 use Rattle.guillotiere.specs.Changes.{free_before, seq_before, nf, mark, release, lengthened, lengthened_to, widened, grown_members, grown}
+use Rattle.guillotiere.proofs.TreeBasics.{side_positive, longer_side, whole_box-sized}
 
 lengthened-free_before : (d e : ℕ) (m : Members) → free_before e (lengthened d m) ≡ lengthened d (free_before e m)
 lengthened-free_before d e End = refl
@@ -165,10 +166,6 @@ widened-free old new axis m s wide is = by_test (ltb u n) refl
     by_test true lt = rw is (ap (λ k. Free k End) (omega arith))
     by_test false ge = is
 
-sides : (axis : Axis) (old new : Sides) → Fits old new → side axis old ≤ side axis new
-sides Horizontal old new h = h.0
-sides Vertical old new h = h.1
-
 released_free : (old new : Sides) (axis : Axis) (m : Members) (s : ℕ → Bool) → total m ≡ side axis old → Fits old new → is_one_free (nf (mark s m)) ≡ true
     → IsOneFree new (release s (grown_members old new axis m))
 released_free old new axis m s along fit after = by_test (is_one_free m) refl
@@ -180,18 +177,14 @@ released_free old new axis m s along fit after = by_test (is_one_free m) refl
     by_test true is = rw (one_free m is) refl
     by_test false is =
         subst (λ k. IsOneFree new (release s k)) (sym (grown-other old new axis m is))
-        (widened-free old new axis (lengthened_to (side axis old) (side axis new) m) s (sides (other axis) old new fit)
-        (nf_mark_lengthened_to s (side axis old) (side axis new) m ∙ ap (lengthened_to (side axis old) (side axis new)) left ∙ free_to (side axis old) (side axis new) (sides axis old new fit)))
-
-positive : (axis : Axis) (size : Sides) → IsPositive size → 0 < side axis size
-positive Horizontal size h = h.0
-positive Vertical size h = h.1
+        (widened-free old new axis (lengthened_to (side axis old) (side axis new) m) s (longer_side (other axis) old new fit)
+        (nf_mark_lengthened_to s (side axis old) (side axis new) m ∙ ap (lengthened_to (side axis old) (side axis new)) left ∙ free_to (side axis old) (side axis new) (longer_side axis old new fit)))
 
 -- a growth may come before or after a freeing
 pub growth_released : (old new : Sides) (t : Tree) (s : ℕ → Bool) → IsWellFormed old t → Fits old new → is_one_free (release s t).members ≡ false
     → release s (grown old new t) ≡ grown old new (release s t)
 growth_released old new t s well fit after =
-    released_other old new t.axis t.members s (subst (λ k. 0 < k) (sym well.along) (positive t.axis old well.nonempty)) (before (is_one_free t.members) refl) after
+    released_other old new t.axis t.members s (subst (λ k. 0 < k) (sym well.along) (side_positive t.axis old well.nonempty)) (before (is_one_free t.members) refl) after
   where
     before : (x : Bool) → is_one_free t.members ≡ x → is_one_free t.members ≡ false
     before true is = absurd (true≢false (sym (ap (λ m. is_one_free (nf (mark s m))) (one_free t.members is)) ∙ after))
@@ -204,10 +197,5 @@ growth_released_free old new t s well fit after = (
   rw (one_free (release s t).members after) refl,
 )
 
--- the one free leaf has the whole size for its box
-whole_box : (axis : Axis) (size : Sides) → box_at origin (sized axis (side axis size) (side (other axis) size)) ≡ box_at origin size
-whole_box Horizontal size = refl
-whole_box Vertical size = refl
-
-pub one_free_box : (size : Sides) (t : Tree) → IsOneFree size t → free_boxes size t ≡ box_at origin size ∷ []
-one_free_box size t is = ap (λ m. free_boxes size (record { axis = t.axis; members = m })) is ∙ ap (λ b. b ∷ []) (whole_box t.axis size)
+pub one_free_box : (size : Sides) (t : Tree) → IsOneFree size t → free_boxes size t ≡ whole_box size ∷ []
+one_free_box size t is = ap (λ m. free_boxes size (record { axis = t.axis; members = m })) is ∙ ap (λ b. b ∷ []) (whole_box-sized t.axis size)

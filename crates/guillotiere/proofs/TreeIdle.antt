@@ -1,10 +1,12 @@
 -- A tree with nothing live is one free leaf.
-use Rattle.std.proofs.Common.{◌≡◌, ℕ, ◌<◌, true, false, List, [], ◌∷◌, ◌++◌, refl, ap, sym, ◌∙◌, arith}
+use Rattle.std.proofs.Common.{◌≡◌, ℕ, ◌<◌, true, false, List, [], ◌∷◌, ◌++◌, map, refl, ap, subst, sym, ◌∙◌, arith}
 use Rattle.std.proofs.lemmas.Bool.{true≢false, false≢true}
-use Rattle.guillotiere.specs.Boxes.{Axis, Sides, side}
-use Rattle.guillotiere.specs.Boxes.Axis.{Horizontal, Vertical}
-use Rattle.guillotiere.specs.Trees.{Members, Tree, ids, total, is_idle, begins_free, IsNormal, IsWellFormed, IsOneFree}
+use Rattle.guillotiere.specs.Boxes.{Sides, whole_box}
+use Rattle.guillotiere.specs.Trees.{Members, Tree, Grant, ids, live, free_boxes, total, is_idle, begins_free, IsNormal, IsWellFormed, IsOneFree}
 use Rattle.guillotiere.specs.Trees.Members.{End, Free, Alloc, Seq}
+use Rattle.guillotiere.proofs.TreeBasics.{side_positive}
+use Rattle.guillotiere.proofs.TreeGrowth.{one_free_box}
+use Rattle.guillotiere.proofs.TreeIds.{ids-live}
 
 none_of : (xs ys : List ℕ) → xs ++ ys ≡ [] → (xs ≡ []) × (ys ≡ [])
 none_of [] ys h = (refl, h)
@@ -32,13 +34,11 @@ one_free (Free e (Seq j inner k)) h pos = absurd (false≢true h)
 one_free (Alloc id j k) h pos = absurd (false≢true h)
 one_free (Seq j inner k) h pos = absurd (false≢true h)
 
-pub nothing_live : (size : Sides) (t : Tree) → IsWellFormed size t → IsNormal t.members → ids t.members ≡ [] → IsOneFree size t
+pub no_ids : (size : Sides) (t : Tree) → IsWellFormed size t → IsNormal t.members → ids t.members ≡ [] → IsOneFree size t
+no_ids size t well normal none =
+    one_free t.members (idle t.members normal none) (subst (λ k. 0 < k) (sym well.along) (side_positive t.axis size well.nonempty)) ∙ ap (λ k. Free k End) well.along
+
+pub nothing_live : (size : Sides) (t : Tree) → IsWellFormed size t → IsNormal t.members → live size t ≡ [] → IsOneFree size t × (free_boxes size t ≡ whole_box size ∷ [])
 nothing_live size t well normal none =
-    one_free t.members (idle t.members normal none) (positive t.axis) ∙ ap (λ k. Free k End) well.along
-  where
-    positive : (axis : Axis) → 0 < total t.members
-    positive axis = let pos : 0 < side t.axis size = side_positive t.axis in omega (arith, well.along)
-      where
-        side_positive : (a : Axis) → 0 < side a size
-        side_positive Horizontal = well.nonempty.0
-        side_positive Vertical = well.nonempty.1
+    let one : IsOneFree size t = no_ids size t well normal (sym (ids-live size t) ∙ ap (map (λ (g : Grant). g.id)) none) in
+    (one, one_free_box size t one)

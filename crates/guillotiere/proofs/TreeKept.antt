@@ -9,10 +9,10 @@ use Rattle.guillotiere.specs.Boxes.Axis.{Horizontal, Vertical}
 use Rattle.guillotiere.specs.Trees.{slot_count, Members, Tree, ids, total, nodes, IsCut, IsWellFormed, is_idle, IsNormal}
 use Rattle.guillotiere.specs.Trees.Members.{End, Free, Alloc, Seq}
 use Rattle.guillotiere.specs.Changes.{free_before, seq_before, nf, mark, release, lengthened, lengthened_to, widened, grown_members, grown, grow_need}
+use Rattle.guillotiere.proofs.TreeBasics.{one_if, other_twice, side_positive, longer_side}
 use Rattle.guillotiere.proofs.TreeGrowth.{total-nf, total-mark}
-
-abbrev one_if : Bool → ℕ
-one_if b = cond b 1 0
+use Rattle.guillotiere.specs.TreeLaws.{IsReleased}
+use Rattle.guillotiere.proofs.TreeLive.{live_release}
 
 -- the normal form is normal, where no sequence is empty
 
@@ -90,10 +90,6 @@ ids-mark p s (Seq e inner rest) =
     subst₂ (λ j k. j ≤ k) (sym (sum_by-append (λ k. one_if (p k)) (ids (mark s inner)) (ids (mark s rest)))) (sym (sum_by-append (λ k. one_if (p k)) (ids inner) (ids rest)))
     (let both : count_by p (ids (mark s inner)) + count_by p (ids (mark s rest)) ≤ count_by p (ids inner) + count_by p (ids rest) = omega arith in both)
 
-positive : (axis : Axis) (size : Sides) → IsPositive size → 0 < side axis size
-positive Horizontal size h = h.0
-positive Vertical size h = h.1
-
 pub release_well_formed : (size : Sides) (s : ℕ → Bool) (t : Tree) → IsWellFormed size t → IsWellFormed size (release s t)
 release_well_formed size s t well = record {
   nonempty = well.nonempty;
@@ -106,7 +102,10 @@ release_well_formed size s t well = record {
 }
 
 pub release_normal : (size : Sides) (s : ℕ → Bool) (t : Tree) → IsWellFormed size t → IsNormal (release s t).members
-release_normal size s t well = normal-nf (side (other t.axis) size) (mark s t.members) (positive (other t.axis) size well.nonempty) (cut-mark s _ t.members well.cut)
+release_normal size s t well = normal-nf (side (other t.axis) size) (mark s t.members) (side_positive (other t.axis) size well.nonempty) (cut-mark s _ t.members well.cut)
+
+pub release_keeps : (size : Sides) (s : ℕ → Bool) (t : Tree) → IsWellFormed size t → IsReleased size s t
+release_keeps size s t well = record { well_formed = release_well_formed size s t well; normal = release_normal size s t well; live = live_release size s t }
 
 -- growth
 
@@ -145,15 +144,6 @@ normal-lengthened d (Free e (Alloc id k rest)) n = (refl, normal-lengthened d (A
 normal-lengthened d (Free e (Seq k inner rest)) n = (refl, normal-lengthened d (Seq k inner rest) n.1)
 normal-lengthened d (Alloc id e rest) n = normal-lengthened d rest n
 normal-lengthened d (Seq e inner rest) n = (n.0, n.1, normal-lengthened d rest n.2)
-
-nodes-lengthened : (d : ℕ) (m : Members) → (nodes m ≤ nodes (lengthened d m)) × (nodes (lengthened d m) ≤ nodes m + 1)
-nodes-lengthened d End = (omega arith, omega arith)
-nodes-lengthened d (Free e End) = (omega arith, omega arith)
-nodes-lengthened d (Free e (Free k rest)) = let h : (nodes (Free k rest) ≤ nodes (lengthened d (Free k rest))) × (nodes (lengthened d (Free k rest)) ≤ nodes (Free k rest) + 1) = nodes-lengthened d (Free k rest) in (omega (arith, h.0), omega (arith, h.1))
-nodes-lengthened d (Free e (Alloc id k rest)) = let h : (nodes (Alloc id k rest) ≤ nodes (lengthened d (Alloc id k rest))) × (nodes (lengthened d (Alloc id k rest)) ≤ nodes (Alloc id k rest) + 1) = nodes-lengthened d (Alloc id k rest) in (omega (arith, h.0), omega (arith, h.1))
-nodes-lengthened d (Free e (Seq k inner rest)) = let h : (nodes (Seq k inner rest) ≤ nodes (lengthened d (Seq k inner rest))) × (nodes (lengthened d (Seq k inner rest)) ≤ nodes (Seq k inner rest) + 1) = nodes-lengthened d (Seq k inner rest) in (omega (arith, h.0), omega (arith, h.1))
-nodes-lengthened d (Alloc id e rest) = let h : (nodes rest ≤ nodes (lengthened d rest)) × (nodes (lengthened d rest) ≤ nodes rest + 1) = nodes-lengthened d rest in (omega (arith, h.0), omega (arith, h.1))
-nodes-lengthened d (Seq e inner rest) = let h : (nodes rest ≤ nodes (lengthened d rest)) × (nodes (lengthened d rest) ≤ nodes rest + 1) = nodes-lengthened d rest in (omega (arith, h.0), omega (arith, h.1))
 
 -- what is kept when members that are not idle are lengthened to a new side
 record Kept (across b : ℕ) (m : Members) : Type 0 where
@@ -195,10 +185,6 @@ record KeptTree (size : Sides) (t : Tree) : Type 0 where
   pub cut : IsCut (side (other t.axis) size) t.members
   pub normal : IsNormal t.members
 
-other_twice : (axis : Axis) → axis ≡ other (other axis)
-other_twice Horizontal = refl
-other_twice Vertical = refl
-
 kept-widened : (old new : Sides) (axis : Axis) (m : Members) → IsPositive old → side (other axis) old ≤ side (other axis) new → Kept (side (other axis) old) (side axis new) m
     → KeptTree new (widened (side (other axis) old) (side (other axis) new) axis m)
 kept-widened old new axis m pos le k = by_test (ltb u n) refl
@@ -214,7 +200,7 @@ kept-widened old new axis m pos le k = by_test (ltb u n) refl
         let lt : u < n = ltb-true u n is in
         record {
           sum = let back : u + (n - u + 0) ≡ n = omega arith in back;
-          cut = (positive (other axis) old pos, k.sum ∙ ap (λ a. side a new) (other_twice axis), k.cut, (let d : 0 < n - u = omega arith in d, tt));
+          cut = (side_positive (other axis) old pos, k.sum ∙ ap (λ a. side a new) (sym (other_twice axis)), k.cut, (let d : 0 < n - u = omega arith in d, tt));
           normal = (k.busy, k.normal, (refl, tt));
         }
     by_test false is =
@@ -222,19 +208,15 @@ kept-widened old new axis m pos le k = by_test (ltb u n) refl
         let same : u ≡ n = omega arith in
         record { sum = k.sum; cut = subst (λ j. IsCut j m) same k.cut; normal = k.normal }
 
-sides : (axis : Axis) (old new : Sides) → Fits old new → side axis old ≤ side axis new
-sides Horizontal old new h = h.0
-sides Vertical old new h = h.1
-
 longer_positive : (old new : Sides) → IsPositive old → Fits old new → IsPositive new
 longer_positive old new p f = (omega (arith, p.0, f.0), omega (arith, p.1, f.1))
 
 kept-grown : (old new : Sides) (axis : Axis) (m : Members) → IsPositive old → Fits old new → total m ≡ side axis old → IsCut (side (other axis) old) m → IsNormal m → KeptTree new (grown_members old new axis m)
-kept-grown old new axis End pos fit sum cut normal = absurd (let p : 0 < side axis old = positive axis old pos in omega arith)
-kept-grown old new axis (Free e End) pos fit sum cut normal = record { sum = omega arith; cut = (positive axis new (longer_positive old new pos fit), tt); normal = (refl, tt) }
+kept-grown old new axis End pos fit sum cut normal = absurd (let p : 0 < side axis old = side_positive axis old pos in omega arith)
+kept-grown old new axis (Free e End) pos fit sum cut normal = record { sum = omega arith; cut = (side_positive axis new (longer_positive old new pos fit), tt); normal = (refl, tt) }
 kept-grown old new axis m pos fit sum cut normal =
-    kept-widened old new axis (lengthened_to (side axis old) (side axis new) m) pos (sides (other axis) old new fit)
-    (kept-lengthened_to (side (other axis) old) (side axis old) (side axis new) m (sides axis old new fit) (record { sum = sum; cut = cut; normal = normal; busy = refl }))
+    kept-widened old new axis (lengthened_to (side axis old) (side axis new) m) pos (longer_side (other axis) old new fit)
+    (kept-lengthened_to (side (other axis) old) (side axis old) (side axis new) m (longer_side axis old new fit) (record { sum = sum; cut = cut; normal = normal; busy = refl }))
 
 ids-widened : (u n : ℕ) (axis : Axis) (m : Members) → ids (widened u n axis m).members ≡ ids m
 ids-widened u n axis m = by_test (ltb u n)
@@ -265,72 +247,3 @@ grown_kept old new t well normal fit =
       },
       kept.normal,
     )
-
--- counts of nodes
-
-nodes-lengthened_to : (a b : ℕ) (m : Members) → (nodes m ≤ nodes (lengthened_to a b m)) × (nodes (lengthened_to a b m) ≤ nodes m + 1)
-nodes-lengthened_to a b m = by_test (ltb a b)
-  where
-    by_test : (x : Bool) → (nodes m ≤ nodes (cond x (lengthened (b - a) m) m)) × (nodes (cond x (lengthened (b - a) m) m) ≤ nodes m + 1)
-    by_test true = nodes-lengthened (b - a) m
-    by_test false = (omega arith, omega arith)
-
-nodes-widened : (u n : ℕ) (axis : Axis) (m : Members) → (nodes m ≤ nodes (widened u n axis m).members) × (nodes (widened u n axis m).members ≤ nodes m + 2)
-nodes-widened u n axis m = by_test (ltb u n)
-  where
-    grows : Bool → Tree
-    grows x = cond x (record { axis = other axis; members = Seq u m (Free (n - u) End) }) (record { axis = axis; members = m })
-
-    by_test : (x : Bool) → (nodes m ≤ nodes (grows x).members) × (nodes (grows x).members ≤ nodes m + 2)
-    by_test true = (omega arith, omega arith)
-    by_test false = (omega arith, omega arith)
-
-nodes-grown : (old new : Sides) (axis : Axis) (m : Members) → (nodes m ≤ nodes (grown_members old new axis m).members) × (nodes (grown_members old new axis m).members ≤ nodes m + 3)
-nodes-grown old new axis (Free e End) = (omega arith, omega arith)
-nodes-grown old new axis m = joined (nodes-widened (side (other axis) old) (side (other axis) new) axis (lengthened_to (side axis old) (side axis new) m)) (nodes-lengthened_to (side axis old) (side axis new) m)
-  where
-    joined : {a b c : ℕ} → (b ≤ c) × (c ≤ b + 2) → (a ≤ b) × (b ≤ a + 1) → (a ≤ c) × (c ≤ a + 3)
-    joined p q = (omega arith, omega arith)
-
--- a growth adds at most three nodes
-pub grow_nodes : (old new : Sides) (t : Tree) → (nodes (grown old new t).members ≡ nodes t.members + grow_need old new t) × (grow_need old new t ≤ 3)
-grow_nodes old new t =
-    let h : (nodes t.members ≤ nodes (grown old new t).members) × (nodes (grown old new t).members ≤ nodes t.members + 3) = nodes-grown old new t.axis t.members in
-    back _ _ h
-  where
-    back : (a b : ℕ) → (a ≤ b) × (b ≤ a + 3) → (b ≡ a + (b - a)) × (b - a ≤ 3)
-    back a b h = (omega arith, omega arith)
-
-nodes-free_before : (e : ℕ) (m : Members) → nodes (free_before e m) ≤ 1 + nodes m
-nodes-free_before e (Free k rest) = omega arith
-nodes-free_before e End = omega arith
-nodes-free_before e (Alloc id k rest) = omega arith
-nodes-free_before e (Seq k inner rest) = omega arith
-
-nodes-seq_before : (e : ℕ) (inner m : Members) → nodes (seq_before e inner m) ≤ 1 + nodes inner + nodes m
-nodes-seq_before e (Free k End) m = let h : nodes (free_before e m) ≤ 1 + nodes m = nodes-free_before e m in omega arith
-nodes-seq_before e inner m = omega arith
-
-nodes-nf : (m : Members) → nodes (nf m) ≤ nodes m
-nodes-nf End = omega arith
-nodes-nf (Free e rest) = let h : nodes (free_before e (nf rest)) ≤ 1 + nodes (nf rest) = nodes-free_before e (nf rest) in let k : nodes (nf rest) ≤ nodes rest = nodes-nf rest in omega arith
-nodes-nf (Alloc id e rest) = let k : nodes (nf rest) ≤ nodes rest = nodes-nf rest in omega arith
-nodes-nf (Seq e inner rest) =
-    let h : nodes (seq_before e (nf inner) (nf rest)) ≤ 1 + nodes (nf inner) + nodes (nf rest) = nodes-seq_before e (nf inner) (nf rest) in
-    let i : nodes (nf inner) ≤ nodes inner = nodes-nf inner in
-    let k : nodes (nf rest) ≤ nodes rest = nodes-nf rest in
-    omega arith
-
-nodes-mark : (s : ℕ → Bool) (m : Members) → nodes (mark s m) ≡ nodes m
-nodes-mark s End = refl
-nodes-mark s (Free e rest) = ap (λ k. 1 + k) (nodes-mark s rest)
-nodes-mark s (Alloc id e rest) = by_test (s id) (nodes-mark s rest)
-  where
-    by_test : (b : Bool) → nodes (mark s rest) ≡ nodes rest → nodes (cond b (Free e (mark s rest)) (Alloc id e (mark s rest))) ≡ 1 + nodes rest
-    by_test true h = ap (λ k. 1 + k) h
-    by_test false h = ap (λ k. 1 + k) h
-nodes-mark s (Seq e inner rest) = ap₂ (λ i k. 1 + i + k) (nodes-mark s inner) (nodes-mark s rest)
-
--- a freeing adds no node
-pub release_nodes : (s : ℕ → Bool) (t : Tree) → nodes (release s t).members ≤ nodes t.members
-release_nodes s t = subst (λ k. nodes (nf (mark s t.members)) ≤ k) (nodes-mark s t.members) (nodes-nf (mark s t.members))

@@ -9,20 +9,7 @@ use Rattle.guillotiere.specs.Boxes.Axis.{Horizontal, Vertical}
 use Rattle.guillotiere.specs.Trees.{Grant, grant, Members, Tree, Leaf, leaves, grant_at, granted, live}
 use Rattle.guillotiere.specs.Trees.Members.{End, Free, Alloc, Seq}
 use Rattle.guillotiere.specs.Changes.{free_before, seq_before, nf, mark, release, lengthened, lengthened_to, widened, grown_members, grown}
-
--- what is live in members
-abbrev pub live_among : Axis → Position → ℕ → Members → List Grant
-live_among axis o across m = granted (leaves axis o across m)
-
-granted-append : (xs ys : List Leaf) → granted (xs ++ ys) ≡ granted xs ++ granted ys
-granted-append xs ys = filter_map-append (λ (l : Leaf). grant_at l.owner l.box) xs ys
-
-pub live_among-seq : (axis : Axis) (o : Position) (across e : ℕ) (inner rest : Members) → live_among axis o across (Seq e inner rest) ≡ live_among (other axis) o e inner ++ live_among axis (moved axis o e) across rest
-live_among-seq axis o across e inner rest = granted-append (leaves (other axis) o e inner) (leaves axis (moved axis o e) across rest)
-
-pub moved-twice : (axis : Axis) (o : Position) (a b : ℕ) → moved axis (moved axis o a) b ≡ moved axis o (a + b)
-moved-twice Horizontal o a b = let e : o.x + a + b ≡ o.x + (a + b) = omega arith in λ i. record { x = e i; y = o.y }
-moved-twice Vertical o a b = let e : o.y + a + b ≡ o.y + (a + b) = omega arith in λ i. record { x = o.x; y = e i }
+use Rattle.guillotiere.proofs.TreeBasics.{other_twice, longer_side, moved-twice, live_among, live_among-seq}
 
 live-free_before : (axis : Axis) (o : Position) (across e : ℕ) (m : Members) → live_among axis o across (free_before e m) ≡ live_among axis (moved axis o e) across m
 live-free_before axis o across e (Free k rest) = ap (λ p. live_among axis p across rest) (sym (moved-twice axis o e k))
@@ -84,10 +71,6 @@ live-lengthened_to a b axis o across m = by_test (ltb a b)
     by_test true = live-lengthened (b - a) axis o across m
     by_test false = refl
 
-other_twice : (axis : Axis) → other (other axis) ≡ axis
-other_twice Horizontal = refl
-other_twice Vertical = refl
-
 live-widened : (old new : Sides) (axis : Axis) (m : Members) → side (other axis) old ≤ side (other axis) new
     → live new (widened (side (other axis) old) (side (other axis) new) axis m) ≡ live_among axis origin (side (other axis) old) m
 live-widened old new axis m wide = by_test (ltb u n) refl
@@ -105,14 +88,10 @@ live-widened old new axis m wide = by_test (ltb u n) refl
         ∙ ap (λ a. live_among a origin u m) (other_twice axis)
     by_test false ge = let same : n ≡ u = (let over : n ≤ u = ltb-false u n ge in omega arith) in ap (λ k. live_among axis origin k m) same
 
-sides : (axis : Axis) (old new : Sides) → Fits old new → side axis old ≤ side axis new
-sides Horizontal old new h = h.0
-sides Vertical old new h = h.1
-
 live-grown_members : (old new : Sides) (axis : Axis) (m : Members) → Fits old new → live new (grown_members old new axis m) ≡ live_among axis origin (side (other axis) old) m
 live-grown_members old new axis (Free e End) fit = refl
 live-grown_members old new axis m fit =
-    live-widened old new axis (lengthened_to (side axis old) (side axis new) m) (sides (other axis) old new fit)
+    live-widened old new axis (lengthened_to (side axis old) (side axis new) m) (longer_side (other axis) old new fit)
     ∙ live-lengthened_to (side axis old) (side axis new) axis origin (side (other axis) old) m
 
 -- a growth keeps what is live

@@ -4,19 +4,17 @@ use Rattle.std.specs.List.{count_by, Contains}
 use Rattle.std.proofs.lemmas.List.Sums.{sum_by-cons, sum_by-append, get_or-le-sum_by}
 use Rattle.std.proofs.lemmas.List.Elements.{filter_map-append}
 use Rattle.std.proofs.lemmas.Bool.{eqb-true, eqb-false, eq-eqb, le-leb, lt-ltb, le-ltb, and_from, true≢false}
-use Rattle.guillotiere.specs.Boxes.{Axis, Position, Sides, Box, other, same_axis, side, sized, moved, box_at, origin, box_sides, same_box, covers, Fits, IsPositive, IsNonempty}
+use Rattle.guillotiere.specs.Boxes.{Axis, Position, Sides, Box, other, same_axis, side, sized, moved, box_at, origin, box_sides, same_box, covers, Fits, IsPositive, IsNonempty, IsInside}
 use Rattle.guillotiere.specs.Boxes.Axis.{Horizontal, Vertical}
 use Rattle.guillotiere.specs.Cuts.{Cut, cut, cut_axis, cap}
 use Rattle.guillotiere.specs.Cuts.Cut.{Whole, Strip, Corner}
 use Rattle.guillotiere.specs.Trees.{Grant, grant, slot_count, Members, Tree, Leaf, leaves, tree_leaves, ids, free_at, ungranted, free_boxes, live, total, nodes, IsCut, IsWellFormed, begins_free, is_idle, IsNormal}
 use Rattle.guillotiere.specs.Trees.Members.{End, Free, Alloc, Seq}
 use Rattle.guillotiere.specs.Changes.{put, placed, place, need, needed, place_need}
-use Rattle.guillotiere.proofs.TreeUndone.{same_box-true}
+use Rattle.guillotiere.proofs.TreeBasics.{one_if, moved-twice, same_box-true, same_box-itself, live_among, free_among, live_among-seq, free_among-seq}
 use Rattle.guillotiere.proofs.TreeTiling.{squares_of_leaves}
-use Rattle.guillotiere.proofs.TreeLive.{live_among, live_among-seq, moved-twice}
-
-abbrev one_if : Bool → ℕ
-one_if b = cond b 1 0
+use Rattle.guillotiere.specs.TreeLaws.{IsPlaceable, IsPlaced}
+use Rattle.std.proofs.Math.Nat.{add_comm}
 
 -- what a cut says of the sides
 abbrev pub CutSays : Cut → (whole r : Sides) → Type 0
@@ -108,19 +106,6 @@ normal-put (Corner a) axis e across p q id rest apart normal = by_axis (same_axi
     by_axis true = (refl, (refl, tt), (apart, normal))
     by_axis false = (refl, (refl, (refl, tt), (refl, tt)), normal)
 
-nodes-put : (c : Cut) (axis : Axis) (e across p q id : ℕ) (rest : Members) → nodes (put c axis e across p q id rest) ≡ 1 + need c axis + nodes rest
-nodes-put Whole axis e across p q id rest = refl
-nodes-put (Strip a) axis e across p q id rest = by_axis (same_axis a axis)
-  where
-    by_axis : (b : Bool) → nodes (cond b (Alloc id p (Free (e - p) rest)) (Seq e (Alloc id q (Free (across - q) End)) rest)) ≡ 1 + cond b 1 2 + nodes rest
-    by_axis true = omega arith
-    by_axis false = omega arith
-nodes-put (Corner a) axis e across p q id rest = by_axis (same_axis a axis)
-  where
-    by_axis : (b : Bool) → nodes (cond b (Seq p (Alloc id q (Free (across - q) End)) (Free (e - p) rest)) (Seq e (Seq q (Alloc id p (Free (e - p) End)) (Free (across - q) End)) rest)) ≡ 1 + cond b 3 4 + nodes rest
-    by_axis true = omega arith
-    by_axis false = omega arith
-
 cut-put : (c : Cut) (axis : Axis) (e across id : ℕ) (r : Sides) (rest : Members) → CutSays c (sized axis e across) r → IsPositive r → 0 < e → IsCut across rest
     → IsCut across (put c axis e across (side axis r) (side (other axis) r) id rest)
 cut-put Whole axis e across id r rest says pos long well = (long, well)
@@ -160,12 +145,6 @@ live-put (Corner Horizontal) Vertical o e across id r rest says fit = refl
 live-put (Corner Vertical) Horizontal o e across id r rest says fit = refl
 
 -- in members
-
-abbrev pub free_among : Axis → Position → ℕ → Members → List Box
-free_among axis o across m = ungranted (leaves axis o across m)
-
-pub free_among-seq : (axis : Axis) (o : Position) (across e : ℕ) (inner rest : Members) → free_among axis o across (Seq e inner rest) ≡ free_among (other axis) o e inner ++ free_among axis (moved axis o e) across rest
-free_among-seq axis o across e inner rest = filter_map-append (λ (l : Leaf). free_at l.owner l.box) (leaves (other axis) o e inner) (leaves axis (moved axis o e) across rest)
 
 -- how many free leaves have the box
 abbrev pub hits : Box → List Box → ℕ
@@ -398,9 +377,6 @@ hits_once size t f r well pos fit =
     let one : count_by (λ (l : Leaf). covers f.min.x f.min.y l.box) (tree_leaves size t) ≤ 1 = min_inside size t well f.min.x f.min.y in
     omega arith
 
-same_box-itself : (b : Box) → same_box b b ≡ true
-same_box-itself b = and_from _ _ (and_from _ _ (eq-eqb b.min.x b.min.x refl) (eq-eqb b.min.y b.min.y refl)) (and_from _ _ (eq-eqb b.max.x b.max.x refl) (eq-eqb b.max.y b.max.y refl))
-
 hits_some : (f : Box) (bs : List Box) → Contains bs f → 1 ≤ hits f bs
 hits_some f bs at =
     let here : one_if (same_box (get_or bs at.0 f) f) ≤ hits f bs = get_or-le-sum_by (λ b. one_if (same_box b f)) bs at.0 f at.1 in
@@ -450,28 +426,14 @@ place_live size t f r id p well at pos fit =
     let one : hits f (free_boxes size t) ≡ 1 = omega arith in
     live-placed p f r id pos fit t.axis origin (side (other t.axis) size) t.members ∙ ap (λ k. count_by p (live size t) + k * one_if (p (grant id (box_at f.min r)))) one ∙ ap (λ k. count_by p (live size t) + k) (omega arith)
 
-nodes-placed : (f : Box) (r : Sides) (id : ℕ) (axis : Axis) (o : Position) (across : ℕ) (m : Members) → nodes (placed f r id axis o across m) ≡ nodes m + needed f r axis o across m
-nodes-placed f r id axis o across End = omega arith
-nodes-placed f r id axis o across (Free e rest) = by_test (same_box (box_at o (sized axis e across)) f) (nodes-placed f r id axis (moved axis o e) across rest)
-  where
-    after : Members
-    after = placed f r id axis (moved axis o e) across rest
+-- a request that fits a box lies inside it
+pub request_inside : (f : Box) (r : Sides) → IsPositive r → Fits r (box_sides f) → IsInside (box_at f.min r) f
+request_inside f r pos fit = (omega arith, omega arith, omega (arith, pos.0, fit.0), omega (arith, pos.1, fit.1))
 
-    more : ℕ
-    more = needed f r axis (moved axis o e) across rest
-
-    by_test : (b : Bool) → nodes after ≡ nodes rest + more
-        → nodes (cond b (put (cut (box_sides f) r) axis e across (side axis r) (side (other axis) r) id after) (Free e after)) ≡ 1 + nodes rest + (cond b (need (cut (box_sides f) r) axis) 0 + more)
-    by_test true h = nodes-put (cut (box_sides f) r) axis e across (side axis r) (side (other axis) r) id after ∙ regroup_nodes (need (cut (box_sides f) r) axis) (nodes after) (nodes rest) more h
-      where
-        regroup_nodes : (k a b c : ℕ) → a ≡ b + c → 1 + k + a ≡ 1 + b + (k + c)
-        regroup_nodes k a b c h = omega arith
-    by_test false h = omega arith
-nodes-placed f r id axis o across (Alloc i e rest) = ap (λ k. 1 + k) (nodes-placed f r id axis (moved axis o e) across rest) ∙ omega arith
-nodes-placed f r id axis o across (Seq e inner rest) =
-    let within : nodes (placed f r id (other axis) o e inner) ≡ nodes inner + needed f r (other axis) o e inner = nodes-placed f r id (other axis) o e inner in
-    let after : nodes (placed f r id axis (moved axis o e) across rest) ≡ nodes rest + needed f r axis (moved axis o e) across rest = nodes-placed f r id axis (moved axis o e) across rest in
-    omega arith
-
-pub place_nodes : (size : Sides) (t : Tree) (f : Box) (r : Sides) (id : ℕ) → nodes (place size f r id t).members ≡ nodes t.members + place_need size f r t
-place_nodes size t f r id = nodes-placed f r id t.axis origin (side (other t.axis) size) t.members
+pub place_keeps : (size : Sides) (t : Tree) (f : Box) (r : Sides) (id : ℕ) → IsWellFormed size t → IsPlaceable size t f r id → IsPlaced size t f r id
+place_keeps size t f r id well fits = record {
+  well_formed = place_well_formed size t f r id well fits.positive fits.fits fits.unused;
+  normal = place_normal size t f r id;
+  live = λ p. place_live size t f r id p well fits.is_free fits.positive fits.fits ∙ add_comm _ _ ∙ sym (sum_by-cons (λ g. one_if (p g)) (grant id (box_at f.min r)) (live size t));
+  inside = request_inside f r fits.positive fits.fits;
+}

@@ -9,6 +9,7 @@ use Rattle.guillotiere.specs.Boxes.{Axis, Position, Sides, other, side, sized, m
 use Rattle.guillotiere.specs.Boxes.Axis.{Horizontal, Vertical}
 use Rattle.guillotiere.specs.Trees.{Members, Tree, Leaf, leaf, leaves, tree_leaves, total, IsCut, IsWellFormed}
 use Rattle.guillotiere.specs.Trees.Members.{End, Free, Alloc, Seq}
+use Rattle.guillotiere.proofs.TreeBasics.{one_if, side_positive, turned, whole_box-sized}
 
 -- the areas
 
@@ -45,9 +46,6 @@ areas_add_up size t well = areas_of_leaves t.axis origin (side (other t.axis) si
 
 -- each unit square once
 
-abbrev one_if : Bool → ℕ
-one_if b = cond b 1 0
-
 split_x : (lo e t k : ℕ) (b : Bool) → one_if ((leb lo k && ltb k (lo + e)) && b) + one_if ((leb (lo + e) k && ltb k (lo + e + t)) && b) ≡ one_if ((leb lo k && ltb k (lo + (e + t))) && b)
 split_x lo e t k b = grind (arith, nat_tests)
 
@@ -69,10 +67,6 @@ nothing Vertical o across x y = no_y o.y y (leb o.x x && ltb x (o.x + across))
     no_y : (lo k : ℕ) (b : Bool) → one_if (b && (leb lo k && ltb k (lo + 0))) ≡ 0
     no_y lo k b = grind (arith, nat_tests)
 
-pub turned : (axis : Axis) (o : Position) (e across : ℕ) → box_at o (sized (other axis) across e) ≡ box_at o (sized axis e across)
-turned Horizontal o e across = refl
-turned Vertical o e across = refl
-
 pub squares_of_leaves : (x y : ℕ) (axis : Axis) (o : Position) (across : ℕ) (m : Members) → IsCut across m
     → count_by (λ (l : Leaf). covers x y l.box) (leaves axis o across m) ≡ one_if (covers x y (box_at o (sized axis (total m) across)))
 squares_of_leaves x y axis o across End cut = sym (nothing axis o across x y)
@@ -92,15 +86,11 @@ squares_of_leaves x y axis o across (Seq e inner rest) cut =
 inside : (x y w h : ℕ) → x < w → y < h → one_if (covers x y (box_at origin (record { width = w; height = h }))) ≡ 1
 inside x y w h in_x in_y = grind (arith, nat_tests)
 
-whole : (axis : Axis) (size : Sides) → box_at origin (sized axis (side axis size) (side (other axis) size)) ≡ box_at origin size
-whole Horizontal size = refl
-whole Vertical size = refl
-
 -- each unit square of the size lies in one leaf's box
 pub squares_once : (size : Sides) (t : Tree) → IsWellFormed size t → (x y : ℕ) → x < size.width → y < size.height → count_by (λ (l : Leaf). covers x y l.box) (tree_leaves size t) ≡ 1
 squares_once size t well x y in_x in_y =
     squares_of_leaves x y t.axis origin (side (other t.axis) size) t.members well.cut
-    ∙ ap (λ b. one_if (covers x y b)) (ap (λ k. box_at origin (sized t.axis k (side (other t.axis) size))) well.along ∙ whole t.axis size)
+    ∙ ap (λ b. one_if (covers x y b)) (ap (λ k. box_at origin (sized t.axis k (side (other t.axis) size))) well.along ∙ whole_box-sized t.axis size)
     ∙ inside x y size.width size.height in_x in_y
 
 -- no box is empty or passes the size
@@ -137,9 +127,5 @@ sound_leaves limit axis o across (Seq e inner rest) cut pos fit =
 
 pub boxes_within : (size : Sides) (t : Tree) → IsWellFormed size t → All (λ (l : Leaf). IsNonempty l.box × IsWithin size l.box) (tree_leaves size t)
 boxes_within size t well =
-    sound_leaves size t.axis origin (side (other t.axis) size) t.members well.cut (across_positive t.axis size well.nonempty)
-    (subst (IsWithin size) (sym (ap (λ k. box_at origin (sized t.axis k (side (other t.axis) size))) well.along ∙ whole t.axis size)) (omega arith, omega arith))
-  where
-    across_positive : (a : Axis) (s : Sides) → IsPositive s → 0 < side (other a) s
-    across_positive Horizontal s p = p.1
-    across_positive Vertical s p = p.0
+    sound_leaves size t.axis origin (side (other t.axis) size) t.members well.cut (side_positive (other t.axis) size well.nonempty)
+    (subst (IsWithin size) (sym (ap (λ k. box_at origin (sized t.axis k (side (other t.axis) size))) well.along ∙ whole_box-sized t.axis size)) (omega arith, omega arith))

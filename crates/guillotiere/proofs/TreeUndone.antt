@@ -1,6 +1,6 @@
 -- A grant is undone by its freeing.
 use Rattle.std.proofs.Common.{◌≡◌, ℕ, ◌+◌, ◌-◌, ◌≤◌, ◌==◌, Bool, true, false, cond, ◌||◌, refl, ap, ap₂, subst, sym, ◌∙◌, arith}
-use Rattle.std.specs.List.{count_by}
+use Rattle.std.specs.List.{count_by, Contains}
 use Rattle.std.proofs.lemmas.List.Sums.{sum_by-cons, sum_by-append}
 use Rattle.std.proofs.lemmas.Bool.{and_parts, eqb-true, eq-eqb}
 use Rattle.guillotiere.specs.Boxes.{Axis, Position, Sides, Box, other, same_axis, side, sized, moved, box_at, origin, box_sides, same_box, Fits}
@@ -10,18 +10,9 @@ use Rattle.guillotiere.specs.Cuts.Cut.{Whole, Strip, Corner}
 use Rattle.guillotiere.specs.Trees.{Members, Tree, ids}
 use Rattle.guillotiere.specs.Trees.Members.{End, Free, Alloc, Seq}
 use Rattle.guillotiere.specs.Changes.{free_before, seq_before, nf, mark, and_id, put, placed, place, release}
+use Rattle.guillotiere.proofs.TreeBasics.{one_if, same_box-true}
+use Rattle.guillotiere.proofs.TreeIds.{count-absent}
 use Rattle.guillotiere.proofs.TreeNormal.{free_before-twice}
-
--- boxes that pass the test are equal
-pub same_box-true : (b c : Box) → same_box b c ≡ true → b ≡ c
-same_box-true b c h =
-    let mins = and_parts _ _ (and_parts _ _ h).0 in
-    let maxs = and_parts _ _ (and_parts _ _ h).1 in
-    let p : b.min.x ≡ c.min.x = eqb-true _ _ mins.0 in
-    let q : b.min.y ≡ c.min.y = eqb-true _ _ mins.1 in
-    let r : b.max.x ≡ c.max.x = eqb-true _ _ maxs.0 in
-    let s : b.max.y ≡ c.max.y = eqb-true _ _ maxs.1 in
-    λ i. record { min = record { x = p i; y = q i }; max = record { x = r i; y = s i } }
 
 -- what fits the box of a member is no longer than the member
 pub fits_along : (axis : Axis) (o : Position) (e across : ℕ) (r : Sides) → Fits r (box_sides (box_at o (sized axis e across))) → side axis r ≤ e
@@ -61,9 +52,6 @@ other_id s id i h = rw h (by_test (s i))
     by_test true = refl
     by_test false = refl
 
-abbrev one_if : Bool → ℕ
-one_if b = cond b 1 0
-
 no_count : (b : Bool) (n : ℕ) → one_if b + n ≡ 0 → b ≡ false
 no_count true n h = absurd (omega arith)
 no_count false n h = refl
@@ -95,7 +83,8 @@ placed-undone s f r id fit axis o across (Seq e inner rest) absent =
     let parts : count_by (λ k. k == id) (ids inner) + count_by (λ k. k == id) (ids rest) ≡ 0 = sym (sum_by-append (λ k. cond (k == id) 1 0) (ids inner) (ids rest)) ∙ absent in
     ap₂ (seq_before e) (placed-undone s f r id fit (other axis) o e inner (omega arith)) (placed-undone s f r id fit axis (moved axis o e) across rest (omega arith))
 
-pub grant_undone : (size : Sides) (t : Tree) (f : Box) (r : Sides) (id : ℕ) (s : ℕ → Bool) → count_by (λ k. k == id) (ids t.members) ≡ 0 → Fits r (box_sides f)
+pub grant_undone : (size : Sides) (t : Tree) (f : Box) (r : Sides) (id : ℕ) (s : ℕ → Bool) → (Contains (ids t.members) id → ⊥) → Fits r (box_sides f)
     → release (and_id s id) (place size f r id t) ≡ release s t
 grant_undone size t f r id s absent fit =
-    ap (λ m. record { axis = t.axis; members = m }) (placed-undone s f r id fit t.axis origin (side (other t.axis) size) t.members absent)
+    ap (λ m. record { axis = t.axis; members = m })
+    (placed-undone s f r id fit t.axis origin (side (other t.axis) size) t.members (count-absent id (ids t.members) absent))

@@ -5,6 +5,7 @@ pub mod Choice
 pub mod Simple
 pub mod Trees
 pub mod Changes
+pub mod TreeLaws
 pub mod States
 pub mod Refits
 pub mod Steps
