@@ -1,3 +1,9 @@
+pub mod StepKeeping
+pub mod Refitting
+pub mod Outcomes
+pub mod BoxLists
+pub mod Counting
+pub mod Rounding
 pub mod TreeBasics
 pub mod TreeIds
 pub mod TreeNormal

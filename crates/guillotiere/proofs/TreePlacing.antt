@@ -12,8 +12,6 @@ use Rattle.guillotiere.specs.Trees.Members.{End, Free, Alloc, Seq}
 use Rattle.guillotiere.specs.Changes.{put, placed, place}
 use Rattle.guillotiere.proofs.TreeBasics.{one_if, moved-twice, same_box-true, same_box-itself, live_among, free_among, live_among-seq, free_among-seq}
 use Rattle.guillotiere.proofs.TreeTiling.{squares_of_leaves}
-use Rattle.guillotiere.specs.TreeLaws.{IsPlaceable, IsPlaced}
-use Rattle.std.proofs.Math.Nat.{add_comm}
 
 -- what a cut says of the sides
 abbrev pub CutSays : Cut → (whole r : Sides) → Type 0
@@ -428,11 +426,3 @@ place_live size t f r id p well at pos fit =
 -- a request that fits a box lies inside it
 pub request_inside : (f : Box) (r : Sides) → IsPositive r → Fits r (box_sides f) → IsInside (box_at f.min r) f
 request_inside f r pos fit = (omega arith, omega arith, omega (arith, pos.0, fit.0), omega (arith, pos.1, fit.1))
-
-pub place_keeps : (size : Sides) (t : Tree) (f : Box) (r : Sides) (id : ℕ) → IsWellFormed size t → IsPlaceable size t f r id → IsPlaced size t f r id
-place_keeps size t f r id well fits = record {
-  well_formed = place_well_formed size t f r id well fits.positive fits.fits fits.unused;
-  normal = place_normal size t f r id;
-  live = λ p. place_live size t f r id p well fits.is_free fits.positive fits.fits ∙ add_comm _ _ ∙ sym (sum_by-cons (λ g. one_if (p g)) (grant id (box_at f.min r)) (live size t));
-  inside = request_inside f r fits.positive fits.fits;
-}

@@ -11,3 +11,5 @@ pub mod States
 pub mod Refits
 pub mod Steps
 pub mod Runs
+pub mod StepLaws
+pub mod RunLaws
