@@ -1,3 +1,9 @@
+pub mod StepKeeping
+pub mod Refitting
+pub mod Outcomes
+pub mod BoxLists
+pub mod Counting
+pub mod Rounding
 pub mod TreeBasics
 pub mod TreeIds
 pub mod TreeNormal
@@ -6,6 +12,7 @@ pub mod TreeTiling
 pub mod TreeLive
 pub mod TreeUndone
 pub mod TreeIdle
+pub mod TreePuts
 pub mod TreePlacing
 pub mod TreeKept
 pub mod TreeGrowth

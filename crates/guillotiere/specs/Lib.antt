@@ -24,3 +24,5 @@ pub mod Stored
 pub mod Holdings
 pub mod Replies
 pub mod Links
+pub mod StepLaws
+pub mod RunLaws
