@@ -2,6 +2,7 @@ pub mod Boxes
 pub mod Pixels
 pub mod Cuts
 pub mod Rectangles
+pub mod Requests
 pub mod Choice
 pub mod Simple
 pub mod Trees

@@ -3,6 +3,7 @@
 
 mod allocation;
 mod atlas;
+mod choice;
 mod cut;
 mod error;
 mod geometry;
