@@ -7,6 +7,7 @@ pub mod laws;
 mod lists;
 mod options;
 mod slots;
+mod turns;
 
 pub use error::AtlasError;
 pub use geometry::{Point, Rectangle, Size, point2, size2};
