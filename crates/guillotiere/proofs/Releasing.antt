@@ -85,11 +85,6 @@ calm-Stands ns s n short top h normal k =
     not-Free-or : (ns : List Node) (k : ℕ) → ((node_at ns k).kind ≡ kind.Free → IsCalmAt ns k) → IsCalmAt ns k
     not-Free-or ns k c = record { apart = λ f g. (c f).apart f g; nested = λ f b a. (c f).nested f b a }
 
-pub calm-whole : (ns : List Node) → length ns < no_slot → IsWhole ns → IsNormal (tree_of ns).members → (k : ℕ) → IsCalmAt ns k
-calm-whole ns short t normal =
-    let is = members_of-Stands ns t.0 t.1 short t.2 t.3 in
-    calm-Stands ns t.0 t.1 short t.2 t.3 (rw is at normal)
-
 -- a normal tree has no empty sequence
 pub full-from_normal : (m : Members) → IsNormal m → NoneEmpty m
 full-from_normal tree.End h = tt
@@ -122,27 +117,3 @@ erase-marked_at ns i s n few li h =
 pub full-marked : (ns : List Node) (i : ℕ) (s : Sequence) (n : Numbered) → length ns ≤ 16777216 → i < length ns → Stands ns s n → NoneEmpty (erase n) → NoneEmpty (erase (marked i n))
 full-marked ns i s n few li h full =
     rw (erase-marked_at ns i s n few li h) (full-mark (only (id_of i (node_at ns i).generation)) (erase n) full)
-
--- what marking leaves, seen from the whole tree
-pub record IsMarked (ns ms : List Node) (i : ℕ) : Type 0 where
-  pub whole : IsWhole ms
-  pub axis : (tree_of ms).axis ≡ (tree_of ns).axis
-  pub members : (tree_of ms).members ≡ mark (only (id_of i (node_at ns i).generation)) (tree_of ns).members
-  pub full : NoneEmpty (tree_of ms).members
-
-pub marked-whole : (ns ms : List Node) (i : ℕ) → length ns ≤ 16777216 → length ms ≤ 16777216 → (node_at ns i).kind ≡ kind.Alloc → IsWhole ns → IsNormal (tree_of ns).members → ((s : Sequence) (n : Numbered) → Stands ns s n → Stands ms s (marked i n)) → IsMarked ns ms i
-marked-whole ns ms i ln lm was t normal tree =
-    let s = t.0 in
-    let n = t.1 in
-    let h = t.3 in
-    let k = tree s n h in
-    let set = only (id_of i (node_at ns i).generation) in
-    let li : i < length ns = used-inside ns i (rw was (omega arith)) in
-    let here : 0 < tally i n = rw (h.numbered i, was) (omega arith) in
-    let here_after : 0 < tally i (marked i n) = rw (tally-marked i i n) here in
-    let a = members_of-Stands ns s n (omega arith) t.2 h in
-    let b = members_of-Stands ms s (marked i n) (omega arith) t.2 k in
-    let x = axis_of-Stands ns s n (omega arith) t.2 h (nonempty-tally i n here) in
-    let y = axis_of-Stands ms s (marked i n) (omega arith) t.2 k (nonempty-tally i (marked i n) here_after) in
-    let is : (tree_of ms).members ≡ mark set (tree_of ns).members = b ∙ erase-marked_at ns i s n ln li h ∙ ap (mark set) (sym a) in
-    record { whole = (s, marked i n, t.2, k); axis = y ∙ sym x; members = is; full = rw is (full-mark set (tree_of ns).members (full-from_normal (tree_of ns).members normal)) }

@@ -5,18 +5,20 @@ use Rattle.guillotiere.specs.declared.slots.Node.{Node}
 use Rattle.guillotiere.specs.declared.slots.NodeKind.TheVariants as kind
 use Rattle.guillotiere.specs.Slots.{node_at, use_count, no_slot}
 use Rattle.guillotiere.specs.Trees as tree
+use Rattle.guillotiere.specs.Boxes.{Axis}
 use Rattle.guillotiere.specs.Trees.{Members, Tree, IsNormal}
-use Rattle.guillotiere.specs.Changes.{nf}
-use Rattle.guillotiere.specs.Numbered.{Numbered, tally, first_slot, same, numbers, erase, joined, grown_by, lifted, lifted_to, End, Free, Alloc, Seq}
+use Rattle.guillotiere.specs.Changes.{nf, mark, only, release}
+use Rattle.guillotiere.specs.Numbered.{Numbered, tally, first_slot, same, numbers, erase, id_of, marked, joined, grown_by, lifted, lifted_to, End, Free, Alloc, Seq}
 use Rattle.guillotiere.specs.Standing.{Sequence, Standing, Stands, IsTree, IsWhole, IsSlot, inside}
 use Rattle.guillotiere.specs.Reading.{tree_of, numbered_of}
-use Rattle.guillotiere.proofs.Reading.{IsNonempty, numbers-less, members_of-Stands, axis_of-Stands, nonempty-tally, numbered_of-Stands}
+use Rattle.guillotiere.proofs.Reading.{IsNonempty, numbers-less, members_of-Stands, axis_of-Stands, tree_of-Stands, nonempty-tally, numbered_of-Stands}
 use Rattle.guillotiere.proofs.JoiningWrites.{used-inside, none-unused, not-none}
 use Rattle.guillotiere.proofs.Normal.{nf-joined, nf-lifted}
 use Rattle.guillotiere.proofs.Frames.{same-self, same-ne}
 use Rattle.guillotiere.proofs.Joining.{split_pos, first-joined}
 use Rattle.guillotiere.proofs.Lifting.{first-lifted}
-use Rattle.guillotiere.specs.Settling.{IsSettling, IsTurn}
+use Rattle.guillotiere.specs.Settling.{IsSettling, IsSettlingTree, IsTurn, IsTurnOf}
+use Rattle.guillotiere.proofs.Releasing.{calm-Stands, full-from_normal, full-marked, erase-marked_at}
 use Rattle.guillotiere.proofs.Closing.{next-in}
 use Rattle.guillotiere.proofs.Calm.{calm-all, normal-from_calm, nf-normal}
 use Rattle.guillotiere.specs.Calm.{IsCalmAt, IsCalmBut, NoneEmpty}
@@ -91,60 +93,70 @@ numbers-some (Free j e rest) l = omega (arith, same-self j)
 numbers-some (Alloc j g e rest) l = omega (arith, same-self j)
 numbers-some (Seq j e inner rest) l = omega (arith, same-self j)
 
--- a join or a lift from ns to ms makes m of the tree n
-pub record IsStep (ns ms : List Node) (s : Sequence) (n m : Numbered) : Type 0 where
-  pub stands : Stands ms s m
-  pub same_first : first_slot m ≡ first_slot n
-  pub same_nf : nf (erase m) ≡ nf (erase n)
-  pub full : NoneEmpty (erase n) → NoneEmpty (erase m)
-  pub fewer : numbers m + 1 ≡ numbers n
-
-pub step-joined : (ns ms : List Node) (i : ℕ) (s : Sequence) (n : Numbered) → Stands ns s n → ((s : Sequence) (n : Numbered) → Stands ns s n → Stands ms s (joined i n)) → ((s : Sequence) (n : Numbered) → Stands ns s n → numbers (joined i n) + 1 ≡ numbers n) → IsStep ns ms s n (joined i n)
-step-joined ns ms i s n h tree less =
+-- the turn that joins the leaf i with the next one
+pub turn-joined : (ns ms : List Node) (i at : ℕ) (s : Sequence) (n : Numbered) → IsSettlingTree ns s n at → ((s : Sequence) (n : Numbered) → Stands ns s n → Stands ms s (joined i n)) → ((s : Sequence) (n : Numbered) → Stands ns s n → numbers (joined i n) + 1 ≡ numbers n) → (node_at ms i).kind ≡ kind.Free → IsCalmBut ms i → IsTurnOf ms s n (joined i n) i
+turn-joined ns ms i at s n w tree less free calm =
     record {
-      stands = tree s n h;
+      settling = record { top = w.top; stands = tree s n w.stands; full = full-joined i n w.full; free = free; calm = calm };
       same_first = first-joined i n;
       same_nf = nf-joined i n;
-      full = full-joined i n;
-      fewer = less s n h;
+      fewer = less s n w.stands;
     }
 
-pub step-lifted : (ns ms : List Node) (c : ℕ) (s : Sequence) (n : Numbered) → s.parent ≡ no_slot → Stands ns s n → ((s : Sequence) (n : Numbered) → s.parent ≡ no_slot → Stands ns s n → Stands ms s (lifted c n)) → ((s : Sequence) (n : Numbered) → s.parent ≡ no_slot → Stands ns s n → numbers (lifted c n) + 1 ≡ numbers n) → IsStep ns ms s n (lifted c n)
-step-lifted ns ms c s n top h tree less =
+-- the turn that lifts a lone leaf to its container c
+pub turn-lifted : (ns ms : List Node) (c at : ℕ) (s : Sequence) (n : Numbered) → IsSettlingTree ns s n at → ((s : Sequence) (n : Numbered) → s.parent ≡ no_slot → Stands ns s n → Stands ms s (lifted c n)) → ((s : Sequence) (n : Numbered) → s.parent ≡ no_slot → Stands ns s n → numbers (lifted c n) + 1 ≡ numbers n) → (node_at ms c).kind ≡ kind.Free → IsCalmBut ms c → IsTurnOf ms s n (lifted c n) c
+turn-lifted ns ms c at s n w tree less free calm =
     record {
-      stands = tree s n top h;
+      settling = record { top = w.top; stands = tree s n w.top w.stands; full = full-lifted c n w.full; free = free; calm = calm };
       same_first = first-lifted c n;
       same_nf = nf-lifted c n;
-      full = full-lifted c n;
-      fewer = less s n top h;
+      fewer = less s n w.top w.stands;
     }
 
--- a step to slots in which `at` is left to settle is a turn
-pub turn-from_step : (ns ms : List Node) (at : ℕ) (s : Sequence) (n m : Numbered) → length ns < no_slot → length ms < no_slot → s.parent ≡ no_slot → Stands ns s n → NoneEmpty (tree_of ns).members → IsStep ns ms s n m → (node_at ms at).kind ≡ kind.Free → IsCalmBut ms at → IsTurn ns ms at
-turn-from_step ns ms at s n m ln lm top h full step free calm =
-    let a = numbered_of-Stands ns s n ln top h in
-    let b = numbered_of-Stands ms s m lm top step.stands in
-    let here : 0 < tally at m = rw (step.stands.numbered at, free) (omega arith) in
-    let some : IsNonempty m = nonempty-tally at m here in
-    let some_before : IsNonempty n = numbers-some n (omega (arith, step.fewer)) in
+-- what is read from the slots of a tree
+pub settling-read : (ns : List Node) (s : Sequence) (n : Numbered) (at : ℕ) → length ns < no_slot → IsSettlingTree ns s n at → IsSettling ns at
+settling-read ns s n at short w =
+    let full = w.full in
     record {
-      settling = record { whole = (s, m, top, step.stands); full = rw b (step.full (rw a at full)); free = free; calm = calm };
-      same_axis = axis_of-Stands ms s m lm top step.stands some ∙ sym (axis_of-Stands ns s n ln top h some_before);
-      same_nf = ap (λ v. nf (erase v)) b ∙ step.same_nf ∙ sym (ap (λ v. nf (erase v)) a);
-      fewer = ap (λ v. numbers v + 1) b ∙ step.fewer ∙ sym (ap numbers a);
+      whole = (s, n, w.top, w.stands);
+      full = rw (members_of-Stands ns s n short w.top w.stands) full;
+      free = w.free;
+      calm = w.calm;
     }
 
--- the turn that joins a leaf with the next one
-pub turn-joined : (ns ms : List Node) (i at : ℕ) → length ns < no_slot → length ms < no_slot → IsSettling ns at → ((s : Sequence) (n : Numbered) → Stands ns s n → Stands ms s (joined i n)) → ((s : Sequence) (n : Numbered) → Stands ns s n → numbers (joined i n) + 1 ≡ numbers n) → (node_at ms i).kind ≡ kind.Free → IsCalmBut ms i → IsTurn ns ms i
-turn-joined ns ms i at ln lm w tree less free calm =
+-- and back
+pub settling-tree : (ns : List Node) (at : ℕ) → length ns < no_slot → (w : IsSettling ns at) → IsSettlingTree ns w.whole.0 w.whole.1 at
+settling-tree ns at short w =
     let t = w.whole in
-    turn-from_step ns ms i t.0 t.1 (joined i t.1) ln lm t.2 t.3 w.full (step-joined ns ms i t.0 t.1 t.3 tree less) free calm
+    let full = w.full in
+    record {
+      top = t.2;
+      stands = t.3;
+      full = rw (members_of-Stands ns t.0 t.1 short t.2 t.3) at full;
+      free = w.free;
+      calm = w.calm;
+    }
 
--- the turn that lifts a lone leaf
-pub turn-lifted : (ns ms : List Node) (c at : ℕ) → length ns < no_slot → length ms < no_slot → IsSettling ns at → ((s : Sequence) (n : Numbered) → s.parent ≡ no_slot → Stands ns s n → Stands ms s (lifted c n)) → ((s : Sequence) (n : Numbered) → s.parent ≡ no_slot → Stands ns s n → numbers (lifted c n) + 1 ≡ numbers n) → (node_at ms c).kind ≡ kind.Free → IsCalmBut ms c → IsTurn ns ms c
-turn-lifted ns ms c at ln lm w tree less free calm =
-    let t = w.whole in
-    turn-from_step ns ms c t.0 t.1 (lifted c t.1) ln lm t.2 t.3 w.full (step-lifted ns ms c t.0 t.1 t.2 t.3 tree less) free calm
+-- the tree of slots that settle has a member
+pub settling-some : (ns : List Node) (s : Sequence) (n : Numbered) (at : ℕ) → IsSettlingTree ns s n at → IsNonempty n
+settling-some ns s n at w =
+    let free = w.free in
+    nonempty-tally at n (rw (w.stands.numbered at, free) (omega arith))
+
+-- a turn, by what is read from the slots
+pub turn-read : (ns ms : List Node) (at : ℕ) (s : Sequence) (n m : Numbered) → length ns < no_slot → length ms < no_slot → s.parent ≡ no_slot → Stands ns s n → IsTurnOf ms s n m at → IsTurn ns ms at
+turn-read ns ms at s n m ln lm top h w =
+    let k = w.settling.stands in
+    let a = numbered_of-Stands ns s n ln top h in
+    let b = numbered_of-Stands ms s m lm top k in
+    let some = settling-some ms s m at w.settling in
+    let some_before : IsNonempty n = numbers-some n (omega (arith, w.fewer)) in
+    record {
+      settling = settling-read ms s m at lm w.settling;
+      same_axis = axis_of-Stands ms s m lm top k some ∙ sym (axis_of-Stands ns s n ln top h some_before);
+      same_nf = ap (λ v. nf (erase v)) b ∙ w.same_nf ∙ sym (ap (λ v. nf (erase v)) a);
+      fewer = ap (λ v. numbers v + 1) b ∙ w.fewer ∙ sym (ap numbers a);
+    }
 
 -- what a slot says of the slot before it
 abbrev pub IsBefore : List Node → ℕ → ℕ → Numbered → Type 0
@@ -206,21 +218,44 @@ next-slot ns k m x t f ex em =
     let here : 0 < tally k t.1 = rw (h.numbered k, f) (omega arith) in
     rw (ex, em) (elim (next-in ns k t.0 no_slot 0 t.1 h.standing here) [ inl y ↦ inl y | inr y ↦ inr (used-inside ns _ (rw (← h.numbered (node_at ns k).next.number) y)) ])
 
--- where no neighbour of the one slot is free and it isn't alone in a container, the tree is normal
-pub settled-Stands : (ns : List Node) (k : ℕ) (s : Sequence) (n : Numbered) → length ns < no_slot → Stands ns s n → NoneEmpty (erase n) → (node_at ns k).kind ≡ kind.Free → IsCalmBut ns k → ((node_at ns (node_at ns k).next.number).kind ≡ kind.Free → ⊥) → ((node_at ns (node_at ns k).previous.number).kind ≡ kind.Free → ⊥) → ((node_at ns k).previous.number ≡ no_slot → (node_at ns k).next.number ≡ no_slot → (node_at ns k).parent.number ≡ no_slot) → IsNormal (erase n)
-settled-Stands ns k s n short h full f but nn np alone =
+-- where neither neighbour is free and the leaf isn't alone in a container, the tree is normal
+pub settled : (ns : List Node) (k : ℕ) (s : Sequence) (n : Numbered) → length ns < no_slot → IsSettlingTree ns s n k → ((node_at ns (node_at ns k).next.number).kind ≡ kind.Free → ⊥) → ((node_at ns (node_at ns k).previous.number).kind ≡ kind.Free → ⊥) → ((node_at ns k).previous.number ≡ no_slot → (node_at ns k).next.number ≡ no_slot → (node_at ns k).parent.number ≡ no_slot) → IsNormal (erase n)
+settled ns k s n short w nn np alone =
     let u = none-unused ns short in
     let here : IsCalmAt ns k = record { apart = λ _ g. nn g; nested = λ _ b a. alone b a } in
-    let calm = calm-all ns s n k u h but here f np in
-    let none : tally no_slot n ≡ 0 = h.numbered no_slot ∙ ap use_count u in
-    normal-from_calm ns s no_slot 0 n none full (λ x _. calm x) h.standing
+    let calm = calm-all ns s n k u w.stands w.calm here w.free np in
+    let none : tally no_slot n ≡ 0 = w.stands.numbered no_slot ∙ ap use_count u in
+    normal-from_calm ns s no_slot 0 n none w.full (λ x _. calm x) w.stands.standing
 
--- the same, seen from the whole tree: it is its own normal form
-pub settled : (ns : List Node) (k : ℕ) → length ns < no_slot → IsSettling ns k → ((node_at ns (node_at ns k).next.number).kind ≡ kind.Free → ⊥) → ((node_at ns (node_at ns k).previous.number).kind ≡ kind.Free → ⊥) → ((node_at ns k).previous.number ≡ no_slot → (node_at ns k).next.number ≡ no_slot → (node_at ns k).parent.number ≡ no_slot) → IsNormal (tree_of ns).members × ((tree_of ns).members ≡ nf (tree_of ns).members)
-settled ns k short w nn np alone =
+-- the same, by what is read from the slots; the tree is its own normal form
+pub settled-read : (ns : List Node) (k : ℕ) → length ns < no_slot → IsSettling ns k → ((node_at ns (node_at ns k).next.number).kind ≡ kind.Free → ⊥) → ((node_at ns (node_at ns k).previous.number).kind ≡ kind.Free → ⊥) → ((node_at ns k).previous.number ≡ no_slot → (node_at ns k).next.number ≡ no_slot → (node_at ns k).parent.number ≡ no_slot) → IsNormal (tree_of ns).members × ((tree_of ns).members ≡ nf (tree_of ns).members)
+settled-read ns k short w nn np alone =
     let t = w.whole in
     let is : (tree_of ns).members ≡ erase t.1 = members_of-Stands ns t.0 t.1 short t.2 t.3 in
-    let full = w.full in
-    let normal = settled-Stands ns k t.0 t.1 short t.3 (rw is at full) w.free w.calm nn np alone in
+    let normal = settled ns k t.0 t.1 short (settling-tree ns k short w) nn np alone in
     let same : erase t.1 ≡ nf (erase t.1) = sym (nf-normal (erase t.1) normal) in
     (rw is normal, rw is same)
+
+-- marking an allocated leaf of a normal tree leaves it to settle
+pub settling-marked : (ns ms : List Node) (i : ℕ) (s : Sequence) (n : Numbered) → length ns ≤ 16777216 → s.parent ≡ no_slot → (node_at ns i).kind ≡ kind.Alloc → Stands ns s n → IsNormal (erase n) → ((s : Sequence) (n : Numbered) → Stands ns s n → Stands ms s (marked i n)) → (((k : ℕ) → IsCalmAt ns k) → IsCalmBut ms i) → (node_at ms i).kind ≡ kind.Free → IsSettlingTree ms s (marked i n) i
+settling-marked ns ms i s n few top was h normal tree calm free =
+    let li : i < length ns = used-inside ns i (rw was (omega arith)) in
+    record {
+      top = top;
+      stands = tree s n h;
+      full = full-marked ns i s n few li h (full-from_normal (erase n) normal);
+      free = free;
+      calm = calm (calm-Stands ns s n (omega arith) top h normal);
+    }
+
+-- a normal tree m that has the normal form of n, with the leaf at i marked, is the release of n
+pub released : (ns ms : List Node) (i : ℕ) (s : Sequence) (n m : Numbered) → length ns ≤ 16777216 → length ms < no_slot → s.parent ≡ no_slot → (node_at ns i).kind ≡ kind.Alloc → Stands ns s n → Stands ms s m → IsNonempty m → IsNormal (erase m) → nf (erase m) ≡ nf (erase (marked i n)) → tree_of ms ≡ release (only (id_of i (node_at ns i).generation)) (tree_of ns)
+released ns ms i s n m few short top was h k some normal same =
+    let li : i < length ns = used-inside ns i (rw was (omega arith)) in
+    let here : IsNonempty n = nonempty-tally i n (rw (h.numbered i, was) (omega arith)) in
+    let set = only (id_of i (node_at ns i).generation) in
+    let is : erase m ≡ nf (mark set (erase n)) = sym (nf-normal (erase m) normal) ∙ same ∙ ap nf (erase-marked_at ns i s n few li h) in
+    let before : tree_of ns ≡ record { axis = s.axis; members = erase n } = tree_of-Stands ns s n (omega arith) top h here in
+    let after : tree_of ms ≡ record { axis = s.axis; members = erase m } = tree_of-Stands ms s m short top k some in
+    let with_members : Members → Tree = λ v. record { axis = s.axis; members = v } in
+    after ∙ ap with_members is ∙ sym (ap (release set) before)
