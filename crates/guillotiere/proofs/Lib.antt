@@ -21,3 +21,4 @@ pub mod Lifting
 pub mod LiftingWrites
 pub mod Weights
 pub mod Granting
+pub mod Wrapping

@@ -106,6 +106,7 @@ pub fn split_leaf(slots: &mut [Slot], at: Link, fresh: Link, extent: i32)
     let second = Node {
         previous: at,
         area: back(leaf.area, leaf.axis, extent),
+        kind: NodeKind::Free,
         generation: unused.generation,
         ..leaf
     };
@@ -138,6 +139,7 @@ pub fn wrap_leaf(slots: &mut [Slot], at: Link, fresh: Link)
         parent: at,
         previous: none,
         next: none,
+        kind: NodeKind::Free,
         axis: across(leaf.axis),
         generation: unused.generation,
         ..leaf
