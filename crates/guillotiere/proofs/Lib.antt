@@ -2,3 +2,4 @@ pub mod Cutting
 pub mod Occurrences
 pub mod Unlinking
 pub mod Banding
+pub mod Filing
