@@ -38,3 +38,4 @@ pub mod Occurrences
 pub mod Unlinking
 pub mod Banding
 pub mod Wrapping
+pub mod Filing

@@ -12,12 +12,19 @@ use Rattle.guillotiere.specs.Lists.{IsList, Chain, Line, occurs, without, front,
 use Rattle.guillotiere.specs.Links.{IsListed, IsUnlisted, with_next, with_ring_previous}
 use Rattle.guillotiere.proofs.Occurrences.{same-self, same-ne, ne-from_occurs, ne-from_same, front_in, front_of, is_first, front-without, occurs-without, length-without}
 
--- a list stands where the rings of its slots are the same
-pub Chain-same : (rs ts : List Ring) (b : ℕ) (xs : List ℕ) → length ts ≡ length rs → ((k : ℕ) → 0 < occurs k xs → ring_at ts k ≡ ring_at rs k) → Chain rs b xs → Chain ts b xs
-Chain-same rs ts b [] e same_at h = tt
-Chain-same rs ts b (x ∷ xs) e same_at h =
+-- a list stands where the rings of its slots are the same, and no slot is gone
+pub Chain-kept : (rs ts : List Ring) (b : ℕ) (xs : List ℕ) → length rs ≤ length ts → ((k : ℕ) → 0 < occurs k xs → ring_at ts k ≡ ring_at rs k) → Chain rs b xs → Chain ts b xs
+Chain-kept rs ts b [] e same_at h = tt
+Chain-kept rs ts b (x ∷ xs) e same_at h =
     let q : ring_at ts x ≡ ring_at rs x = same_at x (omega (arith, same-self x)) in
-    (rw e h.0, rw q h.1, rw q h.2, Chain-same rs ts x xs e (λ k l. same_at k (omega arith)) h.3)
+    (omega (arith, h.0), rw q h.1, rw q h.2, Chain-kept rs ts x xs e (λ k l. same_at k (omega arith)) h.3)
+
+pub Chain-same : (rs ts : List Ring) (b : ℕ) (xs : List ℕ) → length ts ≡ length rs → ((k : ℕ) → 0 < occurs k xs → ring_at ts k ≡ ring_at rs k) → Chain rs b xs → Chain ts b xs
+Chain-same rs ts b xs e same_at h = Chain-kept rs ts b xs (omega arith) same_at h
+
+pub IsList-kept : (rs ts : List Ring) (list : FreeList) (xs : List ℕ) → length rs ≤ length ts → ((k : ℕ) → 0 < occurs k xs → ring_at ts k ≡ ring_at rs k) → IsList rs list xs → IsList ts list xs
+IsList-kept rs ts list xs e same_at h =
+    record { chain = Chain-kept rs ts no_slot xs e same_at h.chain; head = h.head; tail = h.tail; counted = h.counted; once = h.once }
 
 pub Chain-inside : (rs : List Ring) (b i : ℕ) (xs : List ℕ) → Chain rs b xs → 0 < occurs i xs → i < length rs
 Chain-inside rs b i [] h l = absurd (omega arith)
@@ -316,13 +323,18 @@ length-distinct (suc n) xs once inside =
 pub length-list : (rs : List Ring) (list : FreeList) (xs : List ℕ) → IsList rs list xs → length xs ≤ length rs
 length-list rs list xs h = length-distinct (length rs) xs h.once (λ k l. Chain-inside rs no_slot k xs h.chain l)
 
-pub Line-same : (rs ts : List Ring) (xs : List ℕ) → length ts ≡ length rs → ((k : ℕ) → 0 < occurs k xs → ring_at ts k ≡ ring_at rs k) → Line rs xs → Line ts xs
-Line-same rs ts [] e same_at h = tt
-Line-same rs ts (x ∷ xs) e same_at h =
+pub Line-kept : (rs ts : List Ring) (xs : List ℕ) → length rs ≤ length ts → ((k : ℕ) → 0 < occurs k xs → ring_at ts k ≡ ring_at rs k) → Line rs xs → Line ts xs
+Line-kept rs ts [] e same_at h = tt
+Line-kept rs ts (x ∷ xs) e same_at h =
     let q : ring_at ts x ≡ ring_at rs x = same_at x (omega (arith, same-self x)) in
-    (rw e h.0, rw q h.1, Line-same rs ts xs e (λ k l. same_at k (omega arith)) h.2)
+    (omega (arith, h.0), rw q h.1, Line-kept rs ts xs e (λ k l. same_at k (omega arith)) h.2)
+
+pub Line-inside : (rs : List Ring) (i : ℕ) (xs : List ℕ) → Line rs xs → 0 < occurs i xs → i < length rs
+Line-inside rs i [] h l = absurd (omega arith)
+Line-inside rs i (x ∷ xs) h l =
+    elim (cases_eq i x) [ inl q ↦ (rw q h.0) | inr ne ↦ Line-inside rs i xs h.2 (omega (arith, same-ne i x ne)) ]
 
 pub Line-given : (rs ts : List Ring) (i : ℕ) (ring : Ring) → i < length rs → ts ≡ set rs i ring → (xs : List ℕ) → Line rs xs → ring.next.number ≡ front xs → occurs i xs ≡ 0 → Line ts (i ∷ xs)
 Line-given rs ts i ring l e xs h n z =
     let lt : length ts ≡ length rs = rw e (length-set rs i ring) in
-    (rw lt l, rw (e, get_or-set_same rs i ring blank_ring l) n, Line-same rs ts xs lt (λ k o. rw e (get_or-set_other rs i k ring blank_ring (ne-from_occurs i k xs z o))) h)
+    (rw lt l, rw (e, get_or-set_same rs i ring blank_ring l) n, Line-kept rs ts xs (omega arith) (λ k o. rw e (get_or-set_other rs i k ring blank_ring (ne-from_occurs i k xs z o))) h)

@@ -1,5 +1,5 @@
 -- What the calls on lists of slots make of rings, lists and marks. No public clause cites this module.
-use Rattle.std.specs.Prelude.{ℕ, ◌+◌, ◌≡◌, ◌<◌, ◌==◌, Bool, false, List, ◌∷◌, length, slice_set, if◌then◌else◌}
+use Rattle.std.specs.Prelude.{ℕ, ◌+◌, ◌≡◌, ◌<◌, ◌==◌, Bool, true, false, List, ◌∷◌, length, slice_set, if◌then◌else◌}
 use Rattle.guillotiere.specs.declared.slots.Slot.{Slot}
 use Rattle.guillotiere.specs.declared.slots.Link.{Link}
 use Rattle.guillotiere.specs.declared.slots.Node.{Node}
@@ -51,9 +51,22 @@ pub record IsExact (r : Rectangle) : Type 0 where
   pub is : r ≡ rectangle_of box
   pub nonempty : IsNonempty box
 
--- the lists are in order, but for what is in hand or loose
-pub record HasLists (o : Options) (slots : List Slot) (lists : List FreeList) (unused : Link) (loose : ℕ → Bool) : Type 0 where
+-- the lists are in order, and slot i is not loose
+pub record IsKept (o : Options) (slots : List Slot) (lists : List FreeList) (i : ℕ) : Type 0 where
+  pub unused : Link
   pub spare : List ℕ
   pub held : ℕ → List ℕ
   pub hand : ℕ → ℕ
+  pub loose : ℕ → Bool
   pub filed : AreFiled o (nodes slots) (rings slots) lists unused spare held hand loose
+  pub kept : loose i ≡ false
+
+-- the lists are in order, and slot i is loose
+pub record IsLoose (o : Options) (slots : List Slot) (lists : List FreeList) (i : ℕ) : Type 0 where
+  pub unused : Link
+  pub spare : List ℕ
+  pub held : ℕ → List ℕ
+  pub hand : ℕ → ℕ
+  pub loose : ℕ → Bool
+  pub filed : AreFiled o (nodes slots) (rings slots) lists unused spare held hand loose
+  pub is_loose : loose i ≡ true

@@ -1,17 +1,17 @@
 //! The lists of free slots, by class and band, and the list of unused slots: links inside the slots.
-ghost use Rattle.std.specs.Prelude.{◌≡◌, ◌+◌, ◌<◌, ◌≤◌, ◌≤ℤ◌, ℕ, pos, List, ◌∷◌, length};
-ghost use Rattle.guillotiere.specs.Boxes.{Fits};
+ghost use Rattle.std.specs.Prelude.{◌≡◌, ◌+◌, ◌<◌, ◌≤◌, ◌≤ℤ◌, ℕ, Bool, true, false, pos, List, ◌∷◌, length};
+ghost use Rattle.guillotiere.specs.Boxes.{Fits, box_sides};
 ghost use Rattle.guillotiere.specs.Choice.{class_of, reaches};
-ghost use Rattle.guillotiere.specs.Pixels.{sides_of, options_of};
+ghost use Rattle.guillotiere.specs.Pixels.{box_of, options_of, sides_of};
 ghost use Rattle.guillotiere.specs.Slots.{nodes, rings, node_at, ring_at};
 ghost use Rattle.guillotiere.specs.Standing.{IsSlot};
-ghost use Rattle.guillotiere.specs.Lists.{IsList, occurs, without, bounds, band_of, list_of};
-ghost use Rattle.guillotiere.specs.Links.{IsListed, IsUnlisted, with_next, with_ring_previous};
+ghost use Rattle.guillotiere.specs.Lists.{AreFiled, IsList, band_of, bounds, list_of, node_sides, occurs, without};
+ghost use Rattle.guillotiere.specs.declared.slots.NodeKind.TheVariants.{Free};
+ghost use Rattle.guillotiere.specs.Links.{IsExact, IsKept, IsListed, IsLoose, IsUnlisted, held_with, held_without, with_mark, with_next, with_ring_previous};
 
-use std::alloc::Allocator;
-use crate::geometry::Size;
+use crate::geometry::{Rectangle, Size};
 use crate::options::AllocatorOptions;
-use crate::slots::{Link, NO_SLOT, Ring, Slot, read_ring, write_ring};
+use crate::slots::{Link, NO_SLOT, Ring, Slot, read_node, read_ring, write_ring};
 
 /// How many lists of free slots there are: 8 bands for each of 3 classes.
 pub const LISTS: usize = 24;
@@ -201,14 +201,47 @@ pub fn push_front(slots: &mut [Slot], list: &mut FreeList, at: Link, size: Size)
     *list = list_with(*list, at, size);
 }
 
-/// stub
-pub fn unlist(slots: &mut [Slot], lists: &mut [FreeList; LISTS], options: &AllocatorOptions, at: Link)
+// The size of an exact rectangle.
+fn exact_size(area: Rectangle) -> Size
+    requires { IsExact area }
+    ensures wide { pos 0 ≤ℤ result.width }
+    ensures high { pos 0 ≤ℤ result.height }
+    ensures sides { sides_of result ≡ box_sides (box_of area) }
 {
+    area.size()
 }
 
-/// stub
-pub fn enlist(slots: &mut [Slot], lists: &mut [FreeList; LISTS], options: &AllocatorOptions, at: Link)
+/// Takes a free slot, whose rectangle is exact, out of its list; it is loose from then on.
+pub fn unlist(slots: &mut [Slot], lists: &mut [FreeList], options: &AllocatorOptions, at: Link)
+    requires free { (node_at (nodes slots.old) at.number).kind ≡ Free }
+    requires exact { IsExact (node_at (nodes slots.old) at.number).area }
+    requires kept { IsKept (options_of options.now) slots.old lists.old at.number }
+    requires count { length lists.old ≡ LISTS }
+    requires short { length slots.old < 4294967295 }
+    ensures filed { (unused : Link) (spare : List ℕ) (held : ℕ → List ℕ) (hand : ℕ → ℕ) (loose : ℕ → Bool) → AreFiled (options_of options.now) (nodes slots.old) (rings slots.old) lists.old unused spare held hand loose → loose at.number ≡ false → AreFiled (options_of options.now) (nodes slots.new) (rings slots.new) lists.new unused spare (held_without held at.number) hand (with_mark loose at.number true) }
+    ensures same_nodes { nodes slots.new ≡ nodes slots.old }
 {
+    let node = read_node(slots, at);
+    let number = list_number(options, exact_size(node.area));
+    let list = &mut lists[number];
+    unlink(slots, list, at);
+}
+
+/// Puts a free and loose slot, whose rectangle is exact, into its list.
+pub fn enlist(slots: &mut [Slot], lists: &mut [FreeList], options: &AllocatorOptions, at: Link)
+    requires free { (node_at (nodes slots.old) at.number).kind ≡ Free }
+    requires exact { IsExact (node_at (nodes slots.old) at.number).area }
+    requires loose { IsLoose (options_of options.now) slots.old lists.old at.number }
+    requires count { length lists.old ≡ LISTS }
+    requires short { length slots.old < 4294967295 }
+    ensures filed { (unused : Link) (spare : List ℕ) (held : ℕ → List ℕ) (hand : ℕ → ℕ) (loose : ℕ → Bool) → AreFiled (options_of options.now) (nodes slots.old) (rings slots.old) lists.old unused spare held hand loose → loose at.number ≡ true → AreFiled (options_of options.now) (nodes slots.new) (rings slots.new) lists.new unused spare (held_with held (list_of (options_of options.now) (node_sides (node_at (nodes slots.old) at.number))) at.number) hand (with_mark loose at.number false) }
+    ensures same_nodes { nodes slots.new ≡ nodes slots.old }
+{
+    let node = read_node(slots, at);
+    let size = exact_size(node.area);
+    let number = list_number(options, size);
+    let list = &mut lists[number];
+    push_front(slots, list, at, size);
 }
 
 /// stub
