@@ -6,6 +6,7 @@ use Rattle.guillotiere.specs.declared.slots.NodeKind.TheVariants as kind
 use Rattle.guillotiere.specs.Boxes.{side, other, box_sides}
 use Rattle.guillotiere.specs.Pixels.{box_of}
 use Rattle.guillotiere.specs.Slots.{nodes, node_at, axis_of}
+use Rattle.guillotiere.specs.Links.{with_mark}
 use Rattle.guillotiere.specs.Numbered.{Numbered, marked, joined, lifted, granted_at, split_at, wrapped_at}
 use Rattle.guillotiere.specs.Stored.{Shelf, Holding, Holds}
 
@@ -15,7 +16,7 @@ shelf_of s = record { slots = s.slots.items; lists = s.lists; unused = s.unused;
 
 -- slot i is loose, or isn't
 abbrev pub with_loose : (i : ℕ) → Bool → Holding → Holding
-with_loose i b h = record h { loose = λ k. if k == i then b else h.loose k }
+with_loose i b h = record h { loose = with_mark h.loose i b }
 
 abbrev pub with_tree : Numbered → Holding → Holding
 with_tree n h = record h { tree = n }

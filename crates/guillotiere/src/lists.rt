@@ -10,6 +10,7 @@ ghost use Rattle.guillotiere.specs.declared.slots.NodeKind.TheVariants.{Free};
 ghost use Rattle.guillotiere.specs.Links.{IsExact, IsKept, IsListed, IsLoose, IsUnlisted, held_with, held_without, with_mark, with_next, with_ring_previous};
 
 use crate::geometry::{Rectangle, Size};
+use std::alloc::Allocator;
 use crate::options::AllocatorOptions;
 use crate::slots::{Link, NO_SLOT, Ring, Slot, read_node, read_ring, write_ring};
 
