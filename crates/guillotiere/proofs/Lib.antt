@@ -1,3 +1,16 @@
+pub mod TreeBasics
+pub mod TreeIds
+pub mod TreeNormal
+pub mod TreeReleases
+pub mod TreeTiling
+pub mod TreeLive
+pub mod TreeUndone
+pub mod TreeIdle
+pub mod TreePlacing
+pub mod TreeKept
+pub mod TreeGrowth
+pub mod TreeRoom
+pub mod TreeCounts
 pub mod Frames
 pub mod Suffixes
 pub mod Closing

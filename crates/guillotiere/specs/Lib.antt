@@ -5,6 +5,8 @@ pub mod Choice
 pub mod Simple
 pub mod Trees
 pub mod Changes
+pub mod TreeLaws
+pub mod Examples
 pub mod States
 pub mod Refits
 pub mod Steps
