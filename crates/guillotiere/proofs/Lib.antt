@@ -17,11 +17,11 @@ pub mod TreePlacing
 pub mod TreeKept
 pub mod TreeGrowth
 pub mod TreeRoom
+pub mod TreeCounts
 pub mod Frames
 pub mod Suffixes
 pub mod Closing
 pub mod Marking
-pub mod TreeCounts
 pub mod Joining
 pub mod JoiningWrites
 pub mod Lifting
