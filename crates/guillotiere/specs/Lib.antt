@@ -27,3 +27,5 @@ pub mod Replies
 pub mod Links
 pub mod StepLaws
 pub mod RunLaws
+pub mod Freeing
+pub mod Planning

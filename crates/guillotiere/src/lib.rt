@@ -13,6 +13,7 @@ mod options;
 mod placing;
 mod slots;
 mod store;
+mod tree;
 mod turns;
 
 pub use allocation::{AllocId, Allocation, SlotCount};
