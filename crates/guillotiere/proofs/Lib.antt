@@ -3,3 +3,4 @@ pub mod Occurrences
 pub mod Unlinking
 pub mod Banding
 pub mod Filing
+pub mod Taking
