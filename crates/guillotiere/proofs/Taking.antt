@@ -122,11 +122,11 @@ module _ (o : Options) (ns : List Node) (rs : List Ring) (lists : List FreeList)
         line = line.2;
         begins = rw en line.1;
         each = λ i l.
-          let was : occurs i (x ∷ rest) + hand i + use_count (node_at ns i).kind ≡ 1 = rw es at (f.each i l) in
-          elim (cases_eq i x) [
-            | inl e ↦ let h : with_count hand x 1 i ≡ 1 = rw e (with_count-same hand x 1) in let s : same i x ≡ 1 = rw e (same-self x) in omega arith
-            | inr ne ↦ omega (arith, with_count-other hand x 1 i ne, same-ne i x ne)
-          ];
+            let was : occurs i (x ∷ rest) + hand i + use_count (node_at ns i).kind ≡ 1 = rw es at (f.each i l) in
+            elim (cases_eq i x) [
+              | inl e ↦ let h : with_count hand x 1 i ≡ 1 = rw e (with_count-same hand x 1) in let s : same i x ≡ 1 = rw e (same-self x) in omega arith
+              | inr ne ↦ omega (arith, with_count-other hand x 1 i ne, same-ne i x ne)
+            ];
       }
 
   -- a slot in hand becomes the first spare one
@@ -151,3 +151,74 @@ module _ (o : Options) (ns : List Node) (rs : List Ring) (lists : List FreeList)
           | inr ne ↦ omega (arith, f.each j (omega arith), with_count-other hand i 0 j ne, same-ne j i ne)
         ];
       }
+
+unused_kind : (k : NodeKind) → use_count k ≡ 0 → k ≡ kind.Unused
+unused_kind kind.Container e = absurd (omega arith)
+unused_kind kind.Alloc e = absurd (omega arith)
+unused_kind kind.Free e = absurd (omega arith)
+unused_kind kind.Unused e = refl
+
+nil-from_inside : (rs : List Ring) (spare : List ℕ) → length rs < 4294967295 → Line rs spare → front spare ≡ no_slot → spare ≡ []
+nil-from_inside rs [] short l e = refl
+nil-from_inside rs (x ∷ xs) short l e = absurd (omega (arith, l.0))
+
+-- no slot is unused: a new one is taken
+pub taken-fresh : (o : Options) (old new : List Slot) (slot : Slot) (lists : List FreeList) (unused : Link) (at : ℕ) → length old < 4294967295 → unused.number ≡ no_slot → at ≡ length old → new ≡ old ++ slot ∷ [] → slot ≡ blank_slot → (spare : List ℕ) (held : ℕ → List ℕ) (hand : ℕ → ℕ) (loose : ℕ → Bool) → AreFiled o (nodes old) (rings old) lists unused spare held hand loose → IsTaken o old new lists unused unused spare held hand loose at
+taken-fresh o old new slot lists unused at short none ea en es spare held hand loose f =
+    let ln : length (nodes old) ≡ length old = length-map old _ in
+    let lr : length (rings old) ≡ length old = length-map old _ in
+    let last : new ≡ old ++ blank_slot ∷ [] = en ∙ ap (λ s. old ++ s ∷ []) es in
+    let ns : nodes new ≡ nodes old ++ blank_node ∷ [] = ap nodes last ∙ map-append (λ (s : Slot). s.node) old (blank_slot ∷ []) in
+    let rs : rings new ≡ rings old ++ blank_ring ∷ [] = ap rings last ∙ map-append (λ (s : Slot). s.ring) old (blank_slot ∷ []) in
+    let empty : spare ≡ [] = nil-from_inside (rings old) spare (omega arith) f.line (sym f.begins ∙ none) in
+    let same_rest : rest_of spare ≡ spare = ap rest_of empty ∙ sym empty in
+    let grown = AreFiled-grown o (nodes old) (rings old) lists unused spare held hand loose f (ln ∙ sym lr) in
+    let P : List Node → List Ring → List ℕ → ℕ → Type 0 = λ ms ts ys n. AreFiled o ms ts lists unused ys held (with_count hand n 1) loose in
+    let at_node : (i : ℕ) → node_at (nodes new) i ≡ node_at (nodes old) i = (λ i. rw ns (node_at-grown o (nodes old) (rings old) lists unused spare held hand loose f i)) in
+    let blank : node_at (nodes old) at ≡ blank_node = get_or_past (nodes old) at blank_node (omega arith) in
+    record {
+      filed = rw (ns, rs, same_rest, ea, ← lr) grown;
+      inside = omega (arith, ap length last, length_push old blank_slot);
+      was_unused = ap (λ (n : Node). n.kind) blank;
+      is_unused = ap (λ (n : Node). n.kind) (at_node at ∙ blank);
+      apart = λ k l h e. absurd (omega arith);
+    }
+
+-- the first unused slot is taken
+pub taken-again : (o : Options) (old new : List Slot) (lists : List FreeList) (unused next : Link) → (unused.number ≡ no_slot → ⊥) → next ≡ (ring_at (rings old) unused.number).next → nodes new ≡ set (nodes old) unused.number (renewed (node_at (nodes old) unused.number)) → rings new ≡ rings old → (spare : List ℕ) (held : ℕ → List ℕ) (hand : ℕ → ℕ) (loose : ℕ → Bool) → AreFiled o (nodes old) (rings old) lists unused spare held hand loose → IsTaken o old new lists unused next spare held hand loose unused.number
+taken-again o old new lists unused next some en em er [] held hand loose f = absurd (some f.begins)
+taken-again o old new lists unused next some en em er (x ∷ rest) held hand loose f =
+    let at = unused.number in
+    let ax : at ≡ x = f.begins in
+    let ns = nodes old in
+    let lr : length (rings old) ≡ length old = length-map old _ in
+    let ln : length ns ≡ length old = length-map old _ in
+    let in_rings : at < length (rings old) = rw ax f.line.0 in
+    let inside : at < length ns = omega arith in
+    let on : 0 < occurs at (x ∷ rest) = omega (arith, same-self x, ap (λ v. same v x) ax) in
+    let free = spare-use o ns (rings old) lists unused (x ∷ rest) held hand loose f at on in
+    let was : (node_at ns at).kind ≡ kind.Unused = unused_kind _ free.0 in
+    let here : node_at (nodes new) at ≡ renewed (node_at ns at) = rw em (get_or-set_same ns at (renewed (node_at ns at)) blank_node inside) in
+    let there : (i : ℕ) → (i ≡ at → ⊥) → node_at (nodes new) i ≡ node_at ns i = (λ i ne. rw em (get_or-set_other ns at i (renewed (node_at ns at)) blank_node ne)) in
+    let kinds : (i : ℕ) → (node_at (nodes new) i).kind ≡ (node_at ns i).kind = (λ i. elim (cases_eq i at) [ inl e ↦ rw e (ap (λ (n : Node). n.kind) here) | inr ne ↦ ap (λ (n : Node). n.kind) (there i ne) ]) in
+    let areas : (i : ℕ) → (node_at (nodes new) i).area ≡ (node_at ns i).area = (λ i. elim (cases_eq i at) [ inl e ↦ rw e (ap (λ (n : Node). n.area) here) | inr ne ↦ ap (λ (n : Node). n.area) (there i ne) ]) in
+    let taken = AreFiled-taken o ns (rings old) lists unused (x ∷ rest) held hand loose f x rest next refl (rw (← ax) en) in
+    let now = AreFiled-moved o ns (nodes new) (rings old) lists next rest held (with_count hand x 1) (with_count hand x 1) loose loose (λ i. inl (kinds i, areas i, refl)) (λ i l. ap (λ k. with_count hand x 1 i + use_count k) (kinds i)) taken in
+    record {
+      filed = rw (er, ax) now;
+      inside = rw (sym (length-map new (λ (s : Slot). s.ring)), er) in_rings;
+      was_unused = was;
+      is_unused = kinds at ∙ was;
+      apart = λ k l h e. let z : hand k ≡ 0 = rw (← e) free.1 in absurd (omega arith);
+    }
+
+-- the same where the slots are seen through another name
+pub taken-again_by : (o : Options) (old items ys new : List Slot) (lists : List FreeList) (unused : Link) (ring : Ring) → items ≡ old → new ≡ ys → (unused.number ≡ no_slot → ⊥) → ring ≡ ring_at (rings old) unused.number → nodes ys ≡ set (nodes items) unused.number (renewed (node_at (nodes items) unused.number)) → rings ys ≡ rings items → (spare : List ℕ) (held : ℕ → List ℕ) (hand : ℕ → ℕ) (loose : ℕ → Bool) → AreFiled o (nodes old) (rings old) lists unused spare held hand loose → IsTaken o old new lists unused ring.next spare held hand loose unused.number
+taken-again_by o old items ys new lists unused ring ei ey some eg em er spare held hand loose f =
+    let en : nodes new ≡ set (nodes old) unused.number (renewed (node_at (nodes old) unused.number)) = rw (ey, ← ei) em in
+    taken-again o old new lists unused ring.next some (ap (λ (r : Ring). r.next) eg) en (ap rings ey ∙ er ∙ ap rings ei) spare held hand loose f
+
+pub given-by : (o : Options) (old new : List Slot) (lists : List FreeList) (unused at : Link) (ring : Ring) → at.number < length old → rings new ≡ set (rings old) at.number ring → nodes new ≡ nodes old → ring.next ≡ unused → (spare : List ℕ) (held : ℕ → List ℕ) (hand : ℕ → ℕ) (loose : ℕ → Bool) → AreFiled o (nodes old) (rings old) lists unused spare held hand loose → 0 < hand at.number → AreFiled o (nodes new) (rings new) lists at (at.number ∷ spare) held (with_count hand at.number 0) loose
+given-by o old new lists unused at ring li er en es spare held hand loose f h =
+    let inside : at.number < length (rings old) = rw (length-map old (λ (s : Slot). s.ring)) li in
+    rw en (AreFiled-given o (nodes old) (rings old) lists unused spare held hand loose f (rings new) at.number ring at inside h er es refl)
