@@ -66,7 +66,7 @@ as_good-trans true r a b c (inl e) q = inl e
 as_good-trans true r a b c (inr p) (inl e) = absurd (p.0 e)
 as_good-trans true r a b c (inr p) (inr q) = inr (q.0, omega arith)
 
-equal_side_cases : (r : Sides) (b : Box) → HasEqualSide r b ⊎ (HasEqualSide r b → ⊥)
+pub equal_side_cases : (r : Sides) (b : Box) → HasEqualSide r b ⊎ (HasEqualSide r b → ⊥)
 equal_side_cases r b =
     elim (cases_eq (box_sides b).width r.width) [
       | inl e ↦ inl (inl e)

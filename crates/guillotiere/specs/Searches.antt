@@ -3,7 +3,7 @@ use Rattle.std.specs.Prelude.{◌≡◌, ℕ, ◌≤◌, pos, Bool, true, false,
 use Rattle.guillotiere.specs.declared.choice.Found.{Found}
 use Rattle.guillotiere.specs.declared.choice.Search.{Search}
 use Rattle.guillotiere.specs.Boxes.{Sides, Box, box_sides, Fits, IsPositive}
-use Rattle.guillotiere.specs.Choice.{least_margin, HasEqualSide, ComesFirst}
+use Rattle.guillotiere.specs.Choice.{Options, class_of, least_margin, HasEqualSide, IsFitting, ComesFirst}
 use Rattle.guillotiere.specs.Pixels.{box_of, size_of}
 use Rattle.guillotiere.specs.Rectangles.{IsUnsigned}
 
@@ -44,3 +44,12 @@ pub record HasSeen (search : Search) (is_large : Bool) (r : Sides) (shown : List
   pub size : search.size ≡ size_of r
   pub large : search.is_large ≡ is_large
   pub best : MatchOption search.best (FitsNone r shown) (IsFound is_large r shown)
+
+-- each free box that the request fits has at least this class
+abbrev pub FitsOnlyFrom : (class : ℕ) (free : List Box) → Options → (r : Sides) → Type 0
+FitsOnlyFrom class free o r = (b : Box) → IsFitting free r b → class ≤ class_of o (box_sides b)
+
+-- the boxes shown are free boxes of this class, and among them is each one that the request fits
+pub record AreOfClass (class : ℕ) (free : List Box) (o : Options) (r : Sides) (shown : List Shown) : Type 0 where
+  pub of_class : (c : Shown) → Contains shown c → Contains free c.box × (class_of o (box_sides c.box) ≡ class)
+  pub each : (b : Box) → IsFitting free r b → class_of o (box_sides b) ≡ class → (at : ℕ) × Contains shown (shown_at b at)
