@@ -4,3 +4,5 @@ pub mod Unlinking
 pub mod Banding
 pub mod Filing
 pub mod Taking
+pub mod Choosing
+pub mod Picking

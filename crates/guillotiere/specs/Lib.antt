@@ -2,6 +2,8 @@ pub mod Boxes
 pub mod Pixels
 pub mod Cuts
 pub mod Rectangles
+pub mod Requests
+pub mod Searches
 pub mod Choice
 pub mod Simple
 pub mod Trees

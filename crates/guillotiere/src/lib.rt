@@ -1,6 +1,7 @@
 //! A dynamic allocator of rectangles inside one large texture: a port of the Rust crate `guillotiere` 0.7.0.
 #![tactic(auto)]
 
+mod choice;
 mod cut;
 mod error;
 mod geometry;
