@@ -39,3 +39,6 @@ pub mod Unlinking
 pub mod Banding
 pub mod Wrapping
 pub mod Filing
+pub mod Taking
+pub mod Choosing
+pub mod Picking

@@ -3,6 +3,7 @@ pub mod Pixels
 pub mod Cuts
 pub mod Rectangles
 pub mod Requests
+pub mod Searches
 pub mod Choice
 pub mod Simple
 pub mod Trees
