@@ -22,3 +22,6 @@ pub mod LiftingWrites
 pub mod Weights
 pub mod Granting
 pub mod Wrapping
+pub mod Splitting
+pub mod SlotAreas
+pub mod SplittingWrites
