@@ -25,3 +25,4 @@ pub mod Wrapping
 pub mod Splitting
 pub mod SlotAreas
 pub mod SplittingWrites
+pub mod SlotAims
