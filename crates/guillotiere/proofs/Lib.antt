@@ -26,3 +26,4 @@ pub mod Splitting
 pub mod SlotAreas
 pub mod SplittingWrites
 pub mod SlotAims
+pub mod SlotPlacing
