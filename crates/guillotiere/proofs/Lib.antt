@@ -27,3 +27,4 @@ pub mod SlotAreas
 pub mod SplittingWrites
 pub mod SlotAims
 pub mod SlotPlacing
+pub mod SlotCuts

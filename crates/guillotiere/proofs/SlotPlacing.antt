@@ -22,22 +22,22 @@ use Rattle.guillotiere.proofs.SlotAims.{IsAim, IsChoice, IsFitting, aim-choice, 
 
 -- one step at a free member
 
-granted-here : (i g e : ℕ) (rest : Numbered) → granted_at i g (Free i e rest) ≡ Alloc i g e rest
+pub granted-here : (i g e : ℕ) (rest : Numbered) → granted_at i g (Free i e rest) ≡ Alloc i g e rest
 granted-here i g e rest = cond-true (eqb i i) (Alloc i g e rest) (Free i e (granted_at i g rest)) (eq-eqb i i refl)
 
-granted-other : (i g j e : ℕ) (rest : Numbered) → (i ≡ j → ⊥) → granted_at i g (Free j e rest) ≡ Free j e (granted_at i g rest)
+pub granted-other : (i g j e : ℕ) (rest : Numbered) → (i ≡ j → ⊥) → granted_at i g (Free j e rest) ≡ Free j e (granted_at i g rest)
 granted-other i g j e rest ne = cond-false (eqb i j) (Alloc j g e rest) (Free j e (granted_at i g rest)) (ne_eqb i j ne)
 
-split-here : (i k q e : ℕ) (rest : Numbered) → split_at i k q (Free i e rest) ≡ Free i q (Free k (e - q) rest)
+pub split-here : (i k q e : ℕ) (rest : Numbered) → split_at i k q (Free i e rest) ≡ Free i q (Free k (e - q) rest)
 split-here i k q e rest = cond-true (eqb i i) (Free i q (Free k (e - q) rest)) (Free i e (split_at i k q rest)) (eq-eqb i i refl)
 
-split-other : (i k q j e : ℕ) (rest : Numbered) → (i ≡ j → ⊥) → split_at i k q (Free j e rest) ≡ Free j e (split_at i k q rest)
+pub split-other : (i k q j e : ℕ) (rest : Numbered) → (i ≡ j → ⊥) → split_at i k q (Free j e rest) ≡ Free j e (split_at i k q rest)
 split-other i k q j e rest ne = cond-false (eqb i j) (Free j q (Free k (e - q) rest)) (Free j e (split_at i k q rest)) (ne_eqb i j ne)
 
-wrapped-here : (i k across e : ℕ) (rest : Numbered) → wrapped_at i k across (Free i e rest) ≡ Seq i e (Free k across End) rest
+pub wrapped-here : (i k across e : ℕ) (rest : Numbered) → wrapped_at i k across (Free i e rest) ≡ Seq i e (Free k across End) rest
 wrapped-here i k across e rest = cond-true (eqb i i) (Seq i e (Free k across End) rest) (Free i e (wrapped_at i k across rest)) (eq-eqb i i refl)
 
-wrapped-other : (i k across j e : ℕ) (rest : Numbered) → (i ≡ j → ⊥) → wrapped_at i k across (Free j e rest) ≡ Free j e (wrapped_at i k across rest)
+pub wrapped-other : (i k across j e : ℕ) (rest : Numbered) → (i ≡ j → ⊥) → wrapped_at i k across (Free j e rest) ≡ Free j e (wrapped_at i k across rest)
 wrapped-other i k across j e rest ne = cond-false (eqb i j) (Seq j e (Free k across End) rest) (Free j e (wrapped_at i k across rest)) (ne_eqb i j ne)
 
 pub granted-absent : (i g : ℕ) (n : Numbered) → free_tally i n ≡ 0 → granted_at i g n ≡ n
