@@ -24,3 +24,4 @@ pub mod Normal
 pub mod Calm
 pub mod Releasing
 pub mod Settling
+pub mod Extents
