@@ -2,7 +2,7 @@
 use Rattle.std.proofs.Common.{ℕ, ◌+◌, ◌<◌, ◌≤◌, ◌≡◌, ◌≢◌, List, refl, sym, ap, ◌∙◌, ◌⊎◌, inl, inr, arith, length, set, get_or-set_other, get_or-set_same, Bool, true, false, cond, eqb}
 use Rattle.std.proofs.lemmas.Bool.{cond_both, eqb-true, eqb-false, eq-eqb, ne_eqb}
 use Rattle.guillotiere.specs.declared.slots.Node.{Node}
-use Rattle.guillotiere.specs.Slots.{no_slot, node_at, blank_node}
+use Rattle.guillotiere.specs.Slots.{no_slot, node_at, blank_node, KeepsUse}
 use Rattle.guillotiere.specs.Numbered.{Numbered, tally, first_slot, same, End, Free, Alloc, Seq}
 use Rattle.guillotiere.specs.Standing.{Sequence, Standing, IsPlaced, inside}
 
@@ -36,3 +36,7 @@ Standing-same ns ms s before p (Seq i e inner rest) same_at h =
 
 pub IsWritten-by : (ns ms : List Node) (i : ℕ) (m n : Node) → ms ≡ set ns i m → m ≡ n → i < length ns → IsWritten ns ms i n
 IsWritten-by ns ms i m n e q h = rw (e, q) (IsWritten-set ns i n h)
+
+-- an equal node has the same use
+pub keeps-same : (old new : Node) → new ≡ old → KeepsUse old new
+keeps-same old new e = rw e (record { kind = refl; area = refl; generation = refl })

@@ -7,7 +7,7 @@ use Rattle.guillotiere.specs.Pixels.{rectangle_of}
 use Rattle.guillotiere.specs.Boxes.Axis.{Horizontal, Vertical}
 use Rattle.guillotiere.specs.declared.slots.NodeKind.{NodeKind}
 use Rattle.guillotiere.specs.declared.slots.NodeKind.TheVariants as kind
-use Rattle.guillotiere.specs.Slots.{node_at, use_count, no_slot}
+use Rattle.guillotiere.specs.Slots.{node_at, use_count, no_slot, KeepsUse}
 use Rattle.guillotiere.specs.Numbered.{Numbered, tally, first_slot, same, joined, grown_by, End, Free, Alloc, Seq}
 use Rattle.guillotiere.specs.Standing.{Sequence, Standing, Stands, IsPlaced, inside, member_box, spot}
 use Rattle.guillotiere.proofs.Frames.{same-self, same-ne, Standing-same}
@@ -96,7 +96,9 @@ pub record IsJoined (ns ms : List Node) (i j a : ℕ) : Type 0 where
   pub next_free : (node_at ns j).kind ≡ kind.Free
   pub after : (node_at ns j).next.number ≡ a
   pub this : node_at ms i ≡ record (node_at ns i) { next = (node_at ns j).next; area = record (node_at ns i).area { max = (node_at ns j).area.max } }
+  pub apart : j ≡ i → ⊥
   pub gone : (node_at ms j).kind ≡ kind.Unused
+  pub given : node_at ms j ≡ record (node_at ns j) { kind = kind.Unused }
   pub moved : (a ≡ no_slot → ⊥) → node_at ms a ≡ record (node_at ns a) { previous = record { number = i } }
   pub stays : a ≡ no_slot → node_at ms a ≡ node_at ns a
   pub others : (k : ℕ) → (k ≡ i → ⊥) → (k ≡ j → ⊥) → (k ≡ a → ⊥) → node_at ms k ≡ node_at ns k
@@ -258,3 +260,18 @@ module _ (ns ms : List Node) (i j a : ℕ) (w : IsJoined ns ms i j a) where
       let once : (k : ℕ) → tally k n ≤ 1 = λ k. omega (arith, h.numbered k, used-le (node_at ns k).kind) in
       let here : 0 < tally i n = rw (h.numbered i, w.free) (omega arith) in
       λ x. tally-joined s no_slot 0 n once here h.standing x
+
+  -- a join changes the use of no other slot
+  pub joined-use : (k : ℕ) → (k ≡ i → ⊥) → (k ≡ j → ⊥) → KeepsUse (node_at ns k) (node_at ms k)
+  joined-use k ki kj =
+      elim (cases_eq k a) [
+        | inr ka ↦ rw (w.others k ki kj ka) (record { kind = refl; area = refl; generation = refl })
+        | inl e ↦ elim (cases_eq a no_slot) [ inl q ↦ rw (e, w.stays q) (record { kind = refl; area = refl; generation = refl }) | inr q ↦ rw (e, w.moved q) (record { kind = refl; area = refl; generation = refl }) ]
+      ]
+
+  -- what a join makes of its two leaves, if the second is said to be at k
+  pub area-joined : (k : ℕ) → k ≡ j → (node_at ms i).area ≡ record (node_at ns i).area { max = (node_at ns k).area.max }
+  area-joined k e = rw (e, w.this) refl
+
+  pub given-joined : (k : ℕ) → k ≡ j → node_at ms k ≡ record (node_at ns k) { kind = kind.Unused }
+  given-joined k e = rw e w.given

@@ -80,7 +80,7 @@ can-join ns i j a short t fi nj fj na =
       after = elim (next-in ns j s no_slot 0 n h.standing here_j) [ inl z ↦ inl (sym na ∙ z) | inr y ↦ inr (used-inside ns a (rw (← h.numbered a, ← na) y)) ];
     }
 
-pub joined-by : (ns ms : List Node) (i j a : ℕ) (n1 n2 : Node) → length ns < no_slot → CanJoin ns i j a → (node_at ns i).kind ≡ kind.Free → (node_at ns i).next.number ≡ j → (node_at ns j).kind ≡ kind.Free → (node_at ns j).next.number ≡ a → n1 ≡ record (node_at ns i) { next = (node_at ns j).next; area = record (node_at ns i).area { max = (node_at ns j).area.max } } → n2.kind ≡ kind.Unused → ms ≡ set (with_previous (set ns i n1) a (record { number = i })) j n2 → IsJoined ns ms i j a
+pub joined-by : (ns ms : List Node) (i j a : ℕ) (n1 n2 : Node) → length ns < no_slot → CanJoin ns i j a → (node_at ns i).kind ≡ kind.Free → (node_at ns i).next.number ≡ j → (node_at ns j).kind ≡ kind.Free → (node_at ns j).next.number ≡ a → n1 ≡ record (node_at ns i) { next = (node_at ns j).next; area = record (node_at ns i).area { max = (node_at ns j).area.max } } → n2 ≡ record (node_at ns j) { kind = kind.Unused } → ms ≡ set (with_previous (set ns i n1) a (record { number = i })) j n2 → IsJoined ns ms i j a
 joined-by ns ms i j a n1 n2 short c fi nj fj na e1 e2 e =
     let u = none-unused ns short in
     let li : i < length ns = used-inside ns i (rw fi (omega arith)) in
@@ -103,7 +103,9 @@ joined-by ns ms i j a n1 n2 short c fi nj fj na e1 e2 e =
       next_free = fj;
       after = na;
       this = rw (e, get_or-set_other ys j i n2 blank_node ij, get_or-set_other xs a i _ blank_node ia, get_or-set_same ns i n1 blank_node li) e1;
-      gone = rw (e, get_or-set_same ys j n2 blank_node (omega arith)) e2;
+      apart = ji;
+      gone = rw (e, get_or-set_same ys j n2 blank_node (omega arith)) (ap (λ (n : Node). n.kind) e2);
+      given = rw (e, get_or-set_same ys j n2 blank_node (omega arith)) e2;
       moved = λ x. rw (e, get_or-set_other ys j a n2 blank_node aj, get_or-set_same xs a _ blank_node (omega (arith, is_inside x)), at_a) refl;
       stays = λ x. rw (e, get_or-set_other ys j a n2 blank_node aj) (get_or_past ys a blank_node (omega arith) ∙ sym (get_or_past ns a blank_node (omega arith)));
       others = λ k ki kj ka. rw (e, get_or-set_other ys j k n2 blank_node kj, get_or-set_other xs a k _ blank_node ka, get_or-set_other ns i k n1 blank_node ki) refl;
@@ -122,4 +124,4 @@ join_next_is ns ms1 ms2 ms slot this next short t fi fj et en e1 e2 e =
     let n2 : Node = record next { kind = kind.Unused } in
     let ej : this.next.number ≡ j = rw et refl in
     let ea : next.next.number ≡ a = rw (en, ej) refl in
-    joined-by ns ms i j a n1 n2 short (can-join ns i j a short t fi refl fj refl) fi refl fj refl (rw (en, et) refl) refl (rw (e, e2, e1, ej, ea) refl)
+    joined-by ns ms i j a n1 n2 short (can-join ns i j a short t fi refl fj refl) fi refl fj refl (rw (en, et) refl) (rw (en, ej) refl) (rw (e, e2, e1, ej, ea) refl)

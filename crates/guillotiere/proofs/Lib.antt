@@ -15,6 +15,10 @@ pub mod Suffixes
 pub mod Closing
 pub mod Marking
 pub mod TreeCounts
+pub mod Frames
+pub mod Suffixes
+pub mod Closing
+pub mod Marking
 pub mod Joining
 pub mod JoiningWrites
 pub mod Lifting
@@ -28,3 +32,9 @@ pub mod SplittingWrites
 pub mod SlotAims
 pub mod SlotPlacing
 pub mod SlotCuts
+pub mod Reading
+pub mod Normal
+pub mod Calm
+pub mod Releasing
+pub mod Settling
+pub mod Extents

@@ -68,7 +68,10 @@ pub record IsLifted (ns ms : List Node) (c k : ℕ) : Type 0 where
   pub alone_after : (node_at ns k).next.number ≡ no_slot
   pub nested : c ≡ no_slot → ⊥
   pub outer : node_at ms c ≡ record (node_at ns c) { kind = kind.Free }
+  pub apart : c ≡ k → ⊥
+  pub container : (node_at ns c).kind ≡ kind.Container
   pub gone : (node_at ms k).kind ≡ kind.Unused
+  pub given : node_at ms k ≡ record (node_at ns k) { kind = kind.Unused }
   pub others : (x : ℕ) → (x ≡ c → ⊥) → (x ≡ k → ⊥) → node_at ms x ≡ node_at ns x
 
 module _ (ns ms : List Node) (c k : ℕ) (w : IsLifted ns ms c k) where
@@ -243,3 +246,10 @@ module _ (ns ms : List Node) (c k : ℕ) (w : IsLifted ns ms c k) where
       let none : tally no_slot n ≡ 0 = h.numbered no_slot ∙ ap use_count w.ends in
       let np : s.parent ≡ c → ⊥ = (λ x. w.nested (sym x ∙ top)) in
       λ x. tally-lifted s no_slot 0 n once none np here h.standing x
+
+  -- what a lift makes of the container, if that is said to be at x
+  pub container-lifted : (x : ℕ) → x ≡ c → (node_at ns x).kind ≡ kind.Container
+  container-lifted x e = rw e w.container
+
+  pub outer-lifted : (x : ℕ) → x ≡ c → node_at ms x ≡ record (node_at ns x) { kind = kind.Free }
+  outer-lifted x e = rw e w.outer

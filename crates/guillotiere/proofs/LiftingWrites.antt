@@ -55,7 +55,10 @@ lift_is ns ms1 ms child inner outer short f first_slot last np ei eo e1 e s n to
       alone_after = last;
       nested = np;
       outer = rw (all, get_or-set_other xs k c n2 blank_node ck, get_or-set_same ns c n1 blank_node lc, eo, ei) refl;
+      apart = ck;
+      container = isbox;
       gone = rw (all, get_or-set_same xs k n2 blank_node (omega arith)) refl;
+      given = rw (all, get_or-set_same xs k n2 blank_node (omega arith), ei) refl;
       others = λ x xc xk. rw (all, get_or-set_other xs k x n2 blank_node xk, get_or-set_other ns c x n1 blank_node xc) refl;
     }
 

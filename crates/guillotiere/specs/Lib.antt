@@ -16,5 +16,7 @@ pub mod Numbered
 pub mod Standing
 pub mod Lists
 pub mod Reading
+pub mod Calm
+pub mod Settling
 pub mod Stored
 pub mod Parts

@@ -8,6 +8,7 @@ mod lists;
 mod options;
 mod placing;
 mod slots;
+mod turns;
 
 pub use error::AtlasError;
 pub use geometry::{Point, Rectangle, Size, point2, size2};
