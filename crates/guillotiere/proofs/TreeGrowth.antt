@@ -1,8 +1,7 @@
 -- A growth before or after a freeing.
 use Rattle.std.proofs.Common.{◌≡◌, ℕ, ◌+◌, ◌-◌, ◌<◌, ◌≤◌, Bool, true, false, cond, ltb, [], ◌∷◌, refl, ap, subst, sym, ◌∙◌, arith}
 use Rattle.std.proofs.lemmas.Bool.{ltb-false, true≢false, false≢true}
-use Rattle.guillotiere.specs.Boxes.{Axis, Sides, other, side, whole_box, sized, box_at, origin, Fits, IsPositive}
-use Rattle.guillotiere.specs.Boxes.Axis.{Horizontal, Vertical}
+use Rattle.guillotiere.specs.Boxes.{Axis, Sides, other, side, whole_box, Fits}
 use Rattle.guillotiere.specs.Trees.{Members, Tree, total, is_one_free, IsOneFree, IsWellFormed, free_boxes}
 use Rattle.guillotiere.specs.Trees.Members.{End, Free, Alloc, Seq}
 use Rattle.guillotiere.specs.Changes.{free_before, seq_before, nf, mark, release, lengthened, lengthened_to, widened, grown_members, grown}

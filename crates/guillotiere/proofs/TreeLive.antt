@@ -1,12 +1,11 @@
 -- What is live after normalising, freeing and growing.
 use Rattle.std.proofs.Common.{◌≡◌, ℕ, ◌+◌, ◌-◌, ◌≤◌, Bool, true, false, cond, not, ltb, List, ◌∷◌, ◌++◌, refl, ap, ap₂, sym, ◌∙◌, arith}
 use Rattle.std.specs.List.{filter}
-use Rattle.std.proofs.lemmas.List.Elements.{filter-append, filter_map-append}
+use Rattle.std.proofs.lemmas.List.Elements.{filter-append}
 use Rattle.std.proofs.lemmas.List.{append-nil}
 use Rattle.std.proofs.lemmas.Bool.{ltb-false}
-use Rattle.guillotiere.specs.Boxes.{Axis, Position, Sides, Box, other, side, sized, moved, box_at, origin, Fits}
-use Rattle.guillotiere.specs.Boxes.Axis.{Horizontal, Vertical}
-use Rattle.guillotiere.specs.Trees.{Grant, grant, Members, Tree, Leaf, leaves, grant_at, granted, live}
+use Rattle.guillotiere.specs.Boxes.{Axis, Position, Sides, other, side, sized, moved, box_at, origin, Fits}
+use Rattle.guillotiere.specs.Trees.{Grant, grant, Members, Tree, live}
 use Rattle.guillotiere.specs.Trees.Members.{End, Free, Alloc, Seq}
 use Rattle.guillotiere.specs.Changes.{free_before, seq_before, nf, mark, release, lengthened, lengthened_to, widened, grown_members, grown}
 use Rattle.guillotiere.proofs.TreeBasics.{other_twice, longer_side, moved-twice, live_among, live_among-seq}

@@ -1,16 +1,15 @@
 -- What a placing keeps, and what it adds.
-use Rattle.std.proofs.Common.{◌≡◌, ℕ, ◌+◌, ◌-◌, ◌*◌, ◌%◌, ◌^◌, ◌<◌, ◌≤◌, ◌==◌, Bool, true, false, cond, ◌&&◌, ◌||◌, ltb, eqb, get_or, Option, Some, None, List, [], ◌∷◌, ◌++◌, refl, ap, subst, sym, ◌∙◌, arith}
+use Rattle.std.proofs.Common.{◌≡◌, ℕ, ◌+◌, ◌-◌, ◌*◌, ◌%◌, ◌^◌, ◌<◌, ◌≤◌, ◌==◌, Bool, true, false, cond, ◌&&◌, ◌||◌, ltb, eqb, get_or, Option, Some, None, List, [], ◌∷◌, refl, ap, subst, sym, ◌∙◌, arith}
 use Rattle.std.specs.List.{count_by, Contains}
 use Rattle.std.proofs.lemmas.List.Sums.{sum_by-cons, sum_by-append, get_or-le-sum_by}
-use Rattle.std.proofs.lemmas.List.Elements.{filter_map-append}
-use Rattle.std.proofs.lemmas.Bool.{eqb-true, eqb-false, eq-eqb, le-leb, lt-ltb, le-ltb, and_from, true≢false}
+use Rattle.std.proofs.lemmas.Bool.{eqb-true, eqb-false, le-leb, lt-ltb, le-ltb, and_from, true≢false}
 use Rattle.guillotiere.specs.Boxes.{Axis, Position, Sides, Box, other, same_axis, side, sized, moved, box_at, origin, box_sides, same_box, covers, Fits, IsPositive, IsNonempty, IsInside}
 use Rattle.guillotiere.specs.Boxes.Axis.{Horizontal, Vertical}
 use Rattle.guillotiere.specs.Cuts.{Cut, cut, cut_axis, cap}
 use Rattle.guillotiere.specs.Cuts.Cut.{Whole, Strip, Corner}
-use Rattle.guillotiere.specs.Trees.{Grant, grant, slot_count, Members, Tree, Leaf, leaves, tree_leaves, ids, free_at, ungranted, free_boxes, live, total, nodes, IsCut, IsWellFormed, begins_free, is_idle, IsNormal}
+use Rattle.guillotiere.specs.Trees.{Grant, grant, slot_count, Members, Tree, Leaf, tree_leaves, ids, ungranted, free_boxes, live, total, IsCut, IsWellFormed, begins_free, is_idle, IsNormal}
 use Rattle.guillotiere.specs.Trees.Members.{End, Free, Alloc, Seq}
-use Rattle.guillotiere.specs.Changes.{put, placed, place, need, needed, place_need}
+use Rattle.guillotiere.specs.Changes.{put, placed, place}
 use Rattle.guillotiere.proofs.TreeBasics.{one_if, moved-twice, same_box-true, same_box-itself, live_among, free_among, live_among-seq, free_among-seq}
 use Rattle.guillotiere.proofs.TreeTiling.{squares_of_leaves}
 use Rattle.guillotiere.specs.TreeLaws.{IsPlaceable, IsPlaced}

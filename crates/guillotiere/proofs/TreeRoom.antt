@@ -5,7 +5,7 @@ use Rattle.std.proofs.lemmas.Bool.{ltb-false}
 use Rattle.std.proofs.lemmas.List.Elements.{All-nil, All-cons}
 use Rattle.guillotiere.specs.Boxes.{Axis, Position, Sides, Box, other, side, sized, moved, box_at, box_sides, origin, Fits, IsInside}
 use Rattle.guillotiere.specs.Boxes.Axis.{Horizontal, Vertical}
-use Rattle.guillotiere.specs.Trees.{IsNormal, Grant, grant, Members, Tree, total, IsCut, IsWellFormed, free_boxes, live}
+use Rattle.guillotiere.specs.Trees.{IsNormal, Grant, Members, Tree, total, IsCut, IsWellFormed, free_boxes, live}
 use Rattle.guillotiere.specs.Trees.Members.{End, Free, Alloc, Seq}
 use Rattle.guillotiere.specs.Changes.{free_before, seq_before, nf, mark, release, lengthened, lengthened_to, widened, grown_members, grown}
 use Rattle.guillotiere.specs.TreeLaws.{IsGrown, LiesInOneOf}

@@ -1,11 +1,11 @@
 -- The leaves of members tile the box of the members.
-use Rattle.std.proofs.Common.{◌≡◌, ℕ, ◌+◌, ◌-◌, ◌*◌, ◌<◌, Bool, cond, Some, None, ◌&&◌, ltb, leb, refl, ap, ap₂, subst, sym, ◌∙◌, arith}
+use Rattle.std.proofs.Common.{◌≡◌, ℕ, ◌+◌, ◌-◌, ◌*◌, ◌<◌, Bool, Some, None, ◌&&◌, ltb, leb, ap, ap₂, subst, sym, ◌∙◌, arith}
 use Rattle.std.proofs.Math.Nat.{mul_comm}
 use Rattle.std.specs.List.{All, sum_by, count_by}
 use Rattle.std.proofs.lemmas.List.Elements.{All-nil, All-cons, All-append}
 use Rattle.std.proofs.lemmas.List.Sums.{sum_by-cons, sum_by-append}
 use Rattle.std.proofs.lemmas.Bool.Decides.{nat_tests}
-use Rattle.guillotiere.specs.Boxes.{Axis, Position, Sides, other, side, sized, moved, box_at, origin, area, covers, IsNonempty, IsWithin, IsPositive}
+use Rattle.guillotiere.specs.Boxes.{Axis, Position, Sides, other, side, sized, moved, box_at, origin, area, covers, IsNonempty, IsWithin}
 use Rattle.guillotiere.specs.Boxes.Axis.{Horizontal, Vertical}
 use Rattle.guillotiere.specs.Trees.{Members, Tree, Leaf, leaf, leaves, tree_leaves, total, IsCut, IsWellFormed}
 use Rattle.guillotiere.specs.Trees.Members.{End, Free, Alloc, Seq}

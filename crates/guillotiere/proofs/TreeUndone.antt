@@ -2,7 +2,7 @@
 use Rattle.std.proofs.Common.{◌≡◌, ℕ, ◌+◌, ◌-◌, ◌≤◌, ◌==◌, Bool, true, false, cond, ◌||◌, refl, ap, ap₂, subst, sym, ◌∙◌, arith}
 use Rattle.std.specs.List.{count_by, Contains}
 use Rattle.std.proofs.lemmas.List.Sums.{sum_by-cons, sum_by-append}
-use Rattle.std.proofs.lemmas.Bool.{and_parts, eqb-true, eq-eqb}
+use Rattle.std.proofs.lemmas.Bool.{eq-eqb}
 use Rattle.guillotiere.specs.Boxes.{Axis, Position, Sides, Box, other, same_axis, side, sized, moved, box_at, origin, box_sides, same_box, Fits}
 use Rattle.guillotiere.specs.Boxes.Axis.{Horizontal, Vertical}
 use Rattle.guillotiere.specs.Cuts.{Cut, cut}

@@ -6,6 +6,7 @@ pub mod Simple
 pub mod Trees
 pub mod Changes
 pub mod TreeLaws
+pub mod Examples
 pub mod States
 pub mod Refits
 pub mod Steps
