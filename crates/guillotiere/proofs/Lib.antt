@@ -1,3 +1,5 @@
+pub mod DueAnswers
+pub mod StepEffects
 pub mod StepKeeping
 pub mod Refitting
 pub mod Outcomes
