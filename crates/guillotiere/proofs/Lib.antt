@@ -1,3 +1,5 @@
+pub mod RunKeeping
+pub mod Traces
 pub mod DueAnswers
 pub mod StepEffects
 pub mod StepKeeping

@@ -111,7 +111,7 @@ steps_do old new call reply sound =
     (λ n fit room is. subst (IsGrowthStep old) (sym is) (growth_step old n sound fit))
     (λ is. ap live_in is)
     (λ n o pos valid is. ap live_in is)
-    (λ call n list h. rearranging_step old new n list sound h)
+    (λ call n list rare h. rearranging_step old new n list sound h)
     call reply
 
 pub refusals_change_nothing : RefusalsChangeNothing
@@ -123,7 +123,7 @@ refusals_change_nothing old new call reply =
     (λ n fit room is refused. absurd (false≢true refused))
     (λ is refused. absurd (false≢true refused))
     (λ n o pos valid is refused. absurd (false≢true refused))
-    (λ call n list h refused. absurd (false≢true refused))
+    (λ call n list rare h refused. absurd (false≢true refused))
     call reply
 
 pub grants_lie_inside : GrantsLieInside

@@ -122,5 +122,5 @@ steps_keep old new call reply sound =
     (λ n fit room is. subst IsSound (sym is) (growth_sound old n sound fit room))
     (λ is. subst IsSound (sym is) (started_sound old old.size old.options sound sound.well_formed.nonempty sound.valid))
     (λ n o pos valid is. subst IsSound (sym is) (started_sound old n o sound pos valid))
-    (λ call n list h. moving_sound old new n list sound h)
+    (λ call n list rare h. moving_sound old new n list sound h)
     call reply
