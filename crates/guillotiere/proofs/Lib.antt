@@ -16,6 +16,7 @@ pub mod TreeTiling
 pub mod TreeLive
 pub mod TreeUndone
 pub mod TreeIdle
+pub mod TreePuts
 pub mod TreePlacing
 pub mod TreeKept
 pub mod TreeGrowth
