@@ -1,12 +1,11 @@
 -- The lists of live grants and of free boxes, as parts of the leaves.
-use Rattle.std.proofs.Common.{◌≡◌, ℕ, ◌+◌, ◌*◌, ◌≤◌, ◌<◌, ◌==◌, ◌%◌, ◌^◌, Bool, true, false, cond, Option, Some, None, List, [], ◌∷◌, ◌++◌, map, refl, ap, ap₂, subst, sym, ◌∙◌, arith, Contains, All}
+use Rattle.std.proofs.Common.{◌≡◌, ℕ, ◌+◌, ◌*◌, ◌≤◌, ◌<◌, ◌==◌, ◌%◌, ◌^◌, Bool, true, false, cond, Option, Some, None, List, [], ◌∷◌, ◌++◌, map, refl, ap, sym, ◌∙◌, arith, All}
 use Rattle.std.specs.List.{count_by, sum_by}
 use Rattle.std.proofs.lemmas.List.Sums.{sum_by-cons, sum_by-append}
 use Rattle.std.proofs.lemmas.List.Elements.{All-nil, All-cons, All-append, All-head, All-tail}
-use Rattle.std.proofs.lemmas.Bool.{eqb-true, eq-eqb, and_from}
-use Rattle.guillotiere.specs.Boxes.{Axis, Position, Sides, Box, other, side, moved, origin, whole_box, box_at, area, covers, same_box, IsNonempty, IsWithin}
-use Rattle.guillotiere.specs.Trees.{Members, Tree, Leaf, Grant, leaves, tree_leaves, granted, ungranted, live, free_boxes, ids, slot_count, IsWellFormed, IsNormal}
-use Rattle.guillotiere.specs.Trees.Members.{End, Free, Alloc, Seq}
+use Rattle.std.proofs.lemmas.Bool.{eqb-true, eq-eqb}
+use Rattle.guillotiere.specs.Boxes.{Sides, Box, area, covers, same_box, IsNonempty, IsWithin}
+use Rattle.guillotiere.specs.Trees.{Tree, Leaf, Grant, tree_leaves, granted, ungranted, live, free_boxes, ids, slot_count, IsWellFormed}
 use Rattle.guillotiere.proofs.Counting.{count_by-weaker, count_by-cons}
 use Rattle.guillotiere.proofs.TreeTiling.{areas_add_up, squares_once, boxes_within}
 use Rattle.guillotiere.proofs.TreeIds.{ids-live}
@@ -80,7 +79,7 @@ pub free_once : (size : Sides) (t : Tree) → IsWellFormed size t → (x y : ℕ
 free_once size t well x y in_x in_y =
     let all : count_by (covers x y) (all_boxes size t) ≡ 1 = squares_in_one size t well x y in_x in_y in
     let parts : count_by (covers x y) (all_boxes size t) ≡ count_by (covers x y) (map (λ (g : Grant). g.box) (live size t)) + count_by (covers x y) (free_boxes size t)
-          = sum_by-append (λ b. cond (covers x y b) 1 0) (map (λ (g : Grant). g.box) (live size t)) (free_boxes size t) in
+    = sum_by-append (λ b. cond (covers x y b) 1 0) (map (λ (g : Grant). g.box) (live size t)) (free_boxes size t) in
     omega arith
 
 count_mapped : (p : ℕ → Bool) (gs : List Grant) → count_by (λ (g : Grant). p g.id) gs ≡ count_by p (map (λ (g : Grant). g.id) gs)

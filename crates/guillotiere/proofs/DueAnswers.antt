@@ -1,14 +1,14 @@
 -- Requests are granted and denied as they are due.
-use Rattle.std.proofs.Common.{◌≡◌, Bool, true, false, ◌↔◌, refl}
+use Rattle.std.proofs.Common.{◌≡◌, true, false, ◌↔◌, refl}
 use Rattle.std.proofs.lemmas.Bool.{true≢false, false≢true}
 use Rattle.guillotiere.specs.declared.error.AtlasError.TheVariants.{Memory, Slots, NotLive}
-use Rattle.guillotiere.specs.Boxes.{Sides, Box, IsPositive}
+use Rattle.guillotiere.specs.Boxes.{Sides, Box}
 use Rattle.guillotiere.specs.Choice.{HasRoom, HasNoRoom}
 use Rattle.guillotiere.specs.States.{State, free_in}
-use Rattle.guillotiere.specs.Steps.{AtlasCall, AtlasReply, Step, Takes}
+use Rattle.guillotiere.specs.Steps.{AtlasReply, Step, Takes}
 use Rattle.guillotiere.specs.Steps.AtlasCall.{Allocate, Deallocate, Grow, Clear, Reset, Rearrange, ResizeAndRearrange}
 use Rattle.guillotiere.specs.Steps.AtlasReply.{Allocated, NoRoom, Done, Changed, Refused, BadCall}
-use Rattle.guillotiere.specs.StepLaws.{is_short, is_grant, GrantsAsDue, DeniesAsDue, StepsAnswerAsDue}
+use Rattle.guillotiere.specs.StepLaws.{is_short, is_grant, StepsAnswerAsDue}
 
 -- what takes a free box has room
 taken_room : (s : State) (r : Sides) (f : Box) → Takes s r f → HasRoom (free_in s) s.options r

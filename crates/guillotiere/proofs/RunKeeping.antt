@@ -1,8 +1,7 @@
 -- Each run keeps an atlas in order.
-use Rattle.std.proofs.Common.{◌≡◌, ℕ, ◌≤◌, ◌<◌, List, [], ◌∷◌, refl, sym, subst, arith}
-use Rattle.guillotiere.specs.Boxes.{whole_box}
+use Rattle.std.proofs.Common.{◌≤◌, List, [], ◌∷◌, sym, subst, arith}
 use Rattle.guillotiere.specs.Trees.{ids, slot_count}
-use Rattle.guillotiere.specs.States.{State, live_in, IsSound}
+use Rattle.guillotiere.specs.States.{State, IsSound}
 use Rattle.guillotiere.specs.Steps.{AtlasCall, AtlasReply, Step}
 use Rattle.guillotiere.specs.StepLaws.{live_count}
 use Rattle.guillotiere.specs.Runs.{Run}

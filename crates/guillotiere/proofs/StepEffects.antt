@@ -1,21 +1,20 @@
 -- What each step does, call by call.
-use Rattle.std.proofs.Common.{◌≡◌, ℕ, ◌+◌, ◌-◌, ◌*◌, ◌/◌, ◌≤◌, ◌<◌, ◌==◌, Bool, true, false, not, List, [], ◌∷◌, ◌++◌, map, filter, refl, ap, subst, subst₂, sym, ◌∙◌, arith, inl, inr, ◌⊎◌, Contains, IsPermutation, All}
+use Rattle.std.proofs.Common.{◌≡◌, ℕ, ◌+◌, ◌-◌, ◌*◌, ◌/◌, ◌≤◌, ◌<◌, true, ◌∷◌, map, refl, ap, subst, subst₂, sym, ◌∙◌, arith, inl, inr, Contains, IsPermutation}
 use Rattle.std.specs.List.{count_by}
-use Rattle.std.proofs.lemmas.Bool.{true≢false, false≢true, eq-eqb, le-leb, lt-ltb, and_from}
+use Rattle.std.proofs.lemmas.Bool.{false≢true, eq-eqb, le-leb, lt-ltb, and_from}
 use Rattle.std.proofs.lemmas.List.{append-nil}
 use Rattle.std.proofs.lemmas.List.Sorted.{IsPermutation-sym, IsPermutation-trans}
 use Rattle.std.proofs.lemmas.List.Elements.{All-contains}
 use Rattle.guillotiere.specs.Boxes.{Sides, Box, box_at, box_sides, covers, IsInside, Fits, IsPositive, IsNonempty, IsWithin}
-use Rattle.guillotiere.specs.Choice.{Options, AreValid, rounded, IsPick, ComesFirst, HasRoom}
+use Rattle.guillotiere.specs.Choice.{rounded, ComesFirst}
 use Rattle.guillotiere.specs.Trees.{Grant, grant, live, ids, slot_count}
-use Rattle.guillotiere.specs.Changes.{only, fresh, place}
-use Rattle.guillotiere.specs.TreeLaws.{LiesInOneOf}
-use Rattle.guillotiere.specs.States.{State, live_in, free_in, IsLive, IsAligned, IsSound, started, after_freeing, after_growth}
+use Rattle.guillotiere.specs.Changes.{only}
+use Rattle.guillotiere.specs.States.{State, live_in, free_in, IsLive, IsAligned, IsSound, after_freeing, after_growth}
 use Rattle.guillotiere.specs.Refits.{Rearrangement}
-use Rattle.guillotiere.specs.Steps.{AtlasCall, AtlasReply, Step, Takes, Grants, Rearranges}
+use Rattle.guillotiere.specs.Steps.{AtlasCall, AtlasReply, Grants, Rearranges}
 use Rattle.guillotiere.specs.Steps.AtlasCall.{Allocate, Deallocate, Grow}
 use Rattle.guillotiere.specs.Steps.AtlasReply.{Allocated, NoRoom, Done, Changed, Refused, BadCall}
-use Rattle.guillotiere.specs.StepLaws.{live_count, IsBarelyAbove, IsGrantStep, IsFreeingStep, IsGrowthStep, IsRearrangingStep, Does, StepsDo, GrantsLieInside, FreeingsRemoveOne, GrowthsKeepBoxes, RearrangingsLoseNothing, is_refusal, RefusalsChangeNothing, PicksAreOne}
+use Rattle.guillotiere.specs.StepLaws.{live_count, IsBarelyAbove, IsGrantStep, IsFreeingStep, IsGrowthStep, IsRearrangingStep, Does, GrantsLieInside, FreeingsRemoveOne, GrowthsKeepBoxes, RearrangingsLoseNothing, is_refusal, RefusalsChangeNothing, PicksAreOne}
 use Rattle.guillotiere.proofs.Counting.{count_some, counted_once}
 use Rattle.guillotiere.proofs.BoxLists.{count_live, live_few, free_in_place, free_once}
 use Rattle.guillotiere.proofs.Rounding.{up_least, up_below, rounded_positive, rounded_aligned, rounded_same}
@@ -102,7 +101,7 @@ unchanged_does old new call (Allocated g) refused same = absurd (false≢true re
 unchanged_does old new call Done refused same = absurd (false≢true refused)
 unchanged_does old new call (Changed list) refused same = absurd (false≢true refused)
 
-pub steps_do : StepsDo
+pub steps_do : (old new : State) (call : AtlasCall) (reply : AtlasReply) → IsSound old → Step old call reply new → Does old call reply new
 steps_do old new call reply sound =
     by_outcome old new (λ call reply. Does old call reply new)
     (λ call reply refused same. unchanged_does old new call reply refused same)

@@ -1,16 +1,15 @@
 -- Each step keeps what each atlas keeps.
-use Rattle.std.proofs.Common.{◌≡◌, ℕ, zero, suc, ◌+◌, ◌-◌, ◌≤◌, ◌<◌, Bool, max, List, [], ◌∷◌, refl, ap, subst, sym, ◌∙◌, arith, Contains, IsPermutation, All}
+use Rattle.std.proofs.Common.{◌≡◌, ℕ, ◌≤◌, ◌<◌, Bool, refl, subst, sym, arith, All}
 use Rattle.std.proofs.lemmas.List.Sorted.{All-permutation}
 use Rattle.std.proofs.lemmas.List.Elements.{All-nil, All-filter}
-use Rattle.guillotiere.specs.Boxes.{Axis, Sides, Box, box_sides, side, Fits, IsPositive, IsNonempty, IsWithin}
-use Rattle.guillotiere.specs.Boxes.Axis.{Horizontal, Vertical}
+use Rattle.guillotiere.specs.Boxes.{Sides, Box, box_sides, Fits, IsPositive, IsNonempty}
 use Rattle.guillotiere.specs.Choice.{Options, AreValid, rounded}
-use Rattle.guillotiere.specs.Trees.{Members, Tree, Grant, live, total, nodes, IsWellFormed, IsNormal}
+use Rattle.guillotiere.specs.Trees.{Members, Tree, Grant, total, nodes, IsWellFormed, IsNormal}
 use Rattle.guillotiere.specs.Trees.Members.{End, Free, Alloc, Seq}
-use Rattle.guillotiere.specs.Changes.{only, release, grown, place, fresh, grow_need}
-use Rattle.guillotiere.specs.States.{State, live_in, free_in, used_in, IsLive, IsSound, started, after_placing, after_freeing, after_growth, after_refit}
+use Rattle.guillotiere.specs.Changes.{only, release, grown, place, fresh}
+use Rattle.guillotiere.specs.States.{State, live_in, used_in, IsSound, started, after_freeing, after_growth}
 use Rattle.guillotiere.specs.Refits.{Rearrangement}
-use Rattle.guillotiere.specs.Steps.{AtlasCall, AtlasReply, Step, Grants, Rearranges, nodes_with, nodes_grown}
+use Rattle.guillotiere.specs.Steps.{Grants, Rearranges, nodes_with, nodes_grown}
 use Rattle.guillotiere.specs.Steps.AtlasReply.{Changed}
 use Rattle.guillotiere.specs.StepLaws.{StepsKeep}
 use Rattle.guillotiere.proofs.BoxLists.{live_in_place}

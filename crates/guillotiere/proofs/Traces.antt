@@ -1,18 +1,18 @@
 -- What a run leaves once what was granted in it is freed.
-use Rattle.std.proofs.Common.{◌≡◌, ℕ, ◌≤◌, ◌==◌, eqb, Bool, true, false, cond, not, ◌&&◌, ◌||◌, List, [], ◌∷◌, refl, ap, subst, sym, ◌∙◌, inl, inr, All}
+use Rattle.std.proofs.Common.{◌≡◌, ℕ, eqb, Bool, true, false, cond, not, ◌&&◌, ◌||◌, List, [], ◌∷◌, refl, ap, subst, sym, ◌∙◌, inl, inr, All}
 use Rattle.std.proofs.lemmas.List.Elements.{All-head, All-tail}
 use Rattle.std.proofs.lemmas.Bool.{eqb-true, false≢true}
 use Rattle.guillotiere.specs.Boxes.{Sides, Box, Fits}
 use Rattle.guillotiere.specs.Choice.{rounded}
 use Rattle.guillotiere.specs.Trees.{Tree, Grant, ids, is_one_free, IsWellFormed, IsOneFree}
-use Rattle.guillotiere.specs.Changes.{nf, mark, only, and_id, release, place, grown}
+use Rattle.guillotiere.specs.Changes.{nf, mark, only, and_id, release, grown}
 use Rattle.guillotiere.specs.States.{State, IsSound, after_freeing, after_growth}
 use Rattle.guillotiere.specs.Steps.{AtlasCall, AtlasReply, Step, Grants}
 use Rattle.guillotiere.specs.Steps.AtlasCall.{Allocate, Deallocate, Grow, Clear, Reset, Rearrange, ResizeAndRearrange}
 use Rattle.guillotiere.specs.Steps.AtlasReply.{Allocated, NoRoom, Done, Changed, Refused, BadCall}
 use Rattle.guillotiere.specs.StepLaws.{is_refusal}
 use Rattle.guillotiere.specs.Runs.{Run, Since, since_start, since_call, since, but_id, is_plain, is_growth, has_growth, IsAsWithout}
-use Rattle.guillotiere.specs.RunLaws.{since_run, LeavesNoTrace, RunsLeaveNoTrace}
+use Rattle.guillotiere.specs.RunLaws.{RunsLeaveNoTrace}
 use Rattle.guillotiere.proofs.Outcomes.{by_outcome}
 use Rattle.guillotiere.proofs.StepKeeping.{steps_keep}
 use Rattle.guillotiere.proofs.TreeIds.{unused-absent}

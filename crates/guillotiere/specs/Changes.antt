@@ -1,7 +1,6 @@
 -- What placing, freeing and growing make of a tree of cuts.
 use Rattle.std.specs.Prelude.{ℕ, ◌+◌, ◌-◌, ◌==◌, nat_lt, Bool, ◌||◌, if◌then◌else◌}
 use Rattle.guillotiere.specs.Boxes.{Axis, Position, Sides, Box, other, same_axis, side, sized, moved, box_at, box_sides, same_box, origin}
-use Rattle.guillotiere.specs.Boxes.Axis.{Vertical}
 use Rattle.guillotiere.specs.Cuts.{Cut, cut}
 use Rattle.guillotiere.specs.Cuts.Cut.{Whole, Strip, Corner}
 use Rattle.guillotiere.specs.Trees.{Members, Tree, nodes}

@@ -1,7 +1,6 @@
 -- What each step does to an atlas, in plain facts: laws over the step relation.
-use Rattle.std.specs.Prelude.{◌≡◌, ℕ, ◌+◌, ◌<◌, ◌≤◌, ◌==◌, Bool, true, false, not, ◌↔◌, List, [], ◌∷◌, ◌++◌, map, filter, count_by, All, Contains, IsPermutation}
-use Rattle.guillotiere.specs.declared.error.AtlasError.{AtlasError}
-use Rattle.guillotiere.specs.declared.error.AtlasError.TheVariants.{Memory, Slots, NotLive}
+use Rattle.std.specs.Prelude.{◌≡◌, ℕ, ◌+◌, ◌<◌, ◌≤◌, ◌==◌, Bool, true, false, not, ◌↔◌, [], ◌∷◌, ◌++◌, map, filter, count_by, All, Contains, IsPermutation}
+use Rattle.guillotiere.specs.declared.error.AtlasError.TheVariants.{Memory, Slots}
 use Rattle.guillotiere.specs.Boxes.{Sides, Box, box_sides, IsPositive}
 use Rattle.guillotiere.specs.Choice.{IsPick, HasRoom, HasNoRoom}
 use Rattle.guillotiere.specs.Trees.{Grant}
@@ -73,11 +72,7 @@ Does old (Reset n o) Done new = live_in new ≡ []
 -- no other reply comes
 Does old call reply new = ⊥
 
--- each step does that
-abbrev pub StepsDo : Type 0
-StepsDo = (old new : State) (call : AtlasCall) (reply : AtlasReply) → IsSound old → Step old call reply new → Does old call reply new
-
--- the same call by call
+-- what each call that changes something does, of every step from a sound state
 
 abbrev pub GrantsLieInside : Type 0
 GrantsLieInside = (old new : State) (r : Sides) (g : Grant) → IsSound old → Step old (Allocate r) (Allocated g) new → IsGrantStep old r g new
