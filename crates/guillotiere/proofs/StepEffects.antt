@@ -11,7 +11,7 @@ use Rattle.guillotiere.specs.Trees.{Grant, grant, live, ids, slot_count}
 use Rattle.guillotiere.specs.Changes.{only}
 use Rattle.guillotiere.specs.States.{State, live_in, free_in, IsLive, IsAligned, IsSound, after_freeing, after_growth}
 use Rattle.guillotiere.specs.Refits.{Rearrangement}
-use Rattle.guillotiere.specs.Steps.{AtlasCall, AtlasReply, Grants, Rearranges}
+use Rattle.guillotiere.specs.Steps.{AtlasCall, AtlasReply, Step, Grants, Rearranges}
 use Rattle.guillotiere.specs.Steps.AtlasCall.{Allocate, Deallocate, Grow}
 use Rattle.guillotiere.specs.Steps.AtlasReply.{Allocated, NoRoom, Done, Changed, Refused, BadCall}
 use Rattle.guillotiere.specs.StepLaws.{live_count, IsBarelyAbove, IsGrantStep, IsFreeingStep, IsGrowthStep, IsRearrangingStep, Does, GrantsLieInside, FreeingsRemoveOne, GrowthsKeepBoxes, RearrangingsLoseNothing, is_refusal, RefusalsChangeNothing, PicksAreOne}
