@@ -1,3 +1,4 @@
+pub mod Picking
 pub mod RunKeeping
 pub mod Traces
 pub mod DueAnswers

@@ -1,8 +1,8 @@
 -- What each step does to an atlas, in plain facts: laws over the step relation.
-use Rattle.std.specs.Prelude.{◌≡◌, ℕ, ◌+◌, ◌<◌, ◌≤◌, ◌==◌, Bool, true, false, not, ◌↔◌, [], ◌∷◌, ◌++◌, map, filter, count_by, All, Contains, IsPermutation}
+use Rattle.std.specs.Prelude.{◌≡◌, ℕ, ◌+◌, ◌<◌, ◌≤◌, ◌==◌, Bool, true, false, not, ◌↔◌, List, [], ◌∷◌, ◌++◌, map, filter, count_by, All, Contains, IsPermutation}
 use Rattle.guillotiere.specs.declared.error.AtlasError.TheVariants.{Memory, Slots}
-use Rattle.guillotiere.specs.Boxes.{Sides, Box, box_sides, IsPositive}
-use Rattle.guillotiere.specs.Choice.{IsPick, HasRoom, HasNoRoom}
+use Rattle.guillotiere.specs.Boxes.{Sides, Box, box_sides, Fits, IsPositive}
+use Rattle.guillotiere.specs.Choice.{Options, rounded, IsPick, HasRoom, HasNoRoom}
 use Rattle.guillotiere.specs.Trees.{Grant}
 use Rattle.guillotiere.specs.TreeLaws.{LiesInOneOf}
 use Rattle.guillotiere.specs.States.{State, live_in, free_in, IsAligned, IsSound}
@@ -123,3 +123,12 @@ abbrev pub StepsAnswerAsDue : Type 0
 StepsAnswerAsDue =
     (old new : State) (call : AtlasCall) (reply : AtlasReply) → Step old call reply new
     → GrantsAsDue old call reply × DeniesAsDue old call reply
+
+-- a request that has room takes a free box
+abbrev pub PicksExist : Type 0
+PicksExist = (free : List Box) (o : Options) (s : Sides) → HasRoom free o s → (f : Box) × IsPick free o (rounded o s) f
+
+-- where a request has room, each positive one that is no wider and no higher has room
+abbrev pub SmallerRequestsFit : Type 0
+SmallerRequestsFit =
+    (free : List Box) (o : Options) (r s : Sides) → HasRoom free o s → IsPositive r → Fits r s → HasRoom free o r
