@@ -37,7 +37,8 @@ denied_as_due old new r (Changed list) h = absurd h
 denied_as_due old new r BadCall h = absurd h
 
 pub steps_answer_as_due : StepsAnswerAsDue
-steps_answer_as_due old new (Allocate r) reply h = (λ pos met. granted_as_due old new r reply h met, denied_as_due old new r reply h)
+steps_answer_as_due old new (Allocate r) reply h =
+    (λ pos met. granted_as_due old new r reply h met, denied_as_due old new r reply h)
 steps_answer_as_due old new (Deallocate id) reply h = (tt, tt)
 steps_answer_as_due old new (Grow n) reply h = (tt, tt)
 steps_answer_as_due old new Clear reply h = (tt, tt)

@@ -21,9 +21,11 @@ module _ (old new : State) (P : AtlasCall → AtlasReply → Type 0)
     (growing : (n : Sides) → Fits old.size n → nodes_grown old n ≤ old.limit → new ≡ after_growth old n → P (Grow n) Done)
     (clearing : new ≡ started old.size old.options old.limit → P Clear Done)
     (resetting : (n : Sides) (o : Options) → IsPositive n → AreValid o → new ≡ started n o old.limit → P (Reset n o) Done)
-    (moving : (call : AtlasCall) (n : Sides) (list : Rearrangement) → is_plain call ≡ false → Rearranges old n (Changed list) new → P call (Changed list))
+    (moving : (call : AtlasCall) (n : Sides) (list : Rearrangement) → is_plain call ≡ false
+    → Rearranges old n (Changed list) new → P call (Changed list))
   where
-    moves : (call : AtlasCall) (n : Sides) (reply : AtlasReply) → is_plain call ≡ false → Rearranges old n reply new → P call reply
+    moves : (call : AtlasCall) (n : Sides) (reply : AtlasReply) → is_plain call ≡ false → Rearranges old n reply new
+        → P call reply
     moves call n BadCall rare h = unchanged call BadCall refl h.1
     moves call n (Changed list) rare h = moving call n list rare h
     moves call n (Refused Slots) rare h = unchanged call (Refused Slots) refl h.4

@@ -19,7 +19,8 @@ module _ {X : Type 0} where
   either [] x y = inl tt
   either (k ∷ ks) x y = by_order (cases_order (k x) (k y)) (either ks x y)
     where
-      by_order : (k x ≡ k y) ⊎ ((k x < k y) ⊎ (k y < k x)) → KeysAtMost ks x y ⊎ KeysAtMost ks y x → KeysAtMost (k ∷ ks) x y ⊎ KeysAtMost (k ∷ ks) y x
+      by_order : (k x ≡ k y) ⊎ ((k x < k y) ⊎ (k y < k x)) → KeysAtMost ks x y ⊎ KeysAtMost ks y x
+          → KeysAtMost (k ∷ ks) x y ⊎ KeysAtMost (k ∷ ks) y x
       by_order (inl e) (inl h) = inl (inr (e, h))
       by_order (inl e) (inr h) = inr (inr (sym e, h))
       by_order (inr (inl lt)) h = inl (inl lt)
@@ -56,7 +57,12 @@ module _ {X : Type 0} where
   least_or_none ks p (x ∷ xs) = by_test (cases_Bool (p x)) (least_or_none ks p xs)
     where
       later : (m : IsLeast ks p xs) → KeysAtMost ks m.it x ⊎ (p x ≡ false) → IsLeast ks p (x ∷ xs)
-      later m before = record { it = m.it; at = Contains-later x xs m.it m.at; passes = m.passes; least = λ y at passes. each y passes (Contains-cons_cases x xs y at) before }
+      later m before = record {
+        it = m.it;
+        at = Contains-later x xs m.it m.at;
+        passes = m.passes;
+        least = λ y at passes. each y passes (Contains-cons_cases x xs y at) before;
+      }
         where
           each : (y : X) → p y ≡ true → (x ≡ y) ⊎ Contains xs y → KeysAtMost ks m.it x ⊎ (p x ≡ false) → KeysAtMost ks m.it y
           each y passes (inl e) (inl h) = subst (KeysAtMost ks m.it) e h
@@ -64,7 +70,12 @@ module _ {X : Type 0} where
           each y passes (inr at) h = m.least y at passes
 
       here : p x ≡ true → ((y : X) → Contains xs y → p y ≡ true → KeysAtMost ks x y) → IsLeast ks p (x ∷ xs)
-      here passes rest = record { it = x; at = Contains-first x xs; passes = passes; least = λ y at passed. each y passed (Contains-cons_cases x xs y at) }
+      here passes rest = record {
+        it = x;
+        at = Contains-first x xs;
+        passes = passes;
+        least = λ y at passed. each y passed (Contains-cons_cases x xs y at);
+      }
         where
           each : (y : X) → p y ≡ true → (x ≡ y) ⊎ Contains xs y → KeysAtMost ks x y
           each y passed (inl e) = subst (KeysAtMost ks x) e (itself ks x)
@@ -74,7 +85,8 @@ module _ {X : Type 0} where
       compared passed m (inl h) = here passed (λ y at passes. onward ks x m.it y h (m.least y at passes))
       compared passed m (inr h) = later m (inl h)
 
-      by_test : (p x ≡ true) ⊎ (p x ≡ false) → IsLeast ks p xs ⊎ ((y : X) → Contains xs y → p y ≡ true → ⊥) → IsLeast ks p (x ∷ xs) ⊎ ((y : X) → Contains (x ∷ xs) y → p y ≡ true → ⊥)
+      by_test : (p x ≡ true) ⊎ (p x ≡ false) → IsLeast ks p xs ⊎ ((y : X) → Contains xs y → p y ≡ true → ⊥)
+          → IsLeast ks p (x ∷ xs) ⊎ ((y : X) → Contains (x ∷ xs) y → p y ≡ true → ⊥)
       by_test (inl passed) (inl m) = inl (compared passed m (either ks x m.it))
       by_test (inl passed) (inr none) = inl (here passed (λ y at passes. absurd (none y at passes)))
       by_test (inr fails) (inl m) = inl (later m (inr fails))
@@ -145,17 +157,26 @@ no_margin r b (inr e) = omega arith
 further : (most b c : ℕ) → c ≤ most → most - b ≤ most - c → c ≤ b
 further most b c few le = omega arith
 
-better_from_key : (o : Options) (r : Sides) (most : ℕ) (b c : Box) → least_margin r c ≤ most → margin_key o r most b ≤ margin_key o r most c → HasBetterMargin o r b c
+better_from_key : (o : Options) (r : Sides) (most : ℕ) (b c : Box) → least_margin r c ≤ most
+    → margin_key o r most b ≤ margin_key o r most c → HasBetterMargin o r b c
 better_from_key o r most b c few h = by_test (class_of o r == 2) refl h
   where
-    by_test : (t : Bool) → (class_of o r == 2) ≡ t → cond t (most - least_margin r b) (least_margin r b) ≤ cond t (most - least_margin r c) (least_margin r c) → HasBetterMargin o r b c
-    by_test true e le = (λ large. further most (least_margin r b) (least_margin r c) few le, λ other. absurd (let two : class_of o r ≡ 2 = eqb-true _ _ e in omega arith))
+    by_test : (t : Bool) → (class_of o r == 2) ≡ t
+        → cond t (most - least_margin r b) (least_margin r b) ≤ cond t (most - least_margin r c) (least_margin r c)
+        → HasBetterMargin o r b c
+    by_test true e le = (
+      λ large. further most (least_margin r b) (least_margin r c) few le,
+      λ other. absurd
+          (let two : class_of o r ≡ 2 = eqb-true _ _ e in omega arith),
+    )
     by_test false e le = (λ large. absurd (eqb-false _ _ e large), λ other. le)
 
-key_from_better : (o : Options) (r : Sides) (most : ℕ) (b c : Box) → class_of o r ≤ 2 → HasBetterMargin o r b c → margin_key o r most b ≤ margin_key o r most c
+key_from_better : (o : Options) (r : Sides) (most : ℕ) (b c : Box) → class_of o r ≤ 2 → HasBetterMargin o r b c
+    → margin_key o r most b ≤ margin_key o r most c
 key_from_better o r most b c top h = by_test (class_of o r == 2) refl
   where
-    by_test : (t : Bool) → (class_of o r == 2) ≡ t → cond t (most - least_margin r b) (least_margin r b) ≤ cond t (most - least_margin r c) (least_margin r c)
+    by_test : (t : Bool) → (class_of o r == 2) ≡ t
+        → cond t (most - least_margin r b) (least_margin r b) ≤ cond t (most - least_margin r c) (least_margin r c)
     by_test true e = let le : least_margin r c ≤ least_margin r b = h.0 (eqb-true _ _ e) in omega arith
     by_test false e = h.1 (let unlike : class_of o r ≡ 2 → ⊥ = eqb-false _ _ e in omega arith)
 
@@ -168,9 +189,15 @@ class_at_most o r = by_tests (reaches o.large_threshold r) (reaches o.small_thre
     by_tests false false = omega arith
 
 -- the least by these keys is a pick
-least_pick : (free : List Box) (o : Options) (r : Sides) (most : ℕ) → ((b : Box) → Contains free b → least_margin r b ≤ most) → (m : IsLeast (choice_keys o r most) (fits r) free) → IsPick free o r m.it
+least_pick : (free : List Box) (o : Options) (r : Sides) (most : ℕ)
+    → ((b : Box) → Contains free b → least_margin r b ≤ most) → (m : IsLeast (choice_keys o r most) (fits r) free)
+    → IsPick free o r m.it
 least_pick free o r most few m = record {
-  best = record { candidate = candidate; equal_side = λ c is. equal_side c (after_class c is); margin = λ c is. margin c is (after_class c is) };
+  best = record {
+    candidate = candidate;
+    equal_side = λ c is. equal_side c (after_class c is);
+    margin = λ c is. margin c is (after_class c is);
+  };
   first = λ b is. place b (after_margin b is (after_class b is.candidate));
 }
   where
@@ -199,25 +226,33 @@ least_pick free o r most few m = record {
     candidate = record { fitting = fitting; lowest = lowest }
 
     after_class : (c : Box) → IsCandidate free o r c → KeysAtMost side_keys m.it c
-    after_class c is = next_keys (λ b. class_of o (box_sides b)) side_keys m.it c (keys_at_most c is.fitting) (is.lowest m.it fitting)
+    after_class c is = next_keys (λ b. class_of o (box_sides b)) side_keys m.it c (keys_at_most c is.fitting)
+        (is.lowest m.it fitting)
 
     equal_side : (c : Box) → KeysAtMost side_keys m.it c → HasEqualSide r c → HasEqualSide r m.it
-    equal_side c keys has = unequal_equal r m.it (subst (λ k. unequal r m.it ≤ k) (equal_unequal r c has) (first_key (λ b. unequal r b) margin_keys m.it c keys))
+    equal_side c keys has = unequal_equal r m.it
+        (subst (λ k. unequal r m.it ≤ k) (equal_unequal r c has) (first_key (λ b. unequal r b) margin_keys m.it c keys))
 
     margin : (c : Box) → IsCandidate free o r c → KeysAtMost side_keys m.it c → HasEqualSide r m.it ⊎ HasBetterMargin o r m.it c
     margin c is keys = by_test (cases_Bool (has_equal_side r m.it))
       where
-        by_test : (has_equal_side r m.it ≡ true) ⊎ (has_equal_side r m.it ≡ false) → HasEqualSide r m.it ⊎ HasBetterMargin o r m.it c
+        by_test : (has_equal_side r m.it ≡ true) ⊎ (has_equal_side r m.it ≡ false)
+            → HasEqualSide r m.it ⊎ HasBetterMargin o r m.it c
         by_test (inl e) = inl (equal_is r m.it e)
         by_test (inr e) =
             let most_unequal : unequal r c ≤ unequal r m.it = unequal_most r c m.it e in
-            inr (better_from_key o r most m.it c (few c is.fitting.is_free) (first_key (λ b. margin_key o r most b) place_keys m.it c (next_keys (λ b. unequal r b) margin_keys m.it c keys most_unequal)))
+            inr (better_from_key o r most m.it c (few c is.fitting.is_free)
+            (first_key (λ b. margin_key o r most b) place_keys m.it c
+            (next_keys (λ b. unequal r b) margin_keys m.it c keys most_unequal)))
 
     after_margin : (b : Box) → IsBest free o r b → KeysAtMost side_keys m.it b → KeysAtMost place_keys m.it b
-    after_margin b is keys = next_keys (λ b. margin_key o r most b) place_keys m.it b (next_keys (λ b. unequal r b) margin_keys m.it b keys (as_equal (cases_Bool (has_equal_side r m.it)))) (key_from_better o r most b m.it (class_at_most o r) (as_good (is.margin m.it candidate)))
+    after_margin b is keys = next_keys (λ b. margin_key o r most b) place_keys m.it b
+        (next_keys (λ b. unequal r b) margin_keys m.it b keys (as_equal (cases_Bool (has_equal_side r m.it))))
+        (key_from_better o r most b m.it (class_at_most o r) (as_good (is.margin m.it candidate)))
       where
         as_equal : (has_equal_side r m.it ≡ true) ⊎ (has_equal_side r m.it ≡ false) → unequal r b ≤ unequal r m.it
-        as_equal (inl e) = let none : unequal r b ≡ 0 = equal_unequal r b (is.equal_side m.it candidate (equal_is r m.it e)) in omega arith
+        as_equal (inl e) = let none : unequal r b ≡ 0 =
+            equal_unequal r b (is.equal_side m.it candidate (equal_is r m.it e)) in omega arith
         as_equal (inr e) = unequal_most r b m.it e
 
         as_good : HasEqualSide r b ⊎ HasBetterMargin o r b m.it → HasBetterMargin o r b m.it
@@ -244,7 +279,8 @@ picks_exist free o s room = found (least_or_none (choice_keys o r most) (fits r)
     few : (b : Box) → Contains free b → least_margin r b ≤ most
     few b at = subst (λ c. least_margin r c ≤ most) at.2 (get_or-le-sum_by (λ b. least_margin r b) free at.0 b at.1)
 
-    found : IsLeast (choice_keys o r most) (fits r) free ⊎ ((y : Box) → Contains free y → fits r y ≡ true → ⊥) → (f : Box) × IsPick free o r f
+    found : IsLeast (choice_keys o r most) (fits r) free ⊎ ((y : Box) → Contains free y → fits r y ≡ true → ⊥)
+        → (f : Box) × IsPick free o r f
     found (inl m) = (m.it, least_pick free o r most few m)
     found (inr none) = absurd (none room.box room.fitting.is_free (is_fits r room.box room.fitting.fits))
 
@@ -255,5 +291,8 @@ smaller_requests_fit free o r s room pos fit =
     record {
       positive = pos;
       box = room.box;
-      fitting = record { is_free = fitting.is_free; fits = (omega (arith, smaller.0, fitting.fits.0), omega (arith, smaller.1, fitting.fits.1)) };
+      fitting = record {
+        is_free = fitting.is_free;
+        fits = (omega (arith, smaller.0, fitting.fits.0), omega (arith, smaller.1, fitting.fits.1));
+      };
     }

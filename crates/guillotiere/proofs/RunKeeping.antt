@@ -29,12 +29,14 @@ tiled s sound = record {
 in_order : (s : State) → IsSound s → IsInOrder s
 in_order s sound = record { sound = sound; tiled = tiled s sound }
 
-owed : (old new : State) (call : AtlasCall) (reply : AtlasReply) → IsSound old → Step old call reply new → IsOwed old call reply new
+owed : (old new : State) (call : AtlasCall) (reply : AtlasReply) → IsSound old → Step old call reply new
+    → IsOwed old call reply new
 owed old new call reply sound h =
     let due = steps_answer_as_due old new call reply h in
     record { step = h; does = steps_do old new call reply sound h; grants = due.0; denies = due.1 }
 
-kept_along : (calls : List AtlasCall) (replies : List AtlasReply) (old new : State) → IsSound old → Run old calls replies new → IsRunInOrder old calls replies new × IsInOrder new
+kept_along : (calls : List AtlasCall) (replies : List AtlasReply) (old new : State) → IsSound old
+    → Run old calls replies new → IsRunInOrder old calls replies new × IsInOrder new
 kept_along [] [] old new sound h = ((in_order old sound, h), subst IsInOrder (sym h) (in_order old sound))
 kept_along [] (reply ∷ replies) old new sound h = absurd h
 kept_along (call ∷ calls) [] old new sound h = absurd h

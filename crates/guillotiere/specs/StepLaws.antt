@@ -75,7 +75,8 @@ Does old call reply new = ⊥
 -- what each call that changes something does, of every step from a sound state
 
 abbrev pub GrantsLieInside : Type 0
-GrantsLieInside = (old new : State) (r : Sides) (g : Grant) → IsSound old → Step old (Allocate r) (Allocated g) new → IsGrantStep old r g new
+GrantsLieInside = (old new : State) (r : Sides) (g : Grant) → IsSound old → Step old (Allocate r) (Allocated g) new
+    → IsGrantStep old r g new
 
 abbrev pub FreeingsRemoveOne : Type 0
 FreeingsRemoveOne = (old new : State) (id : ℕ) → IsSound old → Step old (Deallocate id) Done new → IsFreeingStep old id new
@@ -85,7 +86,8 @@ GrowthsKeepBoxes = (old new : State) (n : Sides) → IsSound old → Step old (G
 
 abbrev pub RearrangingsLoseNothing : Type 0
 RearrangingsLoseNothing =
-    (old new : State) (call : AtlasCall) (list : Rearrangement) → IsSound old → Step old call (Changed list) new → IsRearrangingStep old list new
+    (old new : State) (call : AtlasCall) (list : Rearrangement) → IsSound old → Step old call (Changed list) new
+    → IsRearrangingStep old list new
 
 -- whether a reply refuses
 abbrev pub is_refusal : AtlasReply → Bool
