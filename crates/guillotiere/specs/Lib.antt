@@ -13,3 +13,10 @@ pub mod Steps
 pub mod Runs
 pub mod StepLaws
 pub mod RunLaws
+pub mod Slots
+pub mod Numbered
+pub mod Standing
+pub mod Lists
+pub mod Reading
+pub mod Stored
+pub mod Holdings

@@ -1,6 +1,6 @@
 -- Where the `i32` of the code and the whole numbers of the model meet: a side below 0 counts as 0, and a box is given
 -- back as the rectangle with the same coordinates.
-use Rattle.std.specs.Prelude.{ℕ, ℤ, pos, negsuc, ◌-ℤ◌, ◌≤ℤ◌, FitsSigned, List, map}
+use Rattle.std.specs.Prelude.{ℕ, ℤ, pos, negsuc, ◌-ℤ◌, FitsSigned}
 use Rattle.std.specs.Int.{w32}
 use Rattle.guillotiere.specs.declared.geometry.Point.{Point}
 use Rattle.guillotiere.specs.declared.geometry.Size.{Size}

@@ -4,8 +4,11 @@
 mod error;
 mod geometry;
 pub mod laws;
+mod lists;
 mod options;
+mod slots;
 
 pub use error::AtlasError;
 pub use geometry::{Point, Rectangle, Size, point2, size2};
 pub use options::{AllocatorOptions, DEFAULT_OPTIONS};
+pub use slots::NodeKind;

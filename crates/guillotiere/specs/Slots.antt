@@ -1,0 +1,59 @@
+-- The two parts of stored slots. No public clause cites this module.
+use Rattle.std.specs.Prelude.{ℕ, List, map, pos, slice_index_or}
+use Rattle.guillotiere.specs.declared.slots.Slot.{Slot}
+use Rattle.guillotiere.specs.declared.slots.Node.{Node}
+use Rattle.guillotiere.specs.declared.slots.Ring.{Ring}
+use Rattle.guillotiere.specs.declared.slots.NodeKind.{NodeKind}
+use Rattle.guillotiere.specs.declared.slots.NodeKind.TheVariants as kind
+use Rattle.guillotiere.specs.declared.slots.Orientation.{Orientation}
+use Rattle.guillotiere.specs.declared.slots.Orientation.TheVariants as orientation
+use Rattle.guillotiere.specs.Boxes.{Axis}
+use Rattle.guillotiere.specs.Boxes.Axis.{Horizontal, Vertical}
+
+-- the number of no slot
+abbrev pub no_slot : ℕ
+no_slot = 4294967295
+
+-- the tree's part of each slot
+abbrev pub nodes : List Slot → List Node
+nodes slots = map (λ s. s.node) slots
+
+-- the lists' part of each slot
+abbrev pub rings : List Slot → List Ring
+rings slots = map (λ s. s.ring) slots
+
+-- what stands for a slot past the end: it is unused
+abbrev pub blank_node : Node
+blank_node =
+    record {
+      parent = record { number = 0 };
+      previous = record { number = 0 };
+      next = record { number = 0 };
+      area = record { min = record { x = pos 0; y = pos 0 }; max = record { x = pos 0; y = pos 0 } };
+      kind = kind.Unused;
+      axis = orientation.Vertical;
+      generation = 0;
+    }
+
+abbrev pub blank_ring : Ring
+blank_ring = record { previous = record { number = 0 }; next = record { number = 0 } }
+
+abbrev pub blank_slot : Slot
+blank_slot = record { node = blank_node; ring = blank_ring }
+
+abbrev pub node_at : List Node → ℕ → Node
+node_at ns i = slice_index_or ns i blank_node
+
+abbrev pub ring_at : List Ring → ℕ → Ring
+ring_at rs i = slice_index_or rs i blank_ring
+
+abbrev pub axis_of : Orientation → Axis
+axis_of orientation.Horizontal = Horizontal
+axis_of orientation.Vertical = Vertical
+
+-- 1 if a slot of this kind is used
+abbrev pub use_count : NodeKind → ℕ
+use_count kind.Container = 1
+use_count kind.Alloc = 1
+use_count kind.Free = 1
+use_count kind.Unused = 0
