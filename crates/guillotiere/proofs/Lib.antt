@@ -1,3 +1,9 @@
+pub mod Picking
+pub mod PickExistence
+pub mod RunKeeping
+pub mod Traces
+pub mod DueAnswers
+pub mod StepEffects
 pub mod StepKeeping
 pub mod Refitting
 pub mod Outcomes
@@ -48,4 +54,5 @@ pub mod Filing
 pub mod Taking
 pub mod Choosing
 pub mod Picking
+pub mod PickExistence
 pub mod Extents

@@ -14,6 +14,8 @@ pub mod States
 pub mod Refits
 pub mod Steps
 pub mod Runs
+pub mod StepLaws
+pub mod RunLaws
 pub mod Slots
 pub mod Numbered
 pub mod Standing
@@ -26,7 +28,5 @@ pub mod Stored
 pub mod Holdings
 pub mod Replies
 pub mod Links
-pub mod StepLaws
-pub mod RunLaws
 pub mod Freeing
 pub mod Planning
