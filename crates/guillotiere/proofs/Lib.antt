@@ -1,3 +1,4 @@
 pub mod Cutting
 pub mod Choosing
 pub mod Picking
+pub mod Listing

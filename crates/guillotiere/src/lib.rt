@@ -7,6 +7,7 @@ mod error;
 mod geometry;
 pub mod laws;
 mod options;
+mod simple;
 
 pub use error::AtlasError;
 pub use geometry::{Point, Rectangle, Size, point2, size2};
