@@ -53,6 +53,5 @@ pub mod Banding
 pub mod Filing
 pub mod Taking
 pub mod Choosing
-pub mod Picking
-pub mod PickExistence
 pub mod Extents
+pub mod Listing

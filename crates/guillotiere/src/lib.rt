@@ -15,6 +15,7 @@ mod slots;
 mod store;
 mod tree;
 mod turns;
+mod simple;
 
 pub use allocation::{AllocId, Allocation, SlotCount};
 pub use atlas::AtlasAllocator;
