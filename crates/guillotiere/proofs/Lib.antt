@@ -55,3 +55,5 @@ pub mod Taking
 pub mod Choosing
 pub mod Extents
 pub mod Listing
+pub mod NumberedCuts
+pub mod StoreSteps
