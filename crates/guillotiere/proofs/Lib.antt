@@ -39,3 +39,4 @@ pub mod Releasing
 pub mod Settling
 pub mod Extents
 pub mod SlotLeaves
+pub mod SlotIds
