@@ -40,3 +40,4 @@ pub mod Settling
 pub mod Extents
 pub mod SlotLeaves
 pub mod SlotIds
+pub mod SlotBoxes
