@@ -15,10 +15,6 @@ pub mod Suffixes
 pub mod Closing
 pub mod Marking
 pub mod TreeCounts
-pub mod Frames
-pub mod Suffixes
-pub mod Closing
-pub mod Marking
 pub mod Joining
 pub mod JoiningWrites
 pub mod Lifting

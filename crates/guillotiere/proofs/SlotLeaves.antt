@@ -112,12 +112,15 @@ module _ (ns : List Node) where
       livelier id b rest (Free j e rest) (λ i. omega arith) (grant_slot s j (p + e) rest id b h.2 (subst (λ xs. Contains xs (grant id b)) (live_in-later s p e rest) at))
   grant_slot s before p (Alloc j g e rest) id b h at =
       elim (Contains-cons_cases (grant (id_of j g) (member_box s p e)) _ (grant id b) at) [
-        | inl is ↦ (j, record {
-          member = omega (arith, same-self j);
-          kind = h.0.kind;
-          area = h.1 ∙ ap (λ (v : Grant). rectangle_of v.box) is;
-          names = ap (id_of j) h.2 ∙ ap (λ (v : Grant). v.id) is;
-        })
+        | inl is ↦ (
+          j,
+          record {
+            member = omega (arith, same-self j);
+            kind = h.0.kind;
+            area = h.1 ∙ ap (λ (v : Grant). rectangle_of v.box) is;
+            names = ap (id_of j) h.2 ∙ ap (λ (v : Grant). v.id) is;
+          },
+        )
         | inr later ↦ livelier id b rest (Alloc j g e rest) (λ i. omega arith) (grant_slot s j (p + e) rest id b h.3 (subst (λ xs. Contains xs (grant id b)) (live_in-later s p e rest) later))
       ]
   grant_slot s before p (Seq j e inner rest) id b h at =
