@@ -24,10 +24,6 @@ pub mod TreeKept
 pub mod TreeGrowth
 pub mod TreeRoom
 pub mod TreeCounts
-pub mod Frames
-pub mod Suffixes
-pub mod Closing
-pub mod Marking
 pub mod Joining
 pub mod JoiningWrites
 pub mod Lifting
@@ -57,3 +53,6 @@ pub mod Extents
 pub mod Listing
 pub mod NumberedCuts
 pub mod StoreSteps
+pub mod SlotLeaves
+pub mod SlotIds
+pub mod SlotBoxes

@@ -10,6 +10,7 @@ mod geometry;
 pub mod laws;
 mod lists;
 mod options;
+mod pieces;
 mod placing;
 mod slots;
 mod store;
