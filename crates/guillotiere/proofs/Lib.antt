@@ -56,3 +56,7 @@ pub mod StoreSteps
 pub mod SlotLeaves
 pub mod SlotIds
 pub mod SlotBoxes
+pub mod Closing
+pub mod Frames
+pub mod Marking
+pub mod Suffixes
