@@ -25,3 +25,4 @@ pub mod Calm
 pub mod Releasing
 pub mod Settling
 pub mod Extents
+pub mod LeafSlots
