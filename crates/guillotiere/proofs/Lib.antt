@@ -26,3 +26,4 @@ pub mod Releasing
 pub mod Settling
 pub mod Extents
 pub mod LeafSlots
+pub mod Living
