@@ -27,3 +27,4 @@ pub mod Settling
 pub mod Extents
 pub mod LeafSlots
 pub mod Living
+pub mod LeafSums
