@@ -60,3 +60,6 @@ pub mod Closing
 pub mod Frames
 pub mod Marking
 pub mod Suffixes
+pub mod LeafSlots
+pub mod Living
+pub mod LeafSums
