@@ -1,5 +1,5 @@
 -- The calls of the store keep what it holds: from what the calls on nodes and on lists ensure.
-use Rattle.std.proofs.Common.{ℕ, ◌+◌, ◌<◌, ◌≤◌, ◌≡◌, ◌≢◌, ◌^◌, List, [], ◌∷◌, refl, sym, ap, ◌∙◌, arith, length, Bool, true, false, eqb, inl, inr, subst}
+use Rattle.std.proofs.Common.{ℕ, ◌+◌, ◌<◌, ◌≤◌, ◌≡◌, ◌≢◌, ◌^◌, List, [], ◌∷◌, refl, sym, ap, ◌∙◌, ◌++◌, arith, length, set, length-set, Bool, true, false, eqb, inl, inr, subst}
 use Rattle.std.proofs.lemmas.Bool.{cases_eq, eq-eqb, ne_eqb, cond-true, cond-false}
 use Rattle.guillotiere.specs.declared.slots.Slot.{Slot}
 use Rattle.guillotiere.specs.declared.slots.Link.{Link}
@@ -11,12 +11,14 @@ use Rattle.guillotiere.specs.Choice.{Options}
 use Rattle.guillotiere.specs.Pixels.{options_of}
 use Rattle.guillotiere.specs.Trees.{IsCut, total}
 use Rattle.guillotiere.specs.Slots.{nodes, rings, node_at, use_count, KeepsUse, no_slot}
-use Rattle.guillotiere.specs.Numbered.{Numbered, erase, marked, joined, lifted, granted_at, split_at, wrapped_at}
+use Rattle.guillotiere.specs.Numbered.{Numbered, erase, tally, marked, joined, lifted, granted_at, split_at, wrapped_at}
 use Rattle.guillotiere.specs.Standing.{Sequence, Stands}
-use Rattle.guillotiere.specs.Lists.{AreFiled, is_free}
+use Rattle.guillotiere.proofs.Frames.{Standing-same}
+use Rattle.guillotiere.specs.Lists.{AreFiled, Line, front, is_free}
+use Rattle.std.proofs.lemmas.List.{length-map, length_push}
 use Rattle.guillotiere.specs.Links.{with_mark, with_count, rest_of, held_with, held_without, IsExact, IsTaken}
 use Rattle.guillotiere.specs.Stored.{Shelf, Holding, Holds, HoldsWith}
-use Rattle.guillotiere.specs.Holdings.{node_in, with_loose, with_tree, IsLooseLeaf, IsReadyWith, with_held, after_take, after_grant, after_mark, after_join, after_lift, after_split, after_wrap}
+use Rattle.guillotiere.specs.Holdings.{node_in, with_loose, with_tree, IsLooseLeaf, IsReadyWith, HasSlotsFor, with_held, after_take, after_grant, after_mark, after_join, after_lift, after_split, after_wrap}
 use Rattle.guillotiere.proofs.Filing.{with_mark-same, with_mark-other, with_count-same, with_count-other}
 use Rattle.guillotiere.proofs.Taking.{AreFiled-moved, AreFiled-nodes, IsMoved}
 use Rattle.guillotiere.proofs.NumberedCuts.{total-marked, cut-marked, total-granted, cut-granted, total-joined, cut-joined, total-lifted, cut-lifted, total-split, cut-split, total-wrapped, cut-wrapped}
@@ -344,3 +346,60 @@ pub given-nodes : (P : List Node → Type 0) (v : Shelf) (mid old2 mid2 new : Li
 given-nodes P v mid old2 mid2 new unused j b en p =
     let Q : List Slot → Type 0 = λ slots. P (nodes slots) in
     subst Q (sym en) (subst P (sym b.same_nodes) (subst Q (sym b.given) p))
+
+-- the tree stays where a slot that isn't used changes, and stays unused
+pub stands-taken : (ns ms : List Node) (i : ℕ) (s : Sequence) (n : Numbered) → (node_at ns i).kind ≡ kind.Unused → (node_at ms i).kind ≡ kind.Unused
+    → ((k : ℕ) → k ≢ i → node_at ms k ≡ node_at ns k) → Stands ns s n → Stands ms s n
+stands-taken ns ms i s n was is others stands =
+    let counts : (k : ℕ) → tally k n ≡ use_count (node_at ms k).kind =
+        λ k. elim (cases_eq k i) [
+          | inl e ↦ subst (λ x. tally x n ≡ use_count (node_at ms x).kind) (sym e) (stands.numbered i ∙ ap use_count was ∙ sym (ap use_count is))
+          | inr ne ↦ stands.numbered k ∙ ap (λ m. use_count m.kind) (sym (others k ne))
+        ] in
+    record {
+      standing = Standing-same ns ms s no_slot 0 n (λ j h. elim (cases_eq j i) [
+        | inl e ↦ absurd (omega (arith, ap (λ x. tally x n) e, stands.numbered i, ap use_count was))
+        | inr ne ↦ others j ne
+      ]) stands.standing;
+      numbered = counts;
+    }
+
+-- an unused slot is taken
+pub taken-holds : (v : Shelf) (new : List Slot) (unused : Link) (at : ℕ) (h : Holding) (hand : ℕ → ℕ)
+    → length new ≤ 16777216
+    → ((k : ℕ) → k ≢ at → node_at (nodes new) k ≡ node_at (nodes v.slots) k)
+    → IsTaken (options_of v.options) v.slots new v.lists v.unused unused h.spare h.held hand h.loose at
+    → HoldsWith hand v h → HoldsWith (with_count hand at 1) (record v { slots = new; unused = unused }) (after_take h)
+taken-holds v new unused at h hand short others taken holds =
+    held_again hand (with_count hand at 1) v v.slots new new unused h h.tree (rest_of h.spare) h.loose refl refl short holds
+    (stands-taken (nodes v.slots) (nodes new) at h.sequence h.tree taken.was_unused taken.is_unused others holds.stands)
+    taken.filed holds.cut refl
+
+length-rings : (slots : List Slot) → length (rings slots) ≡ length slots
+length-rings slots = simp length-map
+
+length-nodes : (slots : List Slot) → length (nodes slots) ≡ length slots
+length-nodes slots = simp length-map
+
+-- there are not too many slots once one is taken for which there was room
+pub taken-short : (v : Shelf) (new : List Slot) (capacity i : ℕ) (n : Node) (slot : Slot) (h : Holding) (hand : ℕ → ℕ)
+    → HoldsWith hand v h → HasSlotsFor 1 capacity v h
+    → ((v.unused.number ≡ no_slot → ⊥) → nodes new ≡ set (nodes v.slots) i n)
+    → (v.unused.number ≡ no_slot → new ≡ v.slots ++ slot ∷ [])
+    → length new ≤ 16777216
+taken-short v new capacity i n slot h hand holds room again fresh =
+    elim (cases_eq v.unused.number no_slot) [
+      | inl e ↦
+          let one : length new ≡ length v.slots + 1 = ap (λ s. length s) (fresh e) ∙ length_push v.slots slot in
+          elim room [
+            | inl some ↦ absurd (some-front h.spare (rings v.slots) (omega (arith, length-rings v.slots, holds.short)) holds.filed.line (sym holds.filed.begins ∙ e) some)
+            | inr r ↦ omega (arith, one, r.1)
+          ]
+      | inr ne ↦
+          let same : length (nodes new) ≡ length (nodes v.slots) = ap (λ s. length s) (again ne) ∙ length-set (nodes v.slots) i n in
+          omega (arith, same, length-nodes new, length-nodes v.slots, holds.short)
+    ]
+  where
+    some-front : (xs : List ℕ) (rs : List Ring) → length rs ≤ 16777216 → Line rs xs → front xs ≡ no_slot → 1 ≤ length xs → ⊥
+    some-front [] rs short line e h = omega arith
+    some-front (x ∷ xs) rs short line e h = omega (arith, line.0, e)
