@@ -16,6 +16,8 @@ use Rattle.guillotiere.specs.Standing.{Sequence, Stands}
 use Rattle.guillotiere.proofs.Frames.{Standing-same}
 use Rattle.guillotiere.specs.Lists.{AreFiled, Line, front, is_free}
 use Rattle.std.proofs.lemmas.List.{length-map, length_push}
+use Rattle.guillotiere.specs.Reading.{extent_of}
+use Rattle.guillotiere.specs.Parts.{front_node, back_node, inner_node}
 use Rattle.guillotiere.specs.Links.{with_mark, with_count, rest_of, held_with, held_without, IsExact, IsTaken}
 use Rattle.guillotiere.specs.Stored.{Shelf, Holding, Holds, HoldsWith}
 use Rattle.guillotiere.specs.Holdings.{node_in, with_loose, with_tree, IsLooseLeaf, IsReadyWith, HasSlotsFor, with_held, after_take, after_grant, after_mark, after_join, after_lift, after_split, after_wrap}
@@ -403,3 +405,101 @@ taken-short v new capacity i n slot h hand holds room again fresh =
     some-front : (xs : List ℕ) (rs : List Ring) → length rs ≤ 16777216 → Line rs xs → front xs ≡ no_slot → 1 ≤ length xs → ⊥
     some-front [] rs short line e h = omega arith
     some-front (x ∷ xs) rs short line e h = omega (arith, line.0, e)
+
+-- a free leaf and an unused slot are two
+apart-kinds : (ns : List Node) (i j : ℕ) → (node_at ns i).kind ≡ kind.Free → (node_at ns j).kind ≡ kind.Unused → i ≢ j
+apart-kinds ns i j free unused e =
+    let z : kind.Free ≡ kind.Unused = sym free ∙ ap (λ x. (node_at ns x).kind) e ∙ unused in cc
+
+-- the slot in hand takes what a loose leaf doesn't keep
+pub split-holds : (v : Shelf) (old mid new : List Slot) (at fresh p : ℕ) (after before : Link) → AreSlots v.slots old mid new
+    → ((s : Sequence) (n : Numbered) → Stands (nodes old) s n → Stands (nodes mid) s (split_at at fresh p n))
+    → (node_in v at).kind ≡ kind.Free → (node_in v fresh).kind ≡ kind.Unused → 0 < p → p < extent_of (node_in v at)
+    → node_at (nodes mid) at ≡ front_node (node_at (nodes old) at) p after
+    → node_at (nodes mid) fresh ≡ back_node (node_at (nodes old) at) p before (node_at (nodes old) fresh)
+    → ((k : ℕ) → k ≢ at → k ≢ fresh → KeepsUse (node_at (nodes old) k) (node_at (nodes mid) k))
+    → rings mid ≡ rings old
+    → (h : Holding) (hand : ℕ → ℕ) → IsReadyWith hand v at fresh h
+    → HoldsWith (with_count hand fresh 0) (record v { slots = new }) (after_split at fresh p h)
+split-holds v old mid new at fresh p after before a tree free_v unused_v positive less_v front back others same h hand r =
+    let free : (node_at (nodes old) at).kind ≡ kind.Free = node-before (λ n. n.kind ≡ kind.Free) v old at a.given free_v in
+    let unused : (node_at (nodes old) fresh).kind ≡ kind.Unused = node-before (λ n. n.kind ≡ kind.Unused) v old fresh a.given unused_v in
+    let less : p < extent_of (node_at (nodes old) at) = node-before (λ n. p < extent_of n) v old at a.given less_v in
+    let apart : at ≢ fresh = apart-kinds (nodes old) at fresh free unused in
+    let back_free : (node_at (nodes mid) fresh).kind ≡ kind.Free = ap (λ n. n.kind) back in
+    let stands : Stands (nodes old) h.sequence h.tree = stands-before hand v old h a.given r.holds in
+    let two : ChangesTwo (nodes old) (nodes mid) at fresh hand (with_count hand fresh 0) h.loose (with_mark h.loose fresh true) = record {
+      apart = apart;
+      first = inr (inl r.loose, inl (with_mark-other h.loose fresh true at apart ∙ r.loose));
+      second = inr (inr (ap is_free unused), inl (with_mark-same h.loose fresh true));
+      used = ap (λ n. use_count n.kind) front;
+      counted = omega (arith, with_count-same hand fresh 0, ap use_count back_free, ap use_count unused, r.in_hand);
+      hands = λ k ne. with_count-other hand fresh 0 k ne;
+      marks = λ k _ ne. with_mark-other h.loose fresh true k ne;
+      others = others;
+    } in
+    held_again hand (with_count hand fresh 0) v old mid new v.unused h (split_at at fresh p h.tree) h.spare (with_mark h.loose fresh true) a.given a.left
+    (short-mid v.slots old mid new a r.holds.short) r.holds
+    (tree h.sequence h.tree stands)
+    (filed-two (options_of v.options) (nodes old) (nodes mid) (rings old) (rings mid) v.lists v.unused h.spare h.held hand (with_count hand fresh 0) h.loose (with_mark h.loose fresh true) at fresh
+      same two (filed-before hand v old h a.given r.holds))
+    (cut-split at fresh p (nodes old) h.sequence no_slot 0 h.tree positive less stands.standing r.holds.cut)
+    (total-split at fresh p (nodes old) h.sequence no_slot 0 h.tree less stands.standing)
+
+-- the slot in hand becomes the lone child of what was a loose leaf
+pub wrapped-holds : (v : Shelf) (old mid new : List Slot) (at fresh : ℕ) (link : Link) → AreSlots v.slots old mid new
+    → ((s : Sequence) (n : Numbered) → Stands (nodes old) s n → Stands (nodes mid) s (wrapped_at at fresh s.width n))
+    → (node_in v at).kind ≡ kind.Free → (node_in v fresh).kind ≡ kind.Unused
+    → node_at (nodes mid) at ≡ record (node_at (nodes old) at) { kind = kind.Container }
+    → node_at (nodes mid) fresh ≡ inner_node (node_at (nodes old) at) link (node_at (nodes old) fresh)
+    → ((k : ℕ) → k ≢ at → k ≢ fresh → KeepsUse (node_at (nodes old) k) (node_at (nodes mid) k))
+    → rings mid ≡ rings old
+    → (h : Holding) (hand : ℕ → ℕ) → IsReadyWith hand v at fresh h
+    → HoldsWith (with_count hand fresh 0) (record v { slots = new }) (after_wrap at fresh h)
+wrapped-holds v old mid new at fresh link a tree free_v unused_v outer inner others same h hand r =
+    let free : (node_at (nodes old) at).kind ≡ kind.Free = node-before (λ n. n.kind ≡ kind.Free) v old at a.given free_v in
+    let unused : (node_at (nodes old) fresh).kind ≡ kind.Unused = node-before (λ n. n.kind ≡ kind.Unused) v old fresh a.given unused_v in
+    let apart : at ≢ fresh = apart-kinds (nodes old) at fresh free unused in
+    let outer_kind : (node_at (nodes mid) at).kind ≡ kind.Container = ap (λ n. n.kind) outer in
+    let inner_free : (node_at (nodes mid) fresh).kind ≡ kind.Free = ap (λ n. n.kind) inner in
+    let two : ChangesTwo (nodes old) (nodes mid) at fresh hand (with_count hand fresh 0) h.loose (with_mark (with_mark h.loose fresh true) at false) = record {
+      apart = apart;
+      first = inr (inl r.loose, inr (ap is_free outer_kind));
+      second = inr (inr (ap is_free unused), inl (with_mark-other (with_mark h.loose fresh true) at false fresh (λ e. apart (sym e)) ∙ with_mark-same h.loose fresh true));
+      used = ap use_count outer_kind ∙ sym (ap use_count free);
+      counted = omega (arith, with_count-same hand fresh 0, ap use_count inner_free, ap use_count unused, r.in_hand);
+      hands = λ k ne. with_count-other hand fresh 0 k ne;
+      marks = λ k ne nf. with_mark-other (with_mark h.loose fresh true) at false k ne ∙ with_mark-other h.loose fresh true k nf;
+      others = others;
+    } in
+    held_again hand (with_count hand fresh 0) v old mid new v.unused h (wrapped_at at fresh h.sequence.width h.tree) h.spare (with_mark (with_mark h.loose fresh true) at false) a.given a.left
+    (short-mid v.slots old mid new a r.holds.short) r.holds
+    (tree h.sequence h.tree (stands-before hand v old h a.given r.holds))
+    (filed-two (options_of v.options) (nodes old) (nodes mid) (rings old) (rings mid) v.lists v.unused h.spare h.held hand (with_count hand fresh 0) h.loose (with_mark (with_mark h.loose fresh true) at false) at fresh
+      same two (filed-before hand v old h a.given r.holds))
+    (cut-wrapped at fresh h.sequence.width h.tree r.holds.wide r.holds.cut)
+    (total-wrapped at fresh h.sequence.width h.tree)
+
+-- a slot keeps its use in the shelf
+pub others-carried : (v : Shelf) (old mid new : List Slot) (i j : ℕ) → AreSlots v.slots old mid new
+    → ((k : ℕ) → k ≢ i → k ≢ j → KeepsUse (node_at (nodes old) k) (node_at (nodes mid) k))
+    → (k : ℕ) → k ≢ i → k ≢ j → KeepsUse (node_in v k) (node_at (nodes new) k)
+others-carried v old mid new i j a f k ne nf =
+    let P : List Slot → Type 0 = λ slots. KeepsUse (node_at (nodes slots) k) (node_at (nodes mid) k) in
+    let Q : List Slot → Type 0 = λ slots. KeepsUse (node_in v k) (node_at (nodes slots) k) in
+    subst Q (sym a.left) (subst P a.given (f k ne nf))
+
+-- the same where the extent is said in another way
+pub split-holds_at : (v : Shelf) (old mid new : List Slot) (at fresh p q : ℕ) (after before : Link) → q ≡ p → AreSlots v.slots old mid new
+    → ((s : Sequence) (n : Numbered) → Stands (nodes old) s n → Stands (nodes mid) s (split_at at fresh q n))
+    → (node_in v at).kind ≡ kind.Free → (node_in v fresh).kind ≡ kind.Unused → 0 < p → p < extent_of (node_in v at)
+    → node_at (nodes mid) at ≡ front_node (node_at (nodes old) at) q after
+    → node_at (nodes mid) fresh ≡ back_node (node_at (nodes old) at) q before (node_at (nodes old) fresh)
+    → ((k : ℕ) → k ≢ at → k ≢ fresh → KeepsUse (node_at (nodes old) k) (node_at (nodes mid) k))
+    → rings mid ≡ rings old
+    → (h : Holding) (hand : ℕ → ℕ) → IsReadyWith hand v at fresh h
+    → HoldsWith (with_count hand fresh 0) (record v { slots = new }) (after_split at fresh p h)
+split-holds_at v old mid new at fresh p q after before e a tree free_v unused_v positive less front back others same h hand r =
+    let P : ℕ → Type 0 = λ x. HoldsWith (with_count hand fresh 0) (record v { slots = new }) (after_split at fresh x h) in
+    let L : ℕ → Type 0 = λ x. x < extent_of (node_in v at) in
+    subst P e (split-holds v old mid new at fresh q after before a tree free_v unused_v (omega (arith, e, positive)) (subst L (sym e) less) front back others same h hand r)
