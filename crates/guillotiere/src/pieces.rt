@@ -51,3 +51,60 @@ pub fn strip_across(slots: &mut [Slot], at: Link, grant: Link, rest: Link, acros
     split_leaf(slots, grant, rest, across);
     grant_leaf(slots, grant);
 }
+
+/// Grants a corner of the free leaf `at`, at `grant`: the first `across` pixels of the first `along`. `split` takes what
+/// lies beyond along the leaf's axis, and `leftover` what lies beside the grant.
+pub fn corner_along(slots: &mut [Slot], at: Link, split: Link, grant: Link, leftover: Link, along: i32, across: i32)
+    requires stands { IsTree (nodes slots.old) }
+    requires free { (node_at (nodes slots.old) at.number).kind ≡ Free }
+    requires split_inside { split.number < length slots.old }
+    requires split_unused { (node_at (nodes slots.old) split.number).kind ≡ Unused }
+    requires grant_inside { grant.number < length slots.old }
+    requires grant_unused { (node_at (nodes slots.old) grant.number).kind ≡ Unused }
+    requires leftover_inside { leftover.number < length slots.old }
+    requires leftover_unused { (node_at (nodes slots.old) leftover.number).kind ≡ Unused }
+    requires apart { (grant.number ≢ split.number) × (leftover.number ≢ split.number) × (leftover.number ≢ grant.number) }
+    requires part { IsAlong (nodes slots.old) at.number (natural along) }
+    requires part_across { IsAcross (nodes slots.old) at.number (natural across) }
+    requires short { length slots.old < no_slot }
+    ensures tree { (s : Sequence) (n : Numbered) → Stands (nodes slots.old) s n → Stands (nodes slots.new) s (granted_at grant.number (node_at (nodes slots.old) grant.number).generation (split_at grant.number leftover.number (natural across) (wrapped_at at.number grant.number s.width (split_at at.number split.number (natural along) n)))) }
+    ensures container { IsUse (node_at (nodes slots.new) at.number) Container (front_part (axis_in (nodes slots.old) at.number) (natural along) (box_in (nodes slots.old) at.number)) (node_at (nodes slots.old) at.number).generation }
+    ensures granted { IsUse (node_at (nodes slots.new) grant.number) Alloc (front_part (other (axis_in (nodes slots.old) at.number)) (natural across) (front_part (axis_in (nodes slots.old) at.number) (natural along) (box_in (nodes slots.old) at.number))) (node_at (nodes slots.old) grant.number).generation }
+    ensures split { IsUse (node_at (nodes slots.new) split.number) Free (back_part (axis_in (nodes slots.old) at.number) (natural along) (box_in (nodes slots.old) at.number)) (node_at (nodes slots.old) split.number).generation }
+    ensures leftover { IsUse (node_at (nodes slots.new) leftover.number) Free (back_part (other (axis_in (nodes slots.old) at.number)) (natural across) (front_part (axis_in (nodes slots.old) at.number) (natural along) (box_in (nodes slots.old) at.number))) (node_at (nodes slots.old) leftover.number).generation }
+    ensures others { (k : ℕ) → k ≢ at.number → k ≢ split.number → k ≢ grant.number → k ≢ leftover.number → KeepsUse (node_at (nodes slots.old) k) (node_at (nodes slots.new) k) }
+    ensures same_rings { rings slots.new ≡ rings slots.old }
+{
+    split_leaf(slots, at, split, along);
+    strip_across(slots, at, grant, leftover, across);
+}
+
+/// Grants a corner of the free leaf `at`, at `grant`: the first `along` pixels of the first `across`, which `inner` holds.
+/// `split` takes what lies beyond across the leaf's axis, and `leftover` what lies beside the grant.
+pub fn corner_across(slots: &mut [Slot], at: Link, inner: Link, split: Link, grant: Link, leftover: Link, along: i32, across: i32)
+    requires stands { IsTree (nodes slots.old) }
+    requires free { (node_at (nodes slots.old) at.number).kind ≡ Free }
+    requires inner_inside { inner.number < length slots.old }
+    requires inner_unused { (node_at (nodes slots.old) inner.number).kind ≡ Unused }
+    requires split_inside { split.number < length slots.old }
+    requires split_unused { (node_at (nodes slots.old) split.number).kind ≡ Unused }
+    requires grant_inside { grant.number < length slots.old }
+    requires grant_unused { (node_at (nodes slots.old) grant.number).kind ≡ Unused }
+    requires leftover_inside { leftover.number < length slots.old }
+    requires leftover_unused { (node_at (nodes slots.old) leftover.number).kind ≡ Unused }
+    requires apart { (split.number ≢ inner.number) × (grant.number ≢ inner.number) × (grant.number ≢ split.number) × (leftover.number ≢ inner.number) × (leftover.number ≢ split.number) × (leftover.number ≢ grant.number) }
+    requires part { IsAlong (nodes slots.old) at.number (natural along) }
+    requires part_across { IsAcross (nodes slots.old) at.number (natural across) }
+    requires short { length slots.old < no_slot }
+    ensures tree { (s : Sequence) (n : Numbered) → Stands (nodes slots.old) s n → Stands (nodes slots.new) s (granted_at grant.number (node_at (nodes slots.old) grant.number).generation (split_at grant.number leftover.number (natural along) (wrapped_at inner.number grant.number s.width (split_at inner.number split.number (natural across) (wrapped_at at.number inner.number s.width n))))) }
+    ensures container { KeepsUse (record (node_at (nodes slots.old) at.number) { kind = Container }) (node_at (nodes slots.new) at.number) }
+    ensures inner { IsUse (node_at (nodes slots.new) inner.number) Container (front_part (other (axis_in (nodes slots.old) at.number)) (natural across) (box_in (nodes slots.old) at.number)) (node_at (nodes slots.old) inner.number).generation }
+    ensures granted { IsUse (node_at (nodes slots.new) grant.number) Alloc (front_part (axis_in (nodes slots.old) at.number) (natural along) (front_part (other (axis_in (nodes slots.old) at.number)) (natural across) (box_in (nodes slots.old) at.number))) (node_at (nodes slots.old) grant.number).generation }
+    ensures split { IsUse (node_at (nodes slots.new) split.number) Free (back_part (other (axis_in (nodes slots.old) at.number)) (natural across) (box_in (nodes slots.old) at.number)) (node_at (nodes slots.old) split.number).generation }
+    ensures leftover { IsUse (node_at (nodes slots.new) leftover.number) Free (back_part (axis_in (nodes slots.old) at.number) (natural along) (front_part (other (axis_in (nodes slots.old) at.number)) (natural across) (box_in (nodes slots.old) at.number))) (node_at (nodes slots.old) leftover.number).generation }
+    ensures others { (k : ℕ) → k ≢ at.number → k ≢ inner.number → k ≢ split.number → k ≢ grant.number → k ≢ leftover.number → KeepsUse (node_at (nodes slots.old) k) (node_at (nodes slots.new) k) }
+    ensures same_rings { rings slots.new ≡ rings slots.old }
+{
+    wrap_leaf(slots, at, inner);
+    corner_along(slots, inner, split, grant, leftover, across, along);
+}
