@@ -37,3 +37,4 @@ pub mod Extents
 pub mod SlotLeaves
 pub mod SlotIds
 pub mod SlotBoxes
+pub mod SlotPieces

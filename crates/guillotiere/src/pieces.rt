@@ -54,7 +54,15 @@ pub fn strip_across(slots: &mut [Slot], at: Link, grant: Link, rest: Link, acros
 
 /// Grants a corner of the free leaf `at`, at `grant`: the first `across` pixels of the first `along`. `split` takes what
 /// lies beyond along the leaf's axis, and `leftover` what lies beside the grant.
-pub fn corner_along(slots: &mut [Slot], at: Link, split: Link, grant: Link, leftover: Link, along: i32, across: i32)
+pub fn corner_along(
+    slots: &mut [Slot],
+    at: Link,
+    split: Link,
+    grant: Link,
+    leftover: Link,
+    along: i32,
+    across: i32,
+)
     requires stands { IsTree (nodes slots.old) }
     requires free { (node_at (nodes slots.old) at.number).kind ≡ Free }
     requires split_inside { split.number < length slots.old }
@@ -81,7 +89,16 @@ pub fn corner_along(slots: &mut [Slot], at: Link, split: Link, grant: Link, left
 
 /// Grants a corner of the free leaf `at`, at `grant`: the first `along` pixels of the first `across`, which `inner` holds.
 /// `split` takes what lies beyond across the leaf's axis, and `leftover` what lies beside the grant.
-pub fn corner_across(slots: &mut [Slot], at: Link, inner: Link, split: Link, grant: Link, leftover: Link, along: i32, across: i32)
+pub fn corner_across(
+    slots: &mut [Slot],
+    at: Link,
+    inner: Link,
+    split: Link,
+    grant: Link,
+    leftover: Link,
+    along: i32,
+    across: i32,
+)
     requires stands { IsTree (nodes slots.old) }
     requires free { (node_at (nodes slots.old) at.number).kind ≡ Free }
     requires inner_inside { inner.number < length slots.old }
