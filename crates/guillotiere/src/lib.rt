@@ -6,7 +6,6 @@ mod geometry;
 pub mod laws;
 mod lists;
 mod options;
-mod pieces;
 mod placing;
 mod slots;
 mod turns;
