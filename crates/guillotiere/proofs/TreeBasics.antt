@@ -1,5 +1,5 @@
 -- Small facts of axes, boxes and leaves that several files of lemmas need.
-use Rattle.std.proofs.Common.{◌≡◌, ℕ, ◌+◌, ◌<◌, ◌≤◌, Bool, true, false, cond, List, ◌++◌, refl, ap, arith}
+use Rattle.std.proofs.Common.{◌≡◌, ℕ, ◌+◌, ◌<◌, ◌≤◌, Bool, true, cond, List, ◌++◌, refl, arith}
 use Rattle.std.proofs.lemmas.Bool.{and_parts, and_from, eqb-true, eq-eqb}
 use Rattle.std.proofs.lemmas.List.Elements.{filter_map-append}
 use Rattle.guillotiere.specs.Boxes.{Axis, Position, Sides, Box, other, side, sized, moved, box_at, whole_box, origin, same_box, Fits, IsPositive}
@@ -31,7 +31,8 @@ pub turned : (axis : Axis) (o : Position) (e across : ℕ) → box_at o (sized (
 turned Horizontal o e across = refl
 turned Vertical o e across = refl
 
-pub whole_box-sized : (axis : Axis) (size : Sides) → box_at origin (sized axis (side axis size) (side (other axis) size)) ≡ whole_box size
+pub whole_box-sized : (axis : Axis) (size : Sides)
+    → box_at origin (sized axis (side axis size) (side (other axis) size)) ≡ whole_box size
 whole_box-sized Horizontal size = refl
 whole_box-sized Vertical size = refl
 
@@ -59,11 +60,15 @@ abbrev pub free_among : Axis → Position → ℕ → Members → List Box
 free_among axis o across m = ungranted (leaves axis o across m)
 
 pub live_among-seq : (axis : Axis) (o : Position) (across e : ℕ) (inner rest : Members)
-    → live_among axis o across (Seq e inner rest) ≡ live_among (other axis) o e inner ++ live_among axis (moved axis o e) across rest
+    → live_among axis o across (Seq e inner rest)
+    ≡ live_among (other axis) o e inner ++ live_among axis (moved axis o e) across rest
 live_among-seq axis o across e inner rest =
-    filter_map-append (λ (l : Leaf). grant_at l.owner l.box) (leaves (other axis) o e inner) (leaves axis (moved axis o e) across rest)
+    filter_map-append (λ (l : Leaf). grant_at l.owner l.box) (leaves (other axis) o e inner)
+    (leaves axis (moved axis o e) across rest)
 
 pub free_among-seq : (axis : Axis) (o : Position) (across e : ℕ) (inner rest : Members)
-    → free_among axis o across (Seq e inner rest) ≡ free_among (other axis) o e inner ++ free_among axis (moved axis o e) across rest
+    → free_among axis o across (Seq e inner rest)
+    ≡ free_among (other axis) o e inner ++ free_among axis (moved axis o e) across rest
 free_among-seq axis o across e inner rest =
-    filter_map-append (λ (l : Leaf). free_at l.owner l.box) (leaves (other axis) o e inner) (leaves axis (moved axis o e) across rest)
+    filter_map-append (λ (l : Leaf). free_at l.owner l.box) (leaves (other axis) o e inner)
+    (leaves axis (moved axis o e) across rest)

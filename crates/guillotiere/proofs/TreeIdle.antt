@@ -36,9 +36,12 @@ one_free (Seq j inner k) h pos = absurd (false≢true h)
 
 pub no_ids : (size : Sides) (t : Tree) → IsWellFormed size t → IsNormal t.members → ids t.members ≡ [] → IsOneFree size t
 no_ids size t well normal none =
-    one_free t.members (idle t.members normal none) (subst (λ k. 0 < k) (sym well.along) (side_positive t.axis size well.nonempty)) ∙ ap (λ k. Free k End) well.along
+    one_free t.members (idle t.members normal none)
+    (subst (λ k. 0 < k) (sym well.along) (side_positive t.axis size well.nonempty))
+    ∙ ap (λ k. Free k End) well.along
 
-pub nothing_live : (size : Sides) (t : Tree) → IsWellFormed size t → IsNormal t.members → live size t ≡ [] → IsOneFree size t × (free_boxes size t ≡ whole_box size ∷ [])
+pub nothing_live : (size : Sides) (t : Tree) → IsWellFormed size t → IsNormal t.members → live size t ≡ []
+    → IsOneFree size t × (free_boxes size t ≡ whole_box size ∷ [])
 nothing_live size t well normal none =
     let one : IsOneFree size t = no_ids size t well normal (sym (ids-live size t) ∙ ap (map (λ (g : Grant). g.id)) none) in
     (one, one_free_box size t one)

@@ -1,5 +1,5 @@
 -- Membership in lists, and the ids of what is live.
-use Rattle.std.proofs.Common.{◌≡◌, ℕ, ◌+◌, ◌%◌, ◌^◌, ◌<◌, ◌≤◌, ◌==◌, ◌⊎◌, inl, inr, eqb, Bool, true, false, length, get_or, List, [], ◌∷◌, ◌++◌, map, refl, ap, ap₂, subst, sym, ◌∙◌, arith}
+use Rattle.std.proofs.Common.{◌≡◌, ℕ, ◌+◌, ◌%◌, ◌^◌, ◌<◌, ◌≤◌, ◌==◌, ◌⊎◌, inl, inr, eqb, Bool, true, false, get_or, List, [], ◌∷◌, ◌++◌, map, refl, ap, ap₂, subst, ◌∙◌, arith}
 use Rattle.std.specs.List.{count_by, Contains}
 use Rattle.std.proofs.lemmas.Bool.{eqb-true, eq-eqb}
 use Rattle.std.proofs.lemmas.List.{map-append}
@@ -49,13 +49,15 @@ count-absent id (x ∷ xs) absent =
 -- an id of an unused slot isn't in the list
 pub unused-absent : (id : ℕ) (xs : List ℕ) → slot_count id xs ≡ 0 → Contains xs id → ⊥
 unused-absent id xs none at =
-    let here : one_if (get_or xs at.0 id % 2 ^ 24 == id % 2 ^ 24) ≤ slot_count id xs = get_or-le-sum_by (λ k. one_if (k % 2 ^ 24 == id % 2 ^ 24)) xs at.0 id at.1 in
+    let here : one_if (get_or xs at.0 id % 2 ^ 24 == id % 2 ^ 24) ≤ slot_count id xs =
+    get_or-le-sum_by (λ k. one_if (k % 2 ^ 24 == id % 2 ^ 24)) xs at.0 id at.1 in
     let same : (get_or xs at.0 id % 2 ^ 24 == id % 2 ^ 24) ≡ true = eq-eqb _ _ (ap (λ k. k % 2 ^ 24) at.2) in
     let one : 1 ≤ slot_count id xs = subst (λ b. one_if b ≤ slot_count id xs) same here in
     omega arith
 
 -- the ids of what is live are those of the allocated leaves
-pub ids-live_among : (axis : Axis) (o : Position) (across : ℕ) (m : Members) → map (λ (g : Grant). g.id) (live_among axis o across m) ≡ ids m
+pub ids-live_among : (axis : Axis) (o : Position) (across : ℕ) (m : Members)
+    → map (λ (g : Grant). g.id) (live_among axis o across m) ≡ ids m
 ids-live_among axis o across End = refl
 ids-live_among axis o across (Free e rest) = ids-live_among axis (moved axis o e) across rest
 ids-live_among axis o across (Alloc id e rest) = ap (λ (k : List ℕ). id ∷ k) (ids-live_among axis (moved axis o e) across rest)

@@ -5,10 +5,9 @@ use Rattle.std.proofs.lemmas.List.Sums.{sum_by-cons, sum_by-append}
 use Rattle.std.proofs.lemmas.List.{append-nil}
 use Rattle.std.proofs.lemmas.Bool.{ltb-true, ltb-false, true≢false}
 use Rattle.guillotiere.specs.Boxes.{Axis, Sides, other, side, Fits, IsPositive}
-use Rattle.guillotiere.specs.Boxes.Axis.{Horizontal, Vertical}
-use Rattle.guillotiere.specs.Trees.{slot_count, Members, Tree, ids, total, nodes, IsCut, IsWellFormed, is_idle, IsNormal}
+use Rattle.guillotiere.specs.Trees.{slot_count, Members, Tree, ids, total, IsCut, IsWellFormed, is_idle, IsNormal}
 use Rattle.guillotiere.specs.Trees.Members.{End, Free, Alloc, Seq}
-use Rattle.guillotiere.specs.Changes.{free_before, seq_before, nf, mark, release, lengthened, lengthened_to, widened, grown_members, grown, grow_need}
+use Rattle.guillotiere.specs.Changes.{free_before, seq_before, nf, mark, release, lengthened, lengthened_to, widened, grown_members, grown}
 use Rattle.guillotiere.proofs.TreeBasics.{one_if, other_twice, side_positive, longer_side}
 use Rattle.guillotiere.proofs.TreeGrowth.{total-nf, total-mark}
 use Rattle.guillotiere.specs.TreeLaws.{IsReleased}
@@ -32,7 +31,8 @@ normal-nf across End pos cut = tt
 normal-nf across (Free e rest) pos cut = normal-free_before e (nf rest) (normal-nf across rest pos cut.1)
 normal-nf across (Alloc id e rest) pos cut = normal-nf across rest pos cut.1
 normal-nf across (Seq e inner rest) pos cut =
-    normal-seq_before e (nf inner) (nf rest) (subst (λ k. 0 < k) (sym (total-nf inner ∙ cut.1)) pos) (normal-nf e inner cut.0 cut.2) (normal-nf across rest pos cut.3)
+    normal-seq_before e (nf inner) (nf rest) (subst (λ k. 0 < k) (sym (total-nf inner ∙ cut.1)) pos)
+    (normal-nf e inner cut.0 cut.2) (normal-nf across rest pos cut.3)
 
 cut-free_before : (across e : ℕ) (m : Members) → 0 < e → IsCut across m → IsCut across (free_before e m)
 cut-free_before across e (Free k rest) pos cut = (omega arith, cut.1)
@@ -40,7 +40,8 @@ cut-free_before across e End pos cut = (pos, cut)
 cut-free_before across e (Alloc id k rest) pos cut = (pos, cut)
 cut-free_before across e (Seq k inner rest) pos cut = (pos, cut)
 
-cut-seq_before : (across e : ℕ) (inner m : Members) → 0 < e → total inner ≡ across → IsCut e inner → IsCut across m → IsCut across (seq_before e inner m)
+cut-seq_before : (across e : ℕ) (inner m : Members) → 0 < e → total inner ≡ across → IsCut e inner → IsCut across m
+    → IsCut across (seq_before e inner m)
 cut-seq_before across e (Free k End) m pos sum cut rest = cut-free_before across e m pos rest
 cut-seq_before across e inner m pos sum cut rest = (pos, sum, cut, rest)
 
@@ -48,7 +49,8 @@ cut-nf : (across : ℕ) (m : Members) → IsCut across m → IsCut across (nf m)
 cut-nf across End cut = cut
 cut-nf across (Free e rest) cut = cut-free_before across e (nf rest) cut.0 (cut-nf across rest cut.1)
 cut-nf across (Alloc id e rest) cut = (cut.0, cut-nf across rest cut.1)
-cut-nf across (Seq e inner rest) cut = cut-seq_before across e (nf inner) (nf rest) cut.0 (total-nf inner ∙ cut.1) (cut-nf e inner cut.2) (cut-nf across rest cut.3)
+cut-nf across (Seq e inner rest) cut =
+    cut-seq_before across e (nf inner) (nf rest) cut.0 (total-nf inner ∙ cut.1) (cut-nf e inner cut.2) (cut-nf across rest cut.3)
 
 pub cut-mark : (s : ℕ → Bool) (across : ℕ) (m : Members) → IsCut across m → IsCut across (mark s m)
 cut-mark s across End cut = cut
@@ -58,7 +60,8 @@ cut-mark s across (Alloc id e rest) cut = by_test (s id) (cut-mark s across rest
     by_test : (b : Bool) → IsCut across (mark s rest) → IsCut across (cond b (Free e (mark s rest)) (Alloc id e (mark s rest)))
     by_test true h = (cut.0, h)
     by_test false h = (cut.0, h)
-cut-mark s across (Seq e inner rest) cut = (cut.0, total-mark s inner ∙ cut.1, cut-mark s e inner cut.2, cut-mark s across rest cut.3)
+cut-mark s across (Seq e inner rest) cut =
+    (cut.0, total-mark s inner ∙ cut.1, cut-mark s e inner cut.2, cut-mark s across rest cut.3)
 
 ids-free_before : (e : ℕ) (m : Members) → ids (free_before e m) ≡ ids m
 ids-free_before e (Free k rest) = refl
@@ -81,13 +84,20 @@ ids-mark p s End = omega arith
 ids-mark p s (Free e rest) = ids-mark p s rest
 ids-mark p s (Alloc id e rest) = by_test (s id) (ids-mark p s rest)
   where
-    by_test : (b : Bool) → count_by p (ids (mark s rest)) ≤ count_by p (ids rest) → count_by p (ids (cond b (Free e (mark s rest)) (Alloc id e (mark s rest)))) ≤ count_by p (id ∷ ids rest)
-    by_test true h = subst (λ k. count_by p (ids (mark s rest)) ≤ k) (sym (sum_by-cons (λ k. one_if (p k)) id (ids rest))) (let weak : count_by p (ids (mark s rest)) ≤ one_if (p id) + count_by p (ids rest) = omega arith in weak)
-    by_test false h = subst₂ (λ j k. j ≤ k) (sym (sum_by-cons (λ k. one_if (p k)) id (ids (mark s rest)))) (sym (sum_by-cons (λ k. one_if (p k)) id (ids rest))) (let weak : one_if (p id) + count_by p (ids (mark s rest)) ≤ one_if (p id) + count_by p (ids rest) = omega arith in weak)
+    by_test : (b : Bool) → count_by p (ids (mark s rest)) ≤ count_by p (ids rest)
+        → count_by p (ids (cond b (Free e (mark s rest)) (Alloc id e (mark s rest)))) ≤ count_by p (id ∷ ids rest)
+    by_test true h =
+        subst (λ k. count_by p (ids (mark s rest)) ≤ k) (sym (sum_by-cons (λ k. one_if (p k)) id (ids rest)))
+        (let weak : count_by p (ids (mark s rest)) ≤ one_if (p id) + count_by p (ids rest) = omega arith in weak)
+    by_test false h =
+        subst₂ (λ j k. j ≤ k) (sym (sum_by-cons (λ k. one_if (p k)) id (ids (mark s rest))))
+        (sym (sum_by-cons (λ k. one_if (p k)) id (ids rest)))
+        (let weak : one_if (p id) + count_by p (ids (mark s rest)) ≤ one_if (p id) + count_by p (ids rest) = omega arith in weak)
 ids-mark p s (Seq e inner rest) =
     let a : count_by p (ids (mark s inner)) ≤ count_by p (ids inner) = ids-mark p s inner in
     let b : count_by p (ids (mark s rest)) ≤ count_by p (ids rest) = ids-mark p s rest in
-    subst₂ (λ j k. j ≤ k) (sym (sum_by-append (λ k. one_if (p k)) (ids (mark s inner)) (ids (mark s rest)))) (sym (sum_by-append (λ k. one_if (p k)) (ids inner) (ids rest)))
+    subst₂ (λ j k. j ≤ k) (sym (sum_by-append (λ k. one_if (p k)) (ids (mark s inner)) (ids (mark s rest))))
+    (sym (sum_by-append (λ k. one_if (p k)) (ids inner) (ids rest)))
     (let both : count_by p (ids (mark s inner)) + count_by p (ids (mark s rest)) ≤ count_by p (ids inner) + count_by p (ids rest) = omega arith in both)
 
 pub release_well_formed : (size : Sides) (s : ℕ → Bool) (t : Tree) → IsWellFormed size t → IsWellFormed size (release s t)
@@ -96,16 +106,20 @@ release_well_formed size s t well = record {
   along = total-nf (mark s t.members) ∙ total-mark s t.members ∙ well.along;
   cut = cut-nf _ (mark s t.members) (cut-mark s _ t.members well.cut);
   apart = λ id.
-      let few : slot_count id (ids (nf (mark s t.members))) ≤ slot_count id (ids t.members) = rw (ids-nf (mark s t.members)) (ids-mark (λ k. k % 2 ^ 24 == id % 2 ^ 24) s t.members) in
+      let few : slot_count id (ids (nf (mark s t.members))) ≤ slot_count id (ids t.members) =
+      rw (ids-nf (mark s t.members)) (ids-mark (λ k. k % 2 ^ 24 == id % 2 ^ 24) s t.members) in
       let one : slot_count id (ids t.members) ≤ 1 = well.apart id in
       omega arith;
 }
 
 pub release_normal : (size : Sides) (s : ℕ → Bool) (t : Tree) → IsWellFormed size t → IsNormal (release s t).members
-release_normal size s t well = normal-nf (side (other t.axis) size) (mark s t.members) (side_positive (other t.axis) size well.nonempty) (cut-mark s _ t.members well.cut)
+release_normal size s t well =
+    normal-nf (side (other t.axis) size) (mark s t.members) (side_positive (other t.axis) size well.nonempty)
+    (cut-mark s _ t.members well.cut)
 
 pub release_keeps : (size : Sides) (s : ℕ → Bool) (t : Tree) → IsWellFormed size t → IsReleased size s t
-release_keeps size s t well = record { well_formed = release_well_formed size s t well; normal = release_normal size s t well; live = live_release size s t }
+release_keeps size s t well =
+    record { well_formed = release_well_formed size s t well; normal = release_normal size s t well; live = live_release size s t }
 
 -- growth
 
@@ -177,7 +191,8 @@ kept-lengthened_to across a b m le k = by_test (ltb a b) refl
           normal = normal-lengthened (b - a) m k.normal;
           busy = busy-lengthened (b - a) m k.busy;
         }
-    by_test false is = let ge : b ≤ a = ltb-false a b is in record { sum = k.sum ∙ omega arith; cut = k.cut; normal = k.normal; busy = k.busy }
+    by_test false is =
+        let ge : b ≤ a = ltb-false a b is in record { sum = k.sum ∙ omega arith; cut = k.cut; normal = k.normal; busy = k.busy }
 
 -- the top of a tree, as far as growth has it to be kept
 record KeptTree (size : Sides) (t : Tree) : Type 0 where
@@ -185,7 +200,8 @@ record KeptTree (size : Sides) (t : Tree) : Type 0 where
   pub cut : IsCut (side (other t.axis) size) t.members
   pub normal : IsNormal t.members
 
-kept-widened : (old new : Sides) (axis : Axis) (m : Members) → IsPositive old → side (other axis) old ≤ side (other axis) new → Kept (side (other axis) old) (side axis new) m
+kept-widened : (old new : Sides) (axis : Axis) (m : Members) → IsPositive old
+    → side (other axis) old ≤ side (other axis) new → Kept (side (other axis) old) (side axis new) m
     → KeptTree new (widened (side (other axis) old) (side (other axis) new) axis m)
 kept-widened old new axis m pos le k = by_test (ltb u n) refl
   where
@@ -195,12 +211,14 @@ kept-widened old new axis m pos le k = by_test (ltb u n) refl
     n : ℕ
     n = side (other axis) new
 
-    by_test : (x : Bool) → ltb u n ≡ x → KeptTree new (cond x (record { axis = other axis; members = Seq u m (Free (n - u) End) }) (record { axis = axis; members = m }))
+    by_test : (x : Bool) → ltb u n ≡ x
+        → KeptTree new (cond x (record { axis = other axis; members = Seq u m (Free (n - u) End) }) (record { axis = axis; members = m }))
     by_test true is =
         let lt : u < n = ltb-true u n is in
         record {
           sum = let back : u + (n - u + 0) ≡ n = omega arith in back;
-          cut = (side_positive (other axis) old pos, k.sum ∙ ap (λ a. side a new) (sym (other_twice axis)), k.cut, (let d : 0 < n - u = omega arith in d, tt));
+          cut =
+              (side_positive (other axis) old pos, k.sum ∙ ap (λ a. side a new) (sym (other_twice axis)), k.cut, (let d : 0 < n - u = omega arith in d, tt));
           normal = (k.busy, k.normal, (refl, tt));
         }
     by_test false is =
@@ -211,9 +229,12 @@ kept-widened old new axis m pos le k = by_test (ltb u n) refl
 longer_positive : (old new : Sides) → IsPositive old → Fits old new → IsPositive new
 longer_positive old new p f = (omega (arith, p.0, f.0), omega (arith, p.1, f.1))
 
-kept-grown : (old new : Sides) (axis : Axis) (m : Members) → IsPositive old → Fits old new → total m ≡ side axis old → IsCut (side (other axis) old) m → IsNormal m → KeptTree new (grown_members old new axis m)
-kept-grown old new axis End pos fit sum cut normal = absurd (let p : 0 < side axis old = side_positive axis old pos in omega arith)
-kept-grown old new axis (Free e End) pos fit sum cut normal = record { sum = omega arith; cut = (side_positive axis new (longer_positive old new pos fit), tt); normal = (refl, tt) }
+kept-grown : (old new : Sides) (axis : Axis) (m : Members) → IsPositive old → Fits old new → total m ≡ side axis old
+    → IsCut (side (other axis) old) m → IsNormal m → KeptTree new (grown_members old new axis m)
+kept-grown old new axis End pos fit sum cut normal =
+    absurd (let p : 0 < side axis old = side_positive axis old pos in omega arith)
+kept-grown old new axis (Free e End) pos fit sum cut normal =
+    record { sum = omega arith; cut = (side_positive axis new (longer_positive old new pos fit), tt); normal = (refl, tt) }
 kept-grown old new axis m pos fit sum cut normal =
     kept-widened old new axis (lengthened_to (side axis old) (side axis new) m) pos (longer_side (other axis) old new fit)
     (kept-lengthened_to (side (other axis) old) (side axis old) (side axis new) m (longer_side axis old new fit) (record { sum = sum; cut = cut; normal = normal; busy = refl }))
@@ -221,7 +242,9 @@ kept-grown old new axis m pos fit sum cut normal =
 ids-widened : (u n : ℕ) (axis : Axis) (m : Members) → ids (widened u n axis m).members ≡ ids m
 ids-widened u n axis m = by_test (ltb u n)
   where
-    by_test : (x : Bool) → ids (cond {A = Tree} x (record { axis = other axis; members = Seq u m (Free (n - u) End) }) (record { axis = axis; members = m })).members ≡ ids m
+    by_test : (x : Bool)
+        → ids (cond {A = Tree} x (record { axis = other axis; members = Seq u m (Free (n - u) End) }) (record { axis = axis; members = m })).members
+        ≡ ids m
     by_test true = append-nil (ids m)
     by_test false = refl
 
@@ -234,11 +257,15 @@ ids-lengthened_to a b m = by_test (ltb a b)
 
 ids-grown : (old new : Sides) (axis : Axis) (m : Members) → ids (grown_members old new axis m).members ≡ ids m
 ids-grown old new axis (Free e End) = refl
-ids-grown old new axis m = ids-widened (side (other axis) old) (side (other axis) new) axis (lengthened_to (side axis old) (side axis new) m) ∙ ids-lengthened_to (side axis old) (side axis new) m
+ids-grown old new axis m =
+    ids-widened (side (other axis) old) (side (other axis) new) axis (lengthened_to (side axis old) (side axis new) m)
+    ∙ ids-lengthened_to (side axis old) (side axis new) m
 
-pub grown_kept : (old new : Sides) (t : Tree) → IsWellFormed old t → IsNormal t.members → Fits old new → IsWellFormed new (grown old new t) × IsNormal (grown old new t).members
+pub grown_kept : (old new : Sides) (t : Tree) → IsWellFormed old t → IsNormal t.members → Fits old new
+    → IsWellFormed new (grown old new t) × IsNormal (grown old new t).members
 grown_kept old new t well normal fit =
-    let kept : KeptTree new (grown old new t) = kept-grown old new t.axis t.members well.nonempty fit well.along well.cut normal in (
+    let kept : KeptTree new (grown old new t) =
+    kept-grown old new t.axis t.members well.nonempty fit well.along well.cut normal in (
       record {
         nonempty = longer_positive old new well.nonempty fit;
         along = kept.sum;

@@ -18,7 +18,8 @@ nf-mark-free_before s e End = refl
 nf-mark-free_before s e (Alloc id e' rest) = refl
 nf-mark-free_before s e (Seq e' inner rest) = refl
 
-nf-mark-seq_before : (s : ℕ → Bool) (e : ℕ) (inner m : Members) → nf (mark s (seq_before e inner m)) ≡ seq_before e (nf (mark s inner)) (nf (mark s m))
+nf-mark-seq_before : (s : ℕ → Bool) (e : ℕ) (inner m : Members)
+    → nf (mark s (seq_before e inner m)) ≡ seq_before e (nf (mark s inner)) (nf (mark s m))
 nf-mark-seq_before s e (Free e' End) m = nf-mark-free_before s e m
 nf-mark-seq_before s e inner m = refl
 
@@ -28,7 +29,9 @@ nf_mark_nf s End = refl
 nf_mark_nf s (Free e rest) = nf-mark-free_before s e (nf rest) ∙ ap (free_before e) (nf_mark_nf s rest)
 nf_mark_nf s (Alloc id e rest) = by_test (s id) (nf_mark_nf s rest)
   where
-    by_test : (b : Bool) → nf (mark s (nf rest)) ≡ nf (mark s rest) → nf (cond b (Free e (mark s (nf rest))) (Alloc id e (mark s (nf rest)))) ≡ nf (cond b (Free e (mark s rest)) (Alloc id e (mark s rest)))
+    by_test : (b : Bool) → nf (mark s (nf rest)) ≡ nf (mark s rest)
+        → nf (cond b (Free e (mark s (nf rest))) (Alloc id e (mark s (nf rest))))
+        ≡ nf (cond b (Free e (mark s rest)) (Alloc id e (mark s rest)))
     by_test true h = ap (free_before e) h
     by_test false h = ap (Alloc id e) h
 nf_mark_nf s (Seq e inner rest) = nf-mark-seq_before s e (nf inner) (nf rest) ∙ cc (nf_mark_nf s inner, nf_mark_nf s rest)
@@ -47,7 +50,8 @@ pub nf-normal : (m : Members) → IsNormal m → nf m ≡ m
 nf-normal End n = refl
 nf-normal (Free e rest) n = ap (free_before e) (nf-normal rest n.1) ∙ free_before-normal e rest n.0
 nf-normal (Alloc id e rest) n = ap (Alloc id e) (nf-normal rest n)
-nf-normal (Seq e inner rest) n = ap₂ (seq_before e) (nf-normal inner n.1) (nf-normal rest n.2) ∙ seq_before-normal e inner rest n.0
+nf-normal (Seq e inner rest) n =
+    ap₂ (seq_before e) (nf-normal inner n.1) (nf-normal rest n.2) ∙ seq_before-normal e inner rest n.0
 
 pub mark-none : (m : Members) → mark (λ k. false) m ≡ m
 mark-none End = refl
@@ -67,7 +71,8 @@ mark-mark s s' (Free e rest) = ap (Free e) (mark-mark s s' rest)
 mark-mark s s' (Alloc id e rest) = by_test (s' id) (mark-mark s s' rest)
   where
     by_test : (b : Bool) → mark s (mark s' rest) ≡ mark (λ k. s' k || s k) rest
-        → mark s (cond b (Free e (mark s' rest)) (Alloc id e (mark s' rest))) ≡ cond (b || s id) (Free e (mark (λ k. s' k || s k) rest)) (Alloc id e (mark (λ k. s' k || s k) rest))
+        → mark s (cond b (Free e (mark s' rest)) (Alloc id e (mark s' rest)))
+        ≡ cond (b || s id) (Free e (mark (λ k. s' k || s k) rest)) (Alloc id e (mark (λ k. s' k || s k) rest))
     by_test true h = ap (Free e) h
     by_test false h = ap (λ k. cond (s id) (Free e k) (Alloc id e k)) h
 mark-mark s s' (Seq e inner rest) = ap₂ (Seq e) (mark-mark s s' inner) (mark-mark s s' rest)
@@ -78,4 +83,5 @@ release-like s s' t h = ap (λ (f : ℕ → Bool). release f t) (λ i k. h k i)
 
 -- freeing a set and then another frees both
 pub release-release : (s s' : ℕ → Bool) (t : Tree) → release s (release s' t) ≡ release (λ k. s' k || s k) t
-release-release s s' t = ap (λ m. record { axis = t.axis; members = m }) (nf_mark_nf s (mark s' t.members) ∙ ap nf (mark-mark s s' t.members))
+release-release s s' t =
+    ap (λ m. record { axis = t.axis; members = m }) (nf_mark_nf s (mark s' t.members) ∙ ap nf (mark-mark s s' t.members))

@@ -13,7 +13,8 @@ or_false false = refl
 -- ids freed one after another are their set freed at once
 pub release_one_by_one : (id : ℕ) (rest : List ℕ) (t : Tree) → release_each (id ∷ rest) t ≡ release (is_among (id ∷ rest)) t
 release_one_by_one id [] t = release-like (only id) (is_among (id ∷ [])) t (λ k. sym (or_false (only id k)))
-release_one_by_one id (next ∷ rest) t = release_one_by_one next rest (release (only id) t) ∙ release-release (is_among (next ∷ rest)) (only id) t
+release_one_by_one id (next ∷ rest) t =
+    release_one_by_one next rest (release (only id) t) ∙ release-release (is_among (next ∷ rest)) (only id) t
 
 pub release_in_normal : (xs : List ℕ) (t : Tree) → IsNormal t.members → release_each xs t ≡ release (is_among xs) t
 release_in_normal [] t normal = sym (release-none t normal)
@@ -22,7 +23,8 @@ release_in_normal (id ∷ rest) t normal = release_one_by_one id rest t
 first_is_among : (id : ℕ) (rest : List ℕ) → is_among (id ∷ rest) id ≡ true
 first_is_among id rest = ap (λ b. b || is_among rest id) (eq-eqb id id refl)
 
-pub release_any_order : (xs ys : List ℕ) (t : Tree) → ((id : ℕ) → is_among xs id ≡ is_among ys id) → release_each xs t ≡ release_each ys t
+pub release_any_order : (xs ys : List ℕ) (t : Tree) → ((id : ℕ) → is_among xs id ≡ is_among ys id)
+    → release_each xs t ≡ release_each ys t
 release_any_order [] [] t same = refl
 release_any_order [] (y ∷ ys) t same = absurd (false≢true (same y ∙ first_is_among y ys))
 release_any_order (x ∷ xs) [] t same = absurd (false≢true (sym (same x) ∙ first_is_among x xs))

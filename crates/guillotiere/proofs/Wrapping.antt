@@ -4,8 +4,8 @@ use Rattle.std.proofs.lemmas.Bool.{cond_both, eqb-true, eqb-false, ne_eqb, cond-
 use Rattle.guillotiere.specs.declared.slots.Link.{Link}
 use Rattle.guillotiere.specs.declared.slots.Node.{Node}
 use Rattle.guillotiere.specs.declared.slots.NodeKind.TheVariants as kind
-use Rattle.guillotiere.specs.declared.slots.Orientation.{Orientation}
-use Rattle.guillotiere.specs.declared.slots.Orientation.TheVariants as orientation
+use Rattle.guillotiere.specs.declared.cut.Orientation.{Orientation}
+use Rattle.guillotiere.specs.declared.cut.Orientation.TheVariants as orientation
 use Rattle.guillotiere.specs.Boxes.{Axis, other, sized, box_at}
 use Rattle.guillotiere.specs.Boxes.Axis.{Horizontal, Vertical}
 use Rattle.guillotiere.specs.Pixels.{rectangle_of}

@@ -5,10 +5,12 @@ use Rattle.guillotiere.specs.declared.slots.Node.{Node}
 use Rattle.guillotiere.specs.declared.slots.Ring.{Ring}
 use Rattle.guillotiere.specs.declared.slots.NodeKind.{NodeKind}
 use Rattle.guillotiere.specs.declared.slots.NodeKind.TheVariants as kind
-use Rattle.guillotiere.specs.declared.slots.Orientation.{Orientation}
-use Rattle.guillotiere.specs.declared.slots.Orientation.TheVariants as orientation
+use Rattle.guillotiere.specs.declared.cut.Orientation.{Orientation}
+use Rattle.guillotiere.specs.declared.cut.Orientation.TheVariants as orientation
 use Rattle.guillotiere.specs.Boxes.{Axis}
 use Rattle.guillotiere.specs.Boxes.Axis.{Horizontal, Vertical}
+
+pub use Rattle.guillotiere.specs.Rectangles.{axis_of}
 
 -- the number of no slot
 abbrev pub no_slot : ℕ
@@ -46,10 +48,6 @@ node_at ns i = slice_index_or ns i blank_node
 
 abbrev pub ring_at : List Ring → ℕ → Ring
 ring_at rs i = slice_index_or rs i blank_ring
-
-abbrev pub axis_of : Orientation → Axis
-axis_of orientation.Horizontal = Horizontal
-axis_of orientation.Vertical = Vertical
 
 -- 1 if a slot of this kind is used
 abbrev pub use_count : NodeKind → ℕ

@@ -1,5 +1,5 @@
 -- The laws of trees of cuts, each as one statement, and the words that they need.
-use Rattle.std.specs.Prelude.{◌≡◌, ℕ, ◌+◌, ◌*◌, ◌<◌, ◌≤◌, Bool, true, false, not, ◌||◌, List, [], ◌∷◌, All, Contains, count_by, sum_by, filter}
+use Rattle.std.specs.Prelude.{◌≡◌, ℕ, ◌+◌, ◌*◌, ◌<◌, ◌≤◌, Bool, true, false, not, ◌||◌, List, [], ◌∷◌, All, Contains, count_by, sum_by, filter, IsPermutation}
 use Rattle.guillotiere.specs.Boxes.{Sides, Box, area, box_at, box_sides, covers, whole_box, Fits, IsPositive, IsNonempty, IsWithin, IsInside}
 use Rattle.guillotiere.specs.Trees.{Members, Tree, Grant, grant, tree_leaves, live, free_boxes, ids, slot_count, is_one_free, nodes, IsWellFormed, IsNormal, IsOneFree}
 use Rattle.guillotiere.specs.Changes.{nf, mark, only, and_id, release, place, grown, place_need, grow_need}
@@ -64,10 +64,6 @@ NothingLiveIsOneFree =
     (size : Sides) (t : Tree) → IsWellFormed size t → IsNormal t.members → live size t ≡ []
     → IsOneFree size t × (free_boxes size t ≡ whole_box size ∷ [])
 
--- the same grants, each as often, in whatever order
-abbrev pub AreSameGrants : List Grant → List Grant → Type 0
-AreSameGrants gs hs = (p : Grant → Bool) → count_by p gs ≡ count_by p hs
-
 -- a request for a free box that it fits, and an id of an unused slot
 pub record IsPlaceable (size : Sides) (t : Tree) (f : Box) (r : Sides) (id : ℕ) : Type 0 where
   pub is_free : Contains (free_boxes size t) f
@@ -79,7 +75,7 @@ pub record IsPlaceable (size : Sides) (t : Tree) (f : Box) (r : Sides) (id : ℕ
 pub record IsPlaced (size : Sides) (t : Tree) (f : Box) (r : Sides) (id : ℕ) : Type 0 where
   pub well_formed : IsWellFormed size (place size f r id t)
   pub normal : IsNormal t.members → IsNormal (place size f r id t).members
-  pub live : AreSameGrants (live size (place size f r id t)) (grant id (box_at f.min r) ∷ live size t)
+  pub live : IsPermutation (grant id (box_at f.min r) ∷ live size t) (live size (place size f r id t))
   pub inside : IsInside (box_at f.min r) f
 
 -- A placing keeps a tree well formed and normal, and adds its grant to what is live.

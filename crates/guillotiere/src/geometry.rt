@@ -1,5 +1,6 @@
 //! Points, sizes and rectangles in pixels.
-ghost use Rattle.std.specs.Prelude.{◌≡◌, ◌↔◌, ◌⊎◌, ◌-ℤ◌, ◌≤ℤ◌, pos, IsTrue};
+ghost use Rattle.std.specs.Prelude.{◌≡◌, ◌↔◌, ◌⊎◌, ◌-ℤ◌, ◌≤ℤ◌, pos, IsTrue, FitsSigned};
+ghost use Rattle.std.specs.Int.{w32};
 ghost use Rattle.guillotiere.specs.Pixels.{IsMeasurable};
 
 /// A point, in pixels; y grows downwards.
@@ -37,6 +38,13 @@ pub fn size2(width: i32, height: i32) -> Size
     Size { width, height }
 }
 
+// Whether `to - from` fits an `i32`.
+fn has_length(from: i32, to: i32) -> bool
+    ensures { IsTrue result ↔ FitsSigned w32 (to -ℤ from) }
+{
+    to.checked_sub(from).is_some()
+}
+
 impl Size {
     /// Whether a side is 0 or less.
     pub fn is_empty(&self) -> bool
@@ -58,9 +66,7 @@ impl Rectangle {
     pub fn is_measurable(&self) -> bool
         ensures { IsTrue result ↔ IsMeasurable self.now }
     {
-        let width = self.max.x.checked_sub(self.min.x);
-        let height = self.max.y.checked_sub(self.min.y);
-        width.is_some() && height.is_some()
+        has_length(self.min.x, self.max.x) && has_length(self.min.y, self.max.y)
     }
 
     /// `max.x - min.x`, which is negative where `max` lies left of `min`.

@@ -1,6 +1,10 @@
 //! A dynamic allocator of rectangles inside one large texture: a port of the Rust crate `guillotiere` 0.7.0.
 #![tactic(auto)]
 
+mod allocation;
+mod atlas;
+mod choice;
+mod cut;
 mod error;
 mod geometry;
 pub mod laws;
@@ -8,8 +12,13 @@ mod lists;
 mod options;
 mod placing;
 mod slots;
+mod store;
+mod tree;
 mod turns;
+mod simple;
 
+pub use allocation::{AllocId, Allocation, SlotCount};
+pub use atlas::AtlasAllocator;
 pub use error::AtlasError;
 pub use geometry::{Point, Rectangle, Size, point2, size2};
 pub use options::{AllocatorOptions, DEFAULT_OPTIONS};

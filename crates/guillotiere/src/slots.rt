@@ -6,6 +6,7 @@ ghost use Rattle.guillotiere.specs.Standing.{Sequence, Stands, IsTree, IsWhole, 
 ghost use Rattle.guillotiere.specs.Calm.{IsCalmAt, IsCalmBut};
 ghost use Rattle.guillotiere.specs.declared.slots.NodeKind.TheVariants.{Alloc, Container, Free, Unused};
 
+use crate::cut::Orientation;
 use crate::geometry::Rectangle;
 
 /// What a slot of an atlas is used for.
@@ -19,13 +20,6 @@ pub enum NodeKind {
     Free,
     /// Nothing: the slot may be taken.
     Unused,
-}
-
-/// The axis along which a sequence runs.
-#[derive(Clone, Copy, Debug, PartialEq, Eq)]
-pub enum Orientation {
-    Horizontal,
-    Vertical,
 }
 
 /// The number of a slot, or `NO_SLOT` for none.

@@ -1,0 +1,340 @@
+-- One slot leaves a list, and one joins it in front.
+use Rattle.std.proofs.Common.{ℕ, ◌+◌, ◌<◌, ◌≤◌, ◌≡◌, List, [], ◌∷◌, refl, sym, ap, ◌∙◌, ◌⊎◌, inl, inr, arith, length, set, get_or-set_same, get_or-set_other, length-set, eqb, zero, suc}
+use Rattle.std.proofs.lemmas.Bool.{cases_eq, cases_lt, cond_both, eqb-true, eqb-false, ne_eqb, eq-eqb, cond-true, cond-false}
+use Rattle.std.proofs.lemmas.List.{get_or_past}
+use Rattle.guillotiere.specs.declared.slots.Ring.{Ring}
+use Rattle.guillotiere.specs.declared.slots.Link.{Link}
+use Rattle.guillotiere.specs.declared.lists.FreeList.{FreeList}
+use Rattle.guillotiere.specs.Slots.{ring_at, blank_ring, no_slot}
+use Rattle.guillotiere.specs.Numbered.{same}
+use Rattle.guillotiere.specs.Standing.{IsSlot}
+use Rattle.guillotiere.specs.Lists.{IsList, Chain, Line, occurs, without, front, back}
+use Rattle.guillotiere.specs.Links.{IsListed, IsUnlisted, with_next, with_ring_previous}
+use Rattle.guillotiere.proofs.Occurrences.{same-self, same-ne, ne-from_occurs, ne-from_same, front_in, front_of, is_first, front-without, occurs-without, length-without}
+
+-- a list stands where the rings of its slots are the same, and no slot is gone
+pub Chain-kept : (rs ts : List Ring) (b : ℕ) (xs : List ℕ) → length rs ≤ length ts → ((k : ℕ) → 0 < occurs k xs → ring_at ts k ≡ ring_at rs k) → Chain rs b xs → Chain ts b xs
+Chain-kept rs ts b [] e same_at h = tt
+Chain-kept rs ts b (x ∷ xs) e same_at h =
+    let q : ring_at ts x ≡ ring_at rs x = same_at x (omega (arith, same-self x)) in
+    (omega (arith, h.0), rw q h.1, rw q h.2, Chain-kept rs ts x xs e (λ k l. same_at k (omega arith)) h.3)
+
+pub Chain-same : (rs ts : List Ring) (b : ℕ) (xs : List ℕ) → length ts ≡ length rs → ((k : ℕ) → 0 < occurs k xs → ring_at ts k ≡ ring_at rs k) → Chain rs b xs → Chain ts b xs
+Chain-same rs ts b xs e same_at h = Chain-kept rs ts b xs (omega arith) same_at h
+
+pub IsList-kept : (rs ts : List Ring) (list : FreeList) (xs : List ℕ) → length rs ≤ length ts → ((k : ℕ) → 0 < occurs k xs → ring_at ts k ≡ ring_at rs k) → IsList rs list xs → IsList ts list xs
+IsList-kept rs ts list xs e same_at h =
+    record { chain = Chain-kept rs ts no_slot xs e same_at h.chain; head = h.head; tail = h.tail; counted = h.counted; once = h.once }
+
+pub Chain-inside : (rs : List Ring) (b i : ℕ) (xs : List ℕ) → Chain rs b xs → 0 < occurs i xs → i < length rs
+Chain-inside rs b i [] h l = absurd (omega arith)
+Chain-inside rs b i (x ∷ xs) h l =
+    elim (cases_eq i x) [ inl q ↦ (rw q h.0) | inr ne ↦ Chain-inside rs x i xs h.3 (omega (arith, same-ne i x ne)) ]
+
+-- what follows a member is a member, or none
+pub next-in_list : (rs : List Ring) (b i : ℕ) (xs : List ℕ) → Chain rs b xs → 0 < occurs i xs → ((ring_at rs i).next.number ≡ no_slot) ⊎ (0 < occurs (ring_at rs i).next.number xs)
+next-in_list rs b i [] h l = absurd (omega arith)
+next-in_list rs b i (x ∷ xs) h l =
+    elim (cases_eq i x) [
+      | inl q ↦ front_of _ x xs (rw q h.2)
+      | inr ne ↦ elim (next-in_list rs x i xs h.3 (omega (arith, same-ne i x ne))) [ inl e ↦ inl e | inr y ↦ inr (omega arith) ]
+    ]
+
+-- what comes before a member is a member, but for the first
+pub previous-in_list : (rs : List Ring) (b i : ℕ) (xs : List ℕ) → Chain rs b xs → 0 < occurs i xs → (front xs ≡ i → ⊥) → 0 < occurs (ring_at rs i).previous.number xs
+previous-in_list rs b i [] h l nf = absurd (omega arith)
+previous-in_list rs b i (x ∷ []) h l nf = absurd (omega (arith, same-ne i x (λ q. nf (sym q))))
+previous-in_list rs b i (x ∷ (y ∷ ys)) h l nf =
+    elim (cases_eq i y) [
+      | inl q ↦ is_first _ x (y ∷ ys) (rw q h.3.1)
+      | inr ne ↦ let more = previous-in_list rs x i (y ∷ ys) h.3 (omega (arith, same-ne i x (λ q. nf (sym q)))) (λ q. ne (sym q)) in omega arith
+    ]
+
+previous-first : (rs : List Ring) (b i : ℕ) (xs : List ℕ) → Chain rs b xs → 0 < occurs i xs → front xs ≡ i → (ring_at rs i).previous.number ≡ b
+previous-first rs b i [] h l e = absurd (omega arith)
+previous-first rs b i (x ∷ xs) h l e = rw (← e) h.1
+
+front-without_first : (rs : List Ring) (b i : ℕ) (xs : List ℕ) → Chain rs b xs → 0 < occurs i xs → front xs ≡ i → front (without i xs) ≡ (ring_at rs i).next.number
+front-without_first rs b i [] h l e = absurd (omega arith)
+front-without_first rs b i (x ∷ xs) h l e =
+    rw (cond-true (eqb i x) xs (x ∷ without i xs) (eq-eqb i x (sym e))) (rw (← e) (sym h.2))
+
+-- the rings ts are rs after the neighbours of i let it go
+pub record IsUnlinked (rs ts : List Ring) (i p n : ℕ) : Type 0 where
+  pub same_length : length ts ≡ length rs
+  pub previous : (ring_at rs i).previous.number ≡ p
+  pub next : (ring_at rs i).next.number ≡ n
+  pub before : (p ≡ no_slot → ⊥) → ring_at ts p ≡ record (ring_at rs p) { next = (ring_at rs i).next }
+  pub after : (n ≡ no_slot → ⊥) → ring_at ts n ≡ record (ring_at rs n) { previous = (ring_at rs i).previous }
+  pub others : (k : ℕ) → (k ≡ p → ⊥) → (k ≡ n → ⊥) → ring_at ts k ≡ ring_at rs k
+
+module _ (rs ts : List Ring) (i p n : ℕ) (w : IsUnlinked rs ts i p n) where
+  rest_after : (b : ℕ) (xs : List ℕ) → p ≡ b → front xs ≡ n → occurs p xs ≡ 0 → occurs no_slot xs ≡ 0 → ((k : ℕ) → occurs k xs ≤ 1) → Chain rs i xs → Chain ts b xs
+  rest_after b [] eb en zp none once h = tt
+  rest_after b (y ∷ ys) eb en zp none once h =
+      let there : ring_at ts y ≡ record (ring_at rs y) { previous = (ring_at rs i).previous } = (rw en (w.after (λ z. ne-from_same no_slot y (omega arith) (en ∙ z)))) in (
+        rw w.same_length h.0,
+        rw there (w.previous ∙ eb),
+        rw there h.2,
+        Chain-same rs ts y ys w.same_length (λ k l. w.others k (ne-from_occurs p k ys (omega arith) l) (λ z. ne-from_occurs y k ys (omega (arith, once y, same-self y)) l (z ∙ sym en))) h.3,
+      )
+
+  pub Chain-unlinked : (b : ℕ) (xs : List ℕ) → ((k : ℕ) → occurs k xs ≤ 1) → occurs b xs ≡ 0 → occurs no_slot xs ≡ 0 → 0 < occurs i xs → Chain rs b xs → Chain ts b (without i xs)
+  Chain-unlinked b [] once nb none l h = absurd (omega arith)
+  Chain-unlinked b (x ∷ xs) once nb none l h =
+      cond_both (eqb i x) xs (x ∷ without i xs) (λ ys. Chain ts b ys) (λ t.
+      let q : x ≡ i = sym (eqb-true i x t) in
+      let h2 : Chain rs b (i ∷ xs) = rw q at h in
+      let pb : p ≡ b = sym w.previous ∙ h2.1 in
+      rest_after b xs pb (sym h2.2 ∙ w.next) (ap (λ v. occurs v xs) pb ∙ (let z : occurs b xs ≡ 0 = omega arith in z)) (omega arith) (λ k. omega (arith, once k)) h2.3) (λ f.
+      let lx : 0 < occurs i xs = omega (arith, same-ne i x (eqb-false i x f)) in
+      let zx : occurs x xs ≡ 0 = omega (arith, once x, same-self x) in
+      let tail = Chain-unlinked x xs (λ k. omega (arith, once k)) zx (omega arith) lx h.3 in
+      elim (cases_eq (front xs) i) [
+        | inl e ↦
+            let px : p ≡ x = sym w.previous ∙ previous-first rs x i xs h.3 lx e in
+            let nn : p ≡ no_slot → ⊥ = (λ z. ne-from_same no_slot x (omega arith) (sym px ∙ z)) in
+            let there : ring_at ts x ≡ record (ring_at rs x) { next = (ring_at rs i).next } = rw px at (w.before nn) in
+            (rw w.same_length h.0, rw there h.1, rw there (sym (front-without_first rs x i xs h.3 lx e)), tail)
+        | inr ne ↦
+            let lp : 0 < occurs p xs = rw w.previous at (previous-in_list rs x i xs h.3 lx ne) in
+            let xp : x ≡ p → ⊥ = (λ z. ne-from_occurs x p xs zx lp (sym z)) in
+            let xn : x ≡ n → ⊥ = (λ z. elim (next-in_list rs x i xs h.3 lx) [ inl e ↦ ne-from_same no_slot x (omega arith) (z ∙ sym w.next ∙ e) | inr y ↦ ne-from_occurs x n xs zx (rw w.next at y) (sym z) ]) in
+            let there : ring_at ts x ≡ ring_at rs x = w.others x xp xn in
+            (rw w.same_length h.0, rw there h.1, rw there (h.2 ∙ sym (front-without i xs ne)), tail)
+      ])
+
+-- a list has no slot past the end
+pub none-occurs : (rs : List Ring) (b : ℕ) (xs : List ℕ) → length rs < 4294967295 → Chain rs b xs → occurs no_slot xs ≡ 0
+none-occurs rs b xs short h =
+    elim (cases_lt 0 (occurs no_slot xs)) [ inl l ↦ let y = Chain-inside rs b no_slot xs h l in absurd (omega arith) | inr n ↦ omega arith ]
+
+-- the two neighbours differ, where there are any
+neighbours-apart : (rs : List Ring) (b i : ℕ) (xs : List ℕ) → ((k : ℕ) → occurs k xs ≤ 1) → occurs b xs ≡ 0 → 0 < occurs i xs → Chain rs b xs → (ring_at rs i).next.number ≡ (ring_at rs i).previous.number → (ring_at rs i).next.number ≡ no_slot
+neighbours-apart rs b i [] once nb l h e = absurd (omega arith)
+neighbours-apart rs b i (x ∷ xs) once nb l h e =
+    elim (cases_eq i x) [
+      | inl q ↦
+          let pb : (ring_at rs i).previous.number ≡ b = rw q h.1 in
+          let nf : (ring_at rs i).next.number ≡ front xs = rw q h.2 in
+          elim (front_in xs) [ inl z ↦ nf ∙ z | inr y ↦ absurd (ne-from_occurs b (front xs) xs (omega arith) y (sym nf ∙ e ∙ pb)) ]
+      | inr ne ↦ neighbours-apart rs x i xs (λ k. omega (arith, once k)) (omega (arith, once x, same-self x)) (omega (arith, same-ne i x ne)) h.3 e
+    ]
+
+pub record CanUnlink (rs : List Ring) (i : ℕ) : Type 0 where
+  pub inside : i < length rs
+  pub previous : IsSlot (length rs) (ring_at rs i).previous.number
+  pub next : IsSlot (length rs) (ring_at rs i).next.number
+  pub apart : (ring_at rs i).next.number ≡ (ring_at rs i).previous.number → (ring_at rs i).next.number ≡ no_slot
+
+pub can-unlink : (rs : List Ring) (list : FreeList) (i : ℕ) → IsListed rs list i → length rs < 4294967295 → CanUnlink rs i
+can-unlink rs list i t short =
+    let xs = t.0 in
+    let h = t.1 in
+    let l = t.2 in
+    record {
+      inside = Chain-inside rs no_slot i xs h.chain l;
+      previous = elim (cases_eq (front xs) i) [
+        | inl e ↦ inl (previous-first rs no_slot i xs h.chain l e)
+        | inr ne ↦ inr (Chain-inside rs no_slot _ xs h.chain (previous-in_list rs no_slot i xs h.chain l ne))
+      ];
+      next = elim (next-in_list rs no_slot i xs h.chain l) [ inl e ↦ inl e | inr y ↦ inr (Chain-inside rs no_slot _ xs h.chain y) ];
+      apart = neighbours-apart rs no_slot i xs h.once (none-occurs rs no_slot xs short h.chain) l h.chain;
+    }
+
+slot_inside : (n i : ℕ) → IsSlot n i → (i ≡ no_slot → ⊥) → i < n
+slot_inside n i (inl e) ne = absurd (ne e)
+slot_inside n i (inr l) ne = l
+
+pub unlinked-by : (rs ss ts : List Ring) (i : ℕ) (ring : Ring) → CanUnlink rs i → ring ≡ ring_at rs i → ss ≡ with_next rs ring.previous.number ring.next → ts ≡ with_ring_previous ss ring.next.number ring.previous → IsUnlinked rs ts i (ring_at rs i).previous.number (ring_at rs i).next.number
+unlinked-by rs ss ts i ring c er es et =
+    let p = (ring_at rs i).previous.number in
+    let n = (ring_at rs i).next.number in
+    let r1 : Ring = record (ring_at rs p) { next = (ring_at rs i).next } in
+    let xs = set rs p r1 in
+    let r2 : Ring = record (ring_at xs n) { previous = (ring_at rs i).previous } in
+    let is : ts ≡ set xs n r2 = rw (et, es, er) refl in
+    let lx : length xs ≡ length rs = length-set rs p r1 in
+    record {
+      same_length = rw is (length-set xs n r2 ∙ lx);
+      previous = refl;
+      next = refl;
+      before = λ z. rw (is, get_or-set_other xs n p r2 blank_ring (λ q. z (q ∙ c.apart (sym q))), get_or-set_same rs p r1 blank_ring (slot_inside _ _ c.previous z)) refl;
+      after = λ z. rw (is, get_or-set_same xs n r2 blank_ring (rw lx (slot_inside _ _ c.next z)), get_or-set_other rs p n r1 blank_ring (λ q. z (c.apart q))) refl;
+      others = λ k kp kn. rw (is, get_or-set_other xs n k r2 blank_ring kn, get_or-set_other rs p k r1 blank_ring kp) refl;
+    }
+
+-- the last of a list, or d
+abbrev back_or : ℕ → List ℕ → ℕ
+back_or d [] = d
+back_or d (x ∷ xs) = back_or x xs
+
+back-cons : (x : ℕ) (xs : List ℕ) → back (x ∷ xs) ≡ back_or x xs
+back-cons x [] = refl
+back-cons x (y ∷ ys) = back-cons y ys
+
+back-back_or : (xs : List ℕ) → back xs ≡ back_or no_slot xs
+back-back_or [] = refl
+back-back_or (x ∷ xs) = back-cons x xs
+
+nil-from_front : (xs : List ℕ) → occurs no_slot xs ≡ 0 → front xs ≡ no_slot → xs ≡ []
+nil-from_front [] z e = refl
+nil-from_front (x ∷ xs) z e = absurd (ne-from_same no_slot x (omega arith) e)
+
+-- the last leaves: the one before it is the last
+back-without_last : (rs : List Ring) (b i : ℕ) (xs : List ℕ) → Chain rs b xs → 0 < occurs i xs → occurs no_slot xs ≡ 0 → (ring_at rs i).next.number ≡ no_slot → back_or b (without i xs) ≡ (ring_at rs i).previous.number
+back-without_last rs b i [] h l none e = absurd (omega arith)
+back-without_last rs b i (x ∷ xs) h l none e =
+    cond_both (eqb i x) xs (x ∷ without i xs) (λ ys. back_or b ys ≡ (ring_at rs i).previous.number) (λ t.
+    let q = eqb-true i x t in
+    let n : front xs ≡ no_slot = sym h.2 ∙ (rw q at e) in
+    rw (nil-from_front xs (omega arith) n, q) (sym h.1)) (λ f.
+    back-without_last rs x i xs h.3 (omega (arith, same-ne i x (eqb-false i x f))) (omega arith) e)
+
+-- another leaves: the last stays
+back-without_other : (rs : List Ring) (b i d : ℕ) (xs : List ℕ) → Chain rs b xs → 0 < occurs i xs → ((ring_at rs i).next.number ≡ no_slot → ⊥) → back_or d (without i xs) ≡ back_or d xs
+back-without_other rs b i d [] h l ne = absurd (omega arith)
+back-without_other rs b i d (x ∷ xs) h l ne =
+    cond_both (eqb i x) xs (x ∷ without i xs) (λ ys. back_or d ys ≡ back_or x xs) (λ t.
+    let q = eqb-true i x t in
+    more d x xs (λ z. ne (rw q (h.2 ∙ z)))) (λ f.
+    back-without_other rs x i x xs h.3 (omega (arith, same-ne i x (eqb-false i x f))) ne)
+  where
+    more : (d x : ℕ) (xs : List ℕ) → (front xs ≡ no_slot → ⊥) → back_or d xs ≡ back_or x xs
+    more d x [] ne = absurd (ne refl)
+    more d x (y ∷ ys) ne = refl
+
+-- the ends and the count of a list from which a slot with these neighbours is gone
+pub record IsShortened (list new : FreeList) (ring : Ring) : Type 0 where
+  pub new_head : ring.previous.number ≡ no_slot → new.head ≡ ring.next
+  pub same_head : (ring.previous.number ≡ no_slot → ⊥) → new.head ≡ list.head
+  pub new_tail : ring.next.number ≡ no_slot → new.tail ≡ ring.previous
+  pub same_tail : (ring.next.number ≡ no_slot → ⊥) → new.tail ≡ list.tail
+  pub counted : new.count + 1 ≡ list.count
+
+number-of : (l m : Link) → l ≡ m → l.number ≡ m.number
+number-of l m e = ap (λ (k : Link). k.number) e
+
+pub IsList-unlinked : (rs ts : List Ring) (list new : FreeList) (i : ℕ) (ring : Ring) → length rs < 4294967295 → IsUnlinked rs ts i (ring_at rs i).previous.number (ring_at rs i).next.number → ring ≡ ring_at rs i → IsShortened list new ring → (xs : List ℕ) → IsList rs list xs → 0 < occurs i xs → IsList ts new (without i xs)
+IsList-unlinked rs ts list new i ring short w er d xs h l =
+    let none = none-occurs rs no_slot xs short h.chain in
+    let previous : ring.previous.number ≡ (ring_at rs i).previous.number = ap (λ (r : Ring). r.previous.number) er in
+    let next : ring.next.number ≡ (ring_at rs i).next.number = ap (λ (r : Ring). r.next.number) er in
+    record {
+      chain = Chain-unlinked rs ts i _ _ w no_slot xs h.once none none l h.chain;
+      head = elim (cases_eq (front xs) i) [
+        | inl e ↦ number-of _ _ (d.new_head (previous ∙ previous-first rs no_slot i xs h.chain l e)) ∙ next ∙ sym (front-without_first rs no_slot i xs h.chain l e)
+        | inr ne ↦ number-of _ _ (d.same_head (λ z. ne-from_occurs no_slot _ xs none (previous-in_list rs no_slot i xs h.chain l ne) (sym previous ∙ z))) ∙ h.head ∙ sym (front-without i xs ne)
+      ];
+      tail = elim (cases_eq ring.next.number no_slot) [
+        | inl e ↦ number-of _ _ (d.new_tail e) ∙ previous ∙ sym (back-without_last rs no_slot i xs h.chain l none (sym next ∙ e)) ∙ sym (back-back_or (without i xs))
+        | inr ne ↦ number-of _ _ (d.same_tail ne) ∙ h.tail ∙ back-back_or xs ∙ sym (back-without_other rs no_slot i no_slot xs h.chain l (λ z. ne (next ∙ z))) ∙ sym (back-back_or (without i xs))
+      ];
+      counted = omega (arith, d.counted, h.counted, length-without i xs l);
+      once = λ k. omega (arith, occurs-without i xs l k, h.once k);
+    }
+
+pub others-unlinked : (rs ts : List Ring) (list : FreeList) (i : ℕ) → length rs < 4294967295 → IsUnlinked rs ts i (ring_at rs i).previous.number (ring_at rs i).next.number → (xs : List ℕ) (k : ℕ) → IsList rs list xs → 0 < occurs i xs → occurs k xs ≡ 0 → ring_at ts k ≡ ring_at rs k
+others-unlinked rs ts list i short w xs k h l z =
+    elim (cases_eq k no_slot) [
+      | inl e ↦ rw e (get_or_past ts no_slot blank_ring (rw w.same_length (omega arith)) ∙ sym (get_or_past rs no_slot blank_ring (omega arith)))
+      | inr nk ↦ w.others k (λ q. elim (cases_eq (front xs) i) [
+        | inl e ↦ nk (q ∙ previous-first rs no_slot i xs h.chain l e)
+        | inr ne ↦ ne-from_occurs k _ xs z (previous-in_list rs no_slot i xs h.chain l ne) (sym q)
+      ]) (λ q. elim (next-in_list rs no_slot i xs h.chain l) [ inl e ↦ nk (q ∙ e) | inr y ↦ ne-from_occurs k _ xs z y (sym q) ])
+    ]
+
+-- the ends and the count of a list that a slot joins in front
+pub record IsLengthened (list new : FreeList) (slot : Link) : Type 0 where
+  pub head : new.head ≡ slot
+  pub new_tail : list.count ≡ 0 → new.tail ≡ slot
+  pub same_tail : 0 < list.count → new.tail ≡ list.tail
+  pub counted : new.count ≡ list.count + 1
+
+back-pushed : (list new : FreeList) (slot : Link) (xs : List ℕ) → list.tail.number ≡ back xs → list.count ≡ length xs → IsLengthened list new slot → new.tail.number ≡ back (slot.number ∷ xs)
+back-pushed list new slot [] e c d = number-of _ _ (d.new_tail (omega arith))
+back-pushed list new slot (x ∷ xs) e c d = number-of _ _ (d.same_tail (omega arith)) ∙ e
+
+pub IsList-pushed : (rs ss ts : List Ring) (list new : FreeList) (slot : Link) (ring : Ring) → length rs < 4294967295 → slot.number < length rs → ring.previous.number ≡ no_slot → ring.next ≡ list.head → ss ≡ set rs slot.number ring → ts ≡ with_ring_previous ss list.head.number slot → IsLengthened list new slot → (xs : List ℕ) → IsList rs list xs → occurs slot.number xs ≡ 0 → IsList ts new (slot.number ∷ xs)
+IsList-pushed rs ss ts list new slot ring short inside ep en es et d xs h z =
+    let i = slot.number in
+    let head = list.head in
+    let mid = set rs i ring in
+    let is : ts ≡ with_ring_previous mid head.number slot = rw (et, es) refl in
+    let ly : length mid ≡ length rs = length-set rs i ring in
+    let lt : length ts ≡ length rs = rw is (length-set mid head.number _ ∙ ly) in
+    let hi : i ≡ head.number → ⊥ = (λ q. elim (front_in xs) [ inl e ↦ absurd (omega (arith, h.head, q, e)) | inr y ↦ ne-from_occurs i (front xs) xs z y (sym h.head ∙ sym q) ]) in
+    let first : ring_at ts i ≡ ring = rw (is, get_or-set_other mid head.number i _ blank_ring hi) (get_or-set_same rs i ring blank_ring inside) in
+    let other : (k : ℕ) → (k ≡ i → ⊥) → (k ≡ head.number → ⊥) → ring_at ts k ≡ ring_at rs k = (λ k ki kh. rw (is, get_or-set_other mid head.number k _ blank_ring kh) (get_or-set_other rs i k ring blank_ring ki)) in
+    record {
+      chain = (rw lt inside, rw first ep, rw first (number-of _ _ en ∙ h.head), rest rs mid ts list slot is lt ly (get_or-set_other rs i head.number ring blank_ring (λ q. hi (sym q))) other xs h z);
+      head = number-of _ _ d.head;
+      tail = back-pushed list new slot xs h.tail h.counted d;
+      counted = omega (arith, d.counted, h.counted);
+      once = λ k. elim (cases_eq k i) [ inl e ↦ omega (arith, same-self i, z, ap (λ v. same v i) e, ap (λ v. occurs v xs) e) | inr ne ↦ omega (arith, same-ne k i ne, h.once k) ];
+    }
+  where
+    rest : (rs mid ts : List Ring) (list : FreeList) (slot : Link) → ts ≡ with_ring_previous mid list.head.number slot → length ts ≡ length rs → length mid ≡ length rs → ring_at mid list.head.number ≡ ring_at rs list.head.number → ((k : ℕ) → (k ≡ slot.number → ⊥) → (k ≡ list.head.number → ⊥) → ring_at ts k ≡ ring_at rs k) → (xs : List ℕ) → IsList rs list xs → occurs slot.number xs ≡ 0 → Chain ts slot.number xs
+    rest rs mid ts list slot is lt ly at other [] h z = tt
+    rest rs mid ts list slot is lt ly at other (x ∷ xs) h z =
+        let hx : list.head.number ≡ x = h.head in
+        let one = h.once x in
+        let there : ring_at ts x ≡ record (ring_at rs x) { previous = slot } = rw (← hx, is, get_or-set_same mid list.head.number _ blank_ring (rw (ly, hx) h.chain.0), at) refl in (
+          rw lt h.chain.0,
+          rw there refl,
+          rw there h.chain.2,
+          Chain-same rs ts x xs lt (λ k l. other k (ne-from_occurs slot.number k xs (omega arith) l) (λ q. ne-from_occurs x k xs (omega (arith, same-self x)) l (q ∙ hx))) h.chain.3,
+        )
+
+-- the ring of a slot that neither joins nor stands in the list stays
+pub others-pushed : (rs ss ts : List Ring) (list : FreeList) (slot : Link) (ring : Ring) → length rs < 4294967295 → ss ≡ set rs slot.number ring → ts ≡ with_ring_previous ss list.head.number slot → (xs : List ℕ) (k : ℕ) → IsList rs list xs → (k ≡ slot.number → ⊥) → occurs k xs ≡ 0 → ring_at ts k ≡ ring_at rs k
+others-pushed rs ss ts list slot ring short es et xs k h ki z =
+    let mid = set rs slot.number ring in
+    let is : ts ≡ with_ring_previous mid list.head.number slot = rw (et, es) refl in
+    let ly : length mid ≡ length rs = length-set rs slot.number ring in
+    let lt : length ts ≡ length rs = rw is (length-set mid list.head.number _ ∙ ly) in
+    let in_place : (k ≡ list.head.number → ⊥) → ring_at ts k ≡ ring_at rs k = (λ kh. rw (is, get_or-set_other mid list.head.number k _ blank_ring kh) (get_or-set_other rs slot.number k ring blank_ring ki)) in
+    elim (cases_eq k list.head.number) [
+      | inl e ↦ elim (front_in xs) [
+        | inl n ↦ let past : k ≡ no_slot = e ∙ h.head ∙ n in rw past (get_or_past ts no_slot blank_ring (rw lt (omega arith)) ∙ sym (get_or_past rs no_slot blank_ring (omega arith)))
+        | inr y ↦ absurd (ne-from_occurs k (front xs) xs z y (sym (e ∙ h.head)))
+      ]
+      | inr ne ↦ in_place ne
+    ]
+
+-- distinct slots below n are at most n
+pub length-distinct : (n : ℕ) (xs : List ℕ) → ((k : ℕ) → occurs k xs ≤ 1) → ((k : ℕ) → 0 < occurs k xs → k < n) → length xs ≤ n
+length-distinct zero [] once inside = omega arith
+length-distinct zero (x ∷ xs) once inside = let y : x < 0 = inside x (omega (arith, same-self x)) in absurd (omega arith)
+length-distinct (suc n) xs once inside =
+    elim (cases_lt 0 (occurs n xs)) [
+      | inl l ↦
+          let fewer = length-distinct n (without n xs) (λ k. omega (arith, occurs-without n xs l k, once k)) (λ k y.
+          let b : k < suc n = inside k (omega (arith, occurs-without n xs l k)) in
+          let ne : k ≡ n → ⊥ = (λ q. absurd (omega (arith, occurs-without n xs l k, once k, same-self n, ap (λ v. same v n) q))) in
+          omega arith) in
+          omega (arith, length-without n xs l)
+      | inr z ↦
+          let fewer = length-distinct n xs once (λ k y. let b = inside k y in let ne : k ≡ n → ⊥ = ne-from_occurs n k xs (omega arith) y in omega arith) in
+          omega arith
+    ]
+
+-- a list is no longer than there are slots
+pub length-list : (rs : List Ring) (list : FreeList) (xs : List ℕ) → IsList rs list xs → length xs ≤ length rs
+length-list rs list xs h = length-distinct (length rs) xs h.once (λ k l. Chain-inside rs no_slot k xs h.chain l)
+
+pub Line-kept : (rs ts : List Ring) (xs : List ℕ) → length rs ≤ length ts → ((k : ℕ) → 0 < occurs k xs → ring_at ts k ≡ ring_at rs k) → Line rs xs → Line ts xs
+Line-kept rs ts [] e same_at h = tt
+Line-kept rs ts (x ∷ xs) e same_at h =
+    let q : ring_at ts x ≡ ring_at rs x = same_at x (omega (arith, same-self x)) in
+    (omega (arith, h.0), rw q h.1, Line-kept rs ts xs e (λ k l. same_at k (omega arith)) h.2)
+
+pub Line-inside : (rs : List Ring) (i : ℕ) (xs : List ℕ) → Line rs xs → 0 < occurs i xs → i < length rs
+Line-inside rs i [] h l = absurd (omega arith)
+Line-inside rs i (x ∷ xs) h l =
+    elim (cases_eq i x) [ inl q ↦ (rw q h.0) | inr ne ↦ Line-inside rs i xs h.2 (omega (arith, same-ne i x ne)) ]
+
+pub Line-given : (rs ts : List Ring) (i : ℕ) (ring : Ring) → i < length rs → ts ≡ set rs i ring → (xs : List ℕ) → Line rs xs → ring.next.number ≡ front xs → occurs i xs ≡ 0 → Line ts (i ∷ xs)
+Line-given rs ts i ring l e xs h n z =
+    let lt : length ts ≡ length rs = rw e (length-set rs i ring) in
+    (rw lt l, rw (e, get_or-set_same rs i ring blank_ring l) n, Line-kept rs ts xs (omega arith) (λ k o. rw e (get_or-set_other rs i k ring blank_ring (ne-from_occurs i k xs z o))) h)

@@ -1,0 +1,90 @@
+-- What the calls on lists of slots make of rings, lists and marks. No public clause cites this module.
+use Rattle.std.specs.Prelude.{ℕ, ◌+◌, ◌%◌, ◌≡◌, ◌<◌, ◌==◌, Bool, true, false, List, [], ◌∷◌, length, slice_set, if◌then◌else◌}
+use Rattle.guillotiere.specs.declared.slots.Slot.{Slot}
+use Rattle.guillotiere.specs.declared.slots.Link.{Link}
+use Rattle.guillotiere.specs.declared.slots.Node.{Node}
+use Rattle.guillotiere.specs.declared.slots.Ring.{Ring}
+use Rattle.guillotiere.specs.declared.slots.NodeKind.TheVariants as kind
+use Rattle.guillotiere.specs.declared.lists.FreeList.{FreeList}
+use Rattle.guillotiere.specs.declared.geometry.Rectangle.{Rectangle}
+use Rattle.guillotiere.specs.Boxes.{Box, IsNonempty}
+use Rattle.guillotiere.specs.Pixels.{rectangle_of}
+use Rattle.guillotiere.specs.Choice.{Options}
+use Rattle.guillotiere.specs.Slots.{nodes, rings, node_at, ring_at}
+use Rattle.guillotiere.specs.Lists.{IsList, Line, AreFiled, occurs, without, front}
+
+-- slot i stands in some list
+abbrev pub IsListed : List Ring → FreeList → ℕ → Type 0
+IsListed rs list i = (xs : List ℕ) × IsList rs list xs × (0 < occurs i xs)
+
+-- slot i stands not in some list
+abbrev pub IsUnlisted : List Ring → FreeList → ℕ → Type 0
+IsUnlisted rs list i = (xs : List ℕ) × IsList rs list xs × (occurs i xs ≡ 0)
+
+-- `link` comes after slot i in its list; nothing happens where i is no slot
+abbrev pub with_next : List Ring → ℕ → Link → List Ring
+with_next rs i link = slice_set rs i (record (ring_at rs i) { next = link })
+
+-- `link` comes before slot i in its list; nothing happens where i is no slot
+abbrev pub with_ring_previous : List Ring → ℕ → Link → List Ring
+with_ring_previous rs i link = slice_set rs i (record (ring_at rs i) { previous = link })
+
+-- the mark of slot i is `mark`, and the others stay
+abbrev pub with_mark : (ℕ → Bool) → ℕ → Bool → ℕ → Bool
+with_mark loose i mark k = if k == i then mark else loose k
+
+-- the count of slot i is n, and the others stay
+abbrev pub with_count : (ℕ → ℕ) → ℕ → ℕ → ℕ → ℕ
+with_count hand i n k = if k == i then n else hand k
+
+-- slot i is gone from each list
+abbrev pub held_without : (ℕ → List ℕ) → ℕ → ℕ → List ℕ
+held_without held i k = without i (held k)
+
+-- slot i stands first in list m
+abbrev pub held_with : (ℕ → List ℕ) → (m i : ℕ) → ℕ → List ℕ
+held_with held m i k = if k == m then i ∷ held k else held k
+
+-- a rectangle with sides above 0, and no corner below 0
+pub record IsExact (r : Rectangle) : Type 0 where
+  pub box : Box
+  pub is : r ≡ rectangle_of box
+  pub nonempty : IsNonempty box
+
+-- the lists are in order, and slot i is not loose
+pub record IsKept (o : Options) (slots : List Slot) (lists : List FreeList) (i : ℕ) : Type 0 where
+  pub unused : Link
+  pub spare : List ℕ
+  pub held : ℕ → List ℕ
+  pub hand : ℕ → ℕ
+  pub loose : ℕ → Bool
+  pub filed : AreFiled o (nodes slots) (rings slots) lists unused spare held hand loose
+  pub kept : loose i ≡ false
+
+-- the lists are in order, and slot i is loose
+pub record IsLoose (o : Options) (slots : List Slot) (lists : List FreeList) (i : ℕ) : Type 0 where
+  pub unused : Link
+  pub spare : List ℕ
+  pub held : ℕ → List ℕ
+  pub hand : ℕ → ℕ
+  pub loose : ℕ → Bool
+  pub filed : AreFiled o (nodes slots) (rings slots) lists unused spare held hand loose
+  pub is_loose : loose i ≡ true
+
+-- the list but for its first
+abbrev pub rest_of : List ℕ → List ℕ
+rest_of [] = []
+rest_of (x ∷ xs) = xs
+
+-- the node of an unused slot once it is taken again
+abbrev pub renewed : Node → Node
+renewed n = record n { generation = (n.generation + 1) % 256 }
+
+-- Slot `at` was taken: it is in hand, no longer spare, not used, and none of those that were in hand.
+pub record IsTaken (o : Options) (old new : List Slot) (lists : List FreeList) (unused unused' : Link)
+    (spare : List ℕ) (held : ℕ → List ℕ) (hand : ℕ → ℕ) (loose : ℕ → Bool) (at : ℕ) : Type 0 where
+  pub filed : AreFiled o (nodes new) (rings new) lists unused' (rest_of spare) held (with_count hand at 1) loose
+  pub inside : at < length new
+  pub was_unused : (node_at (nodes old) at).kind ≡ kind.Unused
+  pub is_unused : (node_at (nodes new) at).kind ≡ kind.Unused
+  pub apart : (k : ℕ) → k < length old → 0 < hand k → at ≡ k → ⊥
