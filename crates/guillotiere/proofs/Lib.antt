@@ -65,3 +65,5 @@ pub mod LeafSlots
 pub mod Living
 pub mod LeafSums
 pub mod SlotPlans
+pub mod AtlasSlots
+pub mod PlannedTrees

@@ -1,17 +1,16 @@
 -- a plan carried out in the leaf of a slot is the model's placing
-use Rattle.std.proofs.Common.{ℕ, ◌+◌, ◌-◌, ◌<◌, ◌≤◌, ◌≡◌, ◌≢◌, Bool, true, false, cond, List, refl, sym, ap, subst, ◌∙◌, ◌⊎◌, inl, inr, arith, eqb}
-use Rattle.std.proofs.lemmas.Bool.{cond_both, eqb-true, eqb-false, eq-eqb, ne_eqb}
+use Rattle.std.proofs.Common.{ℕ, ◌+◌, ◌-◌, ◌<◌, ◌≤◌, ◌≡◌, ◌≢◌, true, false, List, refl, sym, ap, ◌∙◌, inl, inr, arith, eqb}
+use Rattle.std.proofs.lemmas.Bool.{cond_both, eqb-true, eqb-false}
 use Rattle.guillotiere.specs.declared.tree.Plan.{Plan}
 use Rattle.guillotiere.specs.declared.tree.Plan.TheVariants as plan
 use Rattle.guillotiere.specs.declared.slots.Node.{Node}
 use Rattle.guillotiere.specs.Boxes.{Axis, Sides, Box, other, same_axis, side, box_sides}
 use Rattle.guillotiere.specs.Boxes.Axis.{Horizontal, Vertical}
 use Rattle.guillotiere.specs.Pixels.{natural, box_of}
-use Rattle.guillotiere.specs.Cuts.{Cut, cut}
-use Rattle.guillotiere.specs.Cuts.Cut.{Whole, Strip, Corner}
+use Rattle.guillotiere.specs.Cuts.{cut}
 use Rattle.guillotiere.specs.Changes.{need, place, place_need}
-use Rattle.guillotiere.specs.Slots.{node_at, axis_of, use_count}
-use Rattle.guillotiere.specs.Numbered.{Numbered, tally, numbers, same, erase, id_of, granted_at, split_at, wrapped_at, End, Free, Alloc, Seq}
+use Rattle.guillotiere.specs.Slots.{node_at, axis_of}
+use Rattle.guillotiere.specs.Numbered.{Numbered, tally, numbers, same, id_of, granted_at, split_at, wrapped_at, End, Free, Alloc, Seq}
 use Rattle.guillotiere.specs.Standing.{Sequence, Stands}
 use Rattle.guillotiere.specs.Planning.{IsPlanFor, IsPlannedTree, slots_of}
 use Rattle.guillotiere.proofs.Frames.{same-self, same-ne}
