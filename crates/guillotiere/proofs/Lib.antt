@@ -56,6 +56,7 @@ pub mod StoreSteps
 pub mod SlotLeaves
 pub mod SlotIds
 pub mod SlotBoxes
+pub mod SlotPieces
 pub mod Closing
 pub mod Frames
 pub mod Marking
@@ -63,3 +64,6 @@ pub mod Suffixes
 pub mod LeafSlots
 pub mod Living
 pub mod LeafSums
+pub mod SlotPlans
+pub mod AtlasSlots
+pub mod PlannedTrees

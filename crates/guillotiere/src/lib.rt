@@ -10,7 +10,6 @@ mod geometry;
 pub mod laws;
 mod lists;
 mod options;
-mod pieces;
 mod placing;
 mod slots;
 mod store;
