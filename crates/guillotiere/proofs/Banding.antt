@@ -1,9 +1,8 @@
 -- The list of a box: a box that a size fits has no lower band and no lower class.
-use Rattle.std.proofs.Common.{ℕ, ℤ, pos, negsuc, ◌+◌, ◌-◌, ◌*◌, ◌<◌, ◌≤◌, ◌≡◌, ◌≤ℤ◌, ◌<ℤ◌, refl, sym, ap, ◌∙◌, ◌⊎◌, inl, inr, arith, Bool, true, false, min}
-use Rattle.std.specs.Prelude.{int_le, nat_lt, if◌then◌else◌, ◌||◌}
-use Rattle.std.proofs.lemmas.Bool.{cases_Bool, cond_both, cond-true, cond-false, ltb-true, ltb-false, or_cases, or_from, or_parts, both_ways, or_left, or_right}
+use Rattle.std.proofs.Common.{ℕ, ℤ, pos, negsuc, ◌<◌, ◌≤◌, ◌≡◌, ◌≤ℤ◌, inl, inr, arith, true, false, min}
+use Rattle.std.specs.Prelude.{int_le, nat_lt, if◌then◌else◌}
+use Rattle.std.proofs.lemmas.Bool.{cond_both, ltb-true, ltb-false, or_cases, or_left, or_right}
 use Rattle.std.proofs.lemmas.Int.{ints}
-use Rattle.std.proofs.Math.Nat.{min-le_left, min-le_right}
 use Rattle.guillotiere.specs.Boxes.{Sides, Fits}
 use Rattle.guillotiere.specs.Pixels.{natural}
 use Rattle.guillotiere.specs.Choice.{Options, class_of, reaches}

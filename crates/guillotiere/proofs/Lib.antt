@@ -6,3 +6,5 @@ pub mod Filing
 pub mod Taking
 pub mod Choosing
 pub mod Picking
+pub mod Walking
+pub mod Looking

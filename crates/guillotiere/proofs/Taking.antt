@@ -1,8 +1,8 @@
 -- Slots are taken and given back, and the nodes change under the lists.
-use Rattle.std.proofs.Common.{ℕ, ◌+◌, ◌-◌, ◌<◌, ◌≤◌, ◌≡◌, ◌≢◌, List, [], ◌∷◌, ◌++◌, refl, sym, ap, ◌∙◌, ◌⊎◌, inl, inr, arith, length, set, get_or-set_same, get_or-set_other, length-set, Bool, true, false, eqb, ◌&&◌, subst, zero, suc}
-use Rattle.std.specs.Prelude.{if◌then◌else◌, slice_index_or, map}
-use Rattle.std.proofs.lemmas.Bool.{cases_eq, cases_lt, cases_Bool, cond_both, cond-true, cond-false, eqb-true, eq-eqb, ne_eqb, and_left}
-use Rattle.std.proofs.lemmas.List.{get_or_past, get_or_default, length-map, length-append, get_or_append_left, get_or_push, length_push, map-append}
+use Rattle.std.proofs.Common.{ℕ, ◌+◌, ◌<◌, ◌≡◌, List, [], ◌∷◌, ◌++◌, refl, sym, ap, ◌∙◌, ◌⊎◌, inl, inr, arith, length, set, get_or-set_same, get_or-set_other, length-set, Bool, true, false, eqb, ◌&&◌, subst}
+use Rattle.std.specs.Prelude.{if◌then◌else◌}
+use Rattle.std.proofs.lemmas.Bool.{cases_eq, cases_lt, cond-false, and_left}
+use Rattle.std.proofs.lemmas.List.{get_or_past, length-map, get_or_append_left, get_or_push, length_push, map-append}
 use Rattle.guillotiere.specs.declared.slots.Slot.{Slot}
 use Rattle.guillotiere.specs.declared.slots.Link.{Link}
 use Rattle.guillotiere.specs.declared.slots.Node.{Node}
@@ -10,16 +10,16 @@ use Rattle.guillotiere.specs.declared.slots.Ring.{Ring}
 use Rattle.guillotiere.specs.declared.slots.NodeKind.{NodeKind}
 use Rattle.guillotiere.specs.declared.slots.NodeKind.TheVariants as kind
 use Rattle.guillotiere.specs.declared.lists.FreeList.{FreeList}
-use Rattle.guillotiere.specs.Boxes.{Sides, Fits, box_sides}
+use Rattle.guillotiere.specs.Boxes.{Fits, box_sides}
 use Rattle.guillotiere.specs.Choice.{Options}
 use Rattle.guillotiere.specs.Pixels.{box_of}
 use Rattle.guillotiere.specs.Slots.{nodes, rings, node_at, ring_at, use_count, no_slot, blank_node, blank_ring, blank_slot}
 use Rattle.guillotiere.specs.Numbered.{same}
-use Rattle.guillotiere.specs.Lists.{IsList, IsFiled, AreFiled, Line, occurs, without, front, filed, list_of, list_at, blank_list, node_sides, is_free, bounds}
-use Rattle.guillotiere.specs.Links.{with_mark, with_count, rest_of, renewed, IsTaken}
-use Rattle.guillotiere.proofs.Occurrences.{same-self, same-ne, ne-from_occurs, front_in}
-use Rattle.guillotiere.proofs.Unlinking.{IsList-kept, Line-kept, Line-inside, Line-given, Chain-inside}
-use Rattle.guillotiere.proofs.Filing.{unless_loose, unless-loose, unless-not, spare-use, listed-inside, unused-nowhere, with_count-same, with_count-other, past-unused, used-inside}
+use Rattle.guillotiere.specs.Lists.{AreFiled, Line, occurs, front, filed, list_of, list_at, node_sides, is_free, bounds}
+use Rattle.guillotiere.specs.Links.{with_count, rest_of, renewed, IsTaken}
+use Rattle.guillotiere.proofs.Occurrences.{same-self, same-ne, ne-from_occurs}
+use Rattle.guillotiere.proofs.Unlinking.{IsList-kept, Line-kept, Line-inside, Line-given}
+use Rattle.guillotiere.proofs.Filing.{unless_loose, unless-loose, spare-use, unused-nowhere, with_count-same, with_count-other, past-unused}
 
 -- the lists stay in order where the nodes change: each slot is filed as before, is used or in hand as before, and keeps
 -- its rectangle if it stands in a list

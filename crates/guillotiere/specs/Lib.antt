@@ -19,3 +19,4 @@ pub mod Lists
 pub mod Reading
 pub mod Stored
 pub mod Links
+pub mod Picks

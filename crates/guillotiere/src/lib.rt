@@ -8,6 +8,7 @@ mod geometry;
 pub mod laws;
 mod lists;
 mod options;
+mod pick;
 mod slots;
 
 pub use error::AtlasError;
