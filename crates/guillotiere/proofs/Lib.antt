@@ -8,3 +8,4 @@ pub mod Choosing
 pub mod Picking
 pub mod Walking
 pub mod Looking
+pub mod FreeSlots

@@ -1,8 +1,8 @@
 -- Slots are taken and given back, and the nodes change under the lists.
 use Rattle.std.proofs.Common.{ℕ, ◌+◌, ◌<◌, ◌≡◌, List, [], ◌∷◌, ◌++◌, refl, sym, ap, ◌∙◌, ◌⊎◌, inl, inr, arith, length, set, get_or-set_same, get_or-set_other, length-set, Bool, true, false, eqb, ◌&&◌, subst}
-use Rattle.std.specs.Prelude.{if◌then◌else◌}
+use Rattle.std.specs.Prelude.{if◌then◌else◌, replicate}
 use Rattle.std.proofs.lemmas.Bool.{cases_eq, cases_lt, cond-false, and_left}
-use Rattle.std.proofs.lemmas.List.{get_or_past, length-map, get_or_append_left, get_or_push, length_push, map-append}
+use Rattle.std.proofs.lemmas.List.{get_or_past, length-map, get_or_append_left, get_or-replicate, get_or_push, length_push, map-append}
 use Rattle.guillotiere.specs.declared.slots.Slot.{Slot}
 use Rattle.guillotiere.specs.declared.slots.Link.{Link}
 use Rattle.guillotiere.specs.declared.slots.Node.{Node}
@@ -15,11 +15,11 @@ use Rattle.guillotiere.specs.Choice.{Options}
 use Rattle.guillotiere.specs.Pixels.{box_of}
 use Rattle.guillotiere.specs.Slots.{nodes, rings, node_at, ring_at, use_count, no_slot, blank_node, blank_ring, blank_slot}
 use Rattle.guillotiere.specs.Numbered.{same}
-use Rattle.guillotiere.specs.Lists.{AreFiled, Line, occurs, front, filed, list_of, list_at, node_sides, is_free, bounds}
-use Rattle.guillotiere.specs.Links.{with_count, rest_of, renewed, IsTaken}
+use Rattle.guillotiere.specs.Lists.{AreFiled, IsList, Line, blank_list, occurs, front, filed, list_of, list_at, node_sides, is_free, bounds}
+use Rattle.guillotiere.specs.Links.{with_count, with_mark, rest_of, renewed, IsTaken}
 use Rattle.guillotiere.proofs.Occurrences.{same-self, same-ne, ne-from_occurs}
 use Rattle.guillotiere.proofs.Unlinking.{IsList-kept, Line-kept, Line-inside, Line-given}
-use Rattle.guillotiere.proofs.Filing.{unless_loose, unless-loose, spare-use, unused-nowhere, with_count-same, with_count-other, past-unused}
+use Rattle.guillotiere.proofs.Filing.{unless-le, filed-use, with_mark-same, unless_loose, unless-loose, spare-use, unused-nowhere, with_count-same, with_count-other, past-unused}
 
 -- the lists stay in order where the nodes change: each slot is filed as before, is used or in hand as before, and keeps
 -- its rectangle if it stands in a list
@@ -222,3 +222,29 @@ pub given-by : (o : Options) (old new : List Slot) (lists : List FreeList) (unus
 given-by o old new lists unused at ring li er en es spare held hand loose f h =
     let inside : at.number < length (rings old) = rw (length-map old (λ (s : Slot). s.ring)) li in
     rw en (AreFiled-given o (nodes old) (rings old) lists unused spare held hand loose f (rings new) at.number ring at inside h er es refl)
+
+empty-list : (rs : List Ring) → IsList rs blank_list []
+empty-list rs = record { chain = tt; head = refl; tail = refl; counted = refl; once = λ k. omega arith }
+
+-- one free slot, which is loose: the lists are empty
+pub AreFiled-one : (o : Options) (n : Node) (ring : Ring) (unused : Link) → n.kind ≡ kind.Free → unused.number ≡ no_slot → AreFiled o (n ∷ []) (ring ∷ []) (replicate 24 blank_list) unused [] (λ _. []) (λ _. 0) (with_mark (λ _. false) 0 true)
+AreFiled-one o n ring unused e none =
+    record {
+      free = λ k l.
+          let blank : list_at (replicate 24 blank_list) k ≡ blank_list = get_or-replicate 24 k blank_list blank_list l in
+          record {
+            links = subst (λ (list : FreeList). IsList (ring ∷ []) list []) (sym blank) (empty-list (ring ∷ []));
+            each = λ i. sym (elim (cases_eq i 0) [
+              | inl z ↦ unless-loose (with_mark (λ _. false) 0 true i) (filed o k (node_at (n ∷ []) i)) (rw z (with_mark-same (λ _. false) 0 true))
+              | inr z ↦
+                  let a = unless-le (with_mark (λ _. false) 0 true i) (filed o k (node_at (n ∷ []) i)) in
+                  let b = filed-use o k (node_at (n ∷ []) i) in
+                  let c = past-unused (n ∷ []) i (omega arith) in
+                  omega arith
+            ]);
+            bounded = λ i h. absurd (omega arith);
+          };
+      line = tt;
+      begins = none;
+      each = λ i l. let z : i ≡ 0 = omega arith in rw z (omega (arith, ap use_count e));
+    }
