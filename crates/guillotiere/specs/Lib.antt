@@ -26,8 +26,4 @@ pub mod Parts
 pub mod Calm
 pub mod Settling
 pub mod Stored
-pub mod Holdings
-pub mod Replies
 pub mod Links
-pub mod Freeing
-pub mod Planning

@@ -2,7 +2,6 @@
 #![tactic(auto)]
 
 mod allocation;
-mod atlas;
 mod choice;
 mod cut;
 mod error;
@@ -12,13 +11,10 @@ mod lists;
 mod options;
 mod placing;
 mod slots;
-mod store;
-mod tree;
 mod turns;
 mod simple;
 
 pub use allocation::{AllocId, Allocation, SlotCount};
-pub use atlas::AtlasAllocator;
 pub use error::AtlasError;
 pub use geometry::{Point, Rectangle, Size, point2, size2};
 pub use options::{AllocatorOptions, DEFAULT_OPTIONS};
