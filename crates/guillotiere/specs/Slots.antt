@@ -1,14 +1,16 @@
 -- The two parts of stored slots. No public clause cites this module.
-use Rattle.std.specs.Prelude.{ℕ, List, map, pos, slice_index_or}
+use Rattle.std.specs.Prelude.{ℕ, ◌≡◌, List, map, pos, slice_index_or}
 use Rattle.guillotiere.specs.declared.slots.Slot.{Slot}
 use Rattle.guillotiere.specs.declared.slots.Node.{Node}
 use Rattle.guillotiere.specs.declared.slots.Ring.{Ring}
 use Rattle.guillotiere.specs.declared.slots.NodeKind.{NodeKind}
 use Rattle.guillotiere.specs.declared.slots.NodeKind.TheVariants as kind
-use Rattle.guillotiere.specs.declared.slots.Orientation.{Orientation}
-use Rattle.guillotiere.specs.declared.slots.Orientation.TheVariants as orientation
+use Rattle.guillotiere.specs.declared.cut.Orientation.{Orientation}
+use Rattle.guillotiere.specs.declared.cut.Orientation.TheVariants as orientation
 use Rattle.guillotiere.specs.Boxes.{Axis}
 use Rattle.guillotiere.specs.Boxes.Axis.{Horizontal, Vertical}
+
+pub use Rattle.guillotiere.specs.Rectangles.{axis_of}
 
 -- the number of no slot
 abbrev pub no_slot : ℕ
@@ -47,13 +49,15 @@ node_at ns i = slice_index_or ns i blank_node
 abbrev pub ring_at : List Ring → ℕ → Ring
 ring_at rs i = slice_index_or rs i blank_ring
 
-abbrev pub axis_of : Orientation → Axis
-axis_of orientation.Horizontal = Horizontal
-axis_of orientation.Vertical = Vertical
-
 -- 1 if a slot of this kind is used
 abbrev pub use_count : NodeKind → ℕ
 use_count kind.Container = 1
 use_count kind.Alloc = 1
 use_count kind.Free = 1
 use_count kind.Unused = 0
+
+-- what a slot is used for, its rectangle and its generation stay
+pub record KeepsUse (old new : Node) : Type 0 where
+  pub kind : new.kind ≡ old.kind
+  pub area : new.area ≡ old.area
+  pub generation : new.generation ≡ old.generation

@@ -1,1 +1,162 @@
 //! Laws over the definitions of docs/MODEL.md, each the contract of a function that does nothing.
+ghost use Rattle.std.specs.Prelude.{◌≡◌, [], ◌∷◌};
+ghost use Rattle.guillotiere.specs.Boxes.Axis.{Horizontal, Vertical};
+ghost use Rattle.guillotiere.specs.Trees.{grant};
+ghost use Rattle.guillotiere.specs.Trees.Members.{End, Free, Alloc};
+ghost use Rattle.guillotiere.specs.Changes.{fresh, only, release, grown};
+ghost use Rattle.guillotiere.specs.Examples.{Shows, sides, box, both, one_corner, other_corner, capped_corner, grown_full, grown_below, quarters, row_of_three, half_between};
+ghost use Rattle.guillotiere.specs.TreeLaws.{LeavesTile, AreasAddUp, ReleasesInAnyOrder, GrantsAreUndone, GrowthAndReleaseSwap, NothingLiveIsOneFree, PlacingsKeepTrees, ReleasesKeepTrees, GrowthsKeepTrees, FreedHasRoom, MembersAreCounted};
+ghost use Rattle.guillotiere.specs.StepLaws.{StepsKeep, PicksAreOne, PicksExist, SmallerRequestsFit, GrantsLieInside, FreeingsRemoveOne, GrowthsKeepBoxes, RearrangingsLoseNothing, RefusalsChangeNothing, StepsAnswerAsDue};
+ghost use Rattle.guillotiere.specs.RunLaws.{RunsKeepOrder, RunsLeaveNoTrace};
+
+/// In a well formed tree of cuts each unit square of the atlas lies in exactly one leaf's box, and no
+/// such box is empty or passes the sides of the atlas.
+pub fn tiling()
+    ensures { LeavesTile }
+{}
+
+/// The areas of the leaves' boxes add up to the width times the height of the atlas.
+pub fn areas()
+    ensures { AreasAddUp }
+{}
+
+/// Ids may be freed in any order, in one go or one after another, and what is left is the same tree.
+pub fn release_any_order()
+    ensures { ReleasesInAnyOrder }
+{}
+
+/// A grant leaves no trace once it is freed, whatever is freed with it.
+pub fn grant_undone()
+    ensures { GrantsAreUndone }
+{}
+
+/// A growth and a freeing may come in either order. Only where one free box is left may the two trees
+/// differ, in the axis and so the extent of that box, which is the whole atlas in both.
+pub fn growth_released()
+    ensures { GrowthAndReleaseSwap }
+{}
+
+/// A well formed normal tree without a live leaf is one free box, the whole atlas.
+pub fn nothing_live()
+    ensures { NothingLiveIsOneFree }
+{}
+
+/// A placing keeps a tree well formed and normal, puts the grant inside the free box, and changes no
+/// other grant.
+pub fn placed()
+    ensures { PlacingsKeepTrees }
+{}
+
+/// A freeing keeps a tree well formed, leaves it normal, takes away what it frees, and moves no other
+/// box.
+pub fn released()
+    ensures { ReleasesKeepTrees }
+{}
+
+/// A growth keeps a tree well formed and normal, and every live box; each earlier free box lies inside
+/// a free box after it.
+pub fn grown_keeps()
+    ensures { GrowthsKeepTrees }
+{}
+
+/// Right after a live box is freed, a free box has room for its sides.
+pub fn freed_has_room()
+    ensures { FreedHasRoom }
+{}
+
+/// A placing adds as many members as it needs, at most four; a growth as many as it needs, at most
+/// three; a freeing none.
+pub fn counts()
+    ensures { MembersAreCounted }
+{}
+
+/// Worked examples: what the trees of `specs/Examples.antt` show, by computation.
+pub fn examples()
+    ensures one_corner { Shows (sides 100 100) one_corner (grant 3 (box 0 0 20 60) ∷ [])
+        (box 0 60 20 100 ∷ box 20 0 100 100 ∷ []) 5 }
+    // two sequences give way, one after the other
+    ensures one_corner_freed { release (only 3) one_corner ≡ fresh (sides 100 100) }
+    ensures other_corner { Shows (sides 310 20) other_corner (grant 2 (box 0 0 300 10) ∷ [])
+        (box 300 0 310 10 ∷ box 0 10 310 20 ∷ []) 4 }
+    ensures capped_corner { Shows (sides 200000 200000) capped_corner (grant 2 (box 0 0 50000 100000) ∷ [])
+        (box 50000 0 200000 100000 ∷ box 0 100000 200000 200000 ∷ []) 4 }
+    ensures grown_full { Shows (sides 150 150) grown_full (grant 0 (box 0 0 100 100) ∷ [])
+        (box 0 100 100 150 ∷ box 100 0 150 150 ∷ []) 4 }
+    // the one box runs along the other axis than in a fresh tree, and keeps it
+    ensures grown_full_freed { release (only 0) grown_full ≡ record { axis = Horizontal; members = Free 150 End } }
+    ensures one_box_grows { grown (sides 150 150) (sides 200 160) (release (only 0) grown_full)
+        ≡ record { axis = Horizontal; members = Free 200 End } }
+    // the free box at the end grows, and no member is added
+    ensures grown_below { Shows (sides 100 150) grown_below (grant 0 (box 0 0 100 60) ∷ []) (box 0 60 100 150 ∷ []) 2 }
+    // free boxes of two sequences stay apart
+    ensures quarters_left { Shows (sides 100 100) (release (both 1 3) quarters)
+        (grant 2 (box 50 0 100 50) ∷ grant 4 (box 50 50 100 100) ∷ [])
+        (box 0 0 50 50 ∷ box 0 50 50 100 ∷ []) 6 }
+    ensures quarters_above { Shows (sides 100 100) (release (both 1 2) quarters)
+        (grant 3 (box 0 50 50 100) ∷ grant 4 (box 50 50 100 100) ∷ []) (box 0 0 100 50 ∷ []) 4 }
+    ensures two_of_three_freed { Shows (sides 300 200) (release (only 2) (release (only 3) row_of_three))
+        (grant 0 (box 0 0 300 100) ∷ grant 4 (box 200 100 300 200) ∷ [])
+        (box 0 100 200 200 ∷ []) 4 }
+    // its neighbours at both sides are free, and two sequences give way
+    ensures half_freed { release (only 5) half_between ≡ record { axis = Vertical; members = Alloc 0 100 (Free 100 End) } }
+{}
+
+/// Each step from a sound state leads to a sound state.
+pub fn steps_keep()
+    ensures { StepsKeep }
+{}
+
+/// Two picks of one request are one box.
+pub fn picks_are_one()
+    ensures { PicksAreOne }
+{}
+
+/// A request that has room has a pick.
+pub fn picks_exist()
+    ensures { PicksExist }
+{}
+
+/// Where a request has room, each positive one that is no wider and no higher has room.
+pub fn smaller_requests_fit()
+    ensures { SmallerRequestsFit }
+{}
+
+/// A granted box lies inside a free box of before, with sides barely above those asked for, and is added to what is live.
+pub fn grants_lie_inside()
+    ensures { GrantsLieInside }
+{}
+
+/// A freeing removes exactly one live id and moves no other box; right after it a request of the box's sides has room.
+pub fn freeings_remove_one()
+    ensures { FreeingsRemoveOne }
+{}
+
+/// A growth keeps every live box, and each earlier free box lies inside a free box after it.
+pub fn growths_keep_boxes()
+    ensures { GrowthsKeepBoxes }
+{}
+
+/// A rearranging moves each live id once or lists it as failed, and each moved box has its former sides.
+pub fn rearrangings_lose_nothing()
+    ensures { RearrangingsLoseNothing }
+{}
+
+/// A call that is refused, or has no room, changes nothing.
+pub fn refusals_change_nothing()
+    ensures { RefusalsChangeNothing }
+{}
+
+/// A positive request that isn't refused for memory or slots is granted exactly if its rounded sides fit a free box.
+pub fn steps_answer_as_due()
+    ensures { StepsAnswerAsDue }
+{}
+
+/// Along each run live and free boxes tile the atlas as leaves of one normal tree, and each reply is owed.
+pub fn runs_keep_order()
+    ensures { RunsKeepOrder }
+{}
+
+/// After a run the freeing of what it granted leaves the tree of the run without its grants.
+pub fn runs_leave_no_trace()
+    ensures { RunsLeaveNoTrace }
+{}

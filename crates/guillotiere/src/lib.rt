@@ -1,6 +1,7 @@
 //! A dynamic allocator of rectangles inside one large texture: a port of the Rust crate `guillotiere` 0.7.0.
 #![tactic(auto)]
 
+mod allocation;
 mod choice;
 mod cut;
 mod error;
@@ -9,8 +10,12 @@ pub mod laws;
 mod lists;
 mod options;
 mod pick;
+mod placing;
+mod simple;
 mod slots;
+mod turns;
 
+pub use allocation::{AllocId, Allocation, SlotCount};
 pub use error::AtlasError;
 pub use geometry::{Point, Rectangle, Size, point2, size2};
 pub use options::{AllocatorOptions, DEFAULT_OPTIONS};

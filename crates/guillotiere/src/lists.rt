@@ -10,11 +10,11 @@ ghost use Rattle.guillotiere.specs.declared.slots.NodeKind.TheVariants.{Free};
 ghost use Rattle.guillotiere.specs.Links.{IsExact, IsKept, IsListed, IsLoose, IsTaken, IsUnlisted, held_with, held_without, renewed, with_count, with_mark, with_next, with_ring_previous};
 
 use crate::choice::class;
+use crate::cut::Orientation;
 use crate::geometry::{Rectangle, Size, point2};
 use crate::options::AllocatorOptions;
 use crate::slots::{
-    Link, NO_SLOT, Node, NodeKind, Orientation, Ring, Slot, read_node, read_ring, write_node,
-    write_ring,
+    Link, NO_SLOT, Node, NodeKind, Ring, Slot, read_node, read_ring, write_node, write_ring,
 };
 use std::alloc::Allocator;
 

@@ -1,7 +1,12 @@
 //! The slots of an atlas: the tree's part and the lists' part of each, and the calls that read and write them.
-ghost use Rattle.std.specs.Prelude.{◌≡◌, ◌<◌, length, slice_set};
-ghost use Rattle.guillotiere.specs.Slots.{nodes, rings, node_at, ring_at};
+ghost use Rattle.std.specs.Prelude.{◌≡◌, ◌≢◌, ◌<◌, ◌+◌, ◌↔◌, ◌⊎◌, ℕ, IsTrue, length, slice_set};
+ghost use Rattle.guillotiere.specs.Slots.{nodes, rings, node_at, ring_at, no_slot, KeepsUse};
+ghost use Rattle.guillotiere.specs.Numbered.{Numbered, marked, joined, lifted, numbers};
+ghost use Rattle.guillotiere.specs.Standing.{Sequence, Stands, IsTree, IsWhole, IsSlot, with_previous};
+ghost use Rattle.guillotiere.specs.Calm.{IsCalmAt, IsCalmBut};
+ghost use Rattle.guillotiere.specs.declared.slots.NodeKind.TheVariants.{Alloc, Container, Free, Unused};
 
+use crate::cut::Orientation;
 use crate::geometry::Rectangle;
 
 /// What a slot of an atlas is used for.
@@ -15,13 +20,6 @@ pub enum NodeKind {
     Free,
     /// Nothing: the slot may be taken.
     Unused,
-}
-
-/// The axis along which a sequence runs.
-#[derive(Clone, Copy, Debug, PartialEq, Eq)]
-pub enum Orientation {
-    Horizontal,
-    Vertical,
 }
 
 /// The number of a slot, or `NO_SLOT` for none.
@@ -92,4 +90,106 @@ pub fn write_ring(slots: &mut [Slot], at: Link, ring: Ring)
 {
     let slot = &mut slots[at.number as usize];
     slot.ring = ring;
+}
+
+/// Whether this is the slot of a free leaf; `NO_SLOT` isn't.
+pub fn is_free(slots: &[Slot], slot: Link) -> bool
+    requires inside { IsSlot (length slots.now) slot.number }
+    requires short { length slots.now < no_slot }
+    ensures { IsTrue result ↔ ((node_at (nodes slots.now) slot.number).kind ≡ Free) }
+{
+    slot.number != NO_SLOT && read_node(slots, slot).kind == NodeKind::Free
+}
+
+/// What stands at `at`, if that is a slot, follows `previous` from now on.
+pub fn set_previous(slots: &mut [Slot], at: Link, previous: Link)
+    requires inside { IsSlot (length slots.old) at.number }
+    requires short { length slots.old < no_slot }
+    ensures written { nodes slots.new ≡ with_previous (nodes slots.old) at.number previous }
+    ensures same_rings { rings slots.new ≡ rings slots.old }
+{
+    if at.number != NO_SLOT {
+        let mut node = read_node(slots, at);
+        node.previous = previous;
+        write_node(slots, at, node);
+    }
+}
+
+/// The first turn of a freeing: an allocated leaf becomes free.
+pub fn mark_free(slots: &mut [Slot], slot: Link)
+    requires inside { slot.number < length slots.old }
+    requires allocated { (node_at (nodes slots.old) slot.number).kind ≡ Alloc }
+    ensures tree { (s : Sequence) (n : Numbered) → Stands (nodes slots.old) s n → Stands (nodes slots.new) s (marked slot.number n) }
+    ensures calm { ((k : ℕ) → IsCalmAt (nodes slots.old) k) → IsCalmBut (nodes slots.new) slot.number }
+    ensures free { (node_at (nodes slots.new) slot.number).kind ≡ Free }
+    ensures this { node_at (nodes slots.new) slot.number ≡ record (node_at (nodes slots.old) slot.number) { kind = Free } }
+    ensures others { (k : ℕ) → k ≢ slot.number → KeepsUse (node_at (nodes slots.old) k) (node_at (nodes slots.new) k) }
+    ensures same_rings { rings slots.new ≡ rings slots.old }
+{
+    let mut node = read_node(slots, slot);
+    node.kind = NodeKind::Free;
+    write_node(slots, slot, node);
+}
+
+/// One turn of a freeing: a free leaf takes in the next one, which is free too. The answer is the slot of the next one,
+/// which is no longer used.
+pub fn join_next(slots: &mut [Slot], slot: Link) -> Link
+    requires stands { IsTree (nodes slots.old) }
+    requires free { (node_at (nodes slots.old) slot.number).kind ≡ Free }
+    requires next_free { (node_at (nodes slots.old) (node_at (nodes slots.old) slot.number).next.number).kind ≡ Free }
+    requires short { length slots.old < no_slot }
+    ensures tree { (s : Sequence) (n : Numbered) → Stands (nodes slots.old) s n → Stands (nodes slots.new) s (joined slot.number n) }
+    ensures next { result ≡ (node_at (nodes slots.old) slot.number).next }
+    ensures fewer { (s : Sequence) (n : Numbered) → Stands (nodes slots.old) s n → numbers (joined slot.number n) + 1 ≡ numbers n }
+    ensures calm { (at : ℕ) → IsCalmBut (nodes slots.old) at → (at ≡ slot.number) ⊎ (at ≡ result.number) → IsCalmBut (nodes slots.new) slot.number }
+    ensures free { (node_at (nodes slots.new) slot.number).kind ≡ Free }
+    ensures area { (node_at (nodes slots.new) slot.number).area ≡ record (node_at (nodes slots.old) slot.number).area { max = (node_at (nodes slots.old) result.number).area.max } }
+    ensures generation { (node_at (nodes slots.new) slot.number).generation ≡ (node_at (nodes slots.old) slot.number).generation }
+    ensures apart { result.number ≢ slot.number }
+    ensures given { node_at (nodes slots.new) result.number ≡ record (node_at (nodes slots.old) result.number) { kind = Unused } }
+    ensures others { (k : ℕ) → k ≢ slot.number → k ≢ result.number → KeepsUse (node_at (nodes slots.old) k) (node_at (nodes slots.new) k) }
+    ensures same_rings { rings slots.new ≡ rings slots.old }
+{
+    let mut this = read_node(slots, slot);
+    let next_slot = this.next;
+    let mut next = read_node(slots, next_slot);
+    let after_slot = next.next;
+    this.next = after_slot;
+    this.area.max = next.area.max;
+    write_node(slots, slot, this);
+    set_previous(slots, after_slot, slot);
+    next.kind = NodeKind::Unused;
+    write_node(slots, next_slot, next);
+    next_slot
+}
+
+/// One turn of a freeing: a lone free leaf gives its place to its container, which becomes free. The answer is the
+/// container's slot; the leaf's is no longer used.
+pub fn lift(slots: &mut [Slot], child: Link) -> Link
+    requires stands { IsWhole (nodes slots.old) }
+    requires free { (node_at (nodes slots.old) child.number).kind ≡ Free }
+    requires first { (node_at (nodes slots.old) child.number).previous.number ≡ no_slot }
+    requires last { (node_at (nodes slots.old) child.number).next.number ≡ no_slot }
+    requires nested { (node_at (nodes slots.old) child.number).parent.number ≢ no_slot }
+    requires short { length slots.old < no_slot }
+    ensures tree { (s : Sequence) (n : Numbered) → s.parent ≡ no_slot → Stands (nodes slots.old) s n → Stands (nodes slots.new) s (lifted result.number n) }
+    ensures parent { result ≡ (node_at (nodes slots.old) child.number).parent }
+    ensures fewer { (s : Sequence) (n : Numbered) → s.parent ≡ no_slot → Stands (nodes slots.old) s n → numbers (lifted result.number n) + 1 ≡ numbers n }
+    ensures calm { IsCalmBut (nodes slots.old) child.number → IsCalmBut (nodes slots.new) result.number }
+    ensures free { (node_at (nodes slots.new) result.number).kind ≡ Free }
+    ensures container { (node_at (nodes slots.old) result.number).kind ≡ Container }
+    ensures apart { result.number ≢ child.number }
+    ensures this { node_at (nodes slots.new) result.number ≡ record (node_at (nodes slots.old) result.number) { kind = Free } }
+    ensures given { node_at (nodes slots.new) child.number ≡ record (node_at (nodes slots.old) child.number) { kind = Unused } }
+    ensures others { (k : ℕ) → k ≢ child.number → k ≢ result.number → KeepsUse (node_at (nodes slots.old) k) (node_at (nodes slots.new) k) }
+    ensures same_rings { rings slots.new ≡ rings slots.old }
+{
+    let mut inner = read_node(slots, child);
+    let container = inner.parent;
+    let mut outer = read_node(slots, container);
+    outer.kind = NodeKind::Free;
+    write_node(slots, container, outer);
+    inner.kind = NodeKind::Unused;
+    write_node(slots, child, inner);
+    container
 }

@@ -1,0 +1,5 @@
+use Rattle.guillotiere.proofs.TreeTiling.{areas_add_up}
+use Rattle.guillotiere.proofs.laws.areas.Goals as goal
+
+pub returns : goal.returns
+returns c = areas_add_up

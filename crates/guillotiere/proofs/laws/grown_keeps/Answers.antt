@@ -1,0 +1,5 @@
+use Rattle.guillotiere.proofs.TreeRoom.{grown_keeps}
+use Rattle.guillotiere.proofs.laws.grown_keeps.Goals as goal
+
+pub returns : goal.returns
+returns c = grown_keeps

@@ -1,0 +1,5 @@
+use Rattle.guillotiere.proofs.StepKeeping.{steps_keep}
+use Rattle.guillotiere.proofs.laws.steps_keep.Goals as goal
+
+pub returns : goal.returns
+returns c = steps_keep

@@ -1,0 +1,51 @@
+//! Ids and allocated rectangles.
+ghost use Rattle.std.specs.Prelude.{◌≡◌};
+
+use crate::geometry::Rectangle;
+use std::marker::Model;
+
+/// The id of an allocated rectangle: in its low 24 bits the number of a slot, above them the slot's generation. An id
+/// that was freed may be issued again, for another rectangle.
+#[derive(Clone, Copy, Debug, PartialEq, Eq, Hash)]
+pub struct AllocId(u32);
+
+impl Model for AllocId {
+    ghost use Rattle.std.specs.Prelude.{ℕ};
+
+    ghost Value = { ℕ };
+
+    ghost view = { λ a. a.0 };
+
+    ghost inverse = { λ n. record { 0 = n } };
+}
+
+impl AllocId {
+    /// The number of the id.
+    pub fn serialize(&self) -> u32
+        ensures { result ≡ self.now }
+    {
+        self.0
+    }
+
+    /// The id of a number. Every number is accepted; whether the id is live is for the atlas to say.
+    pub fn deserialize(bytes: u32) -> Self
+        ensures { result ≡ bytes }
+    {
+        AllocId(bytes)
+    }
+}
+
+/// An allocated rectangle, in pixels, and its id.
+#[derive(Clone, Copy, Debug, PartialEq)]
+pub struct Allocation {
+    pub id: AllocId,
+    pub rectangle: Rectangle,
+}
+
+/// How many slots an atlas uses, the most that it used at once since its last start, and how many it may use.
+#[derive(Clone, Copy, Debug, PartialEq, Eq)]
+pub struct SlotCount {
+    pub used: u32,
+    pub kept: u32,
+    pub limit: u32,
+}
