@@ -1,7 +1,7 @@
 -- A search looks through the lists of a class, from the request's band up.
-use Rattle.std.proofs.Common.{ℕ, ◌+◌, ◌*◌, ◌<◌, ◌≤◌, ◌≡◌, inl, inr, List, [], ◌∷◌, ◌++◌, refl, sym, ap, ◌∙◌, arith, length, Bool, zero, suc, subst}
+use Rattle.std.proofs.Common.{ℕ, ◌+◌, ◌*◌, ◌<◌, ◌≤◌, ◌≡◌, inl, inr, List, ◌++◌, refl, sym, ap, ◌∙◌, arith, length, Bool, subst}
 use Rattle.std.specs.Prelude.{slice_index_or, Contains, ◌==◌}
-use Rattle.std.proofs.lemmas.Bool.{cases_eq, cases_lt}
+use Rattle.std.proofs.lemmas.Bool.{cases_lt}
 use Rattle.std.proofs.lemmas.List.{get_or_default}
 use Rattle.std.proofs.lemmas.List.Elements.{Contains-append_left, Contains-append_right, Contains-append_cases}
 use Rattle.guillotiere.specs.declared.slots.Slot.{Slot}
@@ -16,28 +16,11 @@ use Rattle.guillotiere.specs.Searches.{Shown, shown_at, HasSeen, FitsOnlyFrom, A
 use Rattle.guillotiere.specs.Slots.{nodes, rings, node_at}
 use Rattle.guillotiere.specs.Lists.{IsList, occurs, list_at, blank_list, band_of, node_sides, bounds}
 use Rattle.guillotiere.specs.Picks.{node_box, shown_of, IsShowable, IsSearchable, IsFreeSlot, AreShown, HasLooked, IsBestOfClass, FitsSlotsFrom, AreFreeBoxes}
-use Rattle.guillotiere.proofs.Occurrences.{same-self, same-ne, length-occurs}
+use Rattle.guillotiere.proofs.Occurrences.{length-occurs}
 use Rattle.guillotiere.proofs.Banding.{band_of-most, class_of-most}
 use Rattle.guillotiere.proofs.Filing.{list_for, listed-list, listed-kind, listed-one}
 use Rattle.guillotiere.proofs.Picking.{pick_of_class}
-
-shown_of-at : (ns : List Node) (xs : List ℕ) (c : Shown) (k : ℕ) → k < length (shown_of ns xs) → slice_index_or (shown_of ns xs) k c ≡ c → (i : ℕ) × (0 < occurs i xs) × (c ≡ shown_at (node_box (node_at ns i)) i)
-shown_of-at ns [] c k l e = absurd (omega arith)
-shown_of-at ns (x ∷ xs) c zero l e = (x, omega (arith, same-self x), sym e)
-shown_of-at ns (x ∷ xs) c (suc k) l e = let more = shown_of-at ns xs c k (omega arith) e in (more.0, omega (arith, more.1), more.2)
-
--- what is shown of slots is the box of one of them
-shown_of-in : (ns : List Node) (xs : List ℕ) (c : Shown) → Contains (shown_of ns xs) c → (i : ℕ) × (0 < occurs i xs) × (c ≡ shown_at (node_box (node_at ns i)) i)
-shown_of-in ns xs c h = shown_of-at ns xs c h.0 h.1 h.2
-
--- each of the slots is shown
-shown_of-has : (ns : List Node) (xs : List ℕ) (i : ℕ) → 0 < occurs i xs → Contains (shown_of ns xs) (shown_at (node_box (node_at ns i)) i)
-shown_of-has ns [] i l = absurd (omega arith)
-shown_of-has ns (x ∷ xs) i l =
-    elim (cases_eq i x) [
-      | inl e ↦ (0, omega arith, rw e refl)
-      | inr ne ↦ let more = shown_of-has ns xs i (omega (arith, same-ne i x ne)) in (suc more.0, omega (arith, more.1), more.2)
-    ]
+use Rattle.guillotiere.proofs.Walking.{shown_of-in, shown_of-has}
 
 module _ (o : Options) (slots : List Slot) (lists : List FreeList) (s : IsSearchable o slots lists) (class part : ℕ) (lc : class < 3) (lp : part < 8) where
   below : 8 * class + part < 24

@@ -22,9 +22,13 @@ node_box n = box_of n.area
 abbrev pub IsFreeSlot : List Node → ℕ → Type 0
 IsFreeSlot ns i = (node_at ns i).kind ≡ kind.Free
 
+-- the box of a slot, with its number
+abbrev pub shown_slot : List Node → ℕ → Shown
+shown_slot ns i = shown_at (node_box (node_at ns i)) i
+
 -- the boxes of these slots, each with its number
 abbrev pub shown_of : List Node → List ℕ → List Shown
-shown_of ns xs = map (λ i. shown_at (node_box (node_at ns i)) i) xs
+shown_of ns xs = map (shown_slot ns) xs
 
 -- the list holds slots of exact rectangles alone
 abbrev pub IsShowable : List Slot → FreeList → Type 0

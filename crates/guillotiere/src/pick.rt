@@ -1,9 +1,10 @@
 //! The search for a free slot through the lists, class by class and band by band.
-ghost use Rattle.std.specs.Prelude.{◌≡◌, ◌+◌, ◌*◌, ◌<◌, ◌==◌, ◌++◌, ◌↔◌, ℕ, Bool, List, None, IfSome, IsTrue, length};
+ghost use Rattle.std.specs.Prelude.{◌≡◌, ◌+◌, ◌*◌, ◌<◌, ◌==◌, ◌++◌, ◌∷◌, [], ◌↔◌, ℕ, Bool, List, None, IfSome, IsTrue, length};
 ghost use Rattle.guillotiere.specs.Boxes.{Box, Fits, IsPositive, Sides, box_sides};
 ghost use Rattle.guillotiere.specs.Choice.{IsFitting, IsPick};
+ghost use Rattle.guillotiere.specs.Links.{IsExact};
 ghost use Rattle.guillotiere.specs.Lists.{IsList, bounds};
-ghost use Rattle.guillotiere.specs.Picks.{AreFreeBoxes, FitsNoneOfClass, IsBestOfClass, IsFreeSlot, IsSearchable, IsShowable, shown_of};
+ghost use Rattle.guillotiere.specs.Picks.{AreFreeBoxes, FitsNoneOfClass, IsBestOfClass, IsFreeSlot, IsSearchable, IsShowable, shown_of, shown_slot};
 ghost use Rattle.guillotiere.specs.Pixels.{box_of, options_of, sides_of};
 ghost use Rattle.guillotiere.specs.Searches.{HasSeen, Shown};
 ghost use Rattle.guillotiere.specs.Slots.{nodes, rings, node_at};
@@ -12,18 +13,35 @@ use crate::choice::{Found, Search, class};
 use crate::geometry::Size;
 use crate::lists::{FreeList, LISTS, band};
 use crate::options::AllocatorOptions;
-use crate::slots::{Slot, read_node, read_ring};
+use crate::slots::{Link, Slot, read_node, read_ring};
 
-// Shows the boxes of a list to a search.
+// Shows the box of a slot to a search.
+fn show_slot(slots: &[Slot], at: Link, search: &mut Search)
+    requires inside { at.number < length slots.now }
+    requires exact { IsExact (node_at (nodes slots.now) at.number).area }
+    ensures { (is_large : Bool) (r : Sides) (shown : List Shown) → HasSeen search.old is_large r shown → HasSeen search.new is_large r (shown ++ shown_slot (nodes slots.now) at.number ∷ []) }
+{
+    let node = read_node(slots, at);
+    search.look(node.area, at.number as usize);
+}
+
+// Shows the boxes of a list to a search, from both ends at once: the two chains of links are read side by side.
 fn show_list(slots: &[Slot], list: FreeList, search: &mut Search)
     requires { IsShowable slots.now list }
     ensures { (xs : List ℕ) → IsList (rings slots.now) list xs → (is_large : Bool) (r : Sides) (shown : List Shown) → HasSeen search.old is_large r shown → HasSeen search.new is_large r (shown ++ shown_of (nodes slots.now) xs) }
 {
-    let mut at = list.head;
-    for _step in 0..list.count {
-        let node = read_node(slots, at);
-        search.look(node.area, at.number as usize);
-        at = read_ring(slots, at).next;
+    let mut first = list.head;
+    let mut last = list.tail;
+    for _step in 0..list.count / 2 {
+        let after = read_ring(slots, first);
+        let before = read_ring(slots, last);
+        show_slot(slots, first, search);
+        show_slot(slots, last, search);
+        first = after.next;
+        last = before.previous;
+    }
+    if list.count % 2 == 1 {
+        show_slot(slots, first, search);
     }
 }
 
