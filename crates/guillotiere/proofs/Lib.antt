@@ -49,6 +49,9 @@ pub mod Banding
 pub mod Filing
 pub mod Taking
 pub mod Choosing
+pub mod Walking
+pub mod Looking
+pub mod FreeSlots
 pub mod Extents
 pub mod Listing
 pub mod NumberedCuts

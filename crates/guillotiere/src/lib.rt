@@ -10,12 +10,13 @@ mod geometry;
 pub mod laws;
 mod lists;
 mod options;
+mod pick;
 mod placing;
+mod simple;
 mod slots;
 mod store;
 mod tree;
 mod turns;
-mod simple;
 
 pub use allocation::{AllocId, Allocation, SlotCount};
 pub use atlas::AtlasAllocator;
