@@ -1,10 +1,11 @@
 //! An allocator that hands out boxes and never takes one back.
-ghost use Rattle.std.specs.Prelude.{◌≡◌, ◌≢◌, ℕ, ◌+◌, ◌<◌, ◌≤◌, ◌++◌, [], ◌∷◌, List, length, slice_get, Some, MatchOption, ⊤, IsPermutation, OnOk, OnErr, IsOkUnless, Bool};
-ghost use Rattle.guillotiere.specs.Boxes.{AreSameBoxes, IsPositive};
+ghost use Rattle.std.specs.Prelude.{◌≡◌, ◌≢◌, ℕ, ◌+◌, ◌<◌, ◌≤◌, ◌++◌, [], ◌∷◌, List, All, length, slice_get, Some, MatchOption, ⊤, IsPermutation, OnOk, OnErr, IsOkUnless, Bool};
+ghost use Rattle.guillotiere.specs.Boxes.{AreSameBoxes, IsNonempty, IsPositive};
 ghost use Rattle.guillotiere.specs.Choice.{AreValid, IsPick};
 ghost use Rattle.guillotiere.specs.FreeLists.{AreInClasses, IsHome, IsStoredIn, items_at, kept_of, listed, shown_from, spare_at};
 ghost use Rattle.guillotiere.specs.Pixels.{box_of, options_of, sides_of};
 ghost use Rattle.guillotiere.specs.Rectangles.{IsUnsigned};
+ghost use Rattle.guillotiere.specs.Searches.{FitsNone, IsFound};
 
 use crate::choice::{Found, Search, class};
 use crate::error::AtlasError;
@@ -50,4 +51,30 @@ fn take<A: Allocator>(lists: &mut [Vec<Rectangle, A>; 3], class: usize, at: usiz
     ensures room { (k : ℕ) → spare_at lists.old k ≤ spare_at lists.new k }
 {
     lists[class].swap_remove(at)
+}
+
+// The class of the list that a part goes into; None if it is dropped, narrower or lower than the alignment.
+fn home(part: Rectangle, options: &AllocatorOptions) -> Option<usize>
+    requires valid { AreValid (options_of options.now) }
+    requires unsigned { IsUnsigned part }
+    ensures { IsHome (options_of options.now) part result }
+{
+    let size = part.size();
+    if size.width < options.alignment.width || size.height < options.alignment.height {
+        return None;
+    }
+    Some(class(size, options))
+}
+
+// The best box of a list for a request.
+fn best_of(list: &[Rectangle], size: Size, is_large: bool) -> Option<Found>
+    requires positive { IsPositive (sides_of size) }
+    requires boxes { All (λ r. IsUnsigned r × IsNonempty (box_of r)) list.now }
+    ensures { MatchOption result (FitsNone (sides_of size) (shown_from 0 list.now)) (IsFound is_large (sides_of size) (shown_from 0 list.now)) }
+{
+    let mut search = Search::new(size, is_large);
+    for (at, rectangle) in list.iter().enumerate() {
+        search.look(*rectangle, at);
+    }
+    search.best()
 }
