@@ -2,3 +2,4 @@ pub mod Cutting
 pub mod Choosing
 pub mod Picking
 pub mod Listing
+pub mod PickingFromLists

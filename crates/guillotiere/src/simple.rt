@@ -2,10 +2,10 @@
 ghost use Rattle.std.specs.Prelude.{◌≡◌, ◌≢◌, ℕ, ◌+◌, ◌<◌, ◌≤◌, ◌++◌, [], ◌∷◌, List, All, length, slice_get, Some, MatchOption, ⊤, IsPermutation, OnOk, OnErr, IsOkUnless, Bool};
 ghost use Rattle.guillotiere.specs.Boxes.{AreSameBoxes, IsNonempty, IsPositive};
 ghost use Rattle.guillotiere.specs.Choice.{AreValid, IsPick};
-ghost use Rattle.guillotiere.specs.FreeLists.{AreInClasses, IsHome, IsStoredIn, items_at, kept_of, listed, shown_from, spare_at};
+ghost use Rattle.guillotiere.specs.FreeLists.{AreInClasses, IsHome, IsPicked, IsStoredIn, items_at, kept_of, listed, shown_from, spare_at};
 ghost use Rattle.guillotiere.specs.Pixels.{box_of, options_of, sides_of};
 ghost use Rattle.guillotiere.specs.Rectangles.{IsUnsigned};
-ghost use Rattle.guillotiere.specs.Searches.{FitsNone, IsFound};
+ghost use Rattle.guillotiere.specs.Searches.{FitsNone, FitsOnlyFrom, IsFound};
 
 use crate::choice::{Found, Search, class};
 use crate::error::AtlasError;
@@ -77,4 +77,35 @@ fn best_of(list: &[Rectangle], size: Size, is_large: bool) -> Option<Found>
         search.look(*rectangle, at);
     }
     search.best()
+}
+
+// Where a picked box stands.
+#[derive(Clone, Copy)]
+struct Place {
+    class: usize,
+    at: usize,
+    rectangle: Rectangle,
+}
+
+// The box that a request takes.
+fn pick<A: Allocator>(
+    lists: &[Vec<Rectangle, A>; 3],
+    size: Size,
+    options: &AllocatorOptions,
+) -> Option<Place>
+    requires positive { IsPositive (sides_of size) }
+    requires boxes { AreInClasses (options_of options.now) lists.now }
+    ensures { MatchOption result (FitsOnlyFrom 3 (listed lists.now) (options_of options.now) (sides_of size)) (IsPicked lists.now (options_of options.now) (sides_of size)) }
+{
+    let first = class(size, options);
+    for k in first..3 {
+        if let Some(found) = best_of(&lists[k], size, first == 2) {
+            return Some(Place {
+                class: k,
+                at: found.at,
+                rectangle: found.rectangle,
+            });
+        }
+    }
+    None
 }
