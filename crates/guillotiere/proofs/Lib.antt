@@ -3,3 +3,5 @@ pub mod Choosing
 pub mod Picking
 pub mod Listing
 pub mod PickingFromLists
+pub mod ListedBoxes
+pub mod CuttingFromLists

@@ -1,13 +1,15 @@
 //! An allocator that hands out boxes and never takes one back.
 ghost use Rattle.std.specs.Prelude.{◌≡◌, ◌≢◌, ℕ, ◌+◌, ◌<◌, ◌≤◌, ◌++◌, [], ◌∷◌, List, All, length, slice_get, Some, MatchOption, ⊤, IsPermutation, OnOk, OnErr, IsOkUnless, Bool};
 ghost use Rattle.guillotiere.specs.Boxes.{AreSameBoxes, IsNonempty, IsPositive};
-ghost use Rattle.guillotiere.specs.Choice.{AreValid, IsPick};
+ghost use Rattle.guillotiere.specs.Choice.{AreValid, Options};
 ghost use Rattle.guillotiere.specs.FreeLists.{AreInClasses, IsHome, IsPicked, IsStoredIn, items_at, kept_of, listed, shown_from, spare_at};
 ghost use Rattle.guillotiere.specs.Pixels.{box_of, options_of, sides_of};
 ghost use Rattle.guillotiere.specs.Rectangles.{IsUnsigned};
 ghost use Rattle.guillotiere.specs.Searches.{FitsNone, FitsOnlyFrom, IsFound};
+ghost use Rattle.guillotiere.specs.Simple.{kept_rest};
 
 use crate::choice::{Found, Search, class};
+use crate::cut::guillotine;
 use crate::error::AtlasError;
 use crate::geometry::{Rectangle, Size};
 use crate::options::AllocatorOptions;
@@ -108,4 +110,55 @@ fn pick<A: Allocator>(
         }
     }
     None
+}
+
+// Puts a part into the list that it goes into, if it is kept.
+fn keep<A: Allocator>(lists: &mut [Vec<Rectangle, A>; 3], home: Option<usize>, part: Rectangle)
+    requires class { MatchOption home ⊤ (λ class. class < 3) }
+    requires room { MatchOption home ⊤ (λ class. 0 < spare_at lists.old class) }
+    ensures classes { (o : Options) → IsHome o part home → AreInClasses o lists.old → AreInClasses o lists.new }
+    ensures boxes { (o : Options) → IsHome o part home → AreSameBoxes (listed lists.new) (kept_of o (box_of part) ++ listed lists.old) }
+    ensures room { (k : ℕ) → spare_at lists.old k ≤ spare_at lists.new k + 1 }
+{
+    if let Some(class) = home {
+        put(lists, class, part);
+    }
+}
+
+// Takes a picked box out of its list.
+fn take_picked<A: Allocator>(lists: &mut [Vec<Rectangle, A>; 3], place: Place)
+    requires class { place.class < 3 }
+    requires at { slice_get (items_at lists.old place.class) place.at ≡ Some place.rectangle }
+    ensures classes { (o : Options) → AreInClasses o lists.old → AreInClasses o lists.new }
+    ensures boxes { AreSameBoxes (box_of place.rectangle ∷ listed lists.new) (listed lists.old) }
+    ensures room { (k : ℕ) → spare_at lists.old k ≤ spare_at lists.new k }
+{
+    take(lists, place.class, place.at);
+}
+
+// Cuts a picked box: it gives way to what is kept of it.
+fn cut_picked<A: Allocator>(
+    lists: &mut [Vec<Rectangle, A>; 3],
+    place: Place,
+    size: Size,
+    options: &AllocatorOptions,
+) -> Result<(), AtlasError>
+    requires valid { AreValid (options_of options.now) }
+    requires positive { IsPositive (sides_of size) }
+    requires classes { AreInClasses (options_of options.now) lists.old }
+    requires picked { IsPicked lists.old (options_of options.now) (sides_of size) place }
+    ensures unless { IsOkUnless result AtlasError.Memory }
+    ensures classes { AreInClasses (options_of options.now) lists.new }
+    ensures ok { OnOk result (AreSameBoxes (box_of place.rectangle ∷ listed lists.new) (kept_rest (options_of options.now) (box_of place.rectangle) (sides_of size) ++ listed lists.old)) }
+    ensures err { OnErr result ((k : ℕ) → items_at lists.new k ≡ items_at lists.old k) }
+{
+    let rest = guillotine(place.rectangle, size);
+    let split_home = home(rest.split, options);
+    let leftover_home = home(rest.leftover, options);
+    make_room(lists, split_home)?;
+    make_room(lists, leftover_home)?;
+    take_picked(lists, place);
+    keep(lists, split_home, rest.split);
+    keep(lists, leftover_home, rest.leftover);
+    Ok(())
 }
