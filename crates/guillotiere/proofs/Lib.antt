@@ -5,3 +5,4 @@ pub mod Listing
 pub mod PickingFromLists
 pub mod ListedBoxes
 pub mod CuttingFromLists
+pub mod Granting
