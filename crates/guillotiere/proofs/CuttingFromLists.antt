@@ -10,15 +10,17 @@ use Rattle.std.proofs.lemmas.Option.{slice_get_within, get_or_from_slice_get}
 use Rattle.guillotiere.specs.declared.geometry.Size.{Size}
 use Rattle.guillotiere.specs.declared.geometry.Rectangle.{Rectangle}
 use Rattle.guillotiere.specs.declared.cut.Rest.{Rest}
+use Rattle.guillotiere.specs.declared.options.AllocatorOptions.{AllocatorOptions}
 use Rattle.guillotiere.specs.declared.simple.Place.{Place}
-use Rattle.guillotiere.specs.Boxes.{Box, Sides, box_sides, Fits, IsPositive, AreSameBoxes}
+use Rattle.guillotiere.specs.Boxes.{Box, Sides, box_at, box_sides, Fits, IsPositive, AreSameBoxes}
 use Rattle.guillotiere.specs.Cuts.{cut_axis, split_along, leftover_along}
-use Rattle.guillotiere.specs.Choice.{Options}
-use Rattle.guillotiere.specs.Pixels.{natural, box_of, rectangle_of, sides_of, IsMeasurable}
+use Rattle.guillotiere.specs.Choice.{Options, AreValid, rounded, IsPick}
+use Rattle.guillotiere.specs.Pixels.{natural, box_of, rectangle_of, sides_of, size_of, options_of, IsMeasurable}
 use Rattle.guillotiere.specs.Rectangles.{FitsInto, IsRestOf, IsUnsigned, axis_of}
-use Rattle.guillotiere.specs.Simple.{is_kept, kept_rest}
-use Rattle.guillotiere.specs.FreeLists.{items_at, listed, kept_of, IsStoredIn, AreInClasses, IsHome, IsPicked}
-use Rattle.guillotiere.proofs.Picking.{class_of-below}
+use Rattle.guillotiere.specs.Requests.{CanBeRounded}
+use Rattle.guillotiere.specs.Simple.{is_kept, kept_rest, SimplyGrants}
+use Rattle.guillotiere.specs.FreeLists.{items_at, listed, kept_of, IsStoredIn, AreInClasses, IsHome, IsPicked, state_of}
+use Rattle.guillotiere.proofs.Picking.{class_of-below, up-le}
 
 -- the picked rectangle
 
@@ -96,3 +98,33 @@ cut-boxes o x r rest old roomy taken split cut is same took kept_split kept_left
       sum_by-append f (kept_of o (box_of rest.split)) (listed taken),
       sum_by-append f (kept_of o (box_of rest.leftover)) (listed split),
     )
+
+-- a grant
+
+pub rounded-positive : (o : Options) (s : Sides) → AreValid o → IsPositive s → IsPositive (rounded o s)
+rounded-positive o s valid positive =
+    (omega (arith, up-le s.width o.alignment.width valid.0.0), omega (arith, up-le s.height o.alignment.height valid.0.1))
+
+pub sides_of-size : (size : Size) (r : Sides) → size ≡ size_of r → sides_of size ≡ r
+sides_of-size size r e = ap sides_of e
+
+pub size-positive : (o : Options) (s : Sides) (size : Size) → AreValid o → CanBeRounded o s × (size ≡ size_of (rounded o s)) → IsPositive (sides_of size)
+size-positive o s size valid h = subst IsPositive (sym (sides_of-size size (rounded o s) h.1)) (rounded-positive o s valid h.0.positive)
+
+pub simply_grants : {Z : Type 0} (old new : List (Vec Rectangle Z)) (whole : Sides) (options : AllocatorOptions) (s : Sides) (size : Size) (place : Place) (granted : Rectangle)
+    → CanBeRounded (options_of options) s × (size ≡ size_of (rounded (options_of options) s)) → IsPicked old (options_of options) (sides_of size) place
+    → granted ≡ rectangle_of (box_at (box_of place.rectangle).min (sides_of size))
+    → AreSameBoxes (box_of place.rectangle ∷ listed new) (kept_rest (options_of options) (box_of place.rectangle) (sides_of size) ++ listed old)
+    → SimplyGrants (state_of old whole options) s (box_of granted) (state_of new whole options)
+simply_grants old new whole options s size place granted h picked is boxes =
+    let o = options_of options in
+    let e : sides_of size ≡ rounded o s = sides_of-size size (rounded o s) h.1 in
+    record {
+      positive = h.0.positive;
+      picked = box_of place.rectangle;
+      pick = subst (λ r. IsPick (listed old) o r (box_of place.rectangle)) e picked.pick;
+      granted = ap box_of is ∙ ap (box_at (box_of place.rectangle).min) e;
+      free = subst (λ r. AreSameBoxes (box_of place.rectangle ∷ listed new) (kept_rest o (box_of place.rectangle) r ++ listed old)) e boxes;
+      size = refl;
+      options = refl;
+    }

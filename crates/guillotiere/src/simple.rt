@@ -1,15 +1,15 @@
 //! An allocator that hands out boxes and never takes one back.
-ghost use Rattle.std.specs.Prelude.{◌≡◌, ◌≢◌, ℕ, ◌+◌, ◌<◌, ◌≤◌, ◌++◌, [], ◌∷◌, List, All, length, slice_get, Some, MatchOption, ⊤, IsPermutation, OnOk, OnErr, IsOkUnless, Bool};
-ghost use Rattle.guillotiere.specs.Boxes.{AreSameBoxes, IsNonempty, IsPositive};
+ghost use Rattle.std.specs.Prelude.{◌≡◌, ◌≢◌, ℕ, ◌+◌, ◌<◌, ◌≤◌, ◌++◌, [], ◌∷◌, List, All, length, slice_get, Some, MatchOption, ⊤, IsPermutation, OnOk, OnErr, IfOk, IfSome, IsOkUnless, Bool};
+ghost use Rattle.guillotiere.specs.Boxes.{AreSameBoxes, IsNonempty, IsPositive, Sides};
 ghost use Rattle.guillotiere.specs.Choice.{AreValid, Options};
-ghost use Rattle.guillotiere.specs.FreeLists.{AreInClasses, IsHome, IsPicked, IsStoredIn, items_at, kept_of, listed, shown_from, spare_at};
+ghost use Rattle.guillotiere.specs.FreeLists.{AreInClasses, IsHome, IsPicked, IsStoredIn, items_at, kept_of, listed, shown_from, spare_at, state_of};
 ghost use Rattle.guillotiere.specs.Pixels.{box_of, options_of, sides_of};
 ghost use Rattle.guillotiere.specs.Rectangles.{IsUnsigned};
 ghost use Rattle.guillotiere.specs.Searches.{FitsNone, FitsOnlyFrom, IsFound};
-ghost use Rattle.guillotiere.specs.Simple.{kept_rest};
+ghost use Rattle.guillotiere.specs.Simple.{IsSimple, SimpleStep, kept_rest, simple_answer};
 
-use crate::choice::{Found, Search, class};
-use crate::cut::guillotine;
+use crate::choice::{Found, Search, class, rounded};
+use crate::cut::{granted, guillotine};
 use crate::error::AtlasError;
 use crate::geometry::{Rectangle, Size};
 use crate::options::AllocatorOptions;
@@ -161,4 +161,30 @@ fn cut_picked<A: Allocator>(
     keep(lists, split_home, rest.split);
     keep(lists, leftover_home, rest.leftover);
     Ok(())
+}
+
+// Grants a request from the lists, if there is room.
+fn grant<A: Allocator>(
+    lists: &mut [Vec<Rectangle, A>; 3],
+    requested_size: Size,
+    options: &AllocatorOptions,
+) -> Result<Option<Rectangle>, AtlasError>
+    requires valid { AreValid (options_of options.now) }
+    requires classes { AreInClasses (options_of options.now) lists.old }
+    ensures unless { IsOkUnless result AtlasError.Memory }
+    ensures classes { AreInClasses (options_of options.now) lists.new }
+    ensures unsigned { IfOk result (λ granted. IfSome granted IsUnsigned) }
+
+    // The lists are those of an atlas of any size that an `i32` can hold.
+    ensures step { (size : Sides) → size.width ≤ 2147483647 → size.height ≤ 2147483647 → IsSimple (state_of lists.old size options.now) → SimpleStep (state_of lists.old size options.now) (sides_of requested_size) (simple_answer result) (state_of lists.new size options.now) }
+{
+    let Some(size) = rounded(requested_size, options) else {
+        return Ok(None);
+    };
+    let Some(place) = pick(lists, size, options) else {
+        return Ok(None);
+    };
+    let rectangle = granted(place.rectangle, size);
+    cut_picked(lists, place, size, options)?;
+    Ok(Some(rectangle))
 }
