@@ -1,8 +1,8 @@
 -- A picked box of the simple allocator gives way to what is kept of it.
-use Rattle.std.proofs.Common.{◌≡◌, ℕ, ◌+◌, ◌-◌, ◌<◌, ◌≤◌, Bool, true, false, cond, List, [], ◌∷◌, ◌++◌, map, length, get_or, zero, suc, Vec, Option, Some, None, ℤ, pos, negsuc, ◌-ℤ◌, ◌≤ℤ◌, ◌<ℤ◌, FitsSigned, w32, refl, ap, sym, ◌∙◌, subst, arith}
+use Rattle.std.proofs.Common.{◌≡◌, ℕ, ◌+◌, ◌-◌, ◌<◌, ◌≤◌, Bool, cond, List, [], ◌∷◌, ◌++◌, map, Vec, Option, Some, None, ℤ, pos, negsuc, ◌-ℤ◌, ◌≤ℤ◌, ◌<ℤ◌, FitsSigned, w32, refl, ap, sym, ◌∙◌, subst, arith}
 use Rattle.std.specs.Bool.{⊤}
 use Rattle.std.specs.Option.{MatchOption}
-use Rattle.std.specs.List.{All, count_by, filter, slice_get}
+use Rattle.std.specs.List.{count_by}
 use Rattle.std.proofs.lemmas.Int.{ints}
 use Rattle.std.proofs.lemmas.List.Elements.{filter-append}
 use Rattle.std.proofs.lemmas.List.Sums.{sum_by-cons, sum_by-append}
@@ -16,7 +16,7 @@ use Rattle.guillotiere.specs.Boxes.{Box, Sides, box_at, box_sides, Fits, IsPosit
 use Rattle.guillotiere.specs.Cuts.{cut_axis, split_along, leftover_along}
 use Rattle.guillotiere.specs.Choice.{Options, AreValid, rounded, IsPick}
 use Rattle.guillotiere.specs.Pixels.{natural, box_of, rectangle_of, sides_of, size_of, options_of, IsMeasurable}
-use Rattle.guillotiere.specs.Rectangles.{FitsInto, IsRestOf, IsUnsigned, axis_of}
+use Rattle.guillotiere.specs.Rectangles.{FitsInto, IsRestOf, IsUnsigned}
 use Rattle.guillotiere.specs.Requests.{CanBeRounded}
 use Rattle.guillotiere.specs.Simple.{is_kept, kept_rest, SimplyGrants}
 use Rattle.guillotiere.specs.FreeLists.{items_at, listed, kept_of, IsStoredIn, AreInClasses, IsHome, IsPicked, state_of}

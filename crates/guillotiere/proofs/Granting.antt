@@ -1,15 +1,22 @@
 -- What each simple allocator keeps is kept by a grant, and so are boxes that are held.
-use Rattle.std.proofs.Common.{◌≡◌, ℕ, ◌+◌, ◌-◌, ◌*◌, ◌<◌, ◌≤◌, Bool, true, false, cond, not, ◌&&◌, ◌||◌, ltb, leb, List, [], ◌∷◌, ◌++◌, length, get_or, zero, suc, ◌⊎◌, inl, inr, refl, ap, sym, ◌∙◌, subst, arith}
-use Rattle.std.specs.List.{All, Contains, count_by, filter}
-use Rattle.std.proofs.lemmas.Bool.{ltb-true, leb-true, le-leb, lt-ltb, and_parts, and_from, and_cases, cases_Bool, not-false, false_from_ne_true, true≢false}
+use Rattle.std.proofs.Common.{◌≡◌, ℕ, ◌+◌, ◌≤◌, Bool, true, false, cond, ◌&&◌, ◌||◌, ltb, leb, List, [], ◌∷◌, ◌++◌, get_or, Option, Some, None, Result, Ok, Err, ◌⊎◌, refl, ap, sym, subst, arith}
+use Rattle.std.specs.Option.{IfSome}
+use Rattle.std.specs.Result.{IfOk}
+use Rattle.std.specs.List.{All, count_by, filter}
+use Rattle.std.proofs.lemmas.Bool.{leb-true, and_parts}
 use Rattle.std.proofs.lemmas.Bool.Decides.{nat_tests}
 use Rattle.std.proofs.lemmas.List.Elements.{All-nil, All-cons, All-head, All-tail, All-append, All-contains, All-filter, filter_passes, All-weaker}
 use Rattle.std.proofs.lemmas.List.Sums.{sum_by-cons, sum_by-append}
-use Rattle.guillotiere.specs.Boxes.{Position, Sides, Box, Axis, box_at, whole_box, box_sides, covers, Fits, IsPositive, IsNonempty, IsWithin, AreDisjoint, AreSameBoxes}
+use Rattle.guillotiere.specs.declared.geometry.Rectangle.{Rectangle}
+use Rattle.guillotiere.specs.declared.error.AtlasError.{AtlasError}
+use Rattle.guillotiere.specs.declared.error.AtlasError.TheVariants.{Memory, Slots, NotLive}
+use Rattle.guillotiere.specs.Pixels.{box_of}
+use Rattle.guillotiere.specs.Boxes.{Sides, Box, Axis, box_at, whole_box, box_sides, covers, Fits, IsPositive, IsNonempty, IsWithin}
 use Rattle.guillotiere.specs.Boxes.Axis.{Horizontal, Vertical}
-use Rattle.guillotiere.specs.Cuts.{cut_axis, split_along, leftover_along, rest_of}
+use Rattle.guillotiere.specs.Cuts.{cut_axis, split_along, leftover_along}
 use Rattle.guillotiere.specs.Choice.{Options, AreValid, rounded}
-use Rattle.guillotiere.specs.Simple.{SimpleState, IsSimple, SimplyGrants, IsGuarded, is_kept, kept_rest, simple_start}
+use Rattle.guillotiere.specs.Simple.SimpleAnswer.{Granted, NoRoom, Refused}
+use Rattle.guillotiere.specs.Simple.{SimpleState, IsSimple, SimplyGrants, IsGuarded, is_kept, kept_rest, simple_start, SimpleAnswer, SimpleStep, simple_answer}
 
 abbrev one_if : Bool → ℕ
 one_if b = cond b 1 0
@@ -182,3 +189,18 @@ start-simple size o positive valid = record {
     at_most : (b : Bool) → 0 + one_if b ≤ 1
     at_most true = omega arith
     at_most false = omega arith
+
+-- each step keeps it
+
+pub step-simple : (old new : SimpleState) (s : Sides) (answer : SimpleAnswer) → IsSimple old → SimpleStep old s answer new → IsSimple new
+step-simple old new s (Granted box) simple step = grant-simple old new s box simple step
+step-simple old new s NoRoom simple step = subst IsSimple (sym step.1) simple
+step-simple old new s (Refused Memory) simple step = subst IsSimple (sym step.1) simple
+step-simple old new s (Refused Slots) simple step = absurd step
+step-simple old new s (Refused NotLive) simple step = absurd step
+
+pub step-guarded : (old new : SimpleState) (s : Sides) (result : Result (Option Rectangle) AtlasError) (held : List Box) → IsSimple old → SimpleStep old s (simple_answer result) new
+    → IsGuarded old held → IfOk result (λ granted. IfSome granted (λ rectangle. IsGuarded new (box_of rectangle ∷ held)))
+step-guarded old new s (Ok (Some rectangle)) held simple step guarded = grant-guarded old new s (box_of rectangle) held simple step guarded
+step-guarded old new s (Ok None) held simple step guarded = tt
+step-guarded old new s (Err error) held simple step guarded = tt

@@ -6,3 +6,4 @@ pub mod PickingFromLists
 pub mod ListedBoxes
 pub mod CuttingFromLists
 pub mod Granting
+pub mod Storing

@@ -1,6 +1,6 @@
 -- The boxes of the three lists, once one list is changed.
-use Rattle.std.proofs.Common.{◌≡◌, ◌≢◌, ℕ, ◌+◌, ◌<◌, ◌≤◌, Bool, true, false, cond, List, [], ◌∷◌, ◌++◌, map, length, get_or, zero, suc, Vec, Option, Some, None, ◌⊎◌, inl, inr, refl, ap, sym, ◌∙◌, subst, arith}
-use Rattle.std.specs.List.{All, Contains, count_by, sum_by, slice_get, filter}
+use Rattle.std.proofs.Common.{◌≡◌, ◌≢◌, ℕ, ◌+◌, ◌<◌, Bool, cond, List, [], ◌∷◌, ◌++◌, map, zero, suc, Vec, Some, None, inl, inr, refl, ap, sym, ◌∙◌, subst, arith}
+use Rattle.std.specs.List.{All, count_by, slice_get}
 use Rattle.std.specs.List.Sorted.{IsPermutation}
 use Rattle.std.proofs.lemmas.Bool.{cases_eq}
 use Rattle.std.proofs.lemmas.List.{map_push}
@@ -9,11 +9,9 @@ use Rattle.std.proofs.lemmas.List.Sums.{sum_by-cons, sum_by-append, sum_by_push}
 use Rattle.std.proofs.lemmas.List.Sorted.{IsPermutation-map, sum_by-IsPermutation, All-permutation}
 use Rattle.std.proofs.lemmas.Option.{same_Some}
 use Rattle.guillotiere.specs.declared.geometry.Rectangle.{Rectangle}
-use Rattle.guillotiere.specs.declared.simple.Place.{Place}
 use Rattle.guillotiere.specs.Boxes.{Box, AreSameBoxes}
 use Rattle.guillotiere.specs.Choice.{Options}
 use Rattle.guillotiere.specs.Pixels.{box_of}
-use Rattle.guillotiere.specs.Simple.{is_kept}
 use Rattle.guillotiere.specs.FreeLists.{items_at, listed, kept_of, IsStoredIn, AreInClasses, IsHome}
 
 -- how many boxes of one list pass a test

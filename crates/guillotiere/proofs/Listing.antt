@@ -1,6 +1,6 @@
 -- The three lists of the simple allocator, one of them changed.
-use Rattle.std.proofs.Common.{◌≡◌, ◌≢◌, ℕ, ◌+◌, ◌-◌, ◌*◌, ◌<◌, ◌≤◌, ◌⊎◌, Bool, true, false, cond, List, [], ◌∷◌, ◌++◌, map, length, get_or, set, take, zero, suc, Vec, vec_len, vec_capacity, Option, Some, None, ℤ, pos, negsuc, ◌-ℤ◌, ◌≤ℤ◌, refl, ap, sym, ◌∙◌, subst, inl, inr, arith}
-use Rattle.std.specs.List.{All, Contains, slice_get, swap_remove}
+use Rattle.std.proofs.Common.{◌≡◌, ◌≢◌, ℕ, ◌+◌, ◌-◌, ◌<◌, ◌≤◌, Bool, true, List, [], ◌∷◌, ◌++◌, length, get_or, set, take, zero, suc, Vec, vec_len, vec_capacity, Some, ℤ, pos, negsuc, ◌-ℤ◌, ◌≤ℤ◌, refl, ap, sym, ◌∙◌, subst, arith}
+use Rattle.std.specs.List.{Contains, slice_get, swap_remove}
 use Rattle.std.specs.List.Sorted.{IsPermutation}
 use Rattle.std.proofs.lemmas.List.Sorted.{IsPermutation-swap_remove}
 use Rattle.std.proofs.lemmas.Option.{slice_get_read}
@@ -11,7 +11,7 @@ use Rattle.guillotiere.specs.declared.geometry.Size.{Size}
 use Rattle.guillotiere.specs.declared.geometry.Rectangle.{Rectangle}
 use Rattle.guillotiere.specs.declared.options.AllocatorOptions.{AllocatorOptions}
 use Rattle.guillotiere.specs.declared.choice.Search.{Search}
-use Rattle.guillotiere.specs.Boxes.{Box, Sides, box_sides, IsNonempty}
+use Rattle.guillotiere.specs.Boxes.{Box, Sides, box_sides}
 use Rattle.guillotiere.specs.Choice.{Options, AreValid, class_of}
 use Rattle.guillotiere.specs.Pixels.{natural, box_of, rectangle_of, sides_of, options_of}
 use Rattle.guillotiere.specs.Rectangles.{measured, IsUnsigned}

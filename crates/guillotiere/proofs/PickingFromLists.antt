@@ -1,18 +1,17 @@
 -- The pick from the three lists of the simple allocator.
-use Rattle.std.proofs.Common.{◌≡◌, ℕ, ◌+◌, ◌<◌, ◌≤◌, Bool, true, false, List, [], ◌∷◌, ◌++◌, map, length, get_or, zero, suc, Vec, Some, pos, ◌⊎◌, inl, inr, refl, ap, sym, ◌∙◌, subst, arith}
+use Rattle.std.proofs.Common.{◌≡◌, ℕ, ◌+◌, ◌<◌, Bool, List, ◌++◌, map, length, get_or, zero, suc, Vec, Some, pos, inl, inr, refl, ap, sym, ◌∙◌, subst, arith}
 use Rattle.std.specs.Prelude.{◌==◌}
 use Rattle.std.specs.List.{All, Contains, slice_get}
-use Rattle.std.proofs.lemmas.List.{get_or-map, length-map, get_or_default}
-use Rattle.std.proofs.lemmas.List.Elements.{All-weaker, Contains-append_left, Contains-append_right, Contains-append_cases, Contains-get_or}
+use Rattle.std.proofs.lemmas.List.{get_or-map, length-map}
+use Rattle.std.proofs.lemmas.List.Elements.{All-weaker, Contains-append_left, Contains-append_right, Contains-append_cases}
 use Rattle.std.proofs.lemmas.Option.{slice_get_read}
 use Rattle.guillotiere.specs.declared.geometry.Rectangle.{Rectangle}
 use Rattle.guillotiere.specs.declared.choice.Found.{Found}
-use Rattle.guillotiere.specs.declared.simple.Place.{Place}
 use Rattle.guillotiere.specs.Boxes.{Box, Sides, box_sides, IsNonempty}
-use Rattle.guillotiere.specs.Choice.{Options, class_of, IsFitting}
+use Rattle.guillotiere.specs.Choice.{Options, class_of}
 use Rattle.guillotiere.specs.Pixels.{box_of, rectangle_of}
 use Rattle.guillotiere.specs.Rectangles.{IsUnsigned}
-use Rattle.guillotiere.specs.Searches.{Shown, shown_at, FitsNone, FitsOnlyFrom, AreOfClass, IsFound}
+use Rattle.guillotiere.specs.Searches.{shown_at, FitsNone, FitsOnlyFrom, AreOfClass, IsFound}
 use Rattle.guillotiere.specs.FreeLists.{items_at, listed, shown_from, IsStoredIn, AreInClasses, IsPicked}
 use Rattle.guillotiere.proofs.Picking.{fits_only_from_next, pick_of_class}
 use Rattle.guillotiere.proofs.Listing.{items_at-read, shown_from-read, shown_from-has, length-shown_from}

@@ -12,3 +12,4 @@ mod simple;
 pub use error::AtlasError;
 pub use geometry::{Point, Rectangle, Size, point2, size2};
 pub use options::{AllocatorOptions, DEFAULT_OPTIONS};
+pub use simple::SimpleAtlasAllocator;

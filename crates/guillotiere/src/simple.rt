@@ -1,19 +1,136 @@
 //! An allocator that hands out boxes and never takes one back.
-ghost use Rattle.std.specs.Prelude.{◌≡◌, ◌≢◌, ℕ, ◌+◌, ◌<◌, ◌≤◌, ◌++◌, [], ◌∷◌, List, All, length, slice_get, Some, MatchOption, ⊤, IsPermutation, OnOk, OnErr, IfOk, IfSome, IsOkUnless, Bool};
-ghost use Rattle.guillotiere.specs.Boxes.{AreSameBoxes, IsNonempty, IsPositive, Sides};
+ghost use Rattle.std.specs.Prelude.{◌≡◌, ◌↔◌, Any, Contains, IsTrue, ◌≢◌, ℕ, ◌+◌, ◌<◌, ◌≤◌, ◌++◌, [], ◌∷◌, List, All, length, slice_get, Some, MatchOption, ⊤, IsPermutation, OnOk, OnErr, IfOk, IfSome, IsOkUnless, Bool};
+ghost use Rattle.guillotiere.specs.Boxes.{AreSameBoxes, Box, IsNonempty, IsPositive, Sides, box_sides};
 ghost use Rattle.guillotiere.specs.Choice.{AreValid, Options};
 ghost use Rattle.guillotiere.specs.FreeLists.{AreInClasses, IsHome, IsPicked, IsStoredIn, items_at, kept_of, listed, shown_from, spare_at, state_of};
-ghost use Rattle.guillotiere.specs.Pixels.{box_of, options_of, sides_of};
+ghost use Rattle.guillotiere.specs.Pixels.{box_of, options_of, rectangle_of, sides_of, size_of};
 ghost use Rattle.guillotiere.specs.Rectangles.{IsUnsigned};
 ghost use Rattle.guillotiere.specs.Searches.{FitsNone, FitsOnlyFrom, IsFound};
-ghost use Rattle.guillotiere.specs.Simple.{IsSimple, SimpleStep, kept_rest, simple_answer};
+ghost use Rattle.guillotiere.specs.Simple.{IsGuarded, IsSimple, SimpleStep, kept_rest, simple_answer, simple_start};
 
 use crate::choice::{Found, Search, class, rounded};
 use crate::cut::{granted, guillotine};
 use crate::error::AtlasError;
 use crate::geometry::{Rectangle, Size};
-use crate::options::AllocatorOptions;
+use crate::options::{AllocatorOptions, DEFAULT_OPTIONS};
 use std::alloc::{Allocator, Global};
+use std::marker::Model;
+
+/// A simpler allocator, which hands out boxes and never takes one back: its free boxes make up no tree, and a part that
+/// is narrower or lower than the alignment is lost (docs/MODEL.md, "The simple allocator").
+///
+/// It keeps the allocator that it was made with. Contracts see its free boxes, its size and its options.
+#[derive(Drop)]
+pub struct SimpleAtlasAllocator<A: Allocator + Copy = Global> {
+    // The free boxes, one list for each class.
+    lists: [Vec<Rectangle, A>; 3],
+    size: Size,
+    options: AllocatorOptions,
+}
+
+impl<A: Allocator + Copy> Model for SimpleAtlasAllocator<A> {
+    ghost use Rattle.guillotiere.specs.FreeLists.{IsStoredState, state_of};
+    ghost use Rattle.guillotiere.specs.Pixels.{sides_of};
+    ghost use Rattle.guillotiere.specs.Simple.{SimpleState};
+
+    ghost Value = { SimpleState };
+
+    ghost view = { λ a. state_of a.lists (sides_of a.size) a.options };
+
+    ghost invariant = { λ a. IsStoredState a.lists a.size a.options };
+}
+
+impl<A: Allocator + Copy> SimpleAtlasAllocator<A> {
+    /// An allocator of one free box of this size, with `DEFAULT_OPTIONS`. The only error is `Memory`.
+    pub fn new(alloc: A, size: Size) -> Result<Self, AtlasError>
+        requires { IsPositive (sides_of size) }
+        ensures unless { IsOkUnless result AtlasError.Memory }
+        ensures start { IfOk result (λ it. it ≡ simple_start (sides_of size) (options_of DEFAULT_OPTIONS)) }
+    {
+        Self::with_options(alloc, size, &DEFAULT_OPTIONS)
+    }
+
+    /// An allocator of one free box of this size. The only error is `Memory`.
+    pub fn with_options(
+        alloc: A,
+        size: Size,
+        options: &AllocatorOptions,
+    ) -> Result<Self, AtlasError>
+        requires nonempty { IsPositive (sides_of size) }
+        requires valid { AreValid (options_of options.now) }
+        ensures unless { IsOkUnless result AtlasError.Memory }
+        ensures start { IfOk result (λ it. it ≡ simple_start (sides_of size) (options_of options.now)) }
+    {
+        let lists = one_box(alloc, class(size, options), Rectangle::from(size))?;
+        Ok(SimpleAtlasAllocator {
+            lists,
+            size,
+            options: *options,
+        })
+    }
+
+    /// Grants a request: the box of the rounded size at the `min` of the free box that is picked. None if the size is
+    /// empty, if a rounded side passes 2147483647, or if the rounded size fits no free box; then no memory is asked for.
+    /// The only error is `Memory`, and after it everything is as before.
+    pub fn allocate(&mut self, requested_size: Size) -> Result<Option<Rectangle>, AtlasError>
+        ensures unless { IsOkUnless result AtlasError.Memory }
+        ensures step { SimpleStep self.old (sides_of requested_size) (simple_answer result) self.new }
+        ensures exact { IfOk result (λ granted. IfSome granted (λ rectangle. rectangle ≡ rectangle_of (box_of rectangle))) }
+
+        // Boxes that are held stay apart from each other, from the granted box and from the free boxes.
+        ensures guarded { (held : List Box) → IsGuarded self.old held → IfOk result (λ granted. IfSome granted (λ rectangle. IsGuarded self.new (box_of rectangle ∷ held))) }
+        ensures simple { IsSimple self.new }
+    {
+        grant(&mut self.lists, requested_size, &self.options)
+    }
+
+    /// The size that the allocator was made with.
+    pub fn size(&self) -> Size
+        ensures size { result ≡ size_of self.now.size }
+        ensures simple { IsSimple self.now }
+    {
+        self.size
+    }
+
+    /// Whether one free box has the allocator's size.
+    pub fn is_empty(&self) -> bool
+        ensures { IsTrue result ↔ Any (λ b. box_sides b ≡ self.now.size) self.now.free }
+    {
+        is_listed(
+            &self.lists,
+            class(self.size, &self.options),
+            &Rectangle::from(self.size),
+        )
+    }
+}
+
+// One box, in the list of this class.
+fn one_box<A: Allocator + Copy>(
+    alloc: A,
+    class: usize,
+    rectangle: Rectangle,
+) -> Result<[Vec<Rectangle, A>; 3], AtlasError>
+    requires { class < 3 }
+    ensures unless { IsOkUnless result AtlasError.Memory }
+    ensures added { IfOk result (λ lists. items_at lists class ≡ rectangle ∷ []) }
+    ensures others { IfOk result (λ lists. (k : ℕ) → k ≢ class → items_at lists k ≡ []) }
+{
+    let mut lists = [Vec::new(alloc), Vec::new(alloc), Vec::new(alloc)];
+    lists[class].push(rectangle)?;
+    Ok(lists)
+}
+
+// Whether a rectangle is in a list.
+fn is_listed<A: Allocator>(
+    lists: &[Vec<Rectangle, A>; 3],
+    class: usize,
+    rectangle: &Rectangle,
+) -> bool
+    requires { class < 3 }
+    ensures { IsTrue result ↔ Contains (items_at lists.now class) rectangle.now }
+{
+    lists[class].contains(rectangle)
+}
 
 // Room for two more rectangles in a list.
 fn make_room<A: Allocator>(

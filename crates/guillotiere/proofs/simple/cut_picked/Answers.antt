@@ -1,4 +1,4 @@
-use Rattle.std.proofs.Common.{ℕ, ◌+◌, ◌<◌, ◌≤◌, ◌∙◌, FitsSigned, w32, rules, arith}
+use Rattle.std.proofs.Common.{ℕ, ◌<◌, ◌≤◌, ◌∙◌, rules, arith}
 use Rattle.guillotiere.specs.Pixels.{box_of, options_of, sides_of}
 use Rattle.guillotiere.specs.FreeLists.{spare_at}
 use Rattle.guillotiere.proofs.ListedBoxes.{same-classes}

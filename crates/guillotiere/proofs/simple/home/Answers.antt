@@ -1,8 +1,7 @@
 use Rattle.std.proofs.Common.{◌∙◌, ap, arith}
 use Rattle.std.proofs.lemmas.Int.{ints}
-use Rattle.guillotiere.specs.Pixels.{box_of, options_of}
+use Rattle.guillotiere.specs.Pixels.{box_of}
 use Rattle.guillotiere.specs.Rectangles.{measured}
-use Rattle.guillotiere.specs.FreeLists.{IsStoredIn}
 use Rattle.guillotiere.proofs.Listing.{home_box, stored_unsigned}
 use Rattle.guillotiere.proofs.simple.home.Goals as goal
 
