@@ -1,23 +1,21 @@
 -- how the five cuts of a free leaf are made by the calls on slots
-use Rattle.std.proofs.Common.{ℕ, ◌+◌, ◌-◌, ◌<◌, ◌≤◌, ◌≡◌, ◌≢◌, ◌==◌, Bool, true, false, cond, List, refl, sym, ap, ap₂, subst, ◌∙◌, ◌⊎◌, inl, inr, arith, eqb}
-use Rattle.std.proofs.lemmas.Bool.{cases_eq, cond-true, cond-false}
+use Rattle.std.proofs.Common.{ℕ, ◌+◌, ◌-◌, ◌≤◌, ◌≡◌, ◌≢◌, true, false, List, refl, sym, ap, ap₂, subst, ◌∙◌, arith}
+use Rattle.std.proofs.lemmas.Bool.{cond-true, cond-false}
 use Rattle.guillotiere.specs.declared.slots.Node.{Node}
-use Rattle.guillotiere.specs.Boxes.{Axis, Position, Sides, Box, other, same_axis, side, box_sides, origin}
+use Rattle.guillotiere.specs.Boxes.{Axis, Sides, Box, other, same_axis, side, box_sides, origin}
 use Rattle.guillotiere.specs.Pixels.{box_of}
 use Rattle.guillotiere.specs.Cuts.{Cut, cut}
 use Rattle.guillotiere.specs.Cuts.Cut.{Whole, Strip, Corner}
-use Rattle.guillotiere.specs.Trees.{Members}
-use Rattle.guillotiere.specs.Trees as tree
-use Rattle.guillotiere.specs.Changes.{put, place}
+use Rattle.guillotiere.specs.Changes.{place}
 use Rattle.guillotiere.specs.Slots.{node_at, axis_of}
 use Rattle.guillotiere.specs.Numbered.{Numbered, tally, same, erase, id_of, granted_at, split_at, wrapped_at, End, Free, Alloc, Seq}
-use Rattle.guillotiere.specs.Standing.{Sequence, Stands}
-use Rattle.guillotiere.proofs.Frames.{same-self, same-ne}
+use Rattle.guillotiere.specs.Standing.{Sequence}
+use Rattle.guillotiere.proofs.Frames.{same-ne}
 use Rattle.guillotiere.proofs.Joining.{ne-from_same}
 use Rattle.guillotiere.proofs.Weights.{weigh, tally-weigh, free_tally, free_tally-le, free_once}
 use Rattle.guillotiere.proofs.Splitting.{split-absent}
 use Rattle.guillotiere.proofs.Wrapping.{wrapped-absent}
-use Rattle.guillotiere.proofs.SlotAims.{IsAim, IsChoice, IsFitting, aim-choice, tree_in}
+use Rattle.guillotiere.proofs.SlotAims.{IsChoice, IsFitting, aim-choice, tree_in}
 use Rattle.guillotiere.proofs.SlotPlacing.{IsChange, Puts, erase-change, granted-here, granted-other, split-here, split-other, wrapped-here, wrapped-other, granted-absent}
 
 -- the unused slots that a placing takes, each once
@@ -114,10 +112,10 @@ strip_across-change i g j k q =
     record {
       ends = λ across. refl;
       free = λ across x e rest ne z.
-      let nj : j ≡ x → ⊥ = other_slot j x (omega arith) in
-      ap (λ v. granted_at j g (split_at j k q v)) (wrapped-other i j across x e rest ne)
-      ∙ ap (granted_at j g) (split-other j k q x e (wrapped_at i j across rest) nj)
-      ∙ granted-other j g x e (split_at j k q (wrapped_at i j across rest)) nj;
+          let nj : j ≡ x → ⊥ = other_slot j x (omega arith) in
+          ap (λ v. granted_at j g (split_at j k q v)) (wrapped-other i j across x e rest ne)
+          ∙ ap (granted_at j g) (split-other j k q x e (wrapped_at i j across rest) nj)
+          ∙ granted-other j g x e (split_at j k q (wrapped_at i j across rest)) nj;
       alloc = λ across x h e rest. refl;
       seq = λ across x e inner rest. refl;
     }
@@ -147,11 +145,11 @@ corner_along-change i g k j l p q =
     record {
       ends = λ across. refl;
       free = λ across x e rest ne z.
-      let nj : j ≡ x → ⊥ = other_slot j x (omega arith) in
-      ap (λ v. granted_at j g (split_at j l q (wrapped_at i j across v))) (split-other i k p x e rest ne)
-      ∙ ap (λ v. granted_at j g (split_at j l q v)) (wrapped-other i j across x e (split_at i k p rest) ne)
-      ∙ ap (granted_at j g) (split-other j l q x e (wrapped_at i j across (split_at i k p rest)) nj)
-      ∙ granted-other j g x e (split_at j l q (wrapped_at i j across (split_at i k p rest))) nj;
+          let nj : j ≡ x → ⊥ = other_slot j x (omega arith) in
+          ap (λ v. granted_at j g (split_at j l q (wrapped_at i j across v))) (split-other i k p x e rest ne)
+          ∙ ap (λ v. granted_at j g (split_at j l q v)) (wrapped-other i j across x e (split_at i k p rest) ne)
+          ∙ ap (granted_at j g) (split-other j l q x e (wrapped_at i j across (split_at i k p rest)) nj)
+          ∙ granted-other j g x e (split_at j l q (wrapped_at i j across (split_at i k p rest))) nj;
       alloc = λ across x h e rest. refl;
       seq = λ across x e inner rest. refl;
     }
@@ -175,13 +173,13 @@ corner_across-change i g c s d l p q =
     record {
       ends = λ across. refl;
       free = λ across x e rest ne z.
-      let nc : c ≡ x → ⊥ = other_slot c x (omega arith) in
-      let nd : d ≡ x → ⊥ = other_slot d x (omega arith) in
-      ap (λ v. granted_at d g (split_at d l p (wrapped_at c d across (split_at c s q v)))) (wrapped-other i c across x e rest ne)
-      ∙ ap (λ v. granted_at d g (split_at d l p (wrapped_at c d across v))) (split-other c s q x e (wrapped_at i c across rest) nc)
-      ∙ ap (λ v. granted_at d g (split_at d l p v)) (wrapped-other c d across x e (split_at c s q (wrapped_at i c across rest)) nc)
-      ∙ ap (granted_at d g) (split-other d l p x e (wrapped_at c d across (split_at c s q (wrapped_at i c across rest))) nd)
-      ∙ granted-other d g x e (split_at d l p (wrapped_at c d across (split_at c s q (wrapped_at i c across rest)))) nd;
+          let nc : c ≡ x → ⊥ = other_slot c x (omega arith) in
+          let nd : d ≡ x → ⊥ = other_slot d x (omega arith) in
+          ap (λ v. granted_at d g (split_at d l p (wrapped_at c d across (split_at c s q v)))) (wrapped-other i c across x e rest ne)
+          ∙ ap (λ v. granted_at d g (split_at d l p (wrapped_at c d across v))) (split-other c s q x e (wrapped_at i c across rest) nc)
+          ∙ ap (λ v. granted_at d g (split_at d l p v)) (wrapped-other c d across x e (split_at c s q (wrapped_at i c across rest)) nc)
+          ∙ ap (granted_at d g) (split-other d l p x e (wrapped_at c d across (split_at c s q (wrapped_at i c across rest))) nd)
+          ∙ granted-other d g x e (split_at d l p (wrapped_at c d across (split_at c s q (wrapped_at i c across rest)))) nd;
       alloc = λ across x h e rest. refl;
       seq = λ across x e inner rest. refl;
     }

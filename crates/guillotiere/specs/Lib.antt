@@ -7,6 +7,7 @@ pub mod Searches
 pub mod Choice
 pub mod Simple
 pub mod FreeLists
+pub mod AllocatorLaws
 pub mod Trees
 pub mod Changes
 pub mod TreeLaws
@@ -27,3 +28,6 @@ pub mod Calm
 pub mod Settling
 pub mod Stored
 pub mod Links
+pub mod Picks
+pub mod Holdings
+pub mod Replies

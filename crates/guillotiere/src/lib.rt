@@ -9,13 +9,16 @@ mod geometry;
 pub mod laws;
 mod lists;
 mod options;
+mod pick;
 mod placing;
-mod slots;
-mod turns;
 mod simple;
+mod slots;
+mod store;
+mod turns;
 
 pub use allocation::{AllocId, Allocation, SlotCount};
 pub use error::AtlasError;
 pub use geometry::{Point, Rectangle, Size, point2, size2};
 pub use options::{AllocatorOptions, DEFAULT_OPTIONS};
 pub use slots::NodeKind;
+pub use simple::SimpleAtlasAllocator;

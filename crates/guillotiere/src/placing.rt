@@ -6,19 +6,20 @@ ghost use Rattle.guillotiere.specs.Boxes.{side, box_sides};
 ghost use Rattle.guillotiere.specs.Pixels.{natural, box_of, rectangle_of};
 ghost use Rattle.guillotiere.specs.Slots.{nodes, rings, node_at, axis_of, KeepsUse};
 ghost use Rattle.guillotiere.specs.Numbered.{Numbered, granted_at, split_at, wrapped_at, numbers};
-ghost use Rattle.guillotiere.specs.Standing.{Sequence, Stands, IsTree, IsSlot, with_previous};
+ghost use Rattle.guillotiere.specs.Standing.{Sequence, Stands, IsTree};
 ghost use Rattle.guillotiere.specs.Reading.{extent_of};
 ghost use Rattle.guillotiere.specs.Parts.{front_part, back_part, flipped, front_node, back_node, inner_node};
 
-use crate::geometry::{Rectangle, point2};
 use crate::cut::Orientation;
-use crate::slots::{Link, NO_SLOT, Node, NodeKind, Slot, read_node, write_node};
+use crate::geometry::{Rectangle, point2};
+use crate::slots::{Link, NO_SLOT, Node, NodeKind, Slot, read_node, set_previous, write_node};
 
 /// A free leaf becomes allocated.
 pub fn grant_leaf(slots: &mut [Slot], at: Link)
     requires inside { at.number < length slots.old }
     requires free { (node_at (nodes slots.old) at.number).kind ≡ Free }
-    ensures tree { (s : Sequence) (n : Numbered) → Stands (nodes slots.old) s n → Stands (nodes slots.new) s (granted_at at.number (node_at (nodes slots.old) at.number).generation n) }
+    ensures tree { (s : Sequence) (n : Numbered) → Stands (nodes slots.old) s n
+        → Stands (nodes slots.new) s (granted_at at.number (node_at (nodes slots.old) at.number).generation n) }
     ensures granted { node_at (nodes slots.new) at.number ≡ record (node_at (nodes slots.old) at.number) { kind = Alloc } }
     ensures others { (k : ℕ) → k ≢ at.number → KeepsUse (node_at (nodes slots.old) k) (node_at (nodes slots.new) k) }
     ensures same_rings { rings slots.new ≡ rings slots.old }
@@ -26,20 +27,6 @@ pub fn grant_leaf(slots: &mut [Slot], at: Link)
     let mut node = read_node(slots, at);
     node.kind = NodeKind::Alloc;
     write_node(slots, at, node);
-}
-
-/// What stands at `at`, if that is a slot, follows `previous` from now on.
-fn set_previous(slots: &mut [Slot], at: Link, previous: Link)
-    requires inside { IsSlot (length slots.old) at.number }
-    requires short { length slots.old < NO_SLOT }
-    ensures written { nodes slots.new ≡ with_previous (nodes slots.old) at.number previous }
-    ensures same_rings { rings slots.new ≡ rings slots.old }
-{
-    if at.number != NO_SLOT {
-        let mut node = read_node(slots, at);
-        node.previous = previous;
-        write_node(slots, at, node);
-    }
 }
 
 /// The other axis.
@@ -90,11 +77,16 @@ pub fn split_leaf(slots: &mut [Slot], at: Link, fresh: Link, extent: i32)
     requires positive { 0 < natural extent }
     requires less { natural extent < extent_of (node_at (nodes slots.old) at.number) }
     requires short { length slots.old < NO_SLOT }
-    ensures tree { (s : Sequence) (n : Numbered) → Stands (nodes slots.old) s n → Stands (nodes slots.new) s (split_at at.number fresh.number (natural extent) n) }
-    ensures more { (s : Sequence) (n : Numbered) → Stands (nodes slots.old) s n → numbers (split_at at.number fresh.number (natural extent) n) ≡ numbers n + 1 }
-    ensures front { node_at (nodes slots.new) at.number ≡ front_node (node_at (nodes slots.old) at.number) (natural extent) fresh }
-    ensures back { node_at (nodes slots.new) fresh.number ≡ back_node (node_at (nodes slots.old) at.number) (natural extent) at (node_at (nodes slots.old) fresh.number) }
-    ensures others { (k : ℕ) → k ≢ at.number → k ≢ fresh.number → KeepsUse (node_at (nodes slots.old) k) (node_at (nodes slots.new) k) }
+    ensures tree { (s : Sequence) (n : Numbered) → Stands (nodes slots.old) s n
+        → Stands (nodes slots.new) s (split_at at.number fresh.number (natural extent) n) }
+    ensures more { (s : Sequence) (n : Numbered) → Stands (nodes slots.old) s n
+        → numbers (split_at at.number fresh.number (natural extent) n) ≡ numbers n + 1 }
+    ensures front { node_at (nodes slots.new) at.number
+        ≡ front_node (node_at (nodes slots.old) at.number) (natural extent) fresh }
+    ensures back { node_at (nodes slots.new) fresh.number
+        ≡ back_node (node_at (nodes slots.old) at.number) (natural extent) at (node_at (nodes slots.old) fresh.number) }
+    ensures others { (k : ℕ) → k ≢ at.number → k ≢ fresh.number
+        → KeepsUse (node_at (nodes slots.old) k) (node_at (nodes slots.new) k) }
     ensures same_rings { rings slots.new ≡ rings slots.old }
 {
     let leaf = read_node(slots, at);
@@ -122,11 +114,16 @@ pub fn wrap_leaf(slots: &mut [Slot], at: Link, fresh: Link)
     requires inside { fresh.number < length slots.old }
     requires unused { (node_at (nodes slots.old) fresh.number).kind ≡ Unused }
     requires short { length slots.old < NO_SLOT }
-    ensures tree { (s : Sequence) (n : Numbered) → Stands (nodes slots.old) s n → Stands (nodes slots.new) s (wrapped_at at.number fresh.number s.width n) }
-    ensures more { (s : Sequence) (n : Numbered) → Stands (nodes slots.old) s n → numbers (wrapped_at at.number fresh.number s.width n) ≡ numbers n + 1 }
-    ensures outer { node_at (nodes slots.new) at.number ≡ record (node_at (nodes slots.old) at.number) { kind = Container } }
-    ensures inner { node_at (nodes slots.new) fresh.number ≡ inner_node (node_at (nodes slots.old) at.number) at (node_at (nodes slots.old) fresh.number) }
-    ensures others { (k : ℕ) → k ≢ at.number → k ≢ fresh.number → KeepsUse (node_at (nodes slots.old) k) (node_at (nodes slots.new) k) }
+    ensures tree { (s : Sequence) (n : Numbered) → Stands (nodes slots.old) s n
+        → Stands (nodes slots.new) s (wrapped_at at.number fresh.number s.width n) }
+    ensures more { (s : Sequence) (n : Numbered) → Stands (nodes slots.old) s n
+        → numbers (wrapped_at at.number fresh.number s.width n) ≡ numbers n + 1 }
+    ensures outer { node_at (nodes slots.new) at.number
+        ≡ record (node_at (nodes slots.old) at.number) { kind = Container } }
+    ensures inner { node_at (nodes slots.new) fresh.number
+        ≡ inner_node (node_at (nodes slots.old) at.number) at (node_at (nodes slots.old) fresh.number) }
+    ensures others { (k : ℕ) → k ≢ at.number → k ≢ fresh.number
+        → KeepsUse (node_at (nodes slots.old) k) (node_at (nodes slots.new) k) }
     ensures same_rings { rings slots.new ≡ rings slots.old }
 {
     let leaf = read_node(slots, at);

@@ -1,0 +1,92 @@
+-- How the calls on slots and lists change what they hold. No public clause cites this module.
+use Rattle.std.specs.Prelude.{ℕ, ◌+◌, ◌≡◌, ◌≤◌, ◌==◌, ◌⊎◌, Bool, true, false, List, ◌∷◌, length, vec_capacity, if◌then◌else◌}
+use Rattle.guillotiere.specs.declared.store.Store.{Store}
+use Rattle.guillotiere.specs.declared.slots.Node.{Node}
+use Rattle.guillotiere.specs.declared.slots.NodeKind.TheVariants as kind
+use Rattle.guillotiere.specs.Boxes.{side, other, box_sides}
+use Rattle.guillotiere.specs.Pixels.{box_of}
+use Rattle.guillotiere.specs.Slots.{nodes, node_at, axis_of}
+use Rattle.guillotiere.specs.Links.{with_mark, rest_of}
+use Rattle.guillotiere.specs.Numbered.{Numbered, marked, joined, lifted, granted_at, split_at, wrapped_at}
+use Rattle.guillotiere.specs.Stored.{Shelf, Holding, Holds, HoldsWith}
+
+-- the stored part of a store
+abbrev pub shelf_of : {A : Type 0} → Store A → Shelf
+shelf_of s = record { slots = s.slots.items; lists = s.lists; unused = s.unused; options = s.options }
+
+-- slot i is loose, or isn't
+abbrev pub with_loose : (i : ℕ) → Bool → Holding → Holding
+with_loose i b h = record h { loose = with_mark h.loose i b }
+
+abbrev pub with_tree : Numbered → Holding → Holding
+with_tree n h = record h { tree = n }
+
+abbrev pub with_held : (ℕ → List ℕ) → Holding → Holding
+with_held held h = record h { held = held }
+
+abbrev pub with_spare : List ℕ → Holding → Holding
+with_spare spare h = record h { spare = spare }
+
+-- n slots can be taken without memory: as many are unused, or there is room for as many
+abbrev pub HasSlotsFor : (n capacity : ℕ) → Shelf → Holding → Type 0
+HasSlotsFor n capacity v h =
+    (n ≤ length h.spare) ⊎ ((length v.slots + n ≤ capacity) × (length v.slots + n ≤ 16777216))
+
+-- the node at slot i
+abbrev pub node_in : Shelf → ℕ → Node
+node_in v i = node_at (nodes v.slots) i
+
+-- the slots hold some tree
+abbrev pub IsHeld : Shelf → Type 0
+IsHeld v = (h : Holding) × Holds v h
+
+-- slot i is a free leaf that stands in no list
+pub record IsLooseLeaf (v : Shelf) (i : ℕ) (h : Holding) : Type 0 where
+  pub holds : Holds v h
+  pub kind : (node_in v i).kind ≡ kind.Free
+  pub loose : h.loose i ≡ true
+
+-- there are as many slots, and room for as many
+pub record KeepsRoom {A : Type 0} (old new : Store A) : Type 0 where
+  pub slots : length new.slots.items ≡ length old.slots.items
+  pub capacity : vec_capacity new.slots ≡ vec_capacity old.slots
+  pub options : new.options ≡ old.options
+
+-- slot i is a loose leaf, and slot k is in hand
+pub record IsReadyWith (hand : ℕ → ℕ) (v : Shelf) (i k : ℕ) (h : Holding) : Type 0 where
+  pub holds : HoldsWith hand v h
+  pub loose : h.loose i ≡ true
+  pub in_hand : hand k ≡ 1
+
+-- the first unused slot is gone, if there was one
+abbrev pub after_take : Holding → Holding
+after_take h = with_spare (rest_of h.spare) h
+
+-- what a leaf of slot i becomes when it is granted
+abbrev pub after_grant : (i g : ℕ) → Holding → Holding
+after_grant i g h = with_loose i false (with_tree (granted_at i g h.tree) h)
+
+-- slot k takes what a loose leaf of slot i doesn't keep, p of its extent
+abbrev pub after_split : (i k p : ℕ) → Holding → Holding
+after_split i k p h = with_loose k true (with_tree (split_at i k p h.tree) h)
+
+-- slot k is the lone child of what was the loose leaf of slot i
+abbrev pub after_wrap : (i k : ℕ) → Holding → Holding
+after_wrap i k h = with_loose i false (with_loose k true (with_tree (wrapped_at i k h.sequence.width h.tree) h))
+
+-- the granted leaf of slot i is free, and loose
+abbrev pub after_mark : (i : ℕ) → Holding → Holding
+after_mark i h = with_loose i true (with_tree (marked i h.tree) h)
+
+-- the loose leaf of slot i has taken in that of slot j, which is unused
+abbrev pub after_join : (i j : ℕ) → Holding → Holding
+after_join i j h = with_spare (j ∷ h.spare) (with_loose j false (with_tree (joined i h.tree) h))
+
+-- the container of slot i has given way to its lone child of slot c, which is unused
+abbrev pub after_lift : (i c : ℕ) → Holding → Holding
+after_lift i c h =
+    with_spare (c ∷ h.spare) (with_loose c false (with_loose i true (with_tree (lifted i h.tree) h)))
+
+-- the side of a leaf across the sequence that holds it
+abbrev pub across_of : Node → ℕ
+across_of leaf = side (other (axis_of leaf.axis)) (box_sides (box_of leaf.area))
