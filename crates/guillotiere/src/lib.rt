@@ -20,5 +20,5 @@ pub use allocation::{AllocId, Allocation, SlotCount};
 pub use error::AtlasError;
 pub use geometry::{Point, Rectangle, Size, point2, size2};
 pub use options::{AllocatorOptions, DEFAULT_OPTIONS};
-pub use slots::NodeKind;
 pub use simple::SimpleAtlasAllocator;
+pub use slots::NodeKind;
