@@ -162,7 +162,6 @@ pub fn runs_leave_no_trace()
     ensures { RunsLeaveNoTrace }
 {}
 
-
 /// From one state, if a request fits, each positive request no wider and no higher fits.
 pub fn smaller_fits()
     ensures { SmallerFits }
