@@ -39,3 +39,5 @@ pub mod Unlinking
 pub mod Banding
 pub mod Wrapping
 pub mod Filing
+pub mod SlotSums
+pub mod LeafCounts

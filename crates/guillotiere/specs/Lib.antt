@@ -27,3 +27,4 @@ pub mod Replies
 pub mod Links
 pub mod StepLaws
 pub mod RunLaws
+pub mod Visits
