@@ -41,3 +41,4 @@ pub mod Wrapping
 pub mod Filing
 pub mod SlotSums
 pub mod LeafCounts
+pub mod WalkSteps

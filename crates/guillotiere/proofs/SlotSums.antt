@@ -53,26 +53,26 @@ pub member_sum-slots : (f : ℕ → ℕ) (ns : List Node) (n : Numbered) → ((k
 member_sum-slots f ns End below = sym (slot_sum-none (λ k. 0) f 0 ns (λ k l. refl))
 member_sum-slots f ns (Free j e rest) below =
     omega (
-    arith,
-    slot_sum-add (λ k. same k j) (λ k. tally k rest) f 0 ns,
-    slot_sum-one f j 0 ns (omega arith) (omega (arith, below j (omega (arith, same-self j)))),
-    member_sum-slots f ns rest (λ k l. below k (omega arith)),
+      arith,
+      slot_sum-add (λ k. same k j) (λ k. tally k rest) f 0 ns,
+      slot_sum-one f j 0 ns (omega arith) (omega (arith, below j (omega (arith, same-self j)))),
+      member_sum-slots f ns rest (λ k l. below k (omega arith)),
     )
 member_sum-slots f ns (Alloc j g e rest) below =
     omega (
-    arith,
-    slot_sum-add (λ k. same k j) (λ k. tally k rest) f 0 ns,
-    slot_sum-one f j 0 ns (omega arith) (omega (arith, below j (omega (arith, same-self j)))),
-    member_sum-slots f ns rest (λ k l. below k (omega arith)),
+      arith,
+      slot_sum-add (λ k. same k j) (λ k. tally k rest) f 0 ns,
+      slot_sum-one f j 0 ns (omega arith) (omega (arith, below j (omega (arith, same-self j)))),
+      member_sum-slots f ns rest (λ k l. below k (omega arith)),
     )
 member_sum-slots f ns (Seq j e inner rest) below =
     omega (
-    arith,
-    slot_sum-add (λ k. same k j + tally k inner) (λ k. tally k rest) f 0 ns,
-    slot_sum-add (λ k. same k j) (λ k. tally k inner) f 0 ns,
-    slot_sum-one f j 0 ns (omega arith) (omega (arith, below j (omega (arith, same-self j)))),
-    member_sum-slots f ns inner (λ k l. below k (omega arith)),
-    member_sum-slots f ns rest (λ k l. below k (omega arith)),
+      arith,
+      slot_sum-add (λ k. same k j + tally k inner) (λ k. tally k rest) f 0 ns,
+      slot_sum-add (λ k. same k j) (λ k. tally k inner) f 0 ns,
+      slot_sum-one f j 0 ns (omega arith) (omega (arith, below j (omega (arith, same-self j)))),
+      member_sum-slots f ns inner (λ k l. below k (omega arith)),
+      member_sum-slots f ns rest (λ k l. below k (omega arith)),
     )
 
 -- a sum over slots of which the unused weigh nothing

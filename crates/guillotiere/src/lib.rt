@@ -14,6 +14,7 @@ mod placing;
 mod slots;
 mod store;
 mod turns;
+mod walks;
 
 pub use allocation::{AllocId, Allocation, SlotCount};
 pub use atlas::AtlasAllocator;
