@@ -80,7 +80,7 @@ pub free_once : (size : Sides) (t : Tree) → IsWellFormed size t → (x y : ℕ
 free_once size t well x y in_x in_y =
     let all : count_by (covers x y) (all_boxes size t) ≡ 1 = squares_in_one size t well x y in_x in_y in
     let parts : count_by (covers x y) (all_boxes size t) ≡ count_by (covers x y) (map (λ (g : Grant). g.box) (live size t)) + count_by (covers x y) (free_boxes size t)
-    = sum_by-append (λ b. cond (covers x y b) 1 0) (map (λ (g : Grant). g.box) (live size t)) (free_boxes size t) in
+          = sum_by-append (λ b. cond (covers x y b) 1 0) (map (λ (g : Grant). g.box) (live size t)) (free_boxes size t) in
     omega arith
 
 count_mapped : (p : ℕ → Bool) (gs : List Grant) → count_by (λ (g : Grant). p g.id) gs ≡ count_by p (map (λ (g : Grant). g.id) gs)

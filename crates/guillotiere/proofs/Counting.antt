@@ -93,12 +93,12 @@ module _ {X : Type 0} where
         found s rest =
             let is : ys ≡ s.before ++ x ∷ s.after = s.is ∙ ap (λ k. s.before ++ k ∷ s.after) (sym (told x s.here s.passes)) in
             let less : (p : X → Bool) → count_by p xs ≡ count_by p (s.before ++ s.after) = λ p.
-            let a : count_by p (x ∷ xs) ≡ one_if (p x) + count_by p xs = count_by-cons p x xs in
-            let b : count_by p (x ∷ xs) ≡ count_by p (s.before ++ x ∷ s.after) = h p ∙ ap (count_by p) is in
-            let c : count_by p (s.before ++ x ∷ s.after) ≡ count_by p s.before + count_by p (x ∷ s.after) = count_by-append p s.before (x ∷ s.after) in
-            let d : count_by p (x ∷ s.after) ≡ one_if (p x) + count_by p s.after = count_by-cons p x s.after in
-            let e : count_by p (s.before ++ s.after) ≡ count_by p s.before + count_by p s.after = count_by-append p s.before s.after in
-            omega arith in
+                let a : count_by p (x ∷ xs) ≡ one_if (p x) + count_by p xs = count_by-cons p x xs in
+                let b : count_by p (x ∷ xs) ≡ count_by p (s.before ++ x ∷ s.after) = h p ∙ ap (count_by p) is in
+                let c : count_by p (s.before ++ x ∷ s.after) ≡ count_by p s.before + count_by p (x ∷ s.after) = count_by-append p s.before (x ∷ s.after) in
+                let d : count_by p (x ∷ s.after) ≡ one_if (p x) + count_by p s.after = count_by-cons p x s.after in
+                let e : count_by p (s.before ++ s.after) ≡ count_by p s.before + count_by p s.after = count_by-append p s.before s.after in
+                omega arith in
             subst (IsPermutation (x ∷ xs)) (sym is)
             (IsPermutation-trans _ _ _ (IsPermutation-cons x xs (s.before ++ s.after) (rest (s.before ++ s.after) less))
             (IsPermutation-sym _ _ (IsPermutation-middle s.before x s.after)))

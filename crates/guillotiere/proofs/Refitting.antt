@@ -69,15 +69,12 @@ refitted size o limit valid (g ∷ gs) t list new movable well normal aligned li
     let same : refit_sides o g ≡ box_sides g.box = rounded_same o (box_sides g.box) valid here.1 in
     let count : nodes (place size f (refit_sides o g) id t).members ≡ refit_nodes size o t g f = place_nodes size t f (refit_sides o g) id in
     let more : IsRefitted size o limit (place size f (refit_sides o g) id t) gs rest new =
-    refitted size o limit valid gs (place size f (refit_sides o g) id t) rest new (All-tail (IsMovable o) g gs movable)
-    (place_well_formed size t f (refit_sides o g) id well pos fitting.fits unused) (place_normal size t f (refit_sides o g) id normal)
-    (place_aligned size o t f (box_sides g.box) id well fitting.is_free pos fitting.fits aligned) (rw count room) then in
+          refitted size o limit valid gs (place size f (refit_sides o g) id t) rest new (All-tail (IsMovable o) g gs movable)
+          (place_well_formed size t f (refit_sides o g) id well pos fitting.fits unused) (place_normal size t f (refit_sides o g) id normal)
+          (place_aligned size o t f (box_sides g.box) id well fitting.is_free pos fitting.fits aligned) (rw count room) then in
     subst (λ l. IsRefitted size o limit t (g ∷ gs) l new) (sym is)
     (record {
-      well = more.well;
-      normal = more.normal;
-      aligned = more.aligned;
-      limited = more.limited;
+      well = more.well; normal = more.normal; aligned = more.aligned; limited = more.limited;
       before = IsPermutation-cons g gs _ more.before;
       after =
           IsPermutation-trans _ _ _ (IsPermutation-sym _ _ (IsPermutation-middle (map (λ c. c.new) rest.changes) (grant id (box_at f.min (refit_sides o g))) (live size t)))
@@ -88,10 +85,7 @@ refitted size o limit valid (g ∷ gs) t list new movable well normal aligned li
     let more : IsRefitted size o limit t gs rest new = refitted size o limit valid gs t rest new (All-tail (IsMovable o) g gs movable) well normal aligned limited then in
     subst (λ l. IsRefitted size o limit t (g ∷ gs) l new) (sym is)
     (record {
-      well = more.well;
-      normal = more.normal;
-      aligned = more.aligned;
-      limited = more.limited;
+      well = more.well; normal = more.normal; aligned = more.aligned; limited = more.limited;
       before = IsPermutation-trans _ _ _ (IsPermutation-cons g gs _ more.before) (IsPermutation-sym _ _ (IsPermutation-middle (map (λ c. c.old) rest.changes) g rest.failures));
       after = more.after;
       sides = more.sides;

@@ -10,9 +10,9 @@ ghost use Rattle.guillotiere.specs.declared.slots.NodeKind.TheVariants.{Free};
 ghost use Rattle.guillotiere.specs.Links.{IsExact, IsKept, IsListed, IsLoose, IsUnlisted, held_with, held_without, with_mark, with_next, with_ring_previous};
 
 use crate::geometry::{Rectangle, Size};
+use std::alloc::Allocator;
 use crate::options::AllocatorOptions;
 use crate::slots::{Link, NO_SLOT, Ring, Slot, read_node, read_ring, write_ring};
-use std::alloc::Allocator;
 
 /// How many lists of free slots there are: 8 bands for each of 3 classes.
 pub const LISTS: usize = 24;
@@ -246,9 +246,12 @@ pub fn enlist(slots: &mut [Slot], lists: &mut [FreeList], options: &AllocatorOpt
 }
 
 /// stub
-pub fn take_slot<A: Allocator>(slots: &mut Vec<Slot, A>, unused: &mut Link) -> Link {
+pub fn take_slot<A: Allocator>(slots: &mut Vec<Slot, A>, unused: &mut Link) -> Link
+{
     *unused
 }
 
 /// stub
-pub fn give_back(slots: &mut [Slot], unused: &mut Link, at: Link) {}
+pub fn give_back(slots: &mut [Slot], unused: &mut Link, at: Link)
+{
+}

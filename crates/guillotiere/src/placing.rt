@@ -10,8 +10,8 @@ ghost use Rattle.guillotiere.specs.Standing.{Sequence, Stands, IsTree, IsSlot, w
 ghost use Rattle.guillotiere.specs.Reading.{extent_of};
 ghost use Rattle.guillotiere.specs.Parts.{front_part, back_part, flipped, front_node, back_node, inner_node};
 
-use crate::cut::Orientation;
 use crate::geometry::{Rectangle, point2};
+use crate::cut::Orientation;
 use crate::slots::{Link, NO_SLOT, Node, NodeKind, Slot, read_node, write_node};
 
 /// A free leaf becomes allocated.
