@@ -16,29 +16,6 @@ use Rattle.guillotiere.proofs.Suffixes.{Suffix, suffix-at}
 use Rattle.guillotiere.proofs.Joining.{IsJoined, used-le, ne-from_same}
 use Rattle.guillotiere.proofs.Lifting.{IsLifted}
 
-free_before-apart : (e : ℕ) (m : Members) → (begins_free m ≡ false) → free_before e m ≡ tree.Free e m
-free_before-apart e tree.End h = refl
-free_before-apart e (tree.Free d rest) h = absurd (true≢false h)
-free_before-apart e (tree.Alloc id d rest) h = refl
-free_before-apart e (tree.Seq d inner rest) h = refl
-
-seq_before-kept : (e : ℕ) (inner rest : Members) → (is_idle inner ≡ false) → seq_before e inner rest ≡ tree.Seq e inner rest
-seq_before-kept e tree.End rest h = absurd (true≢false h)
-seq_before-kept e (tree.Free d tree.End) rest h = absurd (true≢false h)
-seq_before-kept e (tree.Free d (tree.Free x y)) rest h = refl
-seq_before-kept e (tree.Free d (tree.Alloc id x y)) rest h = refl
-seq_before-kept e (tree.Free d (tree.Seq x y z)) rest h = refl
-seq_before-kept e (tree.Alloc id d y) rest h = refl
-seq_before-kept e (tree.Seq d x y) rest h = refl
-
--- a normal tree is its normal form
-pub nf-normal : (m : Members) → IsNormal m → nf m ≡ m
-nf-normal tree.End h = refl
-nf-normal (tree.Free e rest) h = ap (free_before e) (nf-normal rest h.1) ∙ free_before-apart e rest h.0
-nf-normal (tree.Alloc id e rest) h = ap (tree.Alloc id e) (nf-normal rest h)
-nf-normal (tree.Seq e inner rest) h =
-    ap (λ m. seq_before e m (nf rest)) (nf-normal inner h.1) ∙ ap (seq_before e inner) (nf-normal rest h.2) ∙ seq_before-kept e inner rest h.0
-
 begins-kind : (ns : List Node) (s : Sequence) (b p : ℕ) (n : Numbered) → Standing ns s b p n → begins_free (erase n) ≡ true → (node_at ns (first_slot n)).kind ≡ kind.Free
 begins-kind ns s b p End h f = absurd (true≢false (sym f))
 begins-kind ns s b p (Free j e rest) h f = h.0.kind

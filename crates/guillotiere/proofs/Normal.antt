@@ -6,19 +6,14 @@ use Rattle.guillotiere.specs.Slots.{node_at, use_count, no_slot}
 use Rattle.guillotiere.specs.Trees as tree
 use Rattle.guillotiere.specs.Trees.{Members}
 use Rattle.guillotiere.specs.Changes.{free_before, seq_before, nf, mark, only}
-use Rattle.guillotiere.specs.Numbered.{Numbered, tally, marked, joined, grown_by, lifted, lifted_to, erase, id_of, End, Free, Alloc, Seq}
+use Rattle.guillotiere.specs.Numbered.{Numbered, tally, marked, joined, grown_by, lifted, lifted_to, erase, id_of, numbers, End, Free, Alloc, Seq}
 use Rattle.guillotiere.specs.Standing.{Sequence, Standing, inside}
 use Rattle.guillotiere.proofs.Frames.{same-self}
-
-free_before-free_before : (e d : ℕ) (m : Members) → free_before (e + d) m ≡ free_before e (free_before d m)
-free_before-free_before e d tree.End = refl
-free_before-free_before e d (tree.Free x rest) = ap (λ v. tree.Free v rest) (add_assoc e d x)
-free_before-free_before e d (tree.Alloc id x rest) = refl
-free_before-free_before e d (tree.Seq x inner rest) = refl
+use Rattle.guillotiere.proofs.TreeNormal.{free_before-twice}
 
 nf-grown : (i e : ℕ) (n : Numbered) → nf (erase (grown_by i e n)) ≡ free_before e (nf (erase n))
 nf-grown i e End = refl
-nf-grown i e (Free j d rest) = free_before-free_before e d (nf (erase rest))
+nf-grown i e (Free j d rest) = sym (free_before-twice e d (nf (erase rest)))
 nf-grown i e (Alloc j g d rest) = refl
 nf-grown i e (Seq j d inner rest) = refl
 
@@ -70,3 +65,11 @@ erase-marked ns i s b p (Seq j e inner rest) li below h =
     let a : erase (marked i inner) ≡ mark (only id) (erase inner) = erase-marked ns i (inside s j p e) no_slot s.start inner li (λ k l. below k (omega arith)) h.2 in
     let c : erase (marked i rest) ≡ mark (only id) (erase rest) = erase-marked ns i s j (p + e) rest li (λ k l. below k (omega arith)) h.3 in
     cc
+
+-- the numbered tree has as many members as the tree
+pub numbers-erase : (n : Numbered) → numbers n ≡ tree.nodes (erase n)
+numbers-erase End = refl
+numbers-erase (Free i e rest) = ap (λ v. 1 + v) (numbers-erase rest)
+numbers-erase (Alloc i g e rest) = ap (λ v. 1 + v) (numbers-erase rest)
+numbers-erase (Seq i e inner rest) =
+    ap (λ v. 1 + v + numbers rest) (numbers-erase inner) ∙ ap (λ v. 1 + tree.nodes (erase inner) + v) (numbers-erase rest)

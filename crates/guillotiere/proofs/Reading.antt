@@ -334,14 +334,15 @@ pub axis_of-Stands : (ns : List Node) (s : Sequence) (n : Numbered) → length n
 axis_of-Stands ns s n short top h l =
     ap (λ v. axis_of (node_at ns v).axis) (head_of-Stands ns s n short top h l) ∙ first-axis ns s no_slot 0 n h.standing l
 
+-- a tree with this axis and these members
+pub tree-by_parts : (t : Tree) (a : Axis) (m : Members) → t.axis ≡ a → t.members ≡ m → t ≡ record { axis = a; members = m }
+tree-by_parts t a m ea em = rw (← ea, ← em) refl
+
 pub tree_of-Stands : (ns : List Node) (s : Sequence) (n : Numbered) → length ns < no_slot → s.parent ≡ no_slot → Stands ns s n → IsNonempty n → tree_of ns ≡ record { axis = s.axis; members = erase n }
 tree_of-Stands ns s n short top h l =
     let a = axis_of-Stands ns s n short top h l in
     let m = members_of-Stands ns s n short top h in
-    tree_both (tree_of ns) s.axis (erase n) a m
-  where
-    tree_both : (t : Tree) (a : Axis) (m : Members) → t.axis ≡ a → t.members ≡ m → t ≡ record { axis = a; members = m }
-    tree_both t a m ea em = rw (← ea, ← em) refl
+    tree-by_parts (tree_of ns) s.axis (erase n) a m
 
 tallies-less : (m j : ℕ) (n less : Numbered) → ((x : ℕ) → tally x less + same x j ≡ tally x n) → tallies m less + sames m j ≡ tallies m n
 unfolding sames

@@ -1,5 +1,5 @@
 -- the steps of a freeing, seen from the whole tree
-use Rattle.std.proofs.Common.{ℕ, ◌+◌, ◌<◌, ◌≤◌, ◌≡◌, List, refl, sym, ap, ◌∙◌, ◌⊎◌, inl, inr, arith, length, eqb}
+use Rattle.std.proofs.Common.{ℕ, ◌+◌, ◌<◌, ◌≤◌, ◌≡◌, List, refl, sym, ap, ◌∙◌, ◌⊎◌, inl, inr, arith, length, eqb, Bool}
 use Rattle.std.proofs.lemmas.Bool.{cases_eq, cond_both}
 use Rattle.guillotiere.specs.declared.slots.Node.{Node}
 use Rattle.guillotiere.specs.declared.slots.NodeKind.TheVariants as kind
@@ -11,7 +11,7 @@ use Rattle.guillotiere.specs.Changes.{nf, mark, only, release}
 use Rattle.guillotiere.specs.Numbered.{Numbered, tally, first_slot, same, numbers, erase, id_of, marked, joined, grown_by, lifted, lifted_to, End, Free, Alloc, Seq}
 use Rattle.guillotiere.specs.Standing.{Sequence, Standing, Stands, IsTree, IsWhole, IsSlot, inside}
 use Rattle.guillotiere.specs.Reading.{tree_of, numbered_of}
-use Rattle.guillotiere.proofs.Reading.{IsNonempty, numbers-less, members_of-Stands, axis_of-Stands, tree_of-Stands, nonempty-tally, numbered_of-Stands}
+use Rattle.guillotiere.proofs.Reading.{IsNonempty, numbers-less, members_of-Stands, axis_of-Stands, tree_of-Stands, tree-by_parts, nonempty-tally, numbered_of-Stands}
 use Rattle.guillotiere.proofs.JoiningWrites.{used-inside, none-unused, not-none}
 use Rattle.guillotiere.proofs.Normal.{nf-joined, nf-lifted}
 use Rattle.guillotiere.proofs.Frames.{same-self, same-ne}
@@ -20,7 +20,8 @@ use Rattle.guillotiere.proofs.Lifting.{first-lifted}
 use Rattle.guillotiere.specs.Settling.{IsSettling, IsSettlingTree, IsTurn, IsTurnOf}
 use Rattle.guillotiere.proofs.Releasing.{calm-Stands, full-from_normal, full-marked, erase-marked_at}
 use Rattle.guillotiere.proofs.Closing.{next-in}
-use Rattle.guillotiere.proofs.Calm.{calm-all, normal-from_calm, nf-normal}
+use Rattle.guillotiere.proofs.Calm.{calm-all, normal-from_calm}
+use Rattle.guillotiere.proofs.TreeNormal.{nf-normal}
 use Rattle.guillotiere.specs.Calm.{IsCalmAt, IsCalmBut, NoneEmpty}
 
 pub fewer : (ns : List Node) (s : Sequence) (n less : Numbered) (j : ℕ) → Stands ns s n → (node_at ns j).kind ≡ kind.Free → ((x : ℕ) → tally x less + same x j ≡ tally x n) → numbers less + 1 ≡ numbers n
@@ -259,3 +260,7 @@ released ns ms i s n m few short top was h k some normal same =
     let after : tree_of ms ≡ record { axis = s.axis; members = erase m } = tree_of-Stands ms s m short top k some in
     let with_members : Members → Tree = λ v. record { axis = s.axis; members = v } in
     after ∙ ap with_members is ∙ sym (ap (release set) before)
+
+-- slots that keep the axis, and whose members become the normal form of the marked ones, hold the release
+pub released-read : (t u v : Tree) (set : ℕ → Bool) → u.axis ≡ t.axis → u.members ≡ mark set t.members → v.axis ≡ u.axis → v.members ≡ nf u.members → v ≡ release set t
+released-read t u v set ua um va vm = tree-by_parts v t.axis (nf (mark set t.members)) (va ∙ ua) (vm ∙ ap nf um)
