@@ -48,6 +48,8 @@ pub mod Filing
 pub mod SlotSums
 pub mod LeafCounts
 pub mod WalkSteps
+pub mod Observing
+pub mod NamedSlots
 pub mod Extents
 pub mod SlotLeaves
 pub mod SlotIds

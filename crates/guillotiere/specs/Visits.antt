@@ -1,5 +1,5 @@
 -- What walks of the slots show: the leaves in the order of the slots, and the calls of a callback.
-use Rattle.std.specs.Prelude.{ℕ, ◌≡◌, ◌+◌, ◌%◌, ◌/◌, ◌^◌, ◌==◌, ◌&&◌, Bool, true, false, List, [], ◌∷◌, Option, Some, None, if◌then◌else◌}
+use Rattle.std.specs.Prelude.{ℕ, ◌≡◌, ◌+◌, ◌%◌, ◌/◌, ◌^◌, ◌==◌, ◌&&◌, Bool, true, false, List, [], ◌∷◌, Option, Some, None, if◌then◌else◌, All, map}
 use Rattle.std.specs.Borrow.{Bor}
 use Rattle.std.specs.Fn.{Mut, Called}
 use Rattle.guillotiere.specs.declared.slots.Node.{Node}
@@ -7,9 +7,23 @@ use Rattle.guillotiere.specs.declared.slots.NodeKind.{NodeKind}
 use Rattle.guillotiere.specs.declared.slots.NodeKind.TheVariants as kind
 use Rattle.guillotiere.specs.declared.allocation.Allocation.{Allocation}
 use Rattle.guillotiere.specs.declared.geometry.Rectangle.{Rectangle}
+use Rattle.guillotiere.specs.Boxes.{AreSameBoxes}
+use Rattle.guillotiere.specs.Pixels.{box_of}
+use Rattle.guillotiere.specs.States.{State, free_in}
+use Rattle.guillotiere.specs.Replies.{IsLiveList, IsExact, grant_of}
 use Rattle.guillotiere.specs.Slots.{node_at}
 use Rattle.guillotiere.specs.Lists.{is_free}
 use Rattle.guillotiere.specs.Numbered.{id_of}
+
+-- the live grants by rising slot, each with its exact rectangle
+pub record AreGrants (s : State) (grants : List Allocation) : Type 0 where
+  pub list : IsLiveList s (map grant_of grants)
+  pub exact : All (λ (a : Allocation). IsExact a.rectangle) grants
+
+-- the free boxes, each as often as it is free, in some order, as exact rectangles
+pub record AreFreeAreas (s : State) (areas : List Rectangle) : Type 0 where
+  pub list : AreSameBoxes (map box_of areas) (free_in s)
+  pub exact : All IsExact areas
 
 -- a call at an id and at a `&` to its rectangle
 pub record CalledAtGrant {F : Type 0} (g : Mut F (ℕ × (Bor Rectangle × Unit {0})) (Unit {0})) (f : F) (x : Allocation) (f' : F) : Type 0 where

@@ -10,10 +10,9 @@ ghost use Rattle.guillotiere.specs.Standing.{Sequence, Stands, IsTree};
 ghost use Rattle.guillotiere.specs.Reading.{extent_of};
 ghost use Rattle.guillotiere.specs.Parts.{front_part, back_part, flipped, front_node, back_node, inner_node};
 
+use crate::cut::Orientation;
 use crate::geometry::{Rectangle, point2};
-use crate::slots::{
-    Link, NO_SLOT, Node, NodeKind, Orientation, Slot, read_node, set_previous, write_node,
-};
+use crate::slots::{Link, NO_SLOT, Node, NodeKind, Slot, read_node, set_previous, write_node};
 
 /// A free leaf becomes allocated.
 pub fn grant_leaf(slots: &mut [Slot], at: Link)
