@@ -50,6 +50,7 @@ pub mod LeafCounts
 pub mod WalkSteps
 pub mod Observing
 pub mod NamedSlots
+pub mod ShownLists
 pub mod Extents
 pub mod SlotLeaves
 pub mod SlotIds

@@ -1,5 +1,5 @@
 -- The slot that an id names, and the live grant of that id.
-use Rattle.std.proofs.Common.{ℕ, zero, suc, ◌+◌, ◌*◌, ◌/◌, ◌%◌, ◌^◌, ◌<◌, ◌≤◌, ◌≡◌, ◌&&◌, ◌==◌, eqb, Bool, true, false, cond, List, [], ◌∷◌, map, length, get_or, Option, Some, None, option_map, refl, sym, ap, subst, ◌∙◌, arith}
+use Rattle.std.proofs.Common.{ℕ, zero, suc, ◌+◌, ◌*◌, ◌/◌, ◌%◌, ◌^◌, ◌<◌, ◌≤◌, ◌≡◌, ◌&&◌, ◌==◌, eqb, Bool, true, false, cond, List, [], ◌∷◌, map, length, get_or, Option, Some, None, IsSome, option_map, refl, sym, ap, subst, ◌∙◌, arith}
 use Rattle.std.specs.Prelude.{find}
 use Rattle.std.specs.List.{count_by}
 use Rattle.std.proofs.lemmas.Bool.{and_parts, and_from, eqb-true, eq-eqb, true≢false, false≢true}
@@ -151,6 +151,11 @@ named-false ns id none = by_test (is_named ns id) refl
         let weight : alloc_weight (has_id id) (id % 2 ^ 24) (node_at ns (id % 2 ^ 24)) ≡ 1 =
         ap (λ k. cond (is_alloc k) (one_if (eqb (id_of (id % 2 ^ 24) (node_at ns (id % 2 ^ 24)).generation) id)) 0) alloc ∙ ap one_if (eq-eqb _ _ whole) in
         absurd (omega (arith, none, weight, all-at (alloc_weight (has_id id)) (id % 2 ^ 24) ns inside))
+
+-- a live id has a rectangle
+pub not_missed : (o : Option Box) → IsSome o → option_map rectangle_of o ≡ None → ⊥
+not_missed None some e = absurd (cc)
+not_missed (Some b) some e = absurd (cc)
 
 -- the node that a slot shows
 node_at-slot : (slots : List Slot) (i : ℕ) (s : Slot) → i < length slots → s ≡ get_or slots i s → node_at (nodes slots) i ≡ s.node
