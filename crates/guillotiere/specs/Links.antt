@@ -1,5 +1,5 @@
 -- What the calls on lists of slots make of rings, lists and marks. No public clause cites this module.
-use Rattle.std.specs.Prelude.{ℕ, ◌+◌, ◌≡◌, ◌<◌, ◌==◌, Bool, true, false, List, ◌∷◌, length, slice_set, if◌then◌else◌}
+use Rattle.std.specs.Prelude.{ℕ, ◌+◌, ◌%◌, ◌≡◌, ◌<◌, ◌==◌, Bool, true, false, List, [], ◌∷◌, length, slice_set, if◌then◌else◌}
 use Rattle.guillotiere.specs.declared.slots.Slot.{Slot}
 use Rattle.guillotiere.specs.declared.slots.Link.{Link}
 use Rattle.guillotiere.specs.declared.slots.Node.{Node}
@@ -70,3 +70,21 @@ pub record IsLoose (o : Options) (slots : List Slot) (lists : List FreeList) (i 
   pub loose : ℕ → Bool
   pub filed : AreFiled o (nodes slots) (rings slots) lists unused spare held hand loose
   pub is_loose : loose i ≡ true
+
+-- the list but for its first
+abbrev pub rest_of : List ℕ → List ℕ
+rest_of [] = []
+rest_of (x ∷ xs) = xs
+
+-- the node of an unused slot once it is taken again
+abbrev pub renewed : Node → Node
+renewed n = record n { generation = (n.generation + 1) % 256 }
+
+-- Slot `at` was taken: it is in hand, no longer spare, not used, and none of those that were in hand.
+pub record IsTaken (o : Options) (old new : List Slot) (lists : List FreeList) (unused unused' : Link)
+    (spare : List ℕ) (held : ℕ → List ℕ) (hand : ℕ → ℕ) (loose : ℕ → Bool) (at : ℕ) : Type 0 where
+  pub filed : AreFiled o (nodes new) (rings new) lists unused' (rest_of spare) held (with_count hand at 1) loose
+  pub inside : at < length new
+  pub was_unused : (node_at (nodes old) at).kind ≡ kind.Unused
+  pub is_unused : (node_at (nodes new) at).kind ≡ kind.Unused
+  pub apart : (k : ℕ) → k < length old → 0 < hand k → at ≡ k → ⊥

@@ -8,7 +8,7 @@ use Rattle.guillotiere.specs.declared.cut.Rest.{Rest}
 use Rattle.guillotiere.specs.Boxes.{Axis, Sides, Box, box_sides}
 use Rattle.guillotiere.specs.Boxes.Axis.{Horizontal, Vertical}
 use Rattle.guillotiere.specs.Cuts.{cut_axis, split_along, leftover_along}
-use Rattle.guillotiere.specs.Pixels.{rectangle_of}
+use Rattle.guillotiere.specs.Pixels.{box_of, rectangle_of}
 
 abbrev pub axis_of : Orientation → Axis
 axis_of orientation.Horizontal = Horizontal
@@ -58,3 +58,7 @@ pub record IsRestOf (f : Box) (r : Sides) (rest : Rest) : Type 0 where
   pub axis : axis_of rest.orientation ≡ cut_axis (box_sides f) r
   pub split : rest.split ≡ rectangle_of (split_along (axis_of rest.orientation) f r)
   pub leftover : rest.leftover ≡ rectangle_of (leftover_along (axis_of rest.orientation) f r)
+
+-- no coordinate lies below 0
+abbrev pub IsUnsigned : Rectangle → Type 0
+IsUnsigned r = r ≡ rectangle_of (box_of r)

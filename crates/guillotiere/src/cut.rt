@@ -33,8 +33,8 @@ fn capped_area(width: i32, height: i32) -> u64
     if area < 2147483647 { area } else { 2147483647 }
 }
 
-// The axis on which the greater part remains, counted by areas up to 2147483647.
-fn orientation_of(whole: Size, size: Size) -> Orientation
+/// The axis on which the greater part remains, counted by areas up to 2147483647.
+pub fn orientation_of(whole: Size, size: Size) -> Orientation
     requires wide { pos 0 ≤ℤ size.width }
     requires high { pos 0 ≤ℤ size.height }
     requires width { size.width ≤ℤ whole.width }

@@ -1,18 +1,22 @@
 //! The lists of free slots, by class and band, and the list of unused slots: links inside the slots.
-ghost use Rattle.std.specs.Prelude.{◌≡◌, ◌+◌, ◌<◌, ◌≤◌, ◌≤ℤ◌, ℕ, Bool, true, false, pos, List, ◌∷◌, length};
+ghost use Rattle.std.specs.Prelude.{◌≡◌, ◌+◌, ◌<◌, ◌≤◌, ◌≤ℤ◌, ℕ, Bool, true, false, pos, List, [], ◌∷◌, ◌++◌, length, replicate, slice_set, vec_capacity, vec_len};
 ghost use Rattle.guillotiere.specs.Boxes.{Fits, box_sides};
-ghost use Rattle.guillotiere.specs.Choice.{class_of, reaches};
+ghost use Rattle.guillotiere.specs.Choice.{Options, class_of, reaches};
 ghost use Rattle.guillotiere.specs.Pixels.{box_of, options_of, sides_of};
-ghost use Rattle.guillotiere.specs.Slots.{nodes, rings, node_at, ring_at};
+ghost use Rattle.guillotiere.specs.Slots.{blank_slot, nodes, rings, node_at, ring_at};
 ghost use Rattle.guillotiere.specs.Standing.{IsSlot};
-ghost use Rattle.guillotiere.specs.Lists.{AreFiled, IsList, band_of, bounds, list_of, node_sides, occurs, without};
+ghost use Rattle.guillotiere.specs.Lists.{AreFiled, IsList, Line, band_of, blank_list, bounds, front, list_of, node_sides, occurs, without};
 ghost use Rattle.guillotiere.specs.declared.slots.NodeKind.TheVariants.{Free};
-ghost use Rattle.guillotiere.specs.Links.{IsExact, IsKept, IsListed, IsLoose, IsUnlisted, held_with, held_without, with_mark, with_next, with_ring_previous};
+ghost use Rattle.guillotiere.specs.Links.{IsExact, IsKept, IsListed, IsLoose, IsTaken, IsUnlisted, held_with, held_without, renewed, with_count, with_mark, with_next, with_ring_previous};
 
-use crate::geometry::{Rectangle, Size};
-use std::alloc::Allocator;
+use crate::cut::Orientation;
+use crate::geometry::{Rectangle, Size, point2};
 use crate::options::AllocatorOptions;
-use crate::slots::{Link, NO_SLOT, Ring, Slot, read_node, read_ring, write_ring};
+use crate::slots::{
+    Link, NO_SLOT, Node, NodeKind, Ring, Slot, read_node, read_ring, write_node,
+    write_ring,
+};
+use std::alloc::Allocator;
 
 /// How many lists of free slots there are: 8 bands for each of 3 classes.
 pub const LISTS: usize = 24;
@@ -245,13 +249,94 @@ pub fn enlist(slots: &mut [Slot], lists: &mut [FreeList], options: &AllocatorOpt
     push_front(slots, list, at, size);
 }
 
-/// stub
-pub fn take_slot<A: Allocator>(slots: &mut Vec<Slot, A>, unused: &mut Link) -> Link
+// A slot that was never taken.
+fn fresh_slot() -> Slot
+    ensures { result ≡ blank_slot }
 {
-    *unused
+    let none = Link { number: 0 };
+    let corner = point2(0, 0);
+    Slot {
+        node: Node {
+            parent: none,
+            previous: none,
+            next: none,
+            area: Rectangle {
+                min: corner,
+                max: corner,
+            },
+            kind: NodeKind::Unused,
+            axis: Orientation::Vertical,
+            generation: 0,
+        },
+        ring: Ring {
+            previous: none,
+            next: none,
+        },
+    }
 }
 
-/// stub
-pub fn give_back(slots: &mut [Slot], unused: &mut Link, at: Link)
+// The generation of a slot rises by one, and after 255 begins again at 0.
+fn renew(slots: &mut [Slot], at: Link)
+    requires { at.number < length slots.old }
+    ensures written { nodes slots.new ≡ slice_set (nodes slots.old) at.number (renewed (node_at (nodes slots.old) at.number)) }
+    ensures same_rings { rings slots.new ≡ rings slots.old }
 {
+    let mut node = read_node(slots, at);
+    node.generation = node.generation.wrapping_add(1);
+    write_node(slots, at, node);
+}
+
+/// Takes the first of the unused slots, whose generation rises, or else a new one, for which there is room. It is in
+/// hand from then on.
+pub fn take_slot<A: Allocator>(slots: &mut Vec<Slot, A>, unused: &mut Link) -> Link
+    requires listed { (spare : List ℕ) × Line (rings slots.old.items) spare × (unused.old.number ≡ front spare) }
+    requires room { unused.old.number ≡ NO_SLOT → vec_len slots.old < vec_capacity slots.old }
+    requires short { vec_len slots.old < 4294967295 }
+    ensures taken { (o : Options) (lists : List FreeList) (spare : List ℕ) (held : ℕ → List ℕ) (hand : ℕ → ℕ) (loose : ℕ → Bool) → AreFiled o (nodes slots.old.items) (rings slots.old.items) lists unused.old spare held hand loose → IsTaken o slots.old.items slots.new.items lists unused.old unused.new spare held hand loose result.number }
+    ensures others { (k : ℕ) → (k ≡ result.number → ⊥) → node_at (nodes slots.new.items) k ≡ node_at (nodes slots.old.items) k }
+    ensures again { (unused.old.number ≡ NO_SLOT → ⊥) → (result ≡ unused.old) × (nodes slots.new.items ≡ slice_set (nodes slots.old.items) result.number (renewed (node_at (nodes slots.old.items) result.number))) }
+    ensures fresh { unused.old.number ≡ NO_SLOT → (result.number ≡ vec_len slots.old) × (slots.new.items ≡ slots.old.items ++ blank_slot ∷ []) }
+    ensures capacity { vec_capacity slots.new ≡ vec_capacity slots.old }
+{
+    let at = *unused;
+    if at.number == NO_SLOT {
+        let number = slots.len() as u32;
+        slots.push_reserved(fresh_slot());
+        Link { number }
+    } else {
+        let ring = read_ring(slots, at);
+        *unused = ring.next;
+        renew(slots, at);
+        at
+    }
+}
+
+/// Puts a slot that is in hand, and not used, in front of the unused ones.
+pub fn give_back(slots: &mut [Slot], unused: &mut Link, at: Link)
+    requires { at.number < length slots.old }
+    ensures filed { (o : Options) (lists : List FreeList) (spare : List ℕ) (held : ℕ → List ℕ) (hand : ℕ → ℕ) (loose : ℕ → Bool) → AreFiled o (nodes slots.old) (rings slots.old) lists unused.old spare held hand loose → 0 < hand at.number → AreFiled o (nodes slots.new) (rings slots.new) lists unused.new (at.number ∷ spare) held (with_count hand at.number 0) loose }
+    ensures same_nodes { nodes slots.new ≡ nodes slots.old }
+{
+    let none = Link { number: NO_SLOT };
+    let ring = Ring {
+        previous: none,
+        next: *unused,
+    };
+    write_ring(slots, at, ring);
+    *unused = at;
+}
+
+/// The lists of an atlas in which nothing is listed yet.
+pub fn empty_lists() -> [FreeList; LISTS]
+    ensures { result ≡ replicate 24 blank_list }
+{
+    let none = Link { number: NO_SLOT };
+    let empty = FreeList {
+        head: none,
+        tail: none,
+        count: 0,
+        most_width: 0,
+        most_height: 0,
+    };
+    [empty; LISTS]
 }

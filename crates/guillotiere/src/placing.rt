@@ -12,7 +12,9 @@ ghost use Rattle.guillotiere.specs.Parts.{front_part, back_part, flipped, front_
 
 use crate::cut::Orientation;
 use crate::geometry::{Rectangle, point2};
-use crate::slots::{Link, NO_SLOT, Node, NodeKind, Slot, read_node, set_previous, write_node};
+use crate::slots::{
+    Link, NO_SLOT, Node, NodeKind, Slot, read_node, set_previous, write_node,
+};
 
 /// A free leaf becomes allocated.
 pub fn grant_leaf(slots: &mut [Slot], at: Link)

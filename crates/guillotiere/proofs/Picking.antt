@@ -1,0 +1,186 @@
+-- The best of the boxes shown is the pick of all free boxes, where the classes are searched from the request's upwards.
+use Rattle.std.proofs.Common.{◌≡◌, ℕ, ◌+◌, ◌-◌, ◌*◌, ◌/◌, ◌%◌, ◌<◌, ◌≤◌, ◌⊎◌, Bool, true, false, cond, eqb, leb, ltb, ◌&&◌, ◌||◌, List, [], ◌∷◌, length, get_or, ℤ, pos, negsuc, ◌≤ℤ◌, zero, suc, refl, ap, sym, ◌∙◌, subst, inl, inr, arith}
+use Rattle.std.specs.Prelude.{int_le, ◌==◌}
+use Rattle.std.specs.List.{Contains, count_by, All}
+use Rattle.std.proofs.lemmas.Int.{ints}
+use Rattle.std.proofs.lemmas.Bool.{cases_Bool, or_cases, or_left, or_right, eq-eqb, ne_eqb, eqb-true, eqb-false, cases_eq, cases_lt, cond-true, cond-false, false_from_ne_true}
+use Rattle.std.proofs.lemmas.Nat.{mul-le}
+use Rattle.std.proofs.lemmas.Bool.Decides.{nat_tests}
+use Rattle.std.proofs.lemmas.List.Elements.{All-contains}
+use Rattle.std.proofs.lemmas.List.Sums.{sum_by-cons, get_or-le-sum_by}
+use Rattle.guillotiere.specs.Boxes.{Sides, Box, box_sides, Fits, IsPositive, IsNonempty, IsWithin, AreDisjoint, covers}
+use Rattle.guillotiere.specs.Choice.{Options, AreValid, up, rounded, reaches, class_of, least_margin, HasEqualSide, IsFitting, IsCandidate, HasBetterMargin, IsBest, ComesFirst, IsPick, HasRoom, HasNoRoom}
+use Rattle.guillotiere.specs.Requests.{CanBeRounded}
+use Rattle.guillotiere.specs.Searches.{Shown, shown_at, IsAsGood, IsBestShown, FitsNone, FitsOnlyFrom, AreOfClass}
+use Rattle.guillotiere.proofs.Choosing.{margin-equal_side, equal_side-margin, equal_side_cases}
+
+-- classes
+
+pub reaches-fits : (t : ℤ) (a b : Sides) → Fits a b → reaches t a ≡ true → reaches t b ≡ true
+reaches-fits t a b fits h = grind (arith, ints)
+
+-- a larger size has no lower class
+pub class_of-fits : (o : Options) (a b : Sides) → Fits a b → class_of o a ≤ class_of o b
+class_of-fits o a b fits =
+    by_large (reaches o.large_threshold a) (reaches o.large_threshold b) (reaches o.small_threshold a) (reaches o.small_threshold b)
+    (reaches-fits o.large_threshold a b fits) (reaches-fits o.small_threshold a b fits)
+  where
+    by_large : (la lb sa sb : Bool) → (la ≡ true → lb ≡ true) → (sa ≡ true → sb ≡ true) → cond la 2 (cond sa 1 0) ≤ cond lb 2 (cond sb 1 0)
+    by_large la lb sa sb h k = grind arith
+
+pub class_of-below : (o : Options) (a : Sides) → class_of o a < 3
+class_of-below o a = grind arith
+
+-- the search begins at the request's class
+pub fits_only_from_own : (free : List Box) (o : Options) (r : Sides) → FitsOnlyFrom (class_of o r) free o r
+fits_only_from_own free o r b fitting = class_of-fits o r (box_sides b) fitting.fits
+
+-- a class without a fitting box is passed
+pub fits_only_from_next : (class : ℕ) (free : List Box) (o : Options) (r : Sides) (shown : List Shown)
+    → FitsOnlyFrom class free o r → AreOfClass class free o r shown → FitsNone r shown → FitsOnlyFrom (class + 1) free o r
+fits_only_from_next class free o r shown from of none b fitting =
+    elim (cases_eq (class_of o (box_sides b)) class) [
+      | inl e ↦ let has = of.each b fitting e in absurd (none (shown_at b has.0) has.1 fitting.fits)
+      | inr ne ↦ omega (arith, from b fitting)
+    ]
+
+-- no class is left
+pub fits_nothing : (free : List Box) (o : Options) (r : Sides) → FitsOnlyFrom 3 free o r → (b : Box) → IsFitting free r b → ⊥
+fits_nothing free o r from b fitting = omega (arith, from b fitting, class_of-below o (box_sides b))
+
+pub no_room : (free : List Box) (o : Options) (s : Sides) → FitsOnlyFrom 3 free o (rounded o s) → HasNoRoom free o s
+no_room free o s from room = fits_nothing free o (rounded o s) from room.box room.fitting
+
+-- a request that can't be rounded has no room in a size that an `i32` can hold
+pub no_room_unrounded : (free : List Box) (o : Options) (s size : Sides) → (CanBeRounded o s → ⊥) → All (λ b. IsNonempty b × IsWithin size b) free
+    → size.width ≤ 2147483647 → size.height ≤ 2147483647 → HasNoRoom free o s
+no_room_unrounded free o s size misfit boxes wide high room =
+    let inside = All-contains (λ b. IsNonempty b × IsWithin size b) free room.box boxes room.fitting.is_free in
+    let fits = room.fitting.fits in
+    misfit (record { positive = room.positive; width = omega (arith, inside.1.0, fits.0); height = omega (arith, inside.1.1, fits.1) })
+
+-- the pick
+
+of_lowest : (class : ℕ) (free : List Box) (o : Options) (r : Sides) (shown : List Shown) (f : Shown) (c : Box)
+    → FitsOnlyFrom class free o r → AreOfClass class free o r shown → Contains shown f → Fits r (box_sides f.box)
+    → IsCandidate free o r c → (at : ℕ) × Contains shown (shown_at c at)
+of_lowest class free o r shown f c from of has fits candidate =
+    let own = of.of_class f has in
+    let low = candidate.lowest f.box (record { is_free = own.0; fits = fits }) in
+    of.each c candidate.fitting (omega (arith, low, own.1, from c candidate.fitting))
+
+best_margin : (o : Options) (r : Sides) (b c : Box) → IsAsGood (class_of o r == 2) r b c → HasEqualSide r b ⊎ HasBetterMargin o r b c
+best_margin o r b c good =
+    elim (cases_eq (class_of o r) 2) [
+      | inl e ↦ large e (subst (λ (l : Bool). IsAsGood l r b c) (eq-eqb (class_of o r) 2 e) good)
+      | inr ne ↦ inr ((λ e. absurd (ne e)), λ _. subst (λ (l : Bool). IsAsGood l r b c) (ne_eqb (class_of o r) 2 ne) good)
+    ]
+  where
+    large : class_of o r ≡ 2 → IsAsGood true r b c → HasEqualSide r b ⊎ HasBetterMargin o r b c
+    large e (inl s) = inl s
+    large e (inr p) = inr ((λ _. p.1), λ l. absurd (omega (arith, e, l)))
+
+best_equal_side : (is_large : Bool) (r : Sides) (b c : Box) → Fits r (box_sides b) → Fits r (box_sides c) → IsAsGood is_large r b c
+    → HasEqualSide r c → HasEqualSide r b
+best_equal_side true r b c fb fc (inl s) e = s
+best_equal_side true r b c fb fc (inr p) e = absurd (p.0 e)
+best_equal_side false r b c fb fc p e = let z = margin-equal_side r c fc e in equal_side-margin r b fb (omega arith)
+
+as_good-best : (o : Options) (r : Sides) (b c : Box) → Fits r (box_sides b) → Fits r (box_sides c) → (HasEqualSide r c → HasEqualSide r b)
+    → HasEqualSide r b ⊎ HasBetterMargin o r b c → IsAsGood (class_of o r == 2) r b c
+as_good-best o r b c fb fc h m =
+    elim (cases_eq (class_of o r) 2) [
+      | inl e ↦ subst (λ (l : Bool). IsAsGood l r b c) (sym (eq-eqb (class_of o r) 2 e)) (large e m)
+      | inr ne ↦ subst (λ (l : Bool). IsAsGood l r b c) (sym (ne_eqb (class_of o r) 2 ne)) (small ne m)
+    ]
+  where
+    large : class_of o r ≡ 2 → HasEqualSide r b ⊎ HasBetterMargin o r b c → IsAsGood true r b c
+    large e (inl s) = inl s
+    large e (inr p) = elim (equal_side_cases r b) [ inl s ↦ inl s | inr ne ↦ inr ((λ k. ne (h k)), p.0 e) ]
+
+    small : (class_of o r ≡ 2 → ⊥) → HasEqualSide r b ⊎ HasBetterMargin o r b c → IsAsGood false r b c
+    small ne (inl s) = let z = margin-equal_side r b fb s in omega arith
+    small ne (inr p) = p.1 (omega (arith, ne, class_of-below o r))
+
+-- the best box shown of the lowest class with a fitting box is the pick
+pub pick_of_class : (class : ℕ) (free : List Box) (o : Options) (r : Sides) (shown : List Shown) (f : Shown)
+    → FitsOnlyFrom class free o r → AreOfClass class free o r shown → IsBestShown (class_of o r == 2) r shown f → IsPick free o r f.box
+pick_of_class class free o r shown f from of best =
+    let own = of.of_class f best.is_shown in
+    let fitting : IsFitting free r f.box = record { is_free = own.0; fits = best.fits } in
+    let seen : (c : Box) → IsCandidate free o r c → (at : ℕ) × Contains shown (shown_at c at) = λ c candidate. of_lowest class free o r shown f c from of best.is_shown best.fits candidate in
+    let good : (c : Box) → IsCandidate free o r c → IsAsGood (class_of o r == 2) r f.box c = λ c candidate. best.best (shown_at c (seen c candidate).0) (seen c candidate).1 candidate.fitting.fits in
+    record {
+      best = record {
+        candidate = record { fitting = fitting; lowest = λ c h. omega (arith, own.1, from c h) };
+        equal_side = λ c candidate e. best_equal_side (class_of o r == 2) r f.box c best.fits candidate.fitting.fits (good c candidate) e;
+        margin = λ c candidate. best_margin o r f.box c (good c candidate);
+      };
+      first = λ b h.
+          let candidate : IsCandidate free o r f.box = record { fitting = fitting; lowest = λ c k. omega (arith, own.1, from c k) } in
+          best.first (shown_at b (seen b h.candidate).0) (seen b h.candidate).1 h.candidate.fitting.fits
+          (as_good-best o r b f.box h.candidate.fitting.fits best.fits (h.equal_side f.box candidate) (h.margin f.box candidate));
+    }
+
+-- a pick shows that there is room
+pub room_of_pick : (free : List Box) (o : Options) (s : Sides) (f : Box) → IsPositive s → IsPick free o (rounded o s) f → HasRoom free o s
+room_of_pick free o s f positive pick = record { positive = positive; box = f; fitting = pick.best.candidate.fitting }
+
+-- of disjoint boxes that aren't empty there is one pick
+
+same_of_one : (p : Box → Bool) (xs : List Box) (f g : Box) (i j : ℕ) → i < length xs → j < length xs → get_or xs i f ≡ f → get_or xs j g ≡ g
+    → p f ≡ true → p g ≡ true → count_by p xs ≤ 1 → f ≡ g
+same_of_one p [] f g i j hi hj ef eg pf pg one = absurd (omega arith)
+same_of_one p (x ∷ xs) f g zero zero hi hj ef eg pf pg one = sym ef ∙ eg
+same_of_one p (x ∷ xs) f g zero (suc j) hi hj ef eg pf pg one =
+    let more = get_or-le-sum_by (λ b. cond {A = ℕ} (p b) 1 0) xs j g (omega arith) in
+    let at : cond {A = ℕ} (p (get_or xs j g)) 1 0 ≡ 1 = ap (λ (b : Box). cond {A = ℕ} (p b) 1 0) eg ∙ ap (λ (b : Bool). cond {A = ℕ} b 1 0) pg in
+    let head : cond {A = ℕ} (p x) 1 0 ≡ 1 = ap (λ (b : Box). cond {A = ℕ} (p b) 1 0) ef ∙ ap (λ (b : Bool). cond {A = ℕ} b 1 0) pf in
+    absurd (omega (arith, sum_by-cons (λ b. cond {A = ℕ} (p b) 1 0) x xs))
+same_of_one p (x ∷ xs) f g (suc i) zero hi hj ef eg pf pg one =
+    let more = get_or-le-sum_by (λ b. cond {A = ℕ} (p b) 1 0) xs i f (omega arith) in
+    let at : cond {A = ℕ} (p (get_or xs i f)) 1 0 ≡ 1 = ap (λ (b : Box). cond {A = ℕ} (p b) 1 0) ef ∙ ap (λ (b : Bool). cond {A = ℕ} b 1 0) pf in
+    let head : cond {A = ℕ} (p x) 1 0 ≡ 1 = ap (λ (b : Box). cond {A = ℕ} (p b) 1 0) eg ∙ ap (λ (b : Bool). cond {A = ℕ} b 1 0) pg in
+    absurd (omega (arith, sum_by-cons (λ b. cond {A = ℕ} (p b) 1 0) x xs))
+same_of_one p (x ∷ xs) f g (suc i) (suc j) hi hj ef eg pf pg one =
+    same_of_one p xs f g i j (omega arith) (omega arith) ef eg pf pg (omega (arith, sum_by-cons (λ b. cond {A = ℕ} (p b) 1 0) x xs))
+
+-- a box that isn't empty holds the unit square at its `min`
+covers-min : (b : Box) (x y : ℕ) → IsNonempty b → b.min.x ≡ x → b.min.y ≡ y → covers x y b ≡ true
+covers-min b x y nonempty e f = grind (arith, nat_tests)
+
+pub pick_unique : (free : List Box) (o : Options) (r : Sides) (f g : Box) → AreDisjoint free → All IsNonempty free → IsPick free o r f → IsPick free o r g → f ≡ g
+pick_unique free o r f g disjoint nonempty pf pg =
+    let ff = pf.best.candidate.fitting.is_free in
+    let gf = pg.best.candidate.fitting.is_free in
+    let same = same_corner (pf.first g pg.best) (pg.first f pf.best) in
+    same_of_one (covers f.min.x f.min.y) free f g ff.0 gf.0 ff.1 gf.1 ff.2 gf.2
+    (covers-min f f.min.x f.min.y (All-contains IsNonempty free f nonempty ff) refl refl)
+    (covers-min g f.min.x f.min.y (All-contains IsNonempty free g nonempty gf) same.0 same.1)
+    (disjoint f.min.x f.min.y)
+  where
+    same_corner : ComesFirst f g → ComesFirst g f → (g.min.x ≡ f.min.x) × (g.min.y ≡ f.min.y)
+    same_corner (inl p) (inl q) = absurd (omega arith)
+    same_corner (inl p) (inr q) = absurd (omega arith)
+    same_corner (inr p) (inl q) = absurd (omega arith)
+    same_corner (inr p) (inr q) = (omega arith, omega arith)
+
+-- rounding up gives the least multiple that is no less
+
+pub up-multiple : (n a : ℕ) → (k : ℕ) × (up n a ≡ k * a)
+up-multiple n a = ((n + (a - 1)) / a, refl)
+
+pub up-le : (n a : ℕ) → 0 < a → n ≤ up n a
+up-le n a h = omega arith
+
+pub up-below : (n a : ℕ) → 0 < a → up n a < n + a
+up-below n a h = omega arith
+
+pub up-least : (n a k : ℕ) → 0 < a → n ≤ k * a → up n a ≤ k * a
+up-least n a k h p =
+    let q = (n + (a - 1)) / a in
+    let below : q * a < n + a = up-below n a h in
+    elim (cases_lt k q) [
+      | inl l ↦ absurd (omega (arith, mul-le (k + 1) a q a (omega arith) (omega arith)))
+      | inr g ↦ mul-le q a k a g (omega arith)
+    ]

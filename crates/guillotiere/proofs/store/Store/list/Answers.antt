@@ -1,0 +1,29 @@
+use Rattle.std.proofs.Common.{◌∙◌, true, false}
+use Rattle.std.proofs.lemmas.List.{with_items_is}
+use Rattle.guillotiere.specs.Pixels.{options_of}
+use Rattle.guillotiere.specs.Slots.{nodes, node_at}
+use Rattle.guillotiere.specs.Lists.{list_of, node_sides}
+use Rattle.guillotiere.specs.Links.{held_with, with_mark}
+use Rattle.guillotiere.specs.Holdings.{shelf_of}
+use Rattle.guillotiere.proofs.StoreSteps.{listed-holds, leaf-exact}
+use Rattle.guillotiere.proofs.store.Store.list.Goals as goal
+
+pub enlist-requires-clause-exact : goal.enlist-requires-clause-exact
+enlist-requires-clause-exact g c =
+    leaf-exact (shelf_of c.args.self.now) c.deref_mut.result.now c.args.at.number c.requires.ready.0 c.deref_mut.ensures.value c.requires.ready.1.holds c.requires.ready.1.kind
+
+pub returns-clause-kept : goal.returns-clause-kept
+returns-clause-kept g c = λ h leaf.
+    let held : _ = held_with h.held (list_of (options_of c.args.self.now.options) (node_sides (node_at (nodes c.deref_mut.result.now) c.args.at.number))) c.args.at.number in
+    (
+      held,
+      listed-holds (shelf_of c.args.self.now) c.deref_mut.result.now c.enlist.new.slots _ c.enlist.new.lists h held (with_mark h.loose c.args.at.number false)
+      (record {
+        given = c.deref_mut.ensures.value;
+        left = with_items_is c.args.self.now.slots c.enlist.new.slots (c.enlist.auto.slots ∙ c.deref_mut.ensures.len);
+        long = c.enlist.auto.slots;
+      })
+      c.enlist.ensures.same_nodes
+      (λ filed. c.enlist.ensures.filed c.args.self.now.unused h.spare h.held (λ i. 0) h.loose filed leaf.loose)
+      leaf.holds,
+    )
