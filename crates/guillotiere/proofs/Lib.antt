@@ -53,6 +53,7 @@ pub mod WalkSteps
 pub mod Observing
 pub mod NamedSlots
 pub mod ShownLists
+pub mod Starting
 pub mod Taking
 pub mod Choosing
 pub mod Extents

@@ -30,5 +30,6 @@ pub mod Holdings
 pub mod Replies
 pub mod Links
 pub mod Visits
+pub mod Starts
 pub mod Freeing
 pub mod Planning

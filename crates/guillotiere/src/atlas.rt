@@ -15,9 +15,11 @@ ghost use Rattle.guillotiere.specs.Steps.AtlasCall.{Allocate, Deallocate};
 use crate::allocation::{AllocId, Allocation, SlotCount};
 use crate::error::AtlasError;
 use crate::geometry::{Rectangle, Size};
+use crate::lists::empty_lists;
 use crate::options::{AllocatorOptions, DEFAULT_OPTIONS};
 use crate::slots::{Link, NO_SLOT, NodeKind};
 use crate::store::Store;
+use crate::turns::Turns;
 use crate::walks::{gather_allocated, gather_free, named_slot, visit_allocated, visit_free};
 use std::alloc::{Allocator, Global};
 use std::marker::Model;
@@ -100,7 +102,22 @@ impl<A: Allocator + Copy> AtlasAllocator<A> {
         ensures state { IfOk result (λ it. state_of it ≡ started (sides_of size) (options_of options.now) limit) }
         ensures turns { IfOk result (λ it. it.turns ≡ 0) }
     {
-        Err(AtlasError::Memory)
+        let none = Link { number: NO_SLOT };
+        let mut store = Store {
+            slots: Vec::with_capacity(alloc, 1)?,
+            lists: empty_lists(),
+            unused: none,
+            options: *options,
+            turns: Turns::new(),
+        };
+        store.start(size, options);
+        Ok(AtlasAllocator {
+            store,
+            first: Link { number: 0 },
+            used: 1,
+            size,
+            limit,
+        })
     }
 
     /// The size of the atlas, in pixels.

@@ -13,6 +13,7 @@ mod options;
 mod pieces;
 mod placing;
 mod slots;
+mod start;
 mod store;
 mod tree;
 mod turns;
