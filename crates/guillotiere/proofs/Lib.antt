@@ -47,6 +47,13 @@ pub mod Occurrences
 pub mod Unlinking
 pub mod Banding
 pub mod Filing
+pub mod SlotSums
+pub mod LeafCounts
+pub mod WalkSteps
+pub mod Observing
+pub mod NamedSlots
+pub mod ShownLists
+pub mod Starting
 pub mod Taking
 pub mod Choosing
 pub mod Walking

@@ -29,6 +29,8 @@ pub mod Stored
 pub mod Links
 pub mod Picks
 pub mod Holdings
+pub mod Visits
+pub mod Starts
 pub mod Freeing
 pub mod Planning
 pub mod Replies

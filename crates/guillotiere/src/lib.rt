@@ -14,9 +14,11 @@ mod pick;
 mod placing;
 mod simple;
 mod slots;
+mod start;
 mod store;
 mod tree;
 mod turns;
+mod walks;
 
 pub use allocation::{AllocId, Allocation, SlotCount};
 pub use atlas::AtlasAllocator;
