@@ -49,3 +49,4 @@ pub mod Taking
 pub mod Choosing
 pub mod Picking
 pub mod Extents
+pub mod Turning
