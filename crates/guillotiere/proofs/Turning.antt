@@ -1,27 +1,31 @@
 -- What a turn of a freeing does to the slots with their lists.
-use Rattle.std.proofs.Common.{ℕ, ◌+◌, ◌<◌, ◌≤◌, ◌≡◌, List, [], ◌∷◌, refl, sym, ap, subst, ◌∙◌, ◌⊎◌, inl, inr, arith, length, Bool, true, false}
-use Rattle.std.proofs.lemmas.Bool.{cases_eq, cases_lt, true≢false}
+use Rattle.std.proofs.Common.{ℕ, ◌+◌, ◌<◌, ◌≤◌, ◌≡◌, List, [], ◌∷◌, refl, sym, ap, subst, ◌∙◌, ◌⊎◌, inl, inr, arith, length, eqb, true, false}
+use Rattle.std.proofs.lemmas.Bool.{cases_eq, cases_lt, cond_both}
 use Rattle.std.proofs.lemmas.List.{length-map}
 use Rattle.guillotiere.specs.declared.slots.Node.{Node}
 use Rattle.guillotiere.specs.declared.slots.NodeKind.TheVariants as kind
+use Rattle.guillotiere.specs.declared.store.Store.{Store}
 use Rattle.guillotiere.specs.Trees.{IsNormal}
 use Rattle.guillotiere.specs.Changes.{nf}
-use Rattle.guillotiere.specs.Calm.{IsCalmBut, NoneEmpty}
+use Rattle.guillotiere.specs.Calm.{IsCalmAt, IsCalmBut, NoneEmpty}
 use Rattle.guillotiere.specs.Slots.{nodes, rings, node_at, use_count, no_slot}
-use Rattle.guillotiere.specs.Numbered.{Numbered, erase, numbers, same, tally, joined, lifted, first_slot}
+use Rattle.guillotiere.specs.Numbered.{Numbered, erase, numbers, same, tally, marked, joined, lifted, first_slot, End, Free, Alloc, Seq}
 use Rattle.guillotiere.specs.Standing.{IsSlot, Stands, IsWhole, IsTree}
 use Rattle.guillotiere.specs.Lists.{occurs}
 use Rattle.guillotiere.specs.Stored.{Shelf, Holding, Holds, IsLooseOnly}
-use Rattle.guillotiere.specs.Holdings.{IsLooseLeaf, node_in, with_loose, with_held, after_join, after_lift}
-use Rattle.guillotiere.specs.Freeing.{IsSettlingAt, IsTurned}
+use Rattle.guillotiere.specs.Holdings.{IsLooseLeaf, KeepsRoom, node_in, with_loose, with_held, after_mark, after_join, after_lift}
+use Rattle.guillotiere.specs.Freeing.{IsSettlingAt, IsTurned, IsFreeable, IsFreed}
 use Rattle.guillotiere.specs.Settling.{IsSettlingTree}
 use Rattle.guillotiere.proofs.Filing.{with_mark-same, with_mark-other}
 use Rattle.guillotiere.proofs.Occurrences.{same-self, same-ne, ne-from_same}
 use Rattle.guillotiere.proofs.Joining.{first-joined}
 use Rattle.guillotiere.proofs.JoiningWrites.{can-join, used-inside, none-unused}
 use Rattle.guillotiere.proofs.Lifting.{first-lifted}
+use Rattle.guillotiere.proofs.Marking.{first-marked}
+use Rattle.guillotiere.proofs.Releasing.{calm-Stands, full-from_normal, full-marked, erase-marked_at}
+use Rattle.guillotiere.proofs.TreeNormal.{nf-normal}
 use Rattle.guillotiere.proofs.Normal.{nf-joined, nf-lifted}
-use Rattle.guillotiere.proofs.Reading.{numbers-less}
+use Rattle.guillotiere.proofs.Reading.{numbers-less, numbers-few}
 use Rattle.guillotiere.proofs.Settling.{full-joined, full-lifted, settled, next-slot, previous-slot, previous-leads}
 
 pub few-slots : (v : Shelf) (h : Holding) → Holds v h → length (nodes v.slots) ≤ 16777216
@@ -226,3 +230,89 @@ pub settled-at : (v : Shelf) (at : ℕ) (n : Node) (h : Holding) → n ≡ node_
 settled-at v at n h e w nn np alone =
     let few = few-slots v h w.leaf.holds in
     settled (nodes v.slots) at h.sequence h.tree (omega arith) (settling-tree_of v at h w) (rw e at nn) (rw e at np) (rw e at alone)
+
+-- a freeing between two turns, from the tree of h on: n slots were given back, and slot `at` of the tree of m settles
+pub record IsFreeing (now : Shelf) (slot at n : ℕ) (h m : Holding) : Type 0 where
+  pub settling : IsSettlingAt now at m
+  pub same_nf : nf (erase m.tree) ≡ nf (erase (marked slot h.tree))
+  pub given : numbers m.tree + n ≡ numbers h.tree
+  pub sequence : m.sequence ≡ h.sequence
+  pub first : first_slot m.tree ≡ first_slot h.tree
+
+numbers-marked : (i : ℕ) (n : Numbered) → numbers (marked i n) ≡ numbers n
+numbers-marked i End = refl
+numbers-marked i (Free j e rest) = ap (λ v. 1 + v) (numbers-marked i rest)
+numbers-marked i (Alloc j g e rest) =
+    cond_both (eqb i j) (Free j e (marked i rest)) (Alloc j g e (marked i rest)) (λ m. numbers m ≡ 1 + numbers rest) (λ _. ap (λ v. 1 + v) (numbers-marked i rest)) (λ _. ap (λ v. 1 + v) (numbers-marked i rest))
+numbers-marked i (Seq j e inner rest) =
+    ap (λ v. 1 + v + numbers (marked i rest)) (numbers-marked i inner) ∙ ap (λ v. 1 + numbers inner + v) (numbers-marked i rest)
+
+pub granted-inside : (v : Shelf) (i : ℕ) → (node_in v i).kind ≡ kind.Alloc → i < length (nodes v.slots)
+granted-inside v i was = used-inside (nodes v.slots) i (rw was (omega arith))
+
+-- a marking begins a freeing
+pub freeing-marked : (v u : Shelf) (i : ℕ) (n : Node) (h : Holding) → IsFreeable v i h → Holds u (after_mark i h) → (((k : ℕ) → IsCalmAt (nodes v.slots) k) → IsCalmBut (nodes u.slots) i) → node_in u i ≡ record n { kind = kind.Free } → IsFreeing u i i 0 h (after_mark i h)
+freeing-marked v u i n h w k calm free =
+    let few = few-slots v h w.holds in
+    let inside = granted-inside v i w.granted in
+    record {
+      settling = record {
+        leaf = record { holds = k; kind = ap (λ (n : Node). n.kind) free; loose = with_mark-same h.loose i true };
+        only = λ x z. with_mark-other h.loose i true x (λ q. absurd (omega (arith, same-self i, ap (λ v. same v i) q))) ∙ w.only x refl;
+        calm = calm (calm-Stands (nodes v.slots) h.sequence h.tree (omega arith) w.holds.top w.holds.stands w.normal);
+        full = full-marked (nodes v.slots) i h.sequence h.tree few inside w.holds.stands (full-from_normal (erase h.tree) w.normal);
+      };
+      same_nf = refl;
+      given = omega (arith, numbers-marked i h.tree);
+      sequence = refl;
+      first = first-marked i h.tree;
+    }
+
+-- a turn goes on with it
+pub freeing-turned : (u : Shelf) (i next n : ℕ) (h m less : Holding) (at : ℕ) (now : Shelf) → IsFreeing now i at n h m → IsSettlingAt u next less → IsTurned m less → IsFreeing u i next (n + 1) h less
+freeing-turned u i next n h m less at now w s t =
+    record {
+      settling = s;
+      same_nf = t.same_nf ∙ w.same_nf;
+      given = omega (arith, t.fewer, w.given);
+      sequence = t.sequence ∙ w.sequence;
+      first = t.first ∙ w.first;
+    }
+
+-- there are no more turns than slots
+pub freeing-short : (v u : Shelf) (i at n : ℕ) (h m : Holding) → IsFreeable v i h → IsFreeing u i at n h m → n < length v.slots
+freeing-short v u i at n h m w f =
+    let nv : length (nodes v.slots) ≡ length v.slots = simp length-map in
+    let some : 0 < tally at m.tree = rw (f.settling.leaf.holds.stands.numbered at, f.settling.leaf.kind) (omega arith) in
+    omega (arith, some-numbers at m.tree some, f.given, numbers-few (nodes v.slots) h.sequence h.tree w.holds.stands)
+  where
+    some-numbers : (k : ℕ) (n : Numbered) → 0 < tally k n → 0 < numbers n
+    some-numbers k End l = absurd (omega arith)
+    some-numbers k (Free j e rest) l = omega arith
+    some-numbers k (Alloc j g e rest) l = omega arith
+    some-numbers k (Seq j e inner rest) l = omega arith
+
+-- and ends it where the tree is normal and the leaf is listed
+pub freed-listed : (v now u : Shelf) (i at n : ℕ) (h m : Holding) (held : ℕ → List ℕ) → IsFreeable v i h → IsFreeing now i at n h m → IsNormal (erase m.tree) → Holds u (with_loose at false (with_held held m)) → IsFreed v u i n h (with_loose at false (with_held held m))
+freed-listed v now u i at n h m held w f normal k =
+    let few = few-slots v h w.holds in
+    record {
+      holds = k;
+      listed = λ x _. elim (cases_eq x at) [
+        | inl e ↦ rw e (with_mark-same m.loose at false)
+        | inr ne ↦ with_mark-other m.loose at false x ne ∙ f.settling.only x (omega (arith, same-ne x at ne))
+      ];
+      tree = sym (nf-normal (erase m.tree) normal) ∙ f.same_nf ∙ ap nf (erase-marked_at (nodes v.slots) i h.sequence h.tree few (granted-inside v i w.granted) w.holds.stands);
+      given = f.given;
+      sequence = f.sequence;
+      first = f.first;
+    }
+
+-- a leaf is as loose on the same slots
+pub loose-same : (v u : Shelf) (at : ℕ) (h : Holding) → u ≡ v → IsSettlingAt v at h → IsLooseLeaf u at h
+loose-same v u at h e w = rw e w.leaf
+
+-- rooms are kept one after another
+pub keeps-room : {A : Type 0} (a b c : Store A) → KeepsRoom a b → KeepsRoom b c → KeepsRoom a c
+keeps-room a b c x y =
+    record { slots = y.slots ∙ x.slots; capacity = y.capacity ∙ x.capacity; options = y.options ∙ x.options }
