@@ -1,5 +1,5 @@
 -- a free leaf is granted
-use Rattle.std.proofs.Common.{ℕ, ◌+◌, ◌<◌, ◌≤◌, ◌≡◌, List, refl, sym, ap, ◌∙◌, inl, inr, arith, eqb}
+use Rattle.std.proofs.Common.{ℕ, ◌+◌, ◌≤◌, ◌≡◌, List, refl, sym, ap, ◌∙◌, inl, inr, arith, eqb}
 use Rattle.std.proofs.lemmas.Bool.{cond_both, eqb-true, eqb-false, cases_eq}
 use Rattle.guillotiere.specs.declared.slots.Node.{Node}
 use Rattle.guillotiere.specs.declared.slots.NodeKind.TheVariants as kind
@@ -8,7 +8,6 @@ use Rattle.guillotiere.specs.Numbered.{Numbered, tally, numbers, first_slot, sam
 use Rattle.guillotiere.specs.Standing.{Sequence, Standing, Stands, IsPlaced, inside}
 use Rattle.guillotiere.proofs.Frames.{IsWritten, Standing-same, same-self}
 use Rattle.guillotiere.proofs.Joining.{used-le, ne-from_count}
-use Rattle.guillotiere.proofs.Weights.{weigh}
 
 pub first-granted : (i g : ℕ) (n : Numbered) → first_slot (granted_at i g n) ≡ first_slot n
 first-granted i g End = refl

@@ -18,10 +18,6 @@ pub mod TreeKept
 pub mod TreeGrowth
 pub mod TreeRoom
 pub mod TreeCounts
-pub mod Frames
-pub mod Suffixes
-pub mod Closing
-pub mod Marking
 pub mod Joining
 pub mod JoiningWrites
 pub mod Lifting
@@ -50,3 +46,15 @@ pub mod Choosing
 pub mod Picking
 pub mod Extents
 pub mod Turning
+pub mod SlotSums
+pub mod LeafCounts
+pub mod WalkSteps
+pub mod Observing
+pub mod NamedSlots
+pub mod SlotLeaves
+pub mod SlotIds
+pub mod SlotBoxes
+pub mod Closing
+pub mod Frames
+pub mod Marking
+pub mod Suffixes

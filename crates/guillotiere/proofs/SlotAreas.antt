@@ -1,16 +1,15 @@
 -- the rectangle that a used slot stores is that of a member
-use Rattle.std.proofs.Common.{ℕ, ◌+◌, ◌<◌, ◌≤◌, ◌≡◌, List, refl, sym, ap, ◌∙◌, ◌⊎◌, inl, inr, arith}
+use Rattle.std.proofs.Common.{ℕ, ◌+◌, ◌<◌, ◌≡◌, List, refl, inl, inr, arith}
 use Rattle.std.proofs.lemmas.Bool.{cases_eq}
 use Rattle.guillotiere.specs.declared.slots.Node.{Node}
-use Rattle.guillotiere.specs.declared.slots.NodeKind.{NodeKind}
 use Rattle.guillotiere.specs.declared.slots.NodeKind.TheVariants as kind
 use Rattle.guillotiere.specs.declared.geometry.Rectangle.{Rectangle}
 use Rattle.guillotiere.specs.Boxes.{Box}
 use Rattle.guillotiere.specs.Pixels.{rectangle_of, box_of}
 use Rattle.guillotiere.specs.Slots.{node_at, use_count, no_slot}
-use Rattle.guillotiere.specs.Numbered.{Numbered, tally, same, End, Free, Alloc, Seq}
-use Rattle.guillotiere.specs.Standing.{Sequence, Standing, Stands, IsTree, IsPlaced, inside, member_box}
-use Rattle.guillotiere.proofs.Frames.{same-self, same-ne}
+use Rattle.guillotiere.specs.Numbered.{Numbered, tally, End, Free, Alloc, Seq}
+use Rattle.guillotiere.specs.Standing.{Sequence, Standing, Stands, IsTree, inside}
+use Rattle.guillotiere.proofs.Frames.{same-ne}
 use Rattle.guillotiere.proofs.Joining.{split_pos}
 
 -- both coordinates of each corner are 0 or more

@@ -114,10 +114,10 @@ strip_across-change i g j k q =
     record {
       ends = λ across. refl;
       free = λ across x e rest ne z.
-      let nj : j ≡ x → ⊥ = other_slot j x (omega arith) in
-      ap (λ v. granted_at j g (split_at j k q v)) (wrapped-other i j across x e rest ne)
-      ∙ ap (granted_at j g) (split-other j k q x e (wrapped_at i j across rest) nj)
-      ∙ granted-other j g x e (split_at j k q (wrapped_at i j across rest)) nj;
+          let nj : j ≡ x → ⊥ = other_slot j x (omega arith) in
+          ap (λ v. granted_at j g (split_at j k q v)) (wrapped-other i j across x e rest ne)
+          ∙ ap (granted_at j g) (split-other j k q x e (wrapped_at i j across rest) nj)
+          ∙ granted-other j g x e (split_at j k q (wrapped_at i j across rest)) nj;
       alloc = λ across x h e rest. refl;
       seq = λ across x e inner rest. refl;
     }
@@ -147,11 +147,11 @@ corner_along-change i g k j l p q =
     record {
       ends = λ across. refl;
       free = λ across x e rest ne z.
-      let nj : j ≡ x → ⊥ = other_slot j x (omega arith) in
-      ap (λ v. granted_at j g (split_at j l q (wrapped_at i j across v))) (split-other i k p x e rest ne)
-      ∙ ap (λ v. granted_at j g (split_at j l q v)) (wrapped-other i j across x e (split_at i k p rest) ne)
-      ∙ ap (granted_at j g) (split-other j l q x e (wrapped_at i j across (split_at i k p rest)) nj)
-      ∙ granted-other j g x e (split_at j l q (wrapped_at i j across (split_at i k p rest))) nj;
+          let nj : j ≡ x → ⊥ = other_slot j x (omega arith) in
+          ap (λ v. granted_at j g (split_at j l q (wrapped_at i j across v))) (split-other i k p x e rest ne)
+          ∙ ap (λ v. granted_at j g (split_at j l q v)) (wrapped-other i j across x e (split_at i k p rest) ne)
+          ∙ ap (granted_at j g) (split-other j l q x e (wrapped_at i j across (split_at i k p rest)) nj)
+          ∙ granted-other j g x e (split_at j l q (wrapped_at i j across (split_at i k p rest))) nj;
       alloc = λ across x h e rest. refl;
       seq = λ across x e inner rest. refl;
     }
@@ -175,13 +175,13 @@ corner_across-change i g c s d l p q =
     record {
       ends = λ across. refl;
       free = λ across x e rest ne z.
-      let nc : c ≡ x → ⊥ = other_slot c x (omega arith) in
-      let nd : d ≡ x → ⊥ = other_slot d x (omega arith) in
-      ap (λ v. granted_at d g (split_at d l p (wrapped_at c d across (split_at c s q v)))) (wrapped-other i c across x e rest ne)
-      ∙ ap (λ v. granted_at d g (split_at d l p (wrapped_at c d across v))) (split-other c s q x e (wrapped_at i c across rest) nc)
-      ∙ ap (λ v. granted_at d g (split_at d l p v)) (wrapped-other c d across x e (split_at c s q (wrapped_at i c across rest)) nc)
-      ∙ ap (granted_at d g) (split-other d l p x e (wrapped_at c d across (split_at c s q (wrapped_at i c across rest))) nd)
-      ∙ granted-other d g x e (split_at d l p (wrapped_at c d across (split_at c s q (wrapped_at i c across rest)))) nd;
+          let nc : c ≡ x → ⊥ = other_slot c x (omega arith) in
+          let nd : d ≡ x → ⊥ = other_slot d x (omega arith) in
+          ap (λ v. granted_at d g (split_at d l p (wrapped_at c d across (split_at c s q v)))) (wrapped-other i c across x e rest ne)
+          ∙ ap (λ v. granted_at d g (split_at d l p (wrapped_at c d across v))) (split-other c s q x e (wrapped_at i c across rest) nc)
+          ∙ ap (λ v. granted_at d g (split_at d l p v)) (wrapped-other c d across x e (split_at c s q (wrapped_at i c across rest)) nc)
+          ∙ ap (granted_at d g) (split-other d l p x e (wrapped_at c d across (split_at c s q (wrapped_at i c across rest))) nd)
+          ∙ granted-other d g x e (split_at d l p (wrapped_at c d across (split_at c s q (wrapped_at i c across rest)))) nd;
       alloc = λ across x h e rest. refl;
       seq = λ across x e inner rest. refl;
     }

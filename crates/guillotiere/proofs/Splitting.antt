@@ -1,19 +1,19 @@
 -- a free leaf is cut in two
-use Rattle.std.proofs.Common.{ℕ, ◌+◌, ◌-◌, ◌<◌, ◌≤◌, ◌≡◌, List, refl, sym, ap, ◌∙◌, ◌⊎◌, inl, inr, arith, eqb}
-use Rattle.std.proofs.lemmas.Bool.{cond_both, eqb-true, eqb-false, ne_eqb, cond-true, cond-false, cases_eq}
+use Rattle.std.proofs.Common.{ℕ, ◌+◌, ◌-◌, ◌<◌, ◌≤◌, ◌≡◌, List, refl, sym, ap, ◌∙◌, inl, inr, arith, eqb}
+use Rattle.std.proofs.lemmas.Bool.{cond_both, eqb-true, eqb-false, ne_eqb, cond-false, cases_eq}
 use Rattle.guillotiere.specs.declared.slots.Link.{Link}
 use Rattle.guillotiere.specs.declared.slots.Node.{Node}
 use Rattle.guillotiere.specs.declared.slots.NodeKind.TheVariants as kind
-use Rattle.guillotiere.specs.Boxes.{Axis, Box, side, sized, box_at, box_sides}
+use Rattle.guillotiere.specs.Boxes.{Axis, side, sized, box_at, box_sides}
 use Rattle.guillotiere.specs.Boxes.Axis.{Horizontal, Vertical}
-use Rattle.guillotiere.specs.Pixels.{rectangle_of, box_of}
-use Rattle.guillotiere.specs.Slots.{node_at, use_count, no_slot, axis_of}
+use Rattle.guillotiere.specs.Pixels.{rectangle_of}
+use Rattle.guillotiere.specs.Slots.{node_at, use_count, no_slot}
 use Rattle.guillotiere.specs.Numbered.{Numbered, tally, numbers, first_slot, same, split_at, End, Free, Alloc, Seq}
-use Rattle.guillotiere.specs.Standing.{Sequence, Standing, Stands, IsPlaced, inside, member_box, spot}
+use Rattle.guillotiere.specs.Standing.{Sequence, Standing, Stands, inside, member_box, spot}
 use Rattle.guillotiere.specs.Reading.{extent_of}
 use Rattle.guillotiere.specs.Parts.{front_part, back_part, front_node, back_node}
 use Rattle.guillotiere.proofs.Frames.{Standing-same, same-self, same-ne}
-use Rattle.guillotiere.proofs.Closing.{IsIn, next-in, first-in}
+use Rattle.guillotiere.proofs.Closing.{IsIn, next-in}
 use Rattle.guillotiere.proofs.Joining.{used-le, ne-from_count, ne-from_same, split_pos, Standing-before}
 use Rattle.guillotiere.proofs.Weights.{weigh, tally-weigh, numbers-weigh, one_each, free_tally, free_tally-le, free_once}
 use Rattle.guillotiere.proofs.Wrapping.{one_of}

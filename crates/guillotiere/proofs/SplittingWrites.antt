@@ -1,5 +1,5 @@
 -- what the writes of `split_leaf` make
-use Rattle.std.proofs.Common.{ℕ, ◌+◌, ◌-◌, ◌<◌, ◌≤◌, ◌≡◌, ◌≢◌, List, refl, sym, ap, ◌∙◌, ◌⊎◌, inl, inr, arith, length, set, get_or-set_same, get_or-set_other, length-set}
+use Rattle.std.proofs.Common.{ℕ, ◌+◌, ◌<◌, ◌≤◌, ◌≡◌, ◌≢◌, List, refl, sym, ap, ◌∙◌, ◌⊎◌, inl, inr, arith, length, set, get_or-set_same, get_or-set_other, length-set}
 use Rattle.std.proofs.lemmas.Bool.{cases_eq}
 use Rattle.std.proofs.lemmas.List.{get_or_past}
 use Rattle.guillotiere.specs.declared.slots.Node.{Node}
@@ -7,12 +7,12 @@ use Rattle.guillotiere.specs.declared.slots.Link.{Link}
 use Rattle.guillotiere.specs.declared.slots.NodeKind.TheVariants as kind
 use Rattle.guillotiere.specs.Slots.{node_at, blank_node, use_count, no_slot, KeepsUse}
 use Rattle.guillotiere.specs.Numbered.{Numbered, tally, first_slot, same, End, Free, Alloc, Seq}
-use Rattle.guillotiere.specs.Standing.{Sequence, Standing, Stands, IsTree, IsSlot, with_previous}
+use Rattle.guillotiere.specs.Standing.{Sequence, Standing, IsTree, IsSlot, with_previous}
 use Rattle.guillotiere.specs.Reading.{extent_of}
 use Rattle.guillotiere.specs.Parts.{front_node, back_node}
-use Rattle.guillotiere.proofs.Frames.{same-self, same-ne}
+use Rattle.guillotiere.proofs.Frames.{same-self}
 use Rattle.guillotiere.proofs.Closing.{next-in, first-in}
-use Rattle.guillotiere.proofs.Suffixes.{Suffix, suffix-at}
+use Rattle.guillotiere.proofs.Suffixes.{suffix-at}
 use Rattle.guillotiere.proofs.Joining.{used-le}
 use Rattle.guillotiere.proofs.JoiningWrites.{used-inside, none-unused, not-none}
 use Rattle.guillotiere.proofs.Splitting.{IsSplit}

@@ -1,6 +1,6 @@
 -- a free leaf becomes a container of one
 use Rattle.std.proofs.Common.{ℕ, ◌+◌, ◌<◌, ◌≤◌, ◌≡◌, List, refl, sym, ap, ◌∙◌, ◌⊎◌, inl, inr, arith, eqb, length, set, get_or-set_same, get_or-set_other, length-set}
-use Rattle.std.proofs.lemmas.Bool.{cond_both, eqb-true, eqb-false, ne_eqb, cond-true, cond-false, cases_eq}
+use Rattle.std.proofs.lemmas.Bool.{cond_both, eqb-true, eqb-false, ne_eqb, cond-false, cases_eq}
 use Rattle.guillotiere.specs.declared.slots.Link.{Link}
 use Rattle.guillotiere.specs.declared.slots.Node.{Node}
 use Rattle.guillotiere.specs.declared.slots.NodeKind.TheVariants as kind
@@ -16,7 +16,7 @@ use Rattle.guillotiere.specs.Parts.{flipped, inner_node}
 use Rattle.guillotiere.proofs.Frames.{Standing-same, same-self, same-ne}
 use Rattle.guillotiere.proofs.Joining.{used-le, ne-from_count, ne-from_same}
 use Rattle.guillotiere.proofs.JoiningWrites.{used-inside}
-use Rattle.guillotiere.proofs.Weights.{weigh, tally-weigh, numbers-weigh, one_each, free_tally, free_tally-Standing, free_once}
+use Rattle.guillotiere.proofs.Weights.{weigh, tally-weigh, numbers-weigh, one_each, free_tally, free_once}
 
 pub axis_of-flipped : (o : Orientation) → axis_of (flipped o) ≡ other (axis_of o)
 axis_of-flipped orientation.Horizontal = refl

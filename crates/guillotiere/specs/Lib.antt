@@ -30,3 +30,4 @@ pub mod StepLaws
 pub mod RunLaws
 pub mod Freeing
 pub mod Planning
+pub mod Visits

@@ -15,6 +15,7 @@ mod slots;
 mod store;
 mod tree;
 mod turns;
+mod walks;
 
 pub use allocation::{AllocId, Allocation, SlotCount};
 pub use atlas::AtlasAllocator;

@@ -6,13 +6,13 @@ ghost use Rattle.guillotiere.specs.Boxes.{side, box_sides};
 ghost use Rattle.guillotiere.specs.Pixels.{natural, box_of, rectangle_of};
 ghost use Rattle.guillotiere.specs.Slots.{nodes, rings, node_at, axis_of, KeepsUse};
 ghost use Rattle.guillotiere.specs.Numbered.{Numbered, granted_at, split_at, wrapped_at, numbers};
-ghost use Rattle.guillotiere.specs.Standing.{Sequence, Stands, IsTree, IsSlot, with_previous};
+ghost use Rattle.guillotiere.specs.Standing.{Sequence, Stands, IsTree};
 ghost use Rattle.guillotiere.specs.Reading.{extent_of};
 ghost use Rattle.guillotiere.specs.Parts.{front_part, back_part, flipped, front_node, back_node, inner_node};
 
-use crate::geometry::{Rectangle, point2};
 use crate::cut::Orientation;
-use crate::slots::{Link, NO_SLOT, Node, NodeKind, Slot, read_node, write_node};
+use crate::geometry::{Rectangle, point2};
+use crate::slots::{Link, NO_SLOT, Node, NodeKind, Slot, read_node, set_previous, write_node};
 
 /// A free leaf becomes allocated.
 pub fn grant_leaf(slots: &mut [Slot], at: Link)
@@ -26,20 +26,6 @@ pub fn grant_leaf(slots: &mut [Slot], at: Link)
     let mut node = read_node(slots, at);
     node.kind = NodeKind::Alloc;
     write_node(slots, at, node);
-}
-
-/// What stands at `at`, if that is a slot, follows `previous` from now on.
-fn set_previous(slots: &mut [Slot], at: Link, previous: Link)
-    requires inside { IsSlot (length slots.old) at.number }
-    requires short { length slots.old < NO_SLOT }
-    ensures written { nodes slots.new ≡ with_previous (nodes slots.old) at.number previous }
-    ensures same_rings { rings slots.new ≡ rings slots.old }
-{
-    if at.number != NO_SLOT {
-        let mut node = read_node(slots, at);
-        node.previous = previous;
-        write_node(slots, at, node);
-    }
 }
 
 /// The other axis.

@@ -1,12 +1,11 @@
-use Rattle.std.proofs.Common.{ℕ, ◌<◌, ◌≡◌, length, ap, ◌∙◌, refl}
+use Rattle.std.proofs.Common.{◌<◌, ◌≡◌, length, ◌∙◌, refl}
 use Rattle.std.proofs.lemmas.List.{length-map}
 use Rattle.std.proofs.lemmas.Int.{to_z-of_z}
-use Rattle.guillotiere.specs.declared.slots.Node.{Node}
 use Rattle.guillotiere.specs.Pixels.{natural, rectangle_of, box_of}
-use Rattle.guillotiere.specs.Slots.{nodes, node_at, no_slot, axis_of}
-use Rattle.guillotiere.specs.Parts.{front_node, back_node, front_part, back_part}
+use Rattle.guillotiere.specs.Slots.{nodes, no_slot, axis_of}
+use Rattle.guillotiere.specs.Parts.{front_part, back_part}
 use Rattle.guillotiere.proofs.Weights.{free_once}
-use Rattle.guillotiere.proofs.Splitting.{IsSplit, numbers-split, Stands-split}
+use Rattle.guillotiere.proofs.Splitting.{numbers-split, Stands-split}
 use Rattle.guillotiere.proofs.SplittingWrites.{split-by, others-split, IsSlot-split}
 use Rattle.guillotiere.proofs.SlotAreas.{free-exact}
 use Rattle.guillotiere.proofs.placing.split_leaf.Goals as goal

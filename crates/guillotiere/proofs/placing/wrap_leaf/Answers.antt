@@ -1,10 +1,8 @@
-use Rattle.std.proofs.Common.{◌<◌, ◌≡◌, length, ap, ◌∙◌}
+use Rattle.std.proofs.Common.{◌<◌, length}
 use Rattle.std.proofs.lemmas.List.{length-map}
-use Rattle.guillotiere.specs.declared.slots.Node.{Node}
 use Rattle.guillotiere.specs.Slots.{nodes}
-use Rattle.guillotiere.specs.Parts.{inner_node}
 use Rattle.guillotiere.proofs.Weights.{free_once}
-use Rattle.guillotiere.proofs.Wrapping.{IsWrapped, wrapped-by, Stands-wrapped, numbers-wrapped}
+use Rattle.guillotiere.proofs.Wrapping.{wrapped-by, Stands-wrapped, numbers-wrapped}
 use Rattle.guillotiere.proofs.placing.wrap_leaf.Goals as goal
 
 pub returns-clause-tree : goal.returns-clause-tree
