@@ -1,6 +1,6 @@
 -- Counts over lists: what occurs once, and lists with the same counts.
-use Rattle.std.proofs.Common.{◌≡◌, ℕ, zero, suc, ◌+◌, ◌≤◌, ◌<◌, Bool, true, false, cond, List, [], ◌∷◌, ◌++◌, length, get_or, map, refl, ap, subst, sym, ◌∙◌, arith, Contains, IsPermutation, All}
-use Rattle.std.specs.List.{count_by, sum_by}
+use Rattle.std.proofs.Common.{◌≡◌, zero, suc, ◌+◌, ◌≤◌, Bool, true, false, List, [], ◌∷◌, ◌++◌, refl, ap, subst, sym, ◌∙◌, arith, Contains, IsPermutation}
+use Rattle.std.specs.List.{count_by}
 use Rattle.std.proofs.lemmas.List.Sums.{sum_by-cons, sum_by-append}
 use Rattle.std.proofs.lemmas.List.Sorted.{IsPermutation-refl, IsPermutation-sym, IsPermutation-trans, IsPermutation-cons, IsPermutation-middle}
 use Rattle.guillotiere.proofs.TreeBasics.{one_if}
@@ -38,7 +38,8 @@ module _ {X : Type 0} where
       omega arith
 
   -- of what is counted once there is one
-  pub counted_once : (p : X → Bool) (xs : List X) (a b : X) → count_by p xs ≤ 1 → Contains xs a → Contains xs b → p a ≡ true → p b ≡ true → a ≡ b
+  pub counted_once : (p : X → Bool) (xs : List X) (a b : X) → count_by p xs ≤ 1 → Contains xs a → Contains xs b
+      → p a ≡ true → p b ≡ true → a ≡ b
   counted_once p [] a b few (k, below, is) at_b pa pb = absurd (omega arith)
   counted_once p (x ∷ xs) a b few (zero, below, is) (zero, below', is') pa pb = sym is ∙ is'
   counted_once p (x ∷ xs) a b few (zero, below, is) (suc k, below', is') pa pb =
@@ -67,7 +68,8 @@ module _ {X : Type 0} where
   split_at p [] h = absurd (omega arith)
   split_at p (x ∷ xs) h = by_test (p x) refl (count_by-cons p x xs) (split_at p xs)
     where
-      by_test : (b : Bool) → p x ≡ b → count_by p (x ∷ xs) ≡ one_if b + count_by p xs → (1 ≤ count_by p xs → IsSplitAt p xs) → IsSplitAt p (x ∷ xs)
+      by_test : (b : Bool) → p x ≡ b → count_by p (x ∷ xs) ≡ one_if b + count_by p xs
+          → (1 ≤ count_by p xs → IsSplitAt p xs) → IsSplitAt p (x ∷ xs)
       by_test true e c rest = record { before = []; here = x; after = xs; is = refl; passes = e }
       by_test false e c rest =
           let s : IsSplitAt p xs = rest (omega arith) in
@@ -89,16 +91,19 @@ module _ {X : Type 0} where
             let yes : one_if (same x x) ≡ 1 = ap one_if (itself x) in
             omega (arith, h (same x))
 
-        found : IsSplitAt (same x) ys → ((zs : List X) → ((p : X → Bool) → count_by p xs ≡ count_by p zs) → IsPermutation xs zs) → IsPermutation (x ∷ xs) ys
+        found : IsSplitAt (same x) ys → ((zs : List X) → ((p : X → Bool) → count_by p xs ≡ count_by p zs)
+            → IsPermutation xs zs) → IsPermutation (x ∷ xs) ys
         found s rest =
             let is : ys ≡ s.before ++ x ∷ s.after = s.is ∙ ap (λ k. s.before ++ k ∷ s.after) (sym (told x s.here s.passes)) in
             let less : (p : X → Bool) → count_by p xs ≡ count_by p (s.before ++ s.after) = λ p.
-                let a : count_by p (x ∷ xs) ≡ one_if (p x) + count_by p xs = count_by-cons p x xs in
-                let b : count_by p (x ∷ xs) ≡ count_by p (s.before ++ x ∷ s.after) = h p ∙ ap (count_by p) is in
-                let c : count_by p (s.before ++ x ∷ s.after) ≡ count_by p s.before + count_by p (x ∷ s.after) = count_by-append p s.before (x ∷ s.after) in
-                let d : count_by p (x ∷ s.after) ≡ one_if (p x) + count_by p s.after = count_by-cons p x s.after in
-                let e : count_by p (s.before ++ s.after) ≡ count_by p s.before + count_by p s.after = count_by-append p s.before s.after in
-                omega arith in
+            let a : count_by p (x ∷ xs) ≡ one_if (p x) + count_by p xs = count_by-cons p x xs in
+            let b : count_by p (x ∷ xs) ≡ count_by p (s.before ++ x ∷ s.after) = h p ∙ ap (count_by p) is in
+            let c : count_by p (s.before ++ x ∷ s.after) ≡ count_by p s.before + count_by p (x ∷ s.after) =
+            count_by-append p s.before (x ∷ s.after) in
+            let d : count_by p (x ∷ s.after) ≡ one_if (p x) + count_by p s.after = count_by-cons p x s.after in
+            let e : count_by p (s.before ++ s.after) ≡ count_by p s.before + count_by p s.after =
+            count_by-append p s.before s.after in
+            omega arith in
             subst (IsPermutation (x ∷ xs)) (sym is)
             (IsPermutation-trans _ _ _ (IsPermutation-cons x xs (s.before ++ s.after) (rest (s.before ++ s.after) less))
             (IsPermutation-sym _ _ (IsPermutation-middle s.before x s.after)))

@@ -1,3 +1,9 @@
+pub mod Picking
+pub mod PickExistence
+pub mod RunKeeping
+pub mod Traces
+pub mod DueAnswers
+pub mod StepEffects
 pub mod StepKeeping
 pub mod Refitting
 pub mod Outcomes
@@ -43,7 +49,6 @@ pub mod Banding
 pub mod Filing
 pub mod Taking
 pub mod Choosing
-pub mod Picking
 pub mod Extents
 pub mod Turning
 pub mod SlotSums
@@ -51,6 +56,9 @@ pub mod LeafCounts
 pub mod WalkSteps
 pub mod Observing
 pub mod NamedSlots
+pub mod Listing
+pub mod NumberedCuts
+pub mod StoreSteps
 pub mod SlotLeaves
 pub mod SlotIds
 pub mod SlotBoxes
@@ -58,3 +66,6 @@ pub mod Closing
 pub mod Frames
 pub mod Marking
 pub mod Suffixes
+pub mod LeafSlots
+pub mod Living
+pub mod LeafSums

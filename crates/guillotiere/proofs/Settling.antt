@@ -144,6 +144,13 @@ settling-some ns s n at w =
     let free = w.free in
     nonempty-tally at n (rw (w.stands.numbered at, free) (omega arith))
 
+-- a turn lowers the number of members that is read from the slots
+pub turn-smaller : (ns ms : List Node) (s : Sequence) (n m : Numbered) (before at : ℕ) → length ns < no_slot → length ms < no_slot → IsSettlingTree ns s n before → IsTurnOf ms s n m at → numbers (numbered_of ms) < numbers (numbered_of ns)
+turn-smaller ns ms s n m before at ln lm w t =
+    let a = ap numbers (numbered_of-Stands ns s n ln w.top w.stands) in
+    let b = ap numbers (numbered_of-Stands ms s m lm t.settling.top t.settling.stands) in
+    omega (arith, a, b, t.fewer)
+
 -- a turn, by what is read from the slots
 pub turn-read : (ns ms : List Node) (at : ℕ) (s : Sequence) (n m : Numbered) → length ns < no_slot → length ms < no_slot → s.parent ≡ no_slot → Stands ns s n → IsTurnOf ms s n m at → IsTurn ns ms at
 turn-read ns ms at s n m ln lm top h w =

@@ -1,16 +1,15 @@
 -- Each step keeps what each atlas keeps.
-use Rattle.std.proofs.Common.{◌≡◌, ℕ, zero, suc, ◌+◌, ◌-◌, ◌≤◌, ◌<◌, Bool, max, List, [], ◌∷◌, refl, ap, subst, sym, ◌∙◌, arith, Contains, IsPermutation, All}
+use Rattle.std.proofs.Common.{◌≡◌, ℕ, ◌≤◌, ◌<◌, Bool, refl, subst, sym, arith, All}
 use Rattle.std.proofs.lemmas.List.Sorted.{All-permutation}
 use Rattle.std.proofs.lemmas.List.Elements.{All-nil, All-filter}
-use Rattle.guillotiere.specs.Boxes.{Axis, Sides, Box, box_sides, side, Fits, IsPositive, IsNonempty, IsWithin}
-use Rattle.guillotiere.specs.Boxes.Axis.{Horizontal, Vertical}
+use Rattle.guillotiere.specs.Boxes.{Sides, Box, box_sides, Fits, IsPositive, IsNonempty}
 use Rattle.guillotiere.specs.Choice.{Options, AreValid, rounded}
-use Rattle.guillotiere.specs.Trees.{Members, Tree, Grant, live, total, nodes, IsWellFormed, IsNormal}
+use Rattle.guillotiere.specs.Trees.{Members, Tree, Grant, total, nodes, IsWellFormed, IsNormal}
 use Rattle.guillotiere.specs.Trees.Members.{End, Free, Alloc, Seq}
-use Rattle.guillotiere.specs.Changes.{only, release, grown, place, fresh, grow_need}
-use Rattle.guillotiere.specs.States.{State, live_in, free_in, used_in, IsLive, IsSound, started, after_placing, after_freeing, after_growth, after_refit}
+use Rattle.guillotiere.specs.Changes.{only, release, grown, place, fresh}
+use Rattle.guillotiere.specs.States.{State, live_in, used_in, IsSound, started, after_freeing, after_growth}
 use Rattle.guillotiere.specs.Refits.{Rearrangement}
-use Rattle.guillotiere.specs.Steps.{AtlasCall, AtlasReply, Step, Grants, Rearranges, nodes_with, nodes_grown}
+use Rattle.guillotiere.specs.Steps.{Grants, Rearranges, nodes_with, nodes_grown}
 use Rattle.guillotiere.specs.Steps.AtlasReply.{Changed}
 use Rattle.guillotiere.specs.StepLaws.{StepsKeep}
 use Rattle.guillotiere.proofs.BoxLists.{live_in_place}
@@ -57,7 +56,8 @@ pub placing_sound : (s : State) (f : Box) (r : Sides) (g : Grant) (new : State) 
 placing_sound s f r g new sound h =
     let fitting = h.takes.pick.best.candidate.fitting in
     let pos : IsPositive (rounded s.options r) = rounded_positive s.options r sound.valid h.takes.positive in
-    let count : nodes (place s.size f (rounded s.options r) g.id s.tree).members ≡ nodes_with s r f = place_nodes s.size s.tree f (rounded s.options r) g.id in
+    let count : nodes (place s.size f (rounded s.options r) g.id s.tree).members ≡ nodes_with s r f =
+    place_nodes s.size s.tree f (rounded s.options r) g.id in
     subst IsSound (sym h.state)
     (record {
       well_formed = place_well_formed s.size s.tree f (rounded s.options r) g.id sound.well_formed pos fitting.fits h.unused;
@@ -75,14 +75,16 @@ freeing_sound s set sound =
       well_formed = release_well_formed s.size set s.tree sound.well_formed;
       normal = release_normal s.size set s.tree sound.well_formed;
       valid = sound.valid;
-      aligned = subst (All (HasAlignedBox s.options)) (sym (live_release s.size set s.tree)) (All-filter _ (HasAlignedBox s.options) (live_in s) sound.aligned);
+      aligned = subst (All (HasAlignedBox s.options)) (sym (live_release s.size set s.tree))
+          (All-filter _ (HasAlignedBox s.options) (live_in s) sound.aligned);
       counted = omega arith;
       limited = omega (arith, few, sound.counted, sound.limited);
     }
 
 pub growth_sound : (s : State) (n : Sides) → IsSound s → Fits s.size n → nodes_grown s n ≤ s.limit → IsSound (after_growth s n)
 growth_sound s n sound fit room =
-    let kept : IsWellFormed n (grown s.size n s.tree) × IsNormal (grown s.size n s.tree).members = grown_kept s.size n s.tree sound.well_formed sound.normal fit in
+    let kept : IsWellFormed n (grown s.size n s.tree) × IsNormal (grown s.size n s.tree).members =
+    grown_kept s.size n s.tree sound.well_formed sound.normal fit in
     let count : nodes (grown s.size n s.tree).members ≡ nodes_grown s n = grow_nodes s.size n s.tree in
     record {
       well_formed = kept.0;
@@ -98,7 +100,11 @@ sides_positive : (b : Box) → IsNonempty b → IsPositive (box_sides b)
 sides_positive b h = (omega (arith, h.0), omega (arith, h.1))
 
 pub live_movable : (s : State) → IsSound s → All (IsMovable s.options) (live_in s)
-live_movable s sound k d below = (sides_positive _ (live_in_place s.size s.tree sound.well_formed k d below).0, sound.aligned k d below)
+live_movable s sound k d below = (
+  sides_positive _
+      (live_in_place s.size s.tree sound.well_formed k d below).0,
+  sound.aligned k d below,
+)
 
 pub step_refitted : (old new : State) (n : Sides) (list : Rearrangement) → IsSound old → (h : Rearranges old n (Changed list) new)
     → IsRefitted n old.options old.limit (fresh n) h.1 list h.2
@@ -107,11 +113,19 @@ step_refitted old new n list sound h =
     (All-permutation (IsMovable old.options) (live_in old) h.1 h.3.permuted (live_movable old sound))
     (fresh_well_formed n h.0) (fresh_normal n) (All-nil (HasAlignedBox old.options)) (limit_positive old sound) h.4
 
-pub moving_sound : (old new : State) (n : Sides) (list : Rearrangement) → IsSound old → Rearranges old n (Changed list) new → IsSound new
+pub moving_sound : (old new : State) (n : Sides) (list : Rearrangement) → IsSound old
+    → Rearranges old n (Changed list) new → IsSound new
 moving_sound old new n list sound h =
     let all = step_refitted old new n list sound h in
     subst IsSound (sym h.5)
-    (record { well_formed = all.well; normal = all.normal; valid = sound.valid; aligned = all.aligned; counted = omega arith; limited = all.limited })
+    (record {
+      well_formed = all.well;
+      normal = all.normal;
+      valid = sound.valid;
+      aligned = all.aligned;
+      counted = omega arith;
+      limited = all.limited;
+    })
 
 pub steps_keep : StepsKeep
 steps_keep old new call reply sound =
@@ -122,5 +136,5 @@ steps_keep old new call reply sound =
     (λ n fit room is. subst IsSound (sym is) (growth_sound old n sound fit room))
     (λ is. subst IsSound (sym is) (started_sound old old.size old.options sound sound.well_formed.nonempty sound.valid))
     (λ n o pos valid is. subst IsSound (sym is) (started_sound old n o sound pos valid))
-    (λ call n list h. moving_sound old new n list sound h)
+    (λ call n list rare h. moving_sound old new n list sound h)
     call reply

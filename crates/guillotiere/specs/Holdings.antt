@@ -6,9 +6,9 @@ use Rattle.guillotiere.specs.declared.slots.NodeKind.TheVariants as kind
 use Rattle.guillotiere.specs.Boxes.{side, other, box_sides}
 use Rattle.guillotiere.specs.Pixels.{box_of}
 use Rattle.guillotiere.specs.Slots.{nodes, node_at, axis_of}
-use Rattle.guillotiere.specs.Links.{with_mark}
+use Rattle.guillotiere.specs.Links.{with_mark, rest_of}
 use Rattle.guillotiere.specs.Numbered.{Numbered, marked, joined, lifted, granted_at, split_at, wrapped_at}
-use Rattle.guillotiere.specs.Stored.{Shelf, Holding, Holds}
+use Rattle.guillotiere.specs.Stored.{Shelf, Holding, Holds, HoldsWith}
 
 -- the stored part of a store
 abbrev pub shelf_of : {A : Type 0} → Store A → Shelf
@@ -51,6 +51,16 @@ pub record KeepsRoom {A : Type 0} (old new : Store A) : Type 0 where
   pub slots : length new.slots.items ≡ length old.slots.items
   pub capacity : vec_capacity new.slots ≡ vec_capacity old.slots
   pub options : new.options ≡ old.options
+
+-- slot i is a loose leaf, and slot k is in hand
+pub record IsReadyWith (hand : ℕ → ℕ) (v : Shelf) (i k : ℕ) (h : Holding) : Type 0 where
+  pub holds : HoldsWith hand v h
+  pub loose : h.loose i ≡ true
+  pub in_hand : hand k ≡ 1
+
+-- the first unused slot is gone, if there was one
+abbrev pub after_take : Holding → Holding
+after_take h = with_spare (rest_of h.spare) h
 
 -- what a leaf of slot i becomes when it is granted
 abbrev pub after_grant : (i g : ℕ) → Holding → Holding

@@ -6,6 +6,7 @@ pub mod Requests
 pub mod Searches
 pub mod Choice
 pub mod Simple
+pub mod FreeLists
 pub mod Trees
 pub mod Changes
 pub mod TreeLaws
@@ -14,6 +15,8 @@ pub mod States
 pub mod Refits
 pub mod Steps
 pub mod Runs
+pub mod StepLaws
+pub mod RunLaws
 pub mod Slots
 pub mod Numbered
 pub mod Standing
@@ -26,8 +29,6 @@ pub mod Stored
 pub mod Holdings
 pub mod Replies
 pub mod Links
-pub mod StepLaws
-pub mod RunLaws
 pub mod Freeing
 pub mod Planning
 pub mod Visits

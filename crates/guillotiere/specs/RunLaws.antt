@@ -59,7 +59,8 @@ since_run old calls replies = since (since_start old) calls replies
 pub record LeavesNoTrace (old : State) (calls : List AtlasCall) (replies : List AtlasReply) (new : State) : Type 0 where
   pub size : (since_run old calls replies).size ≡ new.size
   pub tree :
-      IsAsWithout new.size (has_growth calls replies) (release (since_run old calls replies).held new.tree) (since_run old calls replies).tree
+      IsAsWithout new.size (has_growth calls replies) (release (since_run old calls replies).held new.tree)
+      (since_run old calls replies).tree
 
 -- every run of grants, freeings and growths leaves no trace
 abbrev pub RunsLeaveNoTrace : Type 0

@@ -5,7 +5,7 @@ use Rattle.guillotiere.specs.Choice.{Options, AreValid}
 use Rattle.guillotiere.specs.Trees.{Tree, Grant, live, free_boxes, ids, nodes, IsWellFormed, IsNormal}
 use Rattle.guillotiere.specs.Changes.{place, release, grown, fresh}
 
--- `limit` members may be used at once; `kept` is the most that were used at once since the last start
+-- `limit` members may be used at once; `kept` is the most that were used at once since the last start or rearranging
 pub record State : Type 0 where
   pub tree : Tree
   pub size : Sides

@@ -1,9 +1,8 @@
 -- What each step does to an atlas, in plain facts: laws over the step relation.
 use Rattle.std.specs.Prelude.{◌≡◌, ℕ, ◌+◌, ◌<◌, ◌≤◌, ◌==◌, Bool, true, false, not, ◌↔◌, List, [], ◌∷◌, ◌++◌, map, filter, count_by, All, Contains, IsPermutation}
-use Rattle.guillotiere.specs.declared.error.AtlasError.{AtlasError}
-use Rattle.guillotiere.specs.declared.error.AtlasError.TheVariants.{Memory, Slots, NotLive}
-use Rattle.guillotiere.specs.Boxes.{Sides, Box, box_sides, IsPositive}
-use Rattle.guillotiere.specs.Choice.{IsPick, HasRoom, HasNoRoom}
+use Rattle.guillotiere.specs.declared.error.AtlasError.TheVariants.{Memory, Slots}
+use Rattle.guillotiere.specs.Boxes.{Sides, Box, box_sides, Fits, IsPositive}
+use Rattle.guillotiere.specs.Choice.{Options, rounded, IsPick, HasRoom, HasNoRoom}
 use Rattle.guillotiere.specs.Trees.{Grant}
 use Rattle.guillotiere.specs.TreeLaws.{LiesInOneOf}
 use Rattle.guillotiere.specs.States.{State, live_in, free_in, IsAligned, IsSound}
@@ -73,14 +72,11 @@ Does old (Reset n o) Done new = live_in new ≡ []
 -- no other reply comes
 Does old call reply new = ⊥
 
--- each step does that
-abbrev pub StepsDo : Type 0
-StepsDo = (old new : State) (call : AtlasCall) (reply : AtlasReply) → IsSound old → Step old call reply new → Does old call reply new
-
--- the same call by call
+-- what each call that changes something does, of every step from a sound state
 
 abbrev pub GrantsLieInside : Type 0
-GrantsLieInside = (old new : State) (r : Sides) (g : Grant) → IsSound old → Step old (Allocate r) (Allocated g) new → IsGrantStep old r g new
+GrantsLieInside = (old new : State) (r : Sides) (g : Grant) → IsSound old → Step old (Allocate r) (Allocated g) new
+    → IsGrantStep old r g new
 
 abbrev pub FreeingsRemoveOne : Type 0
 FreeingsRemoveOne = (old new : State) (id : ℕ) → IsSound old → Step old (Deallocate id) Done new → IsFreeingStep old id new
@@ -90,7 +86,8 @@ GrowthsKeepBoxes = (old new : State) (n : Sides) → IsSound old → Step old (G
 
 abbrev pub RearrangingsLoseNothing : Type 0
 RearrangingsLoseNothing =
-    (old new : State) (call : AtlasCall) (list : Rearrangement) → IsSound old → Step old call (Changed list) new → IsRearrangingStep old list new
+    (old new : State) (call : AtlasCall) (list : Rearrangement) → IsSound old → Step old call (Changed list) new
+    → IsRearrangingStep old list new
 
 -- whether a reply refuses
 abbrev pub is_refusal : AtlasReply → Bool
@@ -128,3 +125,12 @@ abbrev pub StepsAnswerAsDue : Type 0
 StepsAnswerAsDue =
     (old new : State) (call : AtlasCall) (reply : AtlasReply) → Step old call reply new
     → GrantsAsDue old call reply × DeniesAsDue old call reply
+
+-- a request that has room takes a free box
+abbrev pub PicksExist : Type 0
+PicksExist = (free : List Box) (o : Options) (s : Sides) → HasRoom free o s → (f : Box) × IsPick free o (rounded o s) f
+
+-- where a request has room, each positive one that is no wider and no higher has room
+abbrev pub SmallerRequestsFit : Type 0
+SmallerRequestsFit =
+    (free : List Box) (o : Options) (r s : Sides) → HasRoom free o s → IsPositive r → Fits r s → HasRoom free o r

@@ -56,17 +56,22 @@ pub record Holding : Type 0 where
   pub held : ℕ → List ℕ
   pub loose : ℕ → Bool
 
--- The slots stand for a tree, and the lists are in order.
-pub record Holds (v : Shelf) (h : Holding) : Type 0 where
+-- The slots stand for a tree, and the lists are in order; `hand i` counts a slot that is taken and not used yet.
+pub record HoldsWith (hand : ℕ → ℕ) (v : Shelf) (h : Holding) : Type 0 where
   pub top : h.sequence.parent ≡ no_slot
   pub stands : Stands (nodes v.slots) h.sequence h.tree
-  pub filed : AreFiled (options_of v.options) (nodes v.slots) (rings v.slots) v.lists v.unused h.spare h.held (λ i. 0) h.loose
+  pub filed : AreFiled (options_of v.options) (nodes v.slots) (rings v.slots) v.lists v.unused h.spare h.held hand h.loose
   pub short : length v.slots ≤ 16777216
   pub valid : AreValid (options_of v.options)
   -- extents are positive, and no box passes what an `i32` holds
   pub cut : IsCut h.sequence.width (erase h.tree)
+  pub wide : 0 < h.sequence.width
   pub across : h.sequence.start + h.sequence.width < 2 ^ 31
   pub along : total (erase h.tree) < 2 ^ 31
+
+-- the same with nothing in hand
+abbrev pub Holds : Shelf → Holding → Type 0
+Holds v h = HoldsWith (λ i. 0) v h
 
 -- no free slot is loose but for these
 abbrev pub IsLooseOnly : List ℕ → Holding → Type 0

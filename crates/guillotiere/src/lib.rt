@@ -10,12 +10,14 @@ mod geometry;
 pub mod laws;
 mod lists;
 mod options;
+mod pieces;
 mod placing;
 mod slots;
 mod store;
 mod tree;
 mod turns;
 mod walks;
+mod simple;
 
 pub use allocation::{AllocId, Allocation, SlotCount};
 pub use atlas::AtlasAllocator;

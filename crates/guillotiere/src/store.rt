@@ -1,14 +1,15 @@
 //! The slots of an atlas with their lists: each call keeps the tree that the slots stand for, and the lists, in order.
 ghost use Rattle.std.specs.Prelude.{◌≡◌, ◌≢◌, ◌+◌, ◌<◌, ◌≤◌, ◌↔◌, ◌⊎◌, ℕ, List, true, false, IsTrue, vec_capacity, length};
-ghost use Rattle.guillotiere.specs.declared.slots.NodeKind.TheVariants.{Alloc, Free, Container};
+ghost use Rattle.guillotiere.specs.declared.slots.NodeKind.TheVariants.{Alloc, Free, Container, Unused};
 ghost use Rattle.guillotiere.specs.Pixels.{natural};
 ghost use Rattle.guillotiere.specs.Calm.{IsCalmAt, IsCalmBut};
 ghost use Rattle.guillotiere.specs.Slots.{nodes, KeepsUse, no_slot};
+ghost use Rattle.guillotiere.specs.Links.{with_count};
 ghost use Rattle.guillotiere.specs.Standing.{IsSlot};
 ghost use Rattle.guillotiere.specs.Reading.{extent_of};
 ghost use Rattle.guillotiere.specs.Parts.{front_node, back_node, inner_node};
 ghost use Rattle.guillotiere.specs.declared.slots.Node.{Node};
-ghost use Rattle.guillotiere.specs.Stored.{Holding, Holds};
+ghost use Rattle.guillotiere.specs.Stored.{Holding, Holds, HoldsWith};
 
 use crate::lists::{FreeList, enlist, give_back, take_slot, unlist};
 use crate::options::AllocatorOptions;
@@ -29,7 +30,7 @@ pub struct Store<A: Allocator> {
 }
 
 impl<A: Allocator> Store<A> {
-    ghost use Rattle.guillotiere.specs.Holdings.{shelf_of, node_in, across_of, HasSlotsFor, IsHeld, IsLooseLeaf, KeepsRoom, with_held, with_loose, with_spare, after_grant, after_split, after_wrap, after_mark, after_join, after_lift};
+    ghost use Rattle.guillotiere.specs.Holdings.{shelf_of, node_in, across_of, HasSlotsFor, IsHeld, IsLooseLeaf, IsReadyWith, KeepsRoom, with_held, with_loose, with_spare, after_take, after_grant, after_split, after_wrap, after_mark, after_join, after_lift};
 
     /// The tree's part of a slot.
     pub fn node(&self, at: Link) -> Node
@@ -86,6 +87,59 @@ impl<A: Allocator> Store<A> {
         grant_leaf(&mut self.slots, at);
     }
 
+    // Takes an unused slot, the one given back last, or else a new one at the end. It is in hand.
+    fn take(&mut self) -> Link
+        requires { (h : Holding) × (hand : ℕ → ℕ) × HoldsWith hand (shelf_of self.old) h × HasSlotsFor 1 (vec_capacity self.old.slots) (shelf_of self.old) h }
+        ensures taken { (h : Holding) (hand : ℕ → ℕ) → HoldsWith hand (shelf_of self.old) h → HoldsWith (with_count hand result.number 1) (shelf_of self.new) (after_take h) }
+        ensures slots { (h : Holding) (hand : ℕ → ℕ) (n : ℕ) → HoldsWith hand (shelf_of self.old) h → HasSlotsFor (n + 1) (vec_capacity self.old.slots) (shelf_of self.old) h
+            → HasSlotsFor n (vec_capacity self.new.slots) (shelf_of self.new) (after_take h) }
+        ensures apart { (h : Holding) (hand : ℕ → ℕ) (k : ℕ) → HoldsWith hand (shelf_of self.old) h → 0 < hand k → k < length self.old.slots.items → result.number ≢ k }
+        ensures was_unused { (node_in (shelf_of self.old) result.number).kind ≡ Unused }
+        ensures is_unused { (node_in (shelf_of self.new) result.number).kind ≡ Unused }
+        ensures inside { result.number < length self.new.slots.items }
+        ensures others { (k : ℕ) → k ≢ result.number → node_in (shelf_of self.new) k ≡ node_in (shelf_of self.old) k }
+        ensures options { self.new.options ≡ self.old.options }
+        ensures turns { self.new.turns ≡ self.old.turns }
+    {
+        take_slot(&mut self.slots, &mut self.unused)
+    }
+
+    // A loose leaf keeps the first `extent` pixels along its axis, and the slot in hand takes the rest.
+    fn split_with(&mut self, at: Link, fresh: Link, extent: i32)
+        requires ready { (h : Holding) × (hand : ℕ → ℕ) × IsReadyWith hand (shelf_of self.old) at.number fresh.number h }
+        requires free { (node_in (shelf_of self.old) at.number).kind ≡ Free }
+        requires unused { (node_in (shelf_of self.old) fresh.number).kind ≡ Unused }
+        requires inside { fresh.number < length self.old.slots.items }
+        requires positive { 0 < natural extent }
+        requires less { natural extent < extent_of (node_in (shelf_of self.old) at.number) }
+        ensures kept { (h : Holding) (hand : ℕ → ℕ) → IsReadyWith hand (shelf_of self.old) at.number fresh.number h
+            → HoldsWith (with_count hand fresh.number 0) (shelf_of self.new) (after_split at.number fresh.number (natural extent) h) }
+        ensures front { node_in (shelf_of self.new) at.number ≡ front_node (node_in (shelf_of self.old) at.number) (natural extent) fresh }
+        ensures back { node_in (shelf_of self.new) fresh.number ≡ back_node (node_in (shelf_of self.old) at.number) (natural extent) at (node_in (shelf_of self.old) fresh.number) }
+        ensures others { (k : ℕ) → k ≢ at.number → k ≢ fresh.number → KeepsUse (node_in (shelf_of self.old) k) (node_in (shelf_of self.new) k) }
+        ensures room { KeepsRoom self.old self.new }
+        ensures turns { self.new.turns ≡ self.old.turns }
+    {
+        split_leaf(&mut self.slots, at, fresh, extent);
+    }
+
+    // A loose leaf becomes a container, and the slot in hand its lone child.
+    fn wrap_with(&mut self, at: Link, fresh: Link)
+        requires ready { (h : Holding) × (hand : ℕ → ℕ) × IsReadyWith hand (shelf_of self.old) at.number fresh.number h }
+        requires free { (node_in (shelf_of self.old) at.number).kind ≡ Free }
+        requires unused { (node_in (shelf_of self.old) fresh.number).kind ≡ Unused }
+        requires inside { fresh.number < length self.old.slots.items }
+        ensures kept { (h : Holding) (hand : ℕ → ℕ) → IsReadyWith hand (shelf_of self.old) at.number fresh.number h
+            → HoldsWith (with_count hand fresh.number 0) (shelf_of self.new) (after_wrap at.number fresh.number h) }
+        ensures outer { node_in (shelf_of self.new) at.number ≡ record (node_in (shelf_of self.old) at.number) { kind = Container } }
+        ensures inner { node_in (shelf_of self.new) fresh.number ≡ inner_node (node_in (shelf_of self.old) at.number) at (node_in (shelf_of self.old) fresh.number) }
+        ensures others { (k : ℕ) → k ≢ at.number → k ≢ fresh.number → KeepsUse (node_in (shelf_of self.old) k) (node_in (shelf_of self.new) k) }
+        ensures room { KeepsRoom self.old self.new }
+        ensures turns { self.new.turns ≡ self.old.turns }
+    {
+        wrap_leaf(&mut self.slots, at, fresh);
+    }
+
     /// A loose leaf keeps the first `extent` pixels along its axis; the slot that is returned takes the rest, and is
     /// loose too.
     pub fn split(&mut self, at: Link, extent: i32) -> Link
@@ -102,8 +156,8 @@ impl<A: Allocator> Store<A> {
         ensures options { self.new.options ≡ self.old.options }
         ensures turns { self.new.turns ≡ self.old.turns }
     {
-        let fresh = take_slot(&mut self.slots, &mut self.unused);
-        split_leaf(&mut self.slots, at, fresh, extent);
+        let fresh = self.take();
+        self.split_with(at, fresh, extent);
         fresh
     }
 
@@ -120,8 +174,8 @@ impl<A: Allocator> Store<A> {
         ensures options { self.new.options ≡ self.old.options }
         ensures turns { self.new.turns ≡ self.old.turns }
     {
-        let fresh = take_slot(&mut self.slots, &mut self.unused);
-        wrap_leaf(&mut self.slots, at, fresh);
+        let fresh = self.take();
+        self.wrap_with(at, fresh);
         fresh
     }
 
@@ -143,10 +197,10 @@ impl<A: Allocator> Store<A> {
         ensures options { self.new.options ≡ self.old.options }
         ensures turns { self.new.turns ≡ self.old.turns }
     {
-        let back = take_slot(&mut self.slots, &mut self.unused);
-        let front = take_slot(&mut self.slots, &mut self.unused);
-        wrap_leaf(&mut self.slots, at, front);
-        split_leaf(&mut self.slots, front, back, extent);
+        let back = self.take();
+        let front = self.take();
+        self.wrap_with(at, front);
+        self.split_with(front, back, extent);
         (front, back)
     }
 

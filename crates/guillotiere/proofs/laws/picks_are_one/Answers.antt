@@ -1,0 +1,5 @@
+use Rattle.guillotiere.proofs.StepEffects.{picks_are_one}
+use Rattle.guillotiere.proofs.laws.picks_are_one.Goals as goal
+
+pub returns : goal.returns
+returns c = picks_are_one

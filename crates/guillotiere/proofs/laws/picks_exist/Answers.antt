@@ -1,0 +1,5 @@
+use Rattle.guillotiere.proofs.PickExistence.{picks_exist}
+use Rattle.guillotiere.proofs.laws.picks_exist.Goals as goal
+
+pub returns : goal.returns
+returns c = picks_exist

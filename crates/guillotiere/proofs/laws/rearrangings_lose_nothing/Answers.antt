@@ -1,0 +1,5 @@
+use Rattle.guillotiere.proofs.StepEffects.{rearrangings_lose_nothing}
+use Rattle.guillotiere.proofs.laws.rearrangings_lose_nothing.Goals as goal
+
+pub returns : goal.returns
+returns c = rearrangings_lose_nothing

@@ -1,0 +1,5 @@
+use Rattle.guillotiere.proofs.RunKeeping.{runs_keep_order}
+use Rattle.guillotiere.proofs.laws.runs_keep_order.Goals as goal
+
+pub returns : goal.returns
+returns c = runs_keep_order

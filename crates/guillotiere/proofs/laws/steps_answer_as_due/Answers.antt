@@ -1,0 +1,5 @@
+use Rattle.guillotiere.proofs.DueAnswers.{steps_answer_as_due}
+use Rattle.guillotiere.proofs.laws.steps_answer_as_due.Goals as goal
+
+pub returns : goal.returns
+returns c = steps_answer_as_due
