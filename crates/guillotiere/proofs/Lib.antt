@@ -69,3 +69,4 @@ pub mod Suffixes
 pub mod LeafSlots
 pub mod Living
 pub mod LeafSums
+pub mod FreedAtlas
