@@ -1,6 +1,7 @@
 -- Freeing the box of a live id in an atlas.
-use Rattle.std.proofs.Common.{ℕ, ◌+◌, ◌-◌, ◌*◌, ◌/◌, ◌%◌, ◌^◌, ◌<◌, ◌≤◌, ◌≡◌, ◌↔◌, max, Bool, true, false, List, [], length, refl, sym, ap, subst, ◌∙◌, arith, Contains, ◌≢◌}
-use Rattle.std.proofs.lemmas.Bool.{and_parts, eqb-true}
+use Rattle.std.proofs.Common.{ℕ, ◌+◌, ◌-◌, ◌*◌, ◌/◌, ◌%◌, ◌^◌, ◌<◌, ◌≤◌, ◌≡◌, ◌↔◌, max, Bool, true, false, List, [], Option, Some, None, length, refl, sym, ap, subst, ◌∙◌, arith, Contains, ◌≢◌}
+use Rattle.std.specs.Option.{IfSome, IfNone, is_some}
+use Rattle.std.proofs.lemmas.Bool.{and_parts, eqb-true, false≢true}
 use Rattle.std.proofs.lemmas.List.{length-map}
 use Rattle.guillotiere.specs.declared.slots.Slot.{Slot}
 use Rattle.guillotiere.specs.declared.slots.Node.{Node}
@@ -77,6 +78,13 @@ module _ (v : Stored) (a : IsAtlas v) (id : ℕ) where
       let member : 0 < tally (id % 2 ^ 24) a.holding.tree = subst (λ k. 0 < k) (sym (a.holds.stands.numbered (id % 2 ^ 24))) (subst (λ k. 0 < use_count k) (sym is.kind) (omega arith)) in
       subst (λ m. Contains (ids m) id) (sym (members-IsAtlas v a))
       (slot_id ns a.holding.sequence no_slot 0 a.holding.tree id (id % 2 ^ 24) a.holds.stands.standing (record { member = member; kind = is.kind; names = is.names }))
+
+  -- whether a slot was found says whether the id is live
+  pub live-found : (slots : List Slot) (o : Option ℕ) → slots ≡ v.shelf.slots → IfSome o (λ at. is_named (nodes slots) id ≡ true) → IfNone o (is_named (nodes slots) id ≡ false)
+      → (is_some o ≡ true) ↔ Contains (ids (tree_of (nodes v.shelf.slots)).members) id
+  live-found slots None same found missed =
+      ((λ t. absurd (false≢true t)), (λ live. absurd (false≢true (sym missed ∙ ap (λ l. is_named (nodes l) id) same ∙ live-named live))))
+  live-found slots (Some at) same found missed = ((λ _. named-live (ap (λ l. is_named (nodes l) id) (sym same) ∙ found)), (λ _. refl))
 
   -- the slot of a live id can be freed
   pub freeable : (bits : ℕ) → bits ≡ id → Contains (ids (tree_of (nodes v.shelf.slots)).members) id → IsFreeable v.shelf (bits % 2 ^ 24) a.holding
