@@ -70,3 +70,4 @@ pub mod LeafSlots
 pub mod Living
 pub mod LeafSums
 pub mod FreedAtlas
+pub mod Hiding

@@ -32,3 +32,4 @@ pub mod Links
 pub mod Freeing
 pub mod Planning
 pub mod Visits
+pub mod Batches

@@ -1,5 +1,5 @@
 //! The atlas allocator.
-ghost use Rattle.std.specs.Prelude.{◌≡◌, ◌≤◌, ◌<◌, ◌+◌, ◌-◌, ◌↔◌, ℕ, List, [], IsTrue, IfOk, IfSome, OnErr, IfNone, IsOkUnless, OnOk, IsSome, option_map, None, Some, Ok};
+ghost use Rattle.std.specs.Prelude.{◌≡◌, ◌≤◌, ◌<◌, ◌+◌, ◌-◌, ◌↔◌, ℕ, List, [], IsTrue, IfOk, IfSome, OnErr, IfNone, IsOkUnless, OnOk, length, IsSome, option_map, None, Some, Ok};
 ghost use Rattle.guillotiere.specs.Boxes.{IsPositive};
 ghost use Rattle.guillotiere.specs.Choice.{AreValid};
 ghost use Rattle.guillotiere.specs.Pixels.{sides_of, size_of, options_of, rectangle_of};
@@ -10,10 +10,13 @@ ghost use Rattle.guillotiere.specs.declared.geometry.Rectangle.{Rectangle as Are
 ghost use Rattle.guillotiere.specs.declared.allocation.Allocation.{Allocation as Grant};
 ghost use Rattle.guillotiere.specs.Visits.{AreFreeAreas, AreGrants, CalledAtGrant};
 ghost use Rattle.guillotiere.specs.Changes.{only};
+ghost use Rattle.guillotiere.specs.TreeLaws.{is_among};
+ghost use Rattle.guillotiere.specs.Batches.{AreLiveOnce};
 ghost use Rattle.guillotiere.specs.Steps.{Step};
 ghost use Rattle.guillotiere.specs.Steps.AtlasCall.{Allocate, Deallocate};
 
 use crate::allocation::{AllocId, Allocation, SlotCount};
+use crate::batch::are_named_once;
 use crate::error::AtlasError;
 use crate::geometry::{Rectangle, Size};
 use crate::options::{AllocatorOptions, DEFAULT_OPTIONS};
@@ -155,6 +158,35 @@ impl<A: Allocator + Copy> AtlasAllocator<A> {
         }
         self.free(id);
         Ok(())
+    }
+
+    /// Frees the boxes of the ids of a list, in an order that can't be told. `NotLive` if one of them isn't live or stands
+    /// twice, and then nothing changes. Takes no memory, time in proportion to the list, and at most one turn an id more
+    /// than there are members fewer.
+    pub fn deallocate_all(&mut self, ids: &[AllocId]) -> Result<(), AtlasError>
+        ensures freed { OnOk result (state_of self.new ≡ after_freeing (state_of self.old) (is_among ids.now)) }
+        ensures ok { (result ≡ Ok tt) ↔ AreLiveOnce (state_of self.old) ids.now }
+        ensures unless { IsOkUnless result AtlasError.NotLive }
+        ensures refused { OnErr result (self.new ≡ self.old) }
+        ensures none { ids.now ≡ [] → self.new ≡ self.old }
+        ensures turns { self.new.turns + used_in (state_of self.new) ≤ self.old.turns + length ids.now + used_in (state_of self.old) }
+    {
+        if !self.are_live_once(ids) {
+            return Err(AtlasError::NotLive);
+        }
+        for id in ids {
+            self.free(*id);
+        }
+        Ok(())
+    }
+
+    // Whether each of these ids is live, and none stands twice.
+    fn are_live_once(&mut self, ids: &[AllocId]) -> bool
+        ensures live { IsTrue result ↔ AreLiveOnce (state_of self.old) ids.now }
+        ensures same { self.new ≡ self.old }
+        ensures sound { IsSound (state_of self.old) }
+    {
+        are_named_once(&mut self.store.slots, ids)
     }
 
     // Whether an id is live.
