@@ -47,7 +47,7 @@ named-parts ns id h =
     record { kind = is_alloc-true _ parts.0; names = ap (id_of (id % 2 ^ 24)) age ∙ id_of-parts id }
 
 -- the state after a freeing, of its parts
-state-freed : (new old : State) (set : ℕ → Bool) → new.tree ≡ release set old.tree → new.size ≡ old.size → new.options ≡ old.options → new.limit ≡ old.limit → new.kept ≡ old.kept
+pub state-freed : (new old : State) (set : ℕ → Bool) → new.tree ≡ release set old.tree → new.size ≡ old.size → new.options ≡ old.options → new.limit ≡ old.limit → new.kept ≡ old.kept
     → IsSound old → new ≡ after_freeing old set
 state-freed new old set et es eo el ek sound =
     let few = release_nodes set old.tree in

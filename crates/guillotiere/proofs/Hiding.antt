@@ -91,7 +91,7 @@ shown-more ns now new ids k id at l is slot e h w =
 or-false : (a b : Bool) → a ≡ false → b ≡ false → (a || b) ≡ false
 or-false a b ea eb = rw (ea, eb) refl
 
-or-parts : (a b : Bool) → (a || b) ≡ false → (a ≡ false) × (b ≡ false)
+pub or-parts : (a b : Bool) → (a || b) ≡ false → (a ≡ false) × (b ≡ false)
 or-parts true b h = absurd (true≢false h)
 or-parts false b h = (refl, h)
 
@@ -160,9 +160,10 @@ named-hidable ns (x ∷ xs) h =
 -- whether all were hidden says whether each id names a slot, and none stands twice
 pub named-hidden : (ns : List Node) (ids : List ℕ) (count : ℕ) → AreHidable ns (take count ids) → (count ≢ length ids → AreHidable ns ids → ⊥)
     → (count ≡ length ids) ↔ AreNamedOnce ns ids
-named-hidden ns ids count front last =
-    ((λ e. hidable-named ns ids (subst (AreHidable ns) (ap (λ v. take v ids) e ∙ take_all (length ids) ids (omega arith)) front)),
-    (λ h. elim (cases_eq count (length ids)) [ inl e ↦ e | inr ne ↦ absurd (last ne (named-hidable ns ids h)) ]))
+named-hidden ns ids count front last = (
+  (λ e. hidable-named ns ids (subst (AreHidable ns) (ap (λ v. take v ids) e ∙ take_all (length ids) ids (omega arith)) front)),
+  (λ h. elim (cases_eq count (length ids)) [ inl e ↦ e | inr ne ↦ absurd (last ne (named-hidable ns ids h)) ]),
+)
 
 cons-same : (x y : Slot) (xs ys : List Slot) → x ≡ y → xs ≡ ys → x ∷ xs ≡ y ∷ ys
 cons-same x y xs ys e f = ap (λ v. v ∷ xs) e ∙ ap (λ v. y ∷ v) f

@@ -71,3 +71,4 @@ pub mod Living
 pub mod LeafSums
 pub mod FreedAtlas
 pub mod Hiding
+pub mod FreedLists

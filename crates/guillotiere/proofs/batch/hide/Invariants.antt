@@ -8,5 +8,5 @@ invariant-loop-count l =
     record {
       written : nodes l.slots ≡ hidden (nodes l.fn.slots) (take l.count l.ids);
       named : AreHidable (nodes l.fn.slots) (take l.count l.ids);
-      same_rings : rings l.slots ≡ rings l.fn.slots
+      same_rings : rings l.slots ≡ rings l.fn.slots;
     }

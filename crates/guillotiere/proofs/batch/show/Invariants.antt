@@ -9,7 +9,7 @@ invariant-loop-left l =
     record {
       shown : (ns : List Node) → nodes l.fn.slots ≡ hidden ns l.ids → AreHidable ns l.ids → nodes l.slots ≡ hidden ns (take l.left l.ids);
       same_rings : rings l.slots ≡ rings l.fn.slots;
-      most : l.left ≤ length l.ids
+      most : l.left ≤ length l.ids;
     }
 
 abbrev pub decreases-loop-left : goal.decreases-loop-left
