@@ -54,9 +54,6 @@ state-freed new old set et es eo el ek sound =
     let kept : new.kept ≡ max old.kept (tree.nodes (release set old.tree).members) = omega (arith, few, sound.counted, ek) in
     rw (← kept, ← et, ← es, ← eo, ← el) refl
 
-pub freed-slot : (v u : Shelf) (id bits n : ℕ) (h h' : Holding) → bits ≡ id → IsFreed v u (bits % 2 ^ 24) n h h' → IsFreed v u (id % 2 ^ 24) n h h'
-freed-slot v u id bits n h h' same w = subst (λ k. IsFreed v u (k % 2 ^ 24) n h h') same w
-
 -- as many turns more as members fewer, and one
 pub turns-sum : (now before n used used' : ℕ) → now ≡ before + 1 + n → used' + n ≡ used → now + used' ≡ before + 1 + used
 turns-sum now before n used used' t u = omega arith
@@ -146,3 +143,25 @@ module _ (v : Stored) (a : IsAtlas v) (id : ℕ) where
         ap tree.nodes (freed.tree ∙ ap (λ k. nf (mark (only k) (erase a.holding.tree))) is.names ∙ ap (λ k. nf (mark (only id) k)) (sym (members-IsAtlas v a))) in
         let old : tree.nodes (tree_of (nodes v.shelf.slots)).members ≡ numbers a.holding.tree = ap tree.nodes (members-IsAtlas v a) ∙ sym (numbers-erase a.holding.tree) in
         omega (arith, now, less, old, numbers-erase h.tree, freed.given)
+
+-- What a call that frees the leaf of a live id leaves: n slots were given back.
+pub record FreesBox (v : Stored) (u : Shelf) (id n : ℕ) : Type 0 where
+  pub few : n ≤ v.used
+  pub atlas : IsAtlas (record { shelf = u; first = v.first; used = v.used - n; size = v.size; limit = v.limit })
+  pub state : (m turns before : ℕ) → state_of (record { stored = record { shelf = u; first = v.first; used = m; size = v.size; limit = v.limit }; turns = turns })
+      ≡ after_freeing (state_of (record { stored = v; turns = before })) (only id)
+  pub used : (m turns before : ℕ) → used_in (state_of (record { stored = record { shelf = u; first = v.first; used = m; size = v.size; limit = v.limit }; turns = turns })) + n
+      ≡ used_in (state_of (record { stored = v; turns = before }))
+
+pub frees-box : (v : Stored) (a : IsAtlas v) (u : Shelf) (id bits n : ℕ) → Contains (ids (tree_of (nodes v.shelf.slots)).members) id → bits ≡ id
+    → ((h : Holding) → IsFreeable v.shelf (bits % 2 ^ 24) h → (h' : Holding) × IsFreed v.shelf u (bits % 2 ^ 24) n h h')
+    → length u.slots ≡ length v.shelf.slots → u.options ≡ v.shelf.options → FreesBox v u id n
+frees-box v a u id bits n live same freed same_length same_options =
+    let r = freed a.holding (freeable v a id bits same live) in
+    let w : IsFreed v.shelf u (id % 2 ^ 24) n a.holding r.0 = subst (λ k. IsFreed v.shelf u (k % 2 ^ 24) n a.holding r.0) same r.1 in
+    record {
+      few = given-few v a id u n r.0 live w same_length same_options;
+      atlas = atlas-IsFreed v a id u n r.0 live w same_length same_options;
+      state = state-IsFreed v a id u n r.0 live w same_length same_options;
+      used = used-IsFreed v a id u n r.0 live w same_length same_options;
+    }
