@@ -47,6 +47,10 @@ pub mod Occurrences
 pub mod Unlinking
 pub mod Banding
 pub mod Filing
+pub mod Taking
+pub mod Choosing
+pub mod Extents
+pub mod Turning
 pub mod SlotSums
 pub mod LeafCounts
 pub mod WalkSteps
@@ -54,12 +58,9 @@ pub mod Observing
 pub mod NamedSlots
 pub mod ShownLists
 pub mod Starting
-pub mod Taking
-pub mod Choosing
 pub mod Walking
 pub mod Looking
 pub mod FreeSlots
-pub mod Extents
 pub mod Listing
 pub mod NumberedCuts
 pub mod StoreSteps
@@ -83,3 +84,6 @@ pub mod ListedBoxes
 pub mod CuttingFromLists
 pub mod Storing
 pub mod SimpleGrants
+pub mod FreedAtlas
+pub mod Hiding
+pub mod FreedLists

@@ -34,3 +34,4 @@ pub mod Starts
 pub mod Freeing
 pub mod Planning
 pub mod Replies
+pub mod Batches

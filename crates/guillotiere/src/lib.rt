@@ -3,6 +3,7 @@
 
 mod allocation;
 mod atlas;
+mod batch;
 mod choice;
 mod cut;
 mod error;
