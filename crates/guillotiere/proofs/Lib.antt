@@ -70,3 +70,4 @@ pub mod LeafSums
 pub mod SlotPlans
 pub mod AtlasSlots
 pub mod PlannedTrees
+pub mod PlacingSteps
