@@ -1,9 +1,12 @@
 -- The free slots of slots that stand for a tree: their boxes are the tree's free boxes, and their rectangles are exact.
-use Rattle.std.proofs.Common.{ℕ, ◌+◌, ◌<◌, ◌≡◌, ◌⊎◌, inl, inr, List, ◌∷◌, ◌++◌, refl, sym, ap, ◌∙◌, arith, length, zero, suc, subst}
+use Rattle.std.proofs.Common.{ℕ, ◌+◌, ◌<◌, ◌≡◌, ◌⊎◌, inl, inr, List, ◌∷◌, ◌++◌, refl, sym, ap, ◌∙◌, arith, length, zero, suc, subst, Bool, false}
 use Rattle.std.specs.Prelude.{Contains, slice_index_or}
 use Rattle.std.proofs.lemmas.Bool.{cases_eq, cases_lt}
 use Rattle.std.proofs.lemmas.List.Elements.{filter_map-append, Contains-append_left, Contains-append_right, Contains-append_cases}
+use Rattle.guillotiere.specs.declared.slots.Slot.{Slot}
+use Rattle.guillotiere.specs.declared.slots.Link.{Link}
 use Rattle.guillotiere.specs.declared.slots.Node.{Node}
+use Rattle.guillotiere.specs.declared.lists.FreeList.{FreeList}
 use Rattle.guillotiere.specs.declared.geometry.Rectangle.{Rectangle}
 use Rattle.guillotiere.specs.declared.slots.NodeKind.{NodeKind}
 use Rattle.guillotiere.specs.declared.slots.NodeKind.TheVariants as kind
@@ -11,11 +14,13 @@ use Rattle.guillotiere.specs.Boxes.{Axis, Box, IsNonempty, other, moved, sized, 
 use Rattle.guillotiere.specs.Boxes.Axis.{Horizontal, Vertical}
 use Rattle.guillotiere.specs.Pixels.{box_of, rectangle_of}
 use Rattle.guillotiere.specs.Trees.{Leaf, leaves, ungranted, free_at, IsCut}
-use Rattle.guillotiere.specs.Slots.{node_at, use_count, no_slot}
+use Rattle.guillotiere.specs.Slots.{nodes, rings, node_at, use_count, no_slot}
 use Rattle.guillotiere.specs.Numbered.{Numbered, tally, erase, End, Free, Alloc, Seq}
 use Rattle.guillotiere.specs.Standing.{Sequence, Standing, Stands, spot, member_box, inside}
+use Rattle.guillotiere.specs.Choice.{Options}
+use Rattle.guillotiere.specs.Lists.{AreFiled}
 use Rattle.guillotiere.specs.Links.{IsExact}
-use Rattle.guillotiere.specs.Picks.{node_box, IsFreeSlot, AreFreeBoxes}
+use Rattle.guillotiere.specs.Picks.{node_box, IsFreeSlot, AreFreeBoxes, IsSearchable}
 use Rattle.guillotiere.proofs.Occurrences.{same-ne}
 
 moved-spot : (a : Axis) (p q e : ℕ) → moved a (spot a p q) e ≡ spot a (p + e) q
@@ -149,3 +154,17 @@ exact-stands ns s n h w cut i u = exact-in ns s no_slot 0 n w cut h.standing i (
 
 pub exact-free : (ns : List Node) (s : Sequence) (n : Numbered) → Stands ns s n → 0 < s.width → IsCut s.width (erase n) → (i : ℕ) → IsFreeSlot ns i → IsExact (node_at ns i).area
 exact-free ns s n h w cut i free = exact-stands ns s n h w cut i (omega (arith, ap use_count free))
+
+-- slots that stand for a tree of cuts, and whose free ones are all listed, can be searched
+pub searchable : (o : Options) (slots : List Slot) (lists : List FreeList) (unused : Link) (spare : List ℕ) (held : ℕ → List ℕ) (hand : ℕ → ℕ) (loose : ℕ → Bool) (s : Sequence) (n : Numbered) → AreFiled o (nodes slots) (rings slots) lists unused spare held hand loose → ((i : ℕ) → loose i ≡ false) → Stands (nodes slots) s n → 0 < s.width → IsCut s.width (erase n) → IsSearchable o slots lists
+searchable o slots lists unused spare held hand loose s n f listed h w cut =
+    record {
+      unused = unused;
+      spare = spare;
+      held = held;
+      hand = hand;
+      loose = loose;
+      filed = f;
+      all_listed = listed;
+      exact = exact-free (nodes slots) s n h w cut;
+    }

@@ -71,3 +71,9 @@ pub mod SlotPlans
 pub mod AtlasSlots
 pub mod PlannedTrees
 pub mod PlacingSteps
+pub mod StoreTakes
+pub mod PickingFromLists
+pub mod ListedBoxes
+pub mod CuttingFromLists
+pub mod Storing
+pub mod SimpleGrants

@@ -407,7 +407,7 @@ taken-short v new capacity i n slot h hand holds room again fresh =
     some-front (x ∷ xs) rs short line e h = omega (arith, line.0, e)
 
 -- a free leaf and an unused slot are two
-apart-kinds : (ns : List Node) (i j : ℕ) → (node_at ns i).kind ≡ kind.Free → (node_at ns j).kind ≡ kind.Unused → i ≢ j
+pub apart-kinds : (ns : List Node) (i j : ℕ) → (node_at ns i).kind ≡ kind.Free → (node_at ns j).kind ≡ kind.Unused → i ≢ j
 apart-kinds ns i j free unused e =
     let z : kind.Free ≡ kind.Unused = sym free ∙ ap (λ x. (node_at ns x).kind) e ∙ unused in cc
 

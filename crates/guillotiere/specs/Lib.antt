@@ -7,6 +7,7 @@ pub mod Searches
 pub mod Choice
 pub mod Simple
 pub mod FreeLists
+pub mod AllocatorLaws
 pub mod Trees
 pub mod Changes
 pub mod TreeLaws

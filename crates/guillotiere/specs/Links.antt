@@ -14,11 +14,11 @@ use Rattle.guillotiere.specs.Choice.{Options}
 use Rattle.guillotiere.specs.Slots.{nodes, rings, node_at, ring_at}
 use Rattle.guillotiere.specs.Lists.{IsList, AreFiled, occurs, without}
 
--- slot i stands in some list
+-- the list is in order, and slot i stands in it
 abbrev pub IsListed : List Ring → FreeList → ℕ → Type 0
 IsListed rs list i = (xs : List ℕ) × IsList rs list xs × (0 < occurs i xs)
 
--- slot i stands not in some list
+-- the list is in order, and slot i does not stand in it
 abbrev pub IsUnlisted : List Ring → FreeList → ℕ → Type 0
 IsUnlisted rs list i = (xs : List ℕ) × IsList rs list xs × (occurs i xs ≡ 0)
 

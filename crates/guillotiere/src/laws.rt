@@ -1,4 +1,5 @@
 //! Laws over the definitions of docs/MODEL.md, each the contract of a function that does nothing.
+ghost use Rattle.guillotiere.specs.AllocatorLaws.{SmallerFits};
 ghost use Rattle.std.specs.Prelude.{◌≡◌, [], ◌∷◌};
 ghost use Rattle.guillotiere.specs.Boxes.Axis.{Horizontal, Vertical};
 ghost use Rattle.guillotiere.specs.Trees.{grant};
@@ -159,4 +160,10 @@ pub fn runs_keep_order()
 /// After a run the freeing of what it granted leaves the tree of the run without its grants.
 pub fn runs_leave_no_trace()
     ensures { RunsLeaveNoTrace }
+{}
+
+
+/// From one state, if a request fits, each positive request no wider and no higher fits.
+pub fn smaller_fits()
+    ensures { SmallerFits }
 {}

@@ -24,3 +24,4 @@ pub use error::AtlasError;
 pub use geometry::{Point, Rectangle, Size, point2, size2};
 pub use options::{AllocatorOptions, DEFAULT_OPTIONS};
 pub use slots::NodeKind;
+pub use simple::SimpleAtlasAllocator;
