@@ -77,3 +77,4 @@ pub mod ListedBoxes
 pub mod CuttingFromLists
 pub mod Storing
 pub mod SimpleGrants
+pub mod PlacingChains

@@ -325,3 +325,28 @@ is-wrapped_two v v' capacity capacity' p at k j kept front back front_apart back
   back_apart = back_apart;
   others = others;
 }
+
+-- the same where the number is given as it was passed
+
+pub is-split_at : (v v' : Shelf) (capacity capacity' p q : ℕ) (at k : Link) → q ≡ p
+    → ((h : Holding) (n : ℕ) → IsLooseLeaf v at.number h → HasSlotsFor (n + 1) capacity v h
+        → (spare : List ℕ) × Holds v' (with_spare spare (after_split at.number k.number q h)) × HasSlotsFor n capacity' v' (with_spare spare h))
+    → node_in v' at.number ≡ front_node (node_in v at.number) q k
+    → (unused : Node) × (node_in v' k.number ≡ back_node (node_in v at.number) q at unused)
+    → k.number ≢ at.number
+    → ((i : ℕ) → i ≢ at.number → i ≢ k.number → KeepsUse (node_in v i) (node_in v' i))
+    → IsSplit v v' capacity capacity' at.number k.number p
+is-split_at v v' capacity capacity' p q at k e kept front back apart others =
+    subst (λ n. IsSplit v v' capacity capacity' at.number k.number n) e (is-split v v' capacity capacity' q at k kept front back apart others)
+
+pub is-wrapped_two_at : (v v' : Shelf) (capacity capacity' p q : ℕ) (at k j : Link) → q ≡ p
+    → ((h : Holding) (n : ℕ) → IsLooseLeaf v at.number h → HasSlotsFor (n + 2) capacity v h
+        → (spare : List ℕ) × Holds v' (with_spare spare (after_split k.number j.number q (after_wrap at.number k.number h))) × HasSlotsFor n capacity' v' (with_spare spare h))
+    → (unused : Node) × (node_in v' k.number ≡ front_node (inner_node (node_in v at.number) at unused) q j)
+    → (unused : Node) × (o : Node) × (node_in v' j.number ≡ back_node (inner_node (node_in v at.number) at unused) q k o)
+    → k.number ≢ at.number
+    → (j.number ≢ at.number) × (j.number ≢ k.number)
+    → ((i : ℕ) → i ≢ at.number → i ≢ k.number → i ≢ j.number → KeepsUse (node_in v i) (node_in v' i))
+    → IsWrappedTwo v v' capacity capacity' at.number k.number j.number p
+is-wrapped_two_at v v' capacity capacity' p q at k j e kept front back front_apart back_apart others =
+    subst (λ n. IsWrappedTwo v v' capacity capacity' at.number k.number j.number n) e (is-wrapped_two v v' capacity capacity' q at k j kept front back front_apart back_apart others)
