@@ -78,6 +78,7 @@ pub mod LeafSums
 pub mod SlotPlans
 pub mod AtlasSlots
 pub mod PlannedTrees
+pub mod PlacingSteps
 pub mod StoreTakes
 pub mod PickingFromLists
 pub mod ListedBoxes
@@ -87,3 +88,4 @@ pub mod SimpleGrants
 pub mod FreedAtlas
 pub mod Hiding
 pub mod FreedLists
+pub mod PlacingChains
