@@ -78,3 +78,4 @@ pub mod CuttingFromLists
 pub mod Storing
 pub mod SimpleGrants
 pub mod PlacingChains
+pub mod PlanLines
