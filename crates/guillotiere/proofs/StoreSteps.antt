@@ -60,16 +60,16 @@ pub filed-one : (o : Options) (ns ms : List Node) (rs ts : List Ring) (lists : L
     → AreFiled o ns rs lists unused spare held (λ j. 0) loose → AreFiled o ms ts lists unused spare held (λ j. 0) (with_mark loose i mark)
 filed-one o ns ms rs ts lists unused spare held loose i mark same here used others filed =
     let moved : (k : ℕ) → IsMoved (node_at ns k) (node_at ms k) (loose k) (with_mark loose i mark k) =
-        λ k. elim (cases_eq k i) [
-          | inl e ↦ subst (λ x. IsMoved (node_at ns x) (node_at ms x) (loose x) (with_mark loose i mark x)) (sym e)
-              (subst (λ b. IsMoved (node_at ns i) (node_at ms i) (loose i) b) (sym (with_mark-same loose i mark)) here)
-          | inr ne ↦ moved-kept (node_at ns k) (node_at ms k) (loose k) (with_mark loose i mark k) (others k ne) (with_mark-other loose i mark k ne)
-        ] in
+    λ k. elim (cases_eq k i) [
+      | inl e ↦ subst (λ x. IsMoved (node_at ns x) (node_at ms x) (loose x) (with_mark loose i mark x)) (sym e)
+          (subst (λ b. IsMoved (node_at ns i) (node_at ms i) (loose i) b) (sym (with_mark-same loose i mark)) here)
+      | inr ne ↦ moved-kept (node_at ns k) (node_at ms k) (loose k) (with_mark loose i mark k) (others k ne) (with_mark-other loose i mark k ne)
+    ] in
     let counts : (k : ℕ) → k < length rs → 0 + use_count (node_at ms k).kind ≡ 0 + use_count (node_at ns k).kind =
-        λ k _. elim (cases_eq k i) [
-          | inl e ↦ subst (λ x. 0 + use_count (node_at ms x).kind ≡ 0 + use_count (node_at ns x).kind) (sym e) (omega (arith, used))
-          | inr ne ↦ omega (arith, use-kept (node_at ns k) (node_at ms k) (others k ne))
-        ] in
+    λ k _. elim (cases_eq k i) [
+      | inl e ↦ subst (λ x. 0 + use_count (node_at ms x).kind ≡ 0 + use_count (node_at ns x).kind) (sym e) (omega (arith, used))
+      | inr ne ↦ omega (arith, use-kept (node_at ns k) (node_at ms k) (others k ne))
+    ] in
     subst (λ r. AreFiled o ms r lists unused spare held (λ j. 0) (with_mark loose i mark)) (sym same)
     (AreFiled-moved o ns ms rs lists unused spare held (λ j. 0) (λ j. 0) loose (with_mark loose i mark) moved counts filed)
 
@@ -92,8 +92,8 @@ granted-holds v old mid new at eo en long tree this others same h leaf =
     (omega (arith, leaf.holds.short, ap (λ s. length s) eo, long)) leaf.holds
     (subst G eo (tree h.sequence h.tree (subst Q (sym eo) leaf.holds.stands)))
     (filed-one (options_of v.options) (nodes old) (nodes mid) (rings old) (rings mid) v.lists v.unused h.spare h.held h.loose at false same
-      (inr (inl leaf.loose, inr (ap is_free is_granted)))
-      (ap use_count is_granted ∙ sym (ap use_count was_free)) others (subst F (sym eo) leaf.holds.filed))
+    (inr (inl leaf.loose, inr (ap is_free is_granted)))
+    (ap use_count is_granted ∙ sym (ap use_count was_free)) others (subst F (sym eo) leaf.holds.filed))
     (cut-granted at (node_in v at).generation h.sequence.width h.tree leaf.holds.cut)
     (total-granted at (node_in v at).generation h.tree)
 
@@ -133,8 +133,8 @@ marked-holds v old mid new at a tree was_granted is_now_free others same h holds
     (short-mid v.slots old mid new a holds.short) holds
     (tree h.sequence h.tree (stands-before (λ i. 0) v old h a.given holds))
     (filed-one (options_of v.options) (nodes old) (nodes mid) (rings old) (rings mid) v.lists v.unused h.spare h.held h.loose at true same
-      (inr (inr (ap is_free was), inl refl))
-      (ap use_count is_now_free ∙ sym (ap use_count was)) others (filed-before (λ i. 0) v old h a.given holds))
+    (inr (inr (ap is_free was), inl refl))
+    (ap use_count is_now_free ∙ sym (ap use_count was)) others (filed-before (λ i. 0) v old h a.given holds))
     (cut-marked at h.sequence.width h.tree holds.cut)
     (total-marked at h.tree)
 
@@ -156,21 +156,21 @@ filed-two o ns ms rs ts lists unused spare held hand hand' loose loose' i j same
     let M : ℕ → Type 0 = λ x. IsMoved (node_at ns x) (node_at ms x) (loose x) (loose' x) in
     let C : ℕ → Type 0 = λ x. hand' x + use_count (node_at ms x).kind ≡ hand x + use_count (node_at ns x).kind in
     let moved : (k : ℕ) → M k =
-        λ k. elim (cases_eq k i) [
-          | inl e ↦ subst M (sym e) c.first
-          | inr ne ↦ elim (cases_eq k j) [
-            | inl e ↦ subst M (sym e) c.second
-            | inr nf ↦ moved-kept (node_at ns k) (node_at ms k) (loose k) (loose' k) (c.others k ne nf) (c.marks k ne nf)
-          ]
-        ] in
+    λ k. elim (cases_eq k i) [
+      | inl e ↦ subst M (sym e) c.first
+      | inr ne ↦ elim (cases_eq k j) [
+        | inl e ↦ subst M (sym e) c.second
+        | inr nf ↦ moved-kept (node_at ns k) (node_at ms k) (loose k) (loose' k) (c.others k ne nf) (c.marks k ne nf)
+      ]
+    ] in
     let counts : (k : ℕ) → k < length rs → C k =
-        λ k _. elim (cases_eq k j) [
-          | inl e ↦ subst C (sym e) c.counted
-          | inr ne ↦ elim (cases_eq k i) [
-            | inl e ↦ subst C (sym e) (omega (arith, c.used, c.hands i c.apart))
-            | inr nf ↦ omega (arith, use-kept (node_at ns k) (node_at ms k) (c.others k nf ne), c.hands k ne)
-          ]
-        ] in
+    λ k _. elim (cases_eq k j) [
+      | inl e ↦ subst C (sym e) c.counted
+      | inr ne ↦ elim (cases_eq k i) [
+        | inl e ↦ subst C (sym e) (omega (arith, c.used, c.hands i c.apart))
+        | inr nf ↦ omega (arith, use-kept (node_at ns k) (node_at ms k) (c.others k nf ne), c.hands k ne)
+      ]
+    ] in
     subst (λ r. AreFiled o ms r lists unused spare held hand' loose') (sym same)
     (AreFiled-moved o ns ms rs lists unused spare held hand hand' loose loose' moved counts filed)
 
@@ -206,7 +206,7 @@ hand-back hand j m none i =
 pub listed-holds : (v : Shelf) (old mid new : List Slot) (lists : List FreeList) (h : Holding) (held : ℕ → List ℕ) (loose : ℕ → Bool)
     → AreSlots v.slots old mid new → nodes mid ≡ nodes old
     → (AreFiled (options_of v.options) (nodes old) (rings old) v.lists v.unused h.spare h.held (λ i. 0) h.loose
-      → AreFiled (options_of v.options) (nodes mid) (rings mid) lists v.unused h.spare held (λ i. 0) loose)
+    → AreFiled (options_of v.options) (nodes mid) (rings mid) lists v.unused h.spare held (λ i. 0) loose)
     → Holds v h → Holds (record v { slots = new; lists = lists }) (record h { held = held; loose = loose })
 listed-holds v old mid new lists h held loose a same filed holds =
     let Q : List Slot → Type 0 = λ slots. Holds (record v { slots = slots; lists = lists }) (record h { held = held; loose = loose }) in
@@ -281,8 +281,8 @@ joined-holds v old mid old2 mid2 new unused i j eo long back en tree was_free is
       others = others;
     } in
     let filed : AreFiled (options_of v.options) (nodes mid) (rings mid) v.lists v.unused h.spare h.held (with_count (λ k. 0) j 1) (with_mark h.loose j false) =
-        filed-two (options_of v.options) (nodes old) (nodes mid) (rings old) (rings mid) v.lists v.unused h.spare h.held (λ k. 0) (with_count (λ k. 0) j 1) h.loose (with_mark h.loose j false) i j
-        same two (filed-before (λ k. 0) v old h eo holds) in
+    filed-two (options_of v.options) (nodes old) (nodes mid) (rings old) (rings mid) v.lists v.unused h.spare h.held (λ k. 0) (with_count (λ k. 0) j 1) h.loose (with_mark h.loose j false) i j
+    same two (filed-before (λ k. 0) v old h eo holds) in
     held_again (λ k. 0) (λ k. 0) v old mid2 new unused h (joined i h.tree) (j ∷ h.spare) (with_mark h.loose j false) eo en
     (omega (arith, back.long, ap (λ s. length s) back.given, long, ap (λ s. length s) eo, holds.short)) holds
     (stands-given v mid old2 mid2 unused j h.sequence (joined i h.tree) back (tree h.sequence h.tree (stands-before (λ k. 0) v old h eo holds)))
@@ -313,8 +313,8 @@ lifted-holds v old mid old2 mid2 new unused i c eo long back en tree was_contain
       others = λ k ne nf. others k nf ne;
     } in
     let filed : AreFiled (options_of v.options) (nodes mid) (rings mid) v.lists v.unused h.spare h.held (with_count (λ k. 0) c 1) (with_mark (with_mark h.loose i true) c false) =
-        filed-two (options_of v.options) (nodes old) (nodes mid) (rings old) (rings mid) v.lists v.unused h.spare h.held (λ k. 0) (with_count (λ k. 0) c 1) h.loose (with_mark (with_mark h.loose i true) c false) i c
-        same two (filed-before (λ k. 0) v old h eo holds) in
+    filed-two (options_of v.options) (nodes old) (nodes mid) (rings old) (rings mid) v.lists v.unused h.spare h.held (λ k. 0) (with_count (λ k. 0) c 1) h.loose (with_mark (with_mark h.loose i true) c false) i c
+    same two (filed-before (λ k. 0) v old h eo holds) in
     held_again (λ k. 0) (λ k. 0) v old mid2 new unused h (lifted i h.tree) (c ∷ h.spare) (with_mark (with_mark h.loose i true) c false) eo en
     (omega (arith, back.long, ap (λ s. length s) back.given, long, ap (λ s. length s) eo, holds.short)) holds
     (stands-given v mid old2 mid2 unused c h.sequence (lifted i h.tree) back (tree h.sequence h.tree holds.top (stands-before (λ k. 0) v old h eo holds)))
@@ -341,7 +341,7 @@ joined-holds_at v old mid old2 mid2 new unused i j k e eo long back en tree was_
     let L : ℕ → Type 0 = λ x. h.loose x ≡ true in
     subst P e
     (joined-holds v old mid old2 mid2 new unused i j eo long back en tree (node-before (λ n. n.kind ≡ kind.Free) v old i eo was_free) is_free_now apart
-      (node-before (λ n. n.kind ≡ kind.Free) v old j eo (subst K (sym e) other_free)) gone others same h holds loose_i (subst L (sym e) loose_k))
+    (node-before (λ n. n.kind ≡ kind.Free) v old j eo (subst K (sym e) other_free)) gone others same h holds loose_i (subst L (sym e) loose_k))
 
 -- a fact of the nodes after a call and a giving back
 pub given-nodes : (P : List Node → Type 0) (v : Shelf) (mid old2 mid2 new : List Slot) (unused : Link) (j : ℕ) → GivesBack v mid old2 mid2 unused j → new ≡ mid2 → P (nodes mid) → P (nodes new)
@@ -354,10 +354,10 @@ pub stands-taken : (ns ms : List Node) (i : ℕ) (s : Sequence) (n : Numbered) �
     → ((k : ℕ) → k ≢ i → node_at ms k ≡ node_at ns k) → Stands ns s n → Stands ms s n
 stands-taken ns ms i s n was is others stands =
     let counts : (k : ℕ) → tally k n ≡ use_count (node_at ms k).kind =
-        λ k. elim (cases_eq k i) [
-          | inl e ↦ subst (λ x. tally x n ≡ use_count (node_at ms x).kind) (sym e) (stands.numbered i ∙ ap use_count was ∙ sym (ap use_count is))
-          | inr ne ↦ stands.numbered k ∙ ap (λ m. use_count m.kind) (sym (others k ne))
-        ] in
+    λ k. elim (cases_eq k i) [
+      | inl e ↦ subst (λ x. tally x n ≡ use_count (node_at ms x).kind) (sym e) (stands.numbered i ∙ ap use_count was ∙ sym (ap use_count is))
+      | inr ne ↦ stands.numbered k ∙ ap (λ m. use_count m.kind) (sym (others k ne))
+    ] in
     record {
       standing = Standing-same ns ms s no_slot 0 n (λ j h. elim (cases_eq j i) [
         | inl e ↦ absurd (omega (arith, ap (λ x. tally x n) e, stands.numbered i, ap use_count was))
@@ -442,7 +442,7 @@ split-holds v old mid new at fresh p after before a tree free_v unused_v positiv
     (short-mid v.slots old mid new a r.holds.short) r.holds
     (tree h.sequence h.tree stands)
     (filed-two (options_of v.options) (nodes old) (nodes mid) (rings old) (rings mid) v.lists v.unused h.spare h.held hand (with_count hand fresh 0) h.loose (with_mark h.loose fresh true) at fresh
-      same two (filed-before hand v old h a.given r.holds))
+    same two (filed-before hand v old h a.given r.holds))
     (cut-split at fresh p (nodes old) h.sequence no_slot 0 h.tree positive less stands.standing r.holds.cut)
     (total-split at fresh p (nodes old) h.sequence no_slot 0 h.tree less stands.standing)
 
@@ -476,7 +476,7 @@ wrapped-holds v old mid new at fresh link a tree free_v unused_v outer inner oth
     (short-mid v.slots old mid new a r.holds.short) r.holds
     (tree h.sequence h.tree (stands-before hand v old h a.given r.holds))
     (filed-two (options_of v.options) (nodes old) (nodes mid) (rings old) (rings mid) v.lists v.unused h.spare h.held hand (with_count hand fresh 0) h.loose (with_mark (with_mark h.loose fresh true) at false) at fresh
-      same two (filed-before hand v old h a.given r.holds))
+    same two (filed-before hand v old h a.given r.holds))
     (cut-wrapped at fresh h.sequence.width h.tree r.holds.wide r.holds.cut)
     (total-wrapped at fresh h.sequence.width h.tree)
 

@@ -96,11 +96,12 @@ impl<A: Allocator + Copy> SimpleAtlasAllocator<A> {
     pub fn is_empty(&self) -> bool
         ensures { IsTrue result ↔ Any (λ b. box_sides b ≡ self.now.size) self.now.free }
     {
-        is_listed(
-            &self.lists,
-            class(self.size, &self.options),
-            &Rectangle::from(self.size),
-        )
+        let Self {
+            lists,
+            size,
+            options,
+        } = self;
+        is_listed(lists, class(*size, options), &Rectangle::from(*size))
     }
 }
 

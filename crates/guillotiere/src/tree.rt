@@ -106,7 +106,11 @@ pub fn plan_for(leaf: &Node, size: Size) -> Plan
     if equal == 2 {
         Plan::Whole
     } else if equal == 1 {
-        if is_along { Plan::StripAlong(along) } else { Plan::StripAcross(across) }
+        if is_along {
+            Plan::StripAlong(along)
+        } else {
+            Plan::StripAcross(across)
+        }
     } else if is_along {
         Plan::CornerAlong(along, across)
     } else {
@@ -215,7 +219,10 @@ fn turn<A: Allocator>(store: &mut Store<A>, at: Link) -> Option<Link>
         store.join(node.previous);
         return Some(node.previous);
     }
-    if node.previous.number == NO_SLOT && node.next.number == NO_SLOT && node.parent.number != NO_SLOT {
+    if node.previous.number == NO_SLOT
+        && node.next.number == NO_SLOT
+        && node.parent.number != NO_SLOT
+    {
         return Some(store.lift(at));
     }
     None

@@ -15,24 +15,22 @@ same-extent g c = ap natural (to_z-of_z w32 c.args.extent c.ranges.extent)
 
 pub split_with-requires-clause-ready : goal.split_with-requires-clause-ready
 split_with-requires-clause-ready g c =
-    let leaf : _ = c.requires.ready.1 in
-    (
+    let leaf : _ = c.requires.ready.1 in (
       after_take c.requires.ready.0,
       with_count (λ i. 0) c.take-fresh.result.number 1,
       ready-taken (shelf_of c.take-fresh.new.self) c.args.at.number c.take-fresh.result.number (λ i. 0) c.requires.ready.0
-      (c.take-fresh.ensures.taken c.requires.ready.0 (λ i. 0) leaf.holds) leaf.loose,
+          (c.take-fresh.ensures.taken c.requires.ready.0 (λ i. 0) leaf.holds) leaf.loose,
     )
 
 pub returns-clause-kept : goal.returns-clause-kept
 returns-clause-kept g c = λ h n leaf slots.
     let fresh : ℕ = c.take-fresh.result.number in
     let P : ℕ → Type 0 = λ p. HoldsWith (with_count (with_count (λ i. 0) fresh 1) fresh 0) (shelf_of c.split_with.new.self) (after_split c.args.at.number fresh p (after_take h)) in
-    let taken : _ = c.take-fresh.ensures.taken h (λ i. 0) leaf.holds in
-    (
+    let taken : _ = c.take-fresh.ensures.taken h (λ i. 0) leaf.holds in (
       rest_of h.spare,
       used-taken (shelf_of c.split_with.new.self) fresh (λ i. 0) (after_split c.args.at.number fresh (natural c.args.extent) (after_take h)) refl
-      (subst P (same-extent g c)
-        (c.split_with.ensures.kept (after_take h) (with_count (λ i. 0) fresh 1)
+          (subst P (same-extent g c)
+          (c.split_with.ensures.kept (after_take h) (with_count (λ i. 0) fresh 1)
           (ready-taken (shelf_of c.take-fresh.new.self) c.args.at.number fresh (λ i. 0) h taken leaf.loose))),
       slots-kept c.take-fresh.new.self c.split_with.new.self n (after_take h) c.split_with.ensures.room (c.take-fresh.ensures.slots h (λ i. 0) n leaf.holds slots),
     )
