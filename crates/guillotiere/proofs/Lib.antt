@@ -89,3 +89,4 @@ pub mod FreedAtlas
 pub mod Hiding
 pub mod FreedLists
 pub mod PlacingChains
+pub mod PlanLines

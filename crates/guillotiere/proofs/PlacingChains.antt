@@ -1,5 +1,5 @@
 -- each plan, carried out by the calls of the store one after another
-use Rattle.std.proofs.Common.{ℕ, ◌+◌, ◌<◌, ◌≤◌, ◌≡◌, ◌≢◌, ℤ, List, [], ◌∷◌, length, Bool, true, false, refl, sym, ap, ◌∙◌, ◌⊎◌, inl, inr, arith}
+use Rattle.std.proofs.Common.{ℕ, ◌+◌, ◌<◌, ◌≤◌, ◌≡◌, ◌≢◌, ℤ, List, [], ◌∷◌, length, Bool, true, false, refl, sym, ap, subst, ◌∙◌, ◌⊎◌, inl, inr, arith}
 use Rattle.guillotiere.specs.declared.slots.Node.{Node}
 use Rattle.guillotiere.specs.declared.slots.NodeKind.TheVariants as kind
 use Rattle.guillotiere.specs.declared.tree.Plan.{Plan}
@@ -293,3 +293,10 @@ module _ (v0 v1 : Shelf) (c0 c1 at c b : ℕ) (p q : ℤ) (w1 : IsWrappedTwo v0 
       corner_across-planned v4 v5 v6 w4 w5 w6 =
           corner-planned v3 v4 g b l both3 both_stage3 both_g3 both_b3 both_l3 both_bg w3.apart both_lb w4 at (plan.CornerAcross p q) h v5 v6 w5 w6 refl
             (λ e. (b, c, l, ap (λ x. granted_at g x (split_at g l (natural p) (wrapped_at c g h.sequence.width (split_at c b (natural q) (wrapped_at at c h.sequence.width h.tree))))) e))
+
+-- the same for a plan that is given by an equation
+pub kept-as : (v v' : Shelf) (capacity at to : ℕ) (p q : Plan) → p ≡ q
+    → ((h : Holding) → IsPlaceableAt v capacity at q h → (h' : Holding) × IsPlanned v' at to q h h')
+    → (h : Holding) → IsPlaceableAt v capacity at p h → (h' : Holding) × IsPlanned v' at to p h h'
+kept-as v v' capacity at to p q e kept =
+    subst (λ x. (h : Holding) → IsPlaceableAt v capacity at x h → (h' : Holding) × IsPlanned v' at to x h h') (sym e) kept
