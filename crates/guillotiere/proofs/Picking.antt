@@ -10,7 +10,6 @@ use Rattle.std.proofs.lemmas.List.Elements.{All-contains}
 use Rattle.std.proofs.lemmas.List.Sums.{sum_by-cons, get_or-le-sum_by}
 use Rattle.guillotiere.specs.Boxes.{Sides, Box, box_sides, Fits, IsPositive, IsNonempty, IsWithin, AreDisjoint, covers}
 use Rattle.guillotiere.specs.Choice.{Options, up, rounded, reaches, class_of, HasEqualSide, IsFitting, IsCandidate, HasBetterMargin, ComesFirst, IsPick, HasRoom, HasNoRoom}
-use Rattle.guillotiere.specs.AllocatorLaws.{SmallerFits}
 use Rattle.guillotiere.specs.Requests.{CanBeRounded}
 use Rattle.guillotiere.specs.Searches.{Shown, shown_at, IsAsGood, IsBestShown, FitsNone, FitsOnlyFrom, AreOfClass}
 use Rattle.guillotiere.proofs.Choosing.{margin-equal_side, equal_side-margin, equal_side_cases}
@@ -189,14 +188,3 @@ up-least n a k h p =
 -- a smaller side is rounded to no more
 pub up-mono : (m n a : ℕ) → 0 < a → m ≤ n → up m a ≤ up n a
 up-mono m n a h l = up-least m a ((n + (a - 1)) / a) h (omega (arith, up-le n a h))
-
-pub smaller_fits : SmallerFits
-smaller_fits free o r s valid positive fits room =
-    let fitting = room.fitting in
-    let w = up-mono s.width r.width o.alignment.width valid.0.0 fits.0 in
-    let h = up-mono s.height r.height o.alignment.height valid.0.1 fits.1 in
-    record {
-      positive = positive;
-      box = room.box;
-      fitting = record { is_free = fitting.is_free; fits = (omega (arith, w, fitting.fits.0), omega (arith, h, fitting.fits.1)) };
-    }

@@ -7,7 +7,6 @@ pub mod Searches
 pub mod Choice
 pub mod Simple
 pub mod FreeLists
-pub mod AllocatorLaws
 pub mod Trees
 pub mod Changes
 pub mod TreeLaws
@@ -30,4 +29,9 @@ pub mod Stored
 pub mod Links
 pub mod Picks
 pub mod Holdings
+pub mod Visits
+pub mod Starts
+pub mod Freeing
+pub mod Planning
 pub mod Replies
+pub mod Batches

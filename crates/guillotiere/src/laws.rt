@@ -1,5 +1,4 @@
 //! Laws over the definitions of docs/MODEL.md, each the contract of a function that does nothing.
-ghost use Rattle.guillotiere.specs.AllocatorLaws.{SmallerFits};
 ghost use Rattle.std.specs.Prelude.{◌≡◌, [], ◌∷◌};
 ghost use Rattle.guillotiere.specs.Boxes.Axis.{Horizontal, Vertical};
 ghost use Rattle.guillotiere.specs.Trees.{grant};
@@ -7,7 +6,7 @@ ghost use Rattle.guillotiere.specs.Trees.Members.{End, Free, Alloc};
 ghost use Rattle.guillotiere.specs.Changes.{fresh, only, release, grown};
 ghost use Rattle.guillotiere.specs.Examples.{Shows, sides, box, both, one_corner, other_corner, capped_corner, grown_full, grown_below, quarters, row_of_three, half_between};
 ghost use Rattle.guillotiere.specs.TreeLaws.{LeavesTile, AreasAddUp, ReleasesInAnyOrder, GrantsAreUndone, GrowthAndReleaseSwap, NothingLiveIsOneFree, PlacingsKeepTrees, ReleasesKeepTrees, GrowthsKeepTrees, FreedHasRoom, MembersAreCounted};
-ghost use Rattle.guillotiere.specs.StepLaws.{StepsKeep, PicksAreOne, PicksExist, SmallerRequestsFit, GrantsLieInside, FreeingsRemoveOne, GrowthsKeepBoxes, RearrangingsLoseNothing, RefusalsChangeNothing, StepsAnswerAsDue};
+ghost use Rattle.guillotiere.specs.StepLaws.{StepsKeep, PicksAreOne, PicksExist, SmallerFits, GrantsLieInside, FreeingsRemoveOne, GrowthsKeepBoxes, RearrangingsLoseNothing, RefusalsChangeNothing, StepsAnswerAsDue};
 ghost use Rattle.guillotiere.specs.RunLaws.{RunsKeepOrder, RunsLeaveNoTrace};
 
 /// In a well formed tree of cuts each unit square of the atlas lies in exactly one leaf's box, and no
@@ -115,11 +114,6 @@ pub fn picks_are_one()
 /// A request that has room has a pick.
 pub fn picks_exist()
     ensures { PicksExist }
-{}
-
-/// Where a request has room, each positive one that is no wider and no higher has room.
-pub fn smaller_requests_fit()
-    ensures { SmallerRequestsFit }
 {}
 
 /// A granted box lies inside a free box of before, with sides barely above those asked for, and is added to what is live.

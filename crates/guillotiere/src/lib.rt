@@ -2,6 +2,8 @@
 #![tactic(auto)]
 
 mod allocation;
+mod atlas;
+mod batch;
 mod choice;
 mod cut;
 mod error;
@@ -13,10 +15,14 @@ mod pick;
 mod placing;
 mod simple;
 mod slots;
+mod start;
 mod store;
+mod tree;
 mod turns;
+mod walks;
 
 pub use allocation::{AllocId, Allocation, SlotCount};
+pub use atlas::AtlasAllocator;
 pub use error::AtlasError;
 pub use geometry::{Point, Rectangle, Size, point2, size2};
 pub use options::{AllocatorOptions, DEFAULT_OPTIONS};

@@ -181,8 +181,8 @@ pub fn push_front(slots: &mut [Slot], list: &mut FreeList, at: Link, size: Size)
     *list = list_with(*list, at, size);
 }
 
-// The size of an exact rectangle.
-fn exact_size(area: Rectangle) -> Size
+/// The size of an exact rectangle.
+pub fn exact_size(area: Rectangle) -> Size
     requires { IsExact area }
     ensures positive { IsPositive (sides_of result) }
     ensures sides { sides_of result ≡ box_sides (box_of area) }

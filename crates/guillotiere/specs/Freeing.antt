@@ -1,0 +1,40 @@
+-- The state of a freeing between two turns, and what a turn does. No public clause cites this module.
+use Rattle.std.specs.Prelude.{ℕ, ◌≡◌, ◌+◌, [], ◌∷◌}
+use Rattle.guillotiere.specs.declared.slots.NodeKind.TheVariants as kind
+use Rattle.guillotiere.specs.Trees.{IsNormal}
+use Rattle.guillotiere.specs.Changes.{nf, mark, only}
+use Rattle.guillotiere.specs.Calm.{IsCalmBut, NoneEmpty}
+use Rattle.guillotiere.specs.Slots.{nodes}
+use Rattle.guillotiere.specs.Numbered.{erase, first_slot, numbers, id_of}
+use Rattle.guillotiere.specs.Stored.{Shelf, Holding, Holds, IsLooseOnly}
+use Rattle.guillotiere.specs.Holdings.{IsLooseLeaf, node_in}
+
+-- slot `at` is a free leaf in no list, and apart from it the slots are calm
+pub record IsSettlingAt (v : Shelf) (at : ℕ) (h : Holding) : Type 0 where
+  pub leaf : IsLooseLeaf v at h
+  pub only : IsLooseOnly (at ∷ []) h
+  pub calm : IsCalmBut (nodes v.slots) at
+  pub full : NoneEmpty (erase h.tree)
+
+-- the normal form stays, and there is one member fewer
+pub record IsTurned (h less : Holding) : Type 0 where
+  pub same_nf : nf (erase less.tree) ≡ nf (erase h.tree)
+  pub fewer : numbers less.tree + 1 ≡ numbers h.tree
+  pub sequence : less.sequence ≡ h.sequence
+  pub first : first_slot less.tree ≡ first_slot h.tree
+
+-- slot `at` is granted in a normal tree, and each free slot stands in its list
+pub record IsFreeable (v : Shelf) (at : ℕ) (h : Holding) : Type 0 where
+  pub holds : Holds v h
+  pub only : IsLooseOnly [] h
+  pub normal : IsNormal (erase h.tree)
+  pub granted : (node_in v at).kind ≡ kind.Alloc
+
+-- the leaf of slot `at` is freed, and n slots with it
+pub record IsFreed (old new : Shelf) (at n : ℕ) (h h' : Holding) : Type 0 where
+  pub holds : Holds new h'
+  pub listed : IsLooseOnly [] h'
+  pub tree : erase h'.tree ≡ nf (mark (only (id_of at (node_in old at).generation)) (erase h.tree))
+  pub given : numbers h'.tree + n ≡ numbers h.tree
+  pub sequence : h'.sequence ≡ h.sequence
+  pub first : first_slot h'.tree ≡ first_slot h.tree

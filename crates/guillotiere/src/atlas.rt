@@ -1,0 +1,278 @@
+//! The atlas allocator.
+ghost use Rattle.std.specs.Prelude.{◌≡◌, ◌≤◌, ◌<◌, ◌+◌, ◌-◌, ◌↔◌, ℕ, List, [], IsTrue, IfOk, IfSome, OnErr, IfNone, IsOkUnless, OnOk, length, IsSome, option_map, None, Some, Ok};
+ghost use Rattle.guillotiere.specs.Boxes.{IsPositive};
+ghost use Rattle.guillotiere.specs.Choice.{AreValid};
+ghost use Rattle.guillotiere.specs.Pixels.{sides_of, size_of, options_of, rectangle_of};
+ghost use Rattle.guillotiere.specs.States.{live_in, used_in, started, after_freeing, IsSound, IsLive};
+ghost use Rattle.std.specs.List.{FoldsTo};
+ghost use Rattle.std.specs.Fn.{CalledAt};
+ghost use Rattle.guillotiere.specs.declared.geometry.Rectangle.{Rectangle as Area};
+ghost use Rattle.guillotiere.specs.declared.allocation.Allocation.{Allocation as Grant};
+ghost use Rattle.guillotiere.specs.Visits.{AreFreeAreas, AreGrants, CalledAtGrant};
+ghost use Rattle.guillotiere.specs.Changes.{only};
+ghost use Rattle.guillotiere.specs.TreeLaws.{is_among};
+ghost use Rattle.guillotiere.specs.Batches.{AreLiveOnce};
+ghost use Rattle.guillotiere.specs.Steps.{Step};
+ghost use Rattle.guillotiere.specs.Steps.AtlasCall.{Allocate, Deallocate};
+
+use crate::allocation::{AllocId, Allocation, SlotCount};
+use crate::batch::are_named_once;
+use crate::error::AtlasError;
+use crate::geometry::{Rectangle, Size};
+use crate::lists::empty_lists;
+use crate::options::{AllocatorOptions, DEFAULT_OPTIONS};
+use crate::slots::{Link, NO_SLOT, NodeKind};
+use crate::store::Store;
+use crate::turns::Turns;
+use crate::tree::free_leaf;
+use crate::walks::{gather_allocated, gather_free, named_slot, visit_allocated, visit_free};
+use std::alloc::{Allocator, Global};
+use std::marker::Model;
+use std::ops::Index;
+
+/// The most slots that an atlas may use: an id has 24 bits for the number of its slot.
+pub const MOST_SLOTS: u32 = 16777216;
+
+/// Hands out rectangles inside one large rectangle, the atlas, takes them back and joins free space at once.
+///
+/// The atlas is a tree of cuts (docs/MODEL.md, "Trees of cuts"): its allocated and free rectangles are the leaves, and
+/// tile it. Freeing takes no memory, and allocating only where more slots are used than ever since the last start.
+#[derive(Drop)]
+pub struct AtlasAllocator<A: Allocator + Copy = Global> {
+    store: Store<A>,
+    first: Link,
+    used: u32,
+    size: Size,
+    limit: u32,
+}
+
+impl<A: Allocator + Copy> Model for AtlasAllocator<A> {
+    ghost use Rattle.std.specs.Prelude.{ℕ};
+    ghost use Rattle.guillotiere.specs.Stored.{AtlasValue, IsAtlas};
+    ghost use Rattle.guillotiere.specs.Holdings.{shelf_of};
+
+    ghost Value = { AtlasValue };
+
+    ghost view = { λ a. record {
+      stored = record { shelf = shelf_of a.store; first = a.first; used = a.used; size = a.size; limit = a.limit };
+      turns = a.store.turns.count;
+    } };
+
+    ghost invariant = { λ a. IsAtlas (record { shelf = shelf_of a.store; first = a.first; used = a.used; size = a.size; limit = a.limit }) };
+}
+
+impl<A: Allocator + Copy> AtlasAllocator<A> {
+    ghost use Rattle.guillotiere.specs.Stored.{state_of};
+    ghost use Rattle.guillotiere.specs.Replies.{allocate_reply, deallocate_reply, live_box, IsExact, IsLiveList};
+
+    /// An atlas of this size, in pixels, with the default options: one free rectangle. Asks a size that isn't empty.
+    /// `Memory` is the only error.
+    pub fn new(alloc: A, size: Size) -> Result<Self, AtlasError>
+        requires { IsPositive (sides_of size) }
+        ensures unless { IsOkUnless result AtlasError.Memory }
+        ensures state { IfOk result (λ it. state_of it ≡ started (sides_of size) (options_of DEFAULT_OPTIONS) MOST_SLOTS) }
+        ensures turns { IfOk result (λ it. it.turns ≡ 0) }
+    {
+        AtlasAllocator::with_options(alloc, size, &DEFAULT_OPTIONS)
+    }
+
+    /// The same with these options. Asks a size that isn't empty and valid options.
+    pub fn with_options(
+        alloc: A,
+        size: Size,
+        options: &AllocatorOptions,
+    ) -> Result<Self, AtlasError>
+        requires size { IsPositive (sides_of size) }
+        requires options { AreValid (options_of options.now) }
+        ensures unless { IsOkUnless result AtlasError.Memory }
+        ensures state { IfOk result (λ it. state_of it ≡ started (sides_of size) (options_of options.now) MOST_SLOTS) }
+        ensures turns { IfOk result (λ it. it.turns ≡ 0) }
+    {
+        AtlasAllocator::with_slot_limit(alloc, size, options, MOST_SLOTS)
+    }
+
+    /// The same with a limit on the slots that are used at once. Asks a size that isn't empty, valid options and a limit
+    /// from 1 to 16777216.
+    pub fn with_slot_limit(
+        alloc: A,
+        size: Size,
+        options: &AllocatorOptions,
+        limit: u32,
+    ) -> Result<Self, AtlasError>
+        requires size { IsPositive (sides_of size) }
+        requires options { AreValid (options_of options.now) }
+        requires least { 1 ≤ limit }
+        requires most { limit ≤ MOST_SLOTS }
+        ensures unless { IsOkUnless result AtlasError.Memory }
+        ensures state { IfOk result (λ it. state_of it ≡ started (sides_of size) (options_of options.now) limit) }
+        ensures turns { IfOk result (λ it. it.turns ≡ 0) }
+    {
+        let none = Link { number: NO_SLOT };
+        let mut store = Store {
+            slots: Vec::with_capacity(alloc, 1)?,
+            lists: empty_lists(),
+            unused: none,
+            options: *options,
+            turns: Turns::new(),
+        };
+        store.start(size, options);
+        Ok(AtlasAllocator {
+            store,
+            first: Link { number: 0 },
+            used: 1,
+            size,
+            limit,
+        })
+    }
+
+    /// The size of the atlas, in pixels.
+    pub fn size(&self) -> Size
+        ensures size { result ≡ size_of (state_of self.now).size }
+        ensures sound { IsSound (state_of self.now) }
+    {
+        self.size
+    }
+
+    /// Whether no id is live.
+    pub fn is_empty(&self) -> bool
+        ensures { IsTrue result ↔ (live_in (state_of self.now) ≡ []) }
+    {
+        let first = self.store.node(self.first);
+        first.kind == NodeKind::Free && first.next.number == NO_SLOT
+    }
+
+    /// How many slots are used, the most that were used at once since the last start, and how many may be used.
+    pub fn slots(&self) -> SlotCount
+        ensures used { result.used ≡ used_in (state_of self.now) }
+        ensures kept { result.kept ≡ (state_of self.now).kept }
+        ensures limit { result.limit ≡ (state_of self.now).limit }
+    {
+        SlotCount {
+            used: self.used,
+            kept: self.store.slots.len() as u32,
+            limit: self.limit,
+        }
+    }
+
+    /// The rectangle of a live id, in pixels; None for every other id.
+    pub fn get(&self, id: AllocId) -> Option<Rectangle>
+        ensures { result ≡ option_map rectangle_of (live_box (state_of self.now) id) }
+    {
+        let at = named_slot(&self.store.slots, id)?;
+        Some(self.store.slots[at].node.area)
+    }
+
+    /// Frees the box of an id: it joins the free space beside it. `NotLive` if the id isn't live, and then nothing changes.
+    /// Takes no memory, and at most one turn more than there are members fewer.
+    pub fn deallocate(&mut self, id: AllocId) -> Result<(), AtlasError>
+        ensures step { Step (state_of self.old) (Deallocate id) (deallocate_reply result) (state_of self.new) }
+        ensures refused { OnErr result (self.new ≡ self.old) }
+        ensures unless { IsOkUnless result AtlasError.NotLive }
+        ensures turns { self.new.turns + used_in (state_of self.new) ≤ self.old.turns + 1 + used_in (state_of self.old) }
+    {
+        if !self.is_live(id) {
+            return Err(AtlasError::NotLive);
+        }
+        self.free(id);
+        Ok(())
+    }
+
+    /// Frees the boxes of the ids of a list, in an order that can't be told. `NotLive` if one of them isn't live or stands
+    /// twice, and then nothing changes. Takes no memory, time in proportion to the list, and at most one turn an id more
+    /// than there are members fewer.
+    pub fn deallocate_all(&mut self, ids: &[AllocId]) -> Result<(), AtlasError>
+        ensures freed { OnOk result (state_of self.new ≡ after_freeing (state_of self.old) (is_among ids.now)) }
+        ensures ok { (result ≡ Ok tt) ↔ AreLiveOnce (state_of self.old) ids.now }
+        ensures unless { IsOkUnless result AtlasError.NotLive }
+        ensures refused { OnErr result (self.new ≡ self.old) }
+        ensures none { ids.now ≡ [] → self.new ≡ self.old }
+        ensures turns { self.new.turns + used_in (state_of self.new) ≤ self.old.turns + length ids.now + used_in (state_of self.old) }
+    {
+        if !self.are_live_once(ids) {
+            return Err(AtlasError::NotLive);
+        }
+        for id in ids {
+            self.free(*id);
+        }
+        Ok(())
+    }
+
+    // Whether each of these ids is live, and none stands twice.
+    fn are_live_once(&mut self, ids: &[AllocId]) -> bool
+        ensures live { IsTrue result ↔ AreLiveOnce (state_of self.old) ids.now }
+        ensures same { self.new ≡ self.old }
+        ensures sound { IsSound (state_of self.old) }
+    {
+        are_named_once(&mut self.store.slots, ids)
+    }
+
+    // Whether an id is live.
+    fn is_live(&self, id: AllocId) -> bool
+        ensures { IsTrue result ↔ IsLive (state_of self.now) id }
+    {
+        named_slot(&self.store.slots, id).is_some()
+    }
+
+    // Frees the box of a live id.
+    fn free(&mut self, id: AllocId)
+        requires { IsLive (state_of self.old) id }
+        ensures state { state_of self.new ≡ after_freeing (state_of self.old) (only id) }
+        ensures turns { self.new.turns + used_in (state_of self.new) ≡ self.old.turns + 1 + used_in (state_of self.old) }
+    {
+        let number = id.serialize() % MOST_SLOTS;
+        let given = free_leaf(&mut self.store, Link { number });
+        self.used -= given;
+    }
+
+    /// Calls `visit` on each free rectangle once, in an order that is left open. Asks that `visit` may be called.
+    pub fn for_each_free_rectangle<F: FnMut(&Rectangle)>(&self, visit: F)
+        requires { F.IsAlwaysCallable visit }
+        ensures { (areas : List Area) × AreFreeAreas (state_of self.now) areas × ((last : F) × FoldsTo (λ p x q. CalledAt F.FnMut p x tt q) visit areas last) }
+    {
+        visit_free(&self.store.slots, visit);
+    }
+
+    /// Calls `visit` on each live id and its rectangle once, by rising number of the slot, which is the low 24 bits of the
+    /// id. Asks that `visit` may be called.
+    pub fn for_each_allocated_rectangle<F: FnMut(AllocId, &Rectangle)>(&self, visit: F)
+        requires { F.IsAlwaysCallable visit }
+        ensures { (grants : List Grant) × AreGrants (state_of self.now) grants × ((last : F) × FoldsTo (CalledAtGrant F.FnMut) visit grants last) }
+    {
+        visit_allocated(&self.store.slots, visit);
+    }
+
+    /// The live ids with their rectangles, by rising number of the slot. `Memory` is the only error.
+    pub fn allocations(&self) -> Result<Vec<Allocation, A>, AtlasError>
+        ensures unless { IsOkUnless result AtlasError.Memory }
+        ensures list { IfOk result (λ found. AreGrants (state_of self.now) found.items) }
+    {
+        gather_allocated(*self.store.slots.allocator(), &self.store.slots)
+    }
+
+    /// The free rectangles, in an order that is left open. `Memory` is the only error.
+    pub fn free_rectangles(&self) -> Result<Vec<Rectangle, A>, AtlasError>
+        ensures unless { IsOkUnless result AtlasError.Memory }
+        ensures list { IfOk result (λ found. AreFreeAreas (state_of self.now) found.items) }
+    {
+        gather_free(*self.store.slots.allocator(), &self.store.slots)
+    }
+}
+
+impl<A: Allocator + Copy> Index<AllocId> for AtlasAllocator<A> {
+    ghost use Rattle.guillotiere.specs.Stored.{state_of};
+    ghost use Rattle.guillotiere.specs.Replies.{live_box};
+
+    type Output = Rectangle;
+
+    ghost can_index = { λ atlas id. IsSome (live_box (state_of atlas) id) };
+
+    ghost index_gives = { λ atlas id area. option_map rectangle_of (live_box (state_of atlas) id) ≡ Some area };
+
+    /// The rectangle of an id. Asks that the id is live: `get` is the test.
+    fn index(&self, id: AllocId) -> &Rectangle {
+        match named_slot(&self.store.slots, id) {
+            Some(at) => &self.store.slots[at].node.area,
+            None => unreachable!(),
+        }
+    }
+}

@@ -1,0 +1,59 @@
+//! The start of an atlas: one free slot, as large as the atlas.
+ghost use Rattle.std.specs.Prelude.{◌≡◌, ◌<◌, ℕ, List, length, vec_capacity};
+ghost use Rattle.guillotiere.specs.Boxes.{IsPositive};
+ghost use Rattle.guillotiere.specs.Choice.{AreValid};
+ghost use Rattle.guillotiere.specs.Pixels.{sides_of, options_of};
+ghost use Rattle.guillotiere.specs.Stored.{Holds};
+ghost use Rattle.guillotiere.specs.Starts.{one_free_slot, start_holding};
+
+use crate::cut::Orientation;
+use crate::geometry::{Rectangle, Size};
+use crate::lists::empty_lists;
+use crate::options::AllocatorOptions;
+use crate::slots::{Link, NO_SLOT, Node, NodeKind, Ring, Slot};
+use crate::store::Store;
+use std::alloc::Allocator;
+
+// The one slot of an atlas of this size.
+fn whole_slot(size: Size) -> Slot
+    ensures { result ≡ one_free_slot size }
+{
+    let none = Link { number: NO_SLOT };
+    let node = Node {
+        parent: none,
+        previous: none,
+        next: none,
+        area: Rectangle::from(size),
+        kind: NodeKind::Free,
+        axis: Orientation::Vertical,
+        generation: 0,
+    };
+    let ring = Ring {
+        previous: none,
+        next: none,
+    };
+    Slot { node, ring }
+}
+
+impl<A: Allocator> Store<A> {
+    ghost use Rattle.guillotiere.specs.Holdings.{shelf_of};
+
+    /// One free slot of this size, in its list, and no other slot. Takes no memory.
+    pub fn start(&mut self, size: Size, options: &AllocatorOptions)
+        requires room { 0 < vec_capacity self.old.slots }
+        requires size { IsPositive (sides_of size) }
+        requires options { AreValid (options_of options.now) }
+        ensures holds { (held : ℕ → List ℕ) × Holds (shelf_of self.new) (start_holding held (sides_of size)) }
+        ensures one { length self.new.slots.items ≡ 1 }
+        ensures options { self.new.options ≡ options.now }
+        ensures capacity { vec_capacity self.new.slots ≡ vec_capacity self.old.slots }
+        ensures turns { self.new.turns ≡ self.old.turns }
+    {
+        self.slots.clear();
+        self.slots.push_reserved(whole_slot(size));
+        self.lists = empty_lists();
+        self.unused = Link { number: NO_SLOT };
+        self.options = *options;
+        self.list(Link { number: 0 });
+    }
+}

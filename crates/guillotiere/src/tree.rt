@@ -1,0 +1,249 @@
+//! Placing a request in the tree of slots, and freeing it, by the calls of `store`.
+ghost use Rattle.std.specs.Prelude.{◌≡◌, ◌+◌, ◌<◌, ◌≤◌, [], IfSome, None, true, false, vec_capacity, length};
+ghost use Rattle.guillotiere.specs.declared.slots.Node.{Node};
+ghost use Rattle.guillotiere.specs.declared.slots.NodeKind.TheVariants.{Free};
+ghost use Rattle.guillotiere.specs.Boxes.{IsPositive, Fits, box_sides, side, other};
+ghost use Rattle.guillotiere.specs.Cuts.{cut, cut_axis};
+ghost use Rattle.guillotiere.specs.Cuts.Cut.{Whole, Strip, Corner};
+ghost use Rattle.guillotiere.specs.Slots.{axis_of};
+ghost use Rattle.guillotiere.specs.Pixels.{box_of, rectangle_of, sides_of, natural};
+ghost use Rattle.guillotiere.specs.Trees.{IsNormal};
+ghost use Rattle.guillotiere.specs.Numbered.{erase};
+ghost use Rattle.guillotiere.specs.Reading.{extent_of};
+ghost use Rattle.guillotiere.specs.Stored.{Holding, IsLooseOnly};
+ghost use Rattle.guillotiere.specs.Holdings.{shelf_of, node_in, across_of, KeepsRoom, HasSlotsFor};
+ghost use Rattle.guillotiere.specs.Freeing.{IsSettlingAt, IsTurned, IsFreeable, IsFreed};
+ghost use Rattle.guillotiere.specs.Planning.{slots_of, IsPlanFor, IsFeasible, IsPlaceableAt, IsPlanned};
+
+use crate::cut::{Orientation, orientation_of};
+use crate::geometry::Size;
+use crate::lists::exact_size;
+use crate::slots::{Link, NO_SLOT, Node};
+use crate::store::Store;
+use std::alloc::Allocator;
+
+/// How a free leaf gives way to a request that fits it, with the request's pixels along the leaf's sequence and across
+/// it (docs/MODEL.md, "Changes of a tree").
+#[derive(Clone, Copy, Debug, PartialEq, Eq)]
+pub enum Plan {
+    /// The leaf is granted whole.
+    Whole,
+    /// The leaf is cut along its sequence.
+    StripAlong(i32),
+    /// It is cut along its sequence, and its first part across.
+    CornerAlong(i32, i32),
+    /// It becomes a container, and is cut across.
+    StripAcross(i32),
+    /// It becomes a container, is cut across, and its first part along.
+    CornerAcross(i32, i32),
+}
+
+/// How many slots a plan takes.
+pub fn slots_needed(plan: Plan) -> u32
+    ensures { result ≡ slots_of plan }
+{
+    match plan {
+        Plan::Whole => 0,
+        Plan::StripAlong(_) => 1,
+        Plan::CornerAlong(_, _) => 3,
+        Plan::StripAcross(_) => 2,
+        Plan::CornerAcross(_, _) => 4,
+    }
+}
+
+// How many sides of a size are those of the whole: two, one or none.
+fn equal_sides(whole: Size, size: Size) -> u32
+    requires whole { IsPositive (sides_of whole) }
+    requires positive { IsPositive (sides_of size) }
+    ensures most { result ≤ 2 }
+    ensures two { result ≡ 2 → cut (sides_of whole) (sides_of size) ≡ Whole }
+    ensures one { result ≡ 1 → cut (sides_of whole) (sides_of size) ≡ Strip (cut_axis (sides_of whole) (sides_of size)) }
+    ensures none { result ≡ 0 → cut (sides_of whole) (sides_of size) ≡ Corner (cut_axis (sides_of whole) (sides_of size)) }
+{
+    if whole.width == size.width {
+        if whole.height == size.height { 2 } else { 1 }
+    } else if whole.height == size.height {
+        1
+    } else {
+        0
+    }
+}
+
+// Whether the greater part remains along this axis.
+fn remains_along(whole: Size, size: Size, axis: Orientation) -> bool
+    requires whole { IsPositive (sides_of whole) }
+    requires positive { IsPositive (sides_of size) }
+    requires fits { Fits (sides_of size) (sides_of whole) }
+    ensures along { result ≡ true → cut_axis (sides_of whole) (sides_of size) ≡ axis_of axis }
+    ensures across { result ≡ false → cut_axis (sides_of whole) (sides_of size) ≡ other (axis_of axis) }
+{
+    orientation_of(whole, size) == axis
+}
+
+// The pixels of a size along an axis, and those across it.
+fn along_and_across(size: Size, axis: Orientation) -> (i32, i32)
+    ensures along { natural result.0 ≡ side (axis_of axis) (sides_of size) }
+    ensures across { natural result.1 ≡ side (other (axis_of axis)) (sides_of size) }
+{
+    match axis {
+        Orientation::Horizontal => (size.width, size.height),
+        Orientation::Vertical => (size.height, size.width),
+    }
+}
+
+/// The plan for a request that fits a leaf.
+pub fn plan_for(leaf: &Node, size: Size) -> Plan
+    requires exact { leaf.now.area ≡ rectangle_of (box_of leaf.now.area) }
+    requires positive { IsPositive (sides_of size) }
+    requires fits { Fits (sides_of size) (box_sides (box_of leaf.now.area)) }
+    ensures line { IsPlanFor leaf.now (sides_of size) result }
+    ensures feasible { IsFeasible result (extent_of leaf.now) (across_of leaf.now) }
+{
+    let whole = exact_size(leaf.area);
+    let is_along = remains_along(whole, size, leaf.axis);
+    let (along, across) = along_and_across(size, leaf.axis);
+    let equal = equal_sides(whole, size);
+    if equal == 2 {
+        Plan::Whole
+    } else if equal == 1 {
+        if is_along {
+            Plan::StripAlong(along)
+        } else {
+            Plan::StripAcross(across)
+        }
+    } else if is_along {
+        Plan::CornerAlong(along, across)
+    } else {
+        Plan::CornerAcross(along, across)
+    }
+}
+
+/// Carries out a plan in the loose leaf of a slot, for which there are slots. The answer is the slot that is granted.
+pub fn place<A: Allocator>(store: &mut Store<A>, at: Link, plan: Plan) -> Link
+    requires { (h : Holding) × IsPlaceableAt (shelf_of store.old) (vec_capacity store.old.slots) at.number plan h }
+    ensures kept { (h : Holding) → IsPlaceableAt (shelf_of store.old) (vec_capacity store.old.slots) at.number plan h
+        → (h' : Holding) × IsPlanned (shelf_of store.new) at.number result.number plan h h' }
+    ensures options { store.new.options ≡ store.old.options }
+    ensures turns { store.new.turns ≡ store.old.turns }
+{
+    match plan {
+        Plan::Whole => {
+            store.grant(at);
+            at
+        }
+        Plan::StripAlong(along) => strip_along(store, at, along),
+        Plan::CornerAlong(along, across) => corner_along(store, at, along, across),
+        Plan::StripAcross(across) => strip_across(store, at, across),
+        Plan::CornerAcross(along, across) => corner_across(store, at, along, across),
+    }
+}
+
+fn strip_along<A: Allocator>(store: &mut Store<A>, at: Link, along: i32) -> Link
+    requires { (h : Holding) × IsPlaceableAt (shelf_of store.old) (vec_capacity store.old.slots) at.number (Plan.StripAlong along) h }
+    ensures kept { (h : Holding) → IsPlaceableAt (shelf_of store.old) (vec_capacity store.old.slots) at.number (Plan.StripAlong along) h
+        → (h' : Holding) × IsPlanned (shelf_of store.new) at.number result.number (Plan.StripAlong along) h h' }
+    ensures options { store.new.options ≡ store.old.options }
+    ensures turns { store.new.turns ≡ store.old.turns }
+{
+    let split = store.split(at, along);
+    store.grant(at);
+    store.list(split);
+    at
+}
+
+fn corner_along<A: Allocator>(store: &mut Store<A>, at: Link, along: i32, across: i32) -> Link
+    requires { (h : Holding) × IsPlaceableAt (shelf_of store.old) (vec_capacity store.old.slots) at.number (Plan.CornerAlong along across) h }
+    ensures kept { (h : Holding) → IsPlaceableAt (shelf_of store.old) (vec_capacity store.old.slots) at.number (Plan.CornerAlong along across) h
+        → (h' : Holding) × IsPlanned (shelf_of store.new) at.number result.number (Plan.CornerAlong along across) h h' }
+    ensures options { store.new.options ≡ store.old.options }
+    ensures turns { store.new.turns ≡ store.old.turns }
+{
+    let split = store.split(at, along);
+    let granted = store.wrap(at);
+    let leftover = store.split(granted, across);
+    store.grant(granted);
+    store.list(split);
+    store.list(leftover);
+    granted
+}
+
+fn strip_across<A: Allocator>(store: &mut Store<A>, at: Link, across: i32) -> Link
+    requires { (h : Holding) × IsPlaceableAt (shelf_of store.old) (vec_capacity store.old.slots) at.number (Plan.StripAcross across) h }
+    ensures kept { (h : Holding) → IsPlaceableAt (shelf_of store.old) (vec_capacity store.old.slots) at.number (Plan.StripAcross across) h
+        → (h' : Holding) × IsPlanned (shelf_of store.new) at.number result.number (Plan.StripAcross across) h h' }
+    ensures options { store.new.options ≡ store.old.options }
+    ensures turns { store.new.turns ≡ store.old.turns }
+{
+    let (granted, split) = store.wrap_two(at, across);
+    store.grant(granted);
+    store.list(split);
+    granted
+}
+
+fn corner_across<A: Allocator>(store: &mut Store<A>, at: Link, along: i32, across: i32) -> Link
+    requires { (h : Holding) × IsPlaceableAt (shelf_of store.old) (vec_capacity store.old.slots) at.number (Plan.CornerAcross along across) h }
+    ensures kept { (h : Holding) → IsPlaceableAt (shelf_of store.old) (vec_capacity store.old.slots) at.number (Plan.CornerAcross along across) h
+        → (h' : Holding) × IsPlanned (shelf_of store.new) at.number result.number (Plan.CornerAcross along across) h h' }
+    ensures options { store.new.options ≡ store.old.options }
+    ensures turns { store.new.turns ≡ store.old.turns }
+{
+    let (container, split) = store.wrap_two(at, across);
+    let granted = store.wrap(container);
+    let leftover = store.split(granted, along);
+    store.grant(granted);
+    store.list(split);
+    store.list(leftover);
+    granted
+}
+
+/// One turn of a freeing: the loose leaf of a slot joins a free neighbour, the next before the previous one, or takes the
+/// place of the container that it is alone in. The answer is the slot to go on with, or none where all is settled.
+fn turn<A: Allocator>(store: &mut Store<A>, at: Link) -> Option<Link>
+    requires { (h : Holding) × IsSettlingAt (shelf_of store.old) at.number h }
+    ensures turned { IfSome result (λ next. (h : Holding) → IsSettlingAt (shelf_of store.old) at.number h
+        → (less : Holding) × IsSettlingAt (shelf_of store.new) next.number less × IsTurned h less) }
+    ensures counted { IfSome result (λ _. store.new.turns.count ≡ store.old.turns.count + 1) }
+    ensures settled { result ≡ None → (h : Holding) → IsSettlingAt (shelf_of store.old) at.number h → IsNormal (erase h.tree) }
+    ensures same { result ≡ None → shelf_of store.new ≡ shelf_of store.old }
+    ensures uncounted { result ≡ None → store.new.turns ≡ store.old.turns }
+    ensures room { KeepsRoom store.old store.new }
+{
+    let node = store.node(at);
+    if store.is_free(node.next) {
+        store.unlist(node.next);
+        store.join(at);
+        return Some(at);
+    }
+    if store.is_free(node.previous) {
+        store.unlist(node.previous);
+        store.join(node.previous);
+        return Some(node.previous);
+    }
+    if node.previous.number == NO_SLOT
+        && node.next.number == NO_SLOT
+        && node.parent.number != NO_SLOT
+    {
+        return Some(store.lift(at));
+    }
+    None
+}
+
+/// Frees the granted leaf of a slot: it joins its free neighbours and rises while it is alone. The answer is how many
+/// slots were given back. Takes no memory; each marking, join and lift is one turn.
+pub fn free_leaf<A: Allocator>(store: &mut Store<A>, slot: Link) -> u32
+    requires { (h : Holding) × IsFreeable (shelf_of store.old) slot.number h }
+    ensures freed { (h : Holding) → IsFreeable (shelf_of store.old) slot.number h
+        → (h' : Holding) × IsFreed (shelf_of store.old) (shelf_of store.new) slot.number result h h' }
+    ensures turns { store.new.turns.count ≡ store.old.turns.count + 1 + result }
+    ensures room { KeepsRoom store.old store.new }
+{
+    store.mark(slot);
+    let mut at = slot;
+    let mut given = 0;
+    while let Some(next) = turn(store, at) {
+        at = next;
+        given += 1;
+    }
+    store.list(at);
+    given
+}

@@ -1,0 +1,101 @@
+//! Walks over the slots of an atlas: a look at the slot that an id names, and passes over the leaves.
+ghost use Rattle.std.specs.Prelude.{◌≡◌, ◌<◌, ◌≤◌, ◌%◌, ◌^◌, true, false, IfOk, IfSome, IfNone, IsOkUnless, length};
+ghost use Rattle.std.specs.List.{FoldsTo};
+ghost use Rattle.std.specs.Fn.{CalledAt};
+ghost use Rattle.guillotiere.specs.Slots.{nodes};
+ghost use Rattle.guillotiere.specs.Numbered.{id_of};
+ghost use Rattle.guillotiere.specs.Visits.{CalledAtGrant, allocated_from, free_areas, is_named};
+
+use crate::allocation::{AllocId, Allocation};
+use crate::error::AtlasError;
+use crate::geometry::Rectangle;
+use crate::slots::{NodeKind, Slot};
+use std::alloc::Allocator;
+
+// How many numbers of slots an id can hold: they take its low 24 bits.
+pub const SLOT_NUMBERS: u32 = 16777216;
+
+/// The id of the slot with this number in this generation.
+pub fn slot_id(number: usize, generation: u8) -> AllocId
+    requires { number < SLOT_NUMBERS }
+    ensures { result ≡ id_of number generation }
+{
+    AllocId::deserialize(number as u32 + SLOT_NUMBERS * u32::from(generation))
+}
+
+/// The slot that an id names, if it is allocated under that id now.
+pub fn named_slot(slots: &[Slot], id: AllocId) -> Option<usize>
+    ensures found { IfSome result (λ at. at ≡ id % 2 ^ 24) }
+    ensures inside { IfSome result (λ at. at < length slots.now) }
+    ensures named { IfSome result (λ at. is_named (nodes slots.now) id ≡ true) }
+    ensures none { IfNone result (is_named (nodes slots.now) id ≡ false) }
+{
+    let bits = id.serialize();
+    let at = (bits % SLOT_NUMBERS) as usize;
+    let node = slots.get(at)?.node;
+    if node.kind == NodeKind::Alloc && u32::from(node.generation) == bits / SLOT_NUMBERS {
+        Some(at)
+    } else {
+        None
+    }
+}
+
+/// Calls `visit` on each allocated slot, by rising number.
+pub fn visit_allocated<F: FnMut(AllocId, &Rectangle)>(slots: &[Slot], mut visit: F)
+    requires short { length slots.now ≤ SLOT_NUMBERS }
+    requires callable { F.IsAlwaysCallable visit }
+    ensures { (last : F) × FoldsTo (CalledAtGrant F.FnMut) visit (allocated_from 0 (nodes slots.now)) last }
+{
+    for (number, slot) in slots.iter().enumerate() {
+        if slot.node.kind == NodeKind::Alloc {
+            visit(slot_id(number, slot.node.generation), &slot.node.area);
+        }
+    }
+}
+
+/// Calls `visit` on the rectangle of each free slot, by rising number.
+pub fn visit_free<F: FnMut(&Rectangle)>(slots: &[Slot], mut visit: F)
+    requires { F.IsAlwaysCallable visit }
+    ensures { (last : F) × FoldsTo (λ p x q. CalledAt F.FnMut p x tt q) visit (free_areas (nodes slots.now)) last }
+{
+    for slot in slots {
+        if slot.node.kind == NodeKind::Free {
+            visit(&slot.node.area);
+        }
+    }
+}
+
+/// The allocated slots, by rising number. `Memory` is the only error.
+pub fn gather_allocated<A: Allocator>(
+    alloc: A,
+    slots: &[Slot],
+) -> Result<Vec<Allocation, A>, AtlasError>
+    requires { length slots.now ≤ SLOT_NUMBERS }
+    ensures unless { IsOkUnless result AtlasError.Memory }
+    ensures list { IfOk result (λ found. found.items ≡ allocated_from 0 (nodes slots.now)) }
+{
+    let mut found = Vec::new(alloc);
+    for (number, slot) in slots.iter().enumerate() {
+        if slot.node.kind == NodeKind::Alloc {
+            found.push(Allocation {
+                id: slot_id(number, slot.node.generation),
+                rectangle: slot.node.area,
+            })?;
+        }
+    }
+    Ok(found)
+}
+
+/// The rectangles of the free slots, by rising number. `Memory` is the only error.
+pub fn gather_free<A: Allocator>(alloc: A, slots: &[Slot]) -> Result<Vec<Rectangle, A>, AtlasError>
+    ensures unless { IsOkUnless result AtlasError.Memory }
+    ensures list { IfOk result (λ found. found.items ≡ free_areas (nodes slots.now)) }
+{
+    let mut found = Vec::new(alloc);
+    for slot in slots {
+        if slot.node.kind == NodeKind::Free {
+            found.push(slot.node.area)?;
+        }
+    }
+    Ok(found)
+}
