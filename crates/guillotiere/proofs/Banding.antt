@@ -1,9 +1,8 @@
--- The list of a box: a box that a size fits has no lower band and no lower class.
-use Rattle.std.proofs.Common.{ℕ, ℤ, pos, negsuc, ◌+◌, ◌-◌, ◌*◌, ◌<◌, ◌≤◌, ◌≡◌, ◌≤ℤ◌, ◌<ℤ◌, refl, sym, ap, ◌∙◌, ◌⊎◌, inl, inr, arith, Bool, true, false, min}
-use Rattle.std.specs.Prelude.{int_le, nat_lt, if◌then◌else◌, ◌||◌}
-use Rattle.std.proofs.lemmas.Bool.{cases_Bool, cond_both, cond-true, cond-false, ltb-true, ltb-false, or_cases, or_from, or_parts, both_ways, or_left, or_right}
+-- The list of a box, and that a box which a size fits has no lower band.
+use Rattle.std.proofs.Common.{ℕ, ℤ, pos, negsuc, ◌<◌, ◌≤◌, ◌≡◌, ◌≤ℤ◌, arith, false, min}
+use Rattle.std.specs.Prelude.{nat_lt, if◌then◌else◌}
+use Rattle.std.proofs.lemmas.Bool.{cond_both, ltb-true, ltb-false}
 use Rattle.std.proofs.lemmas.Int.{ints}
-use Rattle.std.proofs.Math.Nat.{min-le_left, min-le_right}
 use Rattle.guillotiere.specs.Boxes.{Sides, Fits}
 use Rattle.guillotiere.specs.Pixels.{natural}
 use Rattle.guillotiere.specs.Choice.{Options, class_of, reaches}
@@ -94,25 +93,6 @@ pub class_of-most : (o : Options) (s : Sides) → class_of o s < 3
 class_of-most o s =
     cond_both (reaches o.large_threshold s) 2 _ (λ w. w < 3) (λ _. omega arith) (λ _.
     cond_both (reaches o.small_threshold s) 1 0 (λ w. w < 3) (λ _. omega arith) (λ _. omega arith))
-
-int_le-more : (t : ℤ) (a b : ℕ) → a ≤ b → int_le t (pos a) ≡ true → int_le t (pos b) ≡ true
-int_le-more t a b l e = grind (arith, ints)
-
-reaches-more : (t : ℤ) (r s : Sides) → Fits r s → reaches t r ≡ true → reaches t s ≡ true
-reaches-more t r s f e =
-    elim (or_cases _ _ e) [
-      | inl w ↦ or_left _ _ (int_le-more t r.width s.width f.0 w)
-      | inr h ↦ or_right _ _ (int_le-more t r.height s.height f.1 h)
-    ]
-
--- a box that a size fits has no lower class
-pub class_of-fits : (o : Options) (r s : Sides) → Fits r s → class_of o r ≤ class_of o s
-class_of-fits o r s f =
-    cond_both (reaches o.large_threshold r) 2 _ (λ w. w ≤ class_of o s) (λ t.
-    rw (reaches-more o.large_threshold r s f t) (omega arith)) (λ _.
-    cond_both (reaches o.small_threshold r) 1 0 (λ w. w ≤ class_of o s) (λ t.
-    cond_both (reaches o.large_threshold s) 2 _ (λ w. 1 ≤ w) (λ _. omega arith) (λ _.
-    rw (reaches-more o.small_threshold r s f t) (omega arith))) (λ _. omega arith))
 
 pub list_of-most : (o : Options) (s : Sides) → list_of o s < 24
 list_of-most o s = omega (arith, class_of-most o s, band_of-most s)

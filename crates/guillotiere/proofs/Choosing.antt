@@ -1,17 +1,16 @@
 -- The search for the box that a request takes, and that what it finds is the pick.
-use Rattle.std.proofs.Common.{◌≡◌, ◌≢◌, ℕ, ◌+◌, ◌-◌, ◌*◌, ◌<◌, ◌≤◌, ◌↔◌, ◌⊎◌, min, Bool, true, false, cond, List, [], ◌∷◌, ◌++◌, ℤ, pos, negsuc, ◌+ℤ◌, ◌-ℤ◌, ◌≤ℤ◌, ◌<ℤ◌, refl, ap, sym, ◌∙◌, subst, inl, inr, Option, Some, None, arith}
+use Rattle.std.proofs.Common.{◌≡◌, ◌≢◌, ℕ, ◌-◌, ◌<◌, ◌≤◌, ◌↔◌, ◌⊎◌, min, Bool, true, false, List, [], ◌∷◌, ◌++◌, ℤ, pos, negsuc, ◌-ℤ◌, ◌≤ℤ◌, ◌<ℤ◌, refl, ap, sym, ◌∙◌, subst, inl, inr, Option, Some, None, arith}
 use Rattle.std.proofs.lemmas.Int.{ints}
 use Rattle.std.specs.Option.{MatchOption}
-use Rattle.std.specs.List.{Contains}
 use Rattle.std.proofs.lemmas.Option.{MatchOption-at_some, MatchOption-at_none}
 use Rattle.std.proofs.lemmas.Bool.{cases_eq, cases_order, cases_lt}
 use Rattle.std.proofs.lemmas.List.Elements.{Contains-push, Contains-push_cases, Contains-append_left}
 use Rattle.guillotiere.specs.declared.geometry.Rectangle.{Rectangle}
 use Rattle.guillotiere.specs.declared.choice.Found.{Found}
 use Rattle.guillotiere.specs.declared.choice.Search.{Search}
-use Rattle.guillotiere.specs.Boxes.{Sides, Box, box_sides, Fits, IsPositive}
+use Rattle.guillotiere.specs.Boxes.{Sides, Box, box_sides, Fits}
 use Rattle.guillotiere.specs.Choice.{least_margin, HasEqualSide, ComesFirst}
-use Rattle.guillotiere.specs.Pixels.{natural, box_of, rectangle_of, sides_of, size_of}
+use Rattle.guillotiere.specs.Pixels.{natural, box_of, rectangle_of, sides_of}
 use Rattle.guillotiere.specs.Requests.{IsBefore, IsBetterMargin, Precedes}
 use Rattle.guillotiere.specs.Rectangles.{IsUnsigned}
 use Rattle.guillotiere.specs.Searches.{Shown, shown_at, IsAsGood, IsBestShown, FitsNone, IsFound, HasSeen}

@@ -1,7 +1,7 @@
 -- The lists of free slots and the list of unused ones, all together.
-use Rattle.std.proofs.Common.{ℕ, ◌+◌, ◌-◌, ◌<◌, ◌≤◌, ◌≡◌, ◌≢◌, List, [], ◌∷◌, refl, sym, ap, ◌∙◌, ◌⊎◌, inl, inr, arith, length, set, get_or-set_same, get_or-set_other, length-set, Bool, true, false, eqb, ◌&&◌, subst}
+use Rattle.std.proofs.Common.{ℕ, ◌<◌, ◌≤◌, ◌≡◌, List, ◌∷◌, refl, sym, ap, ◌∙◌, inl, inr, arith, length, set, get_or-set_same, get_or-set_other, Bool, true, false, eqb, ◌&&◌, subst}
 use Rattle.std.specs.Prelude.{if◌then◌else◌, slice_index_or}
-use Rattle.std.proofs.lemmas.Bool.{cases_eq, cases_lt, cases_Bool, cond_both, cond-true, cond-false, eqb-true, eq-eqb, ne_eqb, and_parts, and_from, and_left, and_right}
+use Rattle.std.proofs.lemmas.Bool.{cases_eq, cases_lt, cond_both, cond-true, cond-false, eq-eqb, ne_eqb, and_parts, and_from, and_right}
 use Rattle.std.proofs.lemmas.List.{get_or_past, get_or_default, length-map}
 use Rattle.guillotiere.specs.declared.slots.Slot.{Slot}
 use Rattle.guillotiere.specs.declared.geometry.Size.{Size}
@@ -16,7 +16,7 @@ use Rattle.guillotiere.specs.Pixels.{sides_of, box_of}
 use Rattle.guillotiere.specs.Choice.{Options}
 use Rattle.guillotiere.specs.Slots.{nodes, rings, node_at, ring_at, use_count, no_slot, blank_node}
 use Rattle.guillotiere.specs.Numbered.{same}
-use Rattle.guillotiere.specs.Lists.{IsList, IsFiled, AreFiled, Line, occurs, without, front, filed, list_of, list_at, blank_list, node_sides, is_free, bounds}
+use Rattle.guillotiere.specs.Lists.{IsList, IsFiled, AreFiled, occurs, without, filed, list_of, list_at, blank_list, node_sides, is_free, bounds}
 use Rattle.guillotiere.specs.Links.{IsKept, IsLoose, IsListed, IsUnlisted, with_mark, with_count, held_without, held_with}
 use Rattle.guillotiere.proofs.Occurrences.{same-self, same-ne, ne-from_occurs, without-none, occurs-without, length-occurs}
 use Rattle.guillotiere.proofs.Banding.{list_of-most}

@@ -109,10 +109,10 @@ has_both id b g = (g.id == id) && same_box g.box b
 div_of-slot : (i g : ℕ) → i < 2 ^ 24 → id_of i g / 2 ^ 24 ≡ g
 div_of-slot i g l = omega arith
 
-id_of-parts : (id : ℕ) → id_of (id % 2 ^ 24) (id / 2 ^ 24) ≡ id
+pub id_of-parts : (id : ℕ) → id_of (id % 2 ^ 24) (id / 2 ^ 24) ≡ id
 id_of-parts id = omega arith
 
-is_alloc-true : (k : NodeKind) → is_alloc k ≡ true → k ≡ kind.Alloc
+pub is_alloc-true : (k : NodeKind) → is_alloc k ≡ true → k ≡ kind.Alloc
 is_alloc-true kind.Alloc h = refl
 is_alloc-true kind.Container h = absurd (false≢true h)
 is_alloc-true kind.Free h = absurd (false≢true h)
@@ -125,7 +125,7 @@ weighs-parts true false h = absurd (omega arith)
 weighs-parts false c h = absurd (omega arith)
 
 -- an allocated slot is named by its id
-named-true : (ns : List Node) (i : ℕ) (id : ℕ) → i < 2 ^ 24 → is_alloc (node_at ns i).kind ≡ true → id_of i (node_at ns i).generation ≡ id
+pub named-true : (ns : List Node) (i : ℕ) (id : ℕ) → i < 2 ^ 24 → is_alloc (node_at ns i).kind ≡ true → id_of i (node_at ns i).generation ≡ id
     → (is_named ns id ≡ true) × (id % 2 ^ 24 ≡ i)
 named-true ns i id l is e =
     let slot : id % 2 ^ 24 ≡ i = ap (λ k. k % 2 ^ 24) (sym e) ∙ id_of-slot i (node_at ns i).generation l in

@@ -129,7 +129,7 @@ total-split i k p ns s b q End l st = refl
 total-split i k p ns s b q (Free j e rest) l st =
     cond_both (eqb i j) (Free j p (Free k (e - p) rest)) (Free j e (split_at i k p rest)) (λ m. total (erase m) ≡ e + total (erase rest))
     (λ t. let same : extent_of (node_at ns i) ≡ e = ap (λ x. extent_of (node_at ns x)) (eqb-true i j t) ∙ extent-of_placed ns j s q e st.0.axis st.1 in
-        omega arith)
+    omega arith)
     (λ f. ap (λ t. e + t) (total-split i k p ns s j (q + e) rest l st.2))
 total-split i k p ns s b q (Alloc j g e rest) l st = ap (λ t. e + t) (total-split i k p ns s j (q + e) rest l st.3)
 total-split i k p ns s b q (Seq j e inner rest) l st = ap (λ t. e + t) (total-split i k p ns s j (q + e) rest l st.3)
@@ -139,13 +139,12 @@ cut-split i k p ns s b q End h l st c = tt
 cut-split i k p ns s b q (Free j e rest) h l st c =
     cond_both (eqb i j) (Free j p (Free k (e - p) rest)) (Free j e (split_at i k p rest)) (λ m. IsCut s.width (erase m))
     (λ t. let same : extent_of (node_at ns i) ≡ e = ap (λ x. extent_of (node_at ns x)) (eqb-true i j t) ∙ extent-of_placed ns j s q e st.0.axis st.1 in
-        (h, (omega arith, c.1)))
+    (h, (omega arith, c.1)))
     (λ f. (c.0, cut-split i k p ns s j (q + e) rest h l st.2 c.1))
 cut-split i k p ns s b q (Alloc j g e rest) h l st c = (c.0, cut-split i k p ns s j (q + e) rest h l st.3 c.1)
-cut-split i k p ns s b q (Seq j e inner rest) h l st c =
-    (
-      c.0,
-      total-split i k p ns (inside s j q e) _ s.start inner l st.2 ∙ c.1,
-      cut-split i k p ns (inside s j q e) _ s.start inner h l st.2 c.2,
-      cut-split i k p ns s j (q + e) rest h l st.3 c.3,
-    )
+cut-split i k p ns s b q (Seq j e inner rest) h l st c = (
+  c.0,
+  total-split i k p ns (inside s j q e) _ s.start inner l st.2 ∙ c.1,
+  cut-split i k p ns (inside s j q e) _ s.start inner h l st.2 c.2,
+  cut-split i k p ns s j (q + e) rest h l st.3 c.3,
+)

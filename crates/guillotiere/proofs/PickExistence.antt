@@ -5,7 +5,7 @@ use Rattle.std.proofs.lemmas.Bool.{true≢false, cases_order, cases_Bool, eqb-tr
 use Rattle.std.proofs.lemmas.List.Sums.{get_or-le-sum_by}
 use Rattle.guillotiere.specs.Boxes.{Sides, Box, box_sides, Fits}
 use Rattle.guillotiere.specs.Choice.{Options, reaches, rounded, class_of, least_margin, HasEqualSide, IsFitting, IsCandidate, HasBetterMargin, IsBest, ComesFirst, IsPick}
-use Rattle.guillotiere.specs.StepLaws.{PicksExist, SmallerRequestsFit}
+use Rattle.guillotiere.specs.StepLaws.{PicksExist, SmallerFits}
 use Rattle.guillotiere.proofs.TreeIds.{Contains-first, Contains-later, Contains-none, Contains-cons_cases}
 use Rattle.guillotiere.proofs.Rounding.{rounded_monotone}
 
@@ -284,8 +284,8 @@ picks_exist free o s room = found (least_or_none (choice_keys o r most) (fits r)
     found (inl m) = (m.it, least_pick free o r most few m)
     found (inr none) = absurd (none room.box room.fitting.is_free (is_fits r room.box room.fitting.fits))
 
-pub smaller_requests_fit : SmallerRequestsFit
-smaller_requests_fit free o r s room pos fit =
+pub smaller_fits : SmallerFits
+smaller_fits free o r s room pos fit =
     let smaller : Fits (rounded o r) (rounded o s) = rounded_monotone o r s fit in
     let fitting = room.fitting in
     record {

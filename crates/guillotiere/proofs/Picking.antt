@@ -1,15 +1,15 @@
 -- The best of the boxes shown is the pick of all free boxes, where the classes are searched from the request's upwards.
-use Rattle.std.proofs.Common.{◌≡◌, ℕ, ◌+◌, ◌-◌, ◌*◌, ◌/◌, ◌%◌, ◌<◌, ◌≤◌, ◌⊎◌, Bool, true, false, cond, eqb, leb, ltb, ◌&&◌, ◌||◌, List, [], ◌∷◌, length, get_or, ℤ, pos, negsuc, ◌≤ℤ◌, zero, suc, refl, ap, sym, ◌∙◌, subst, inl, inr, arith}
-use Rattle.std.specs.Prelude.{int_le, ◌==◌}
+use Rattle.std.proofs.Common.{◌≡◌, ℕ, ◌+◌, ◌-◌, ◌*◌, ◌/◌, ◌<◌, ◌≤◌, ◌⊎◌, Bool, true, false, cond, List, [], ◌∷◌, length, get_or, ℤ, zero, suc, refl, ap, sym, ◌∙◌, subst, inl, inr, arith}
+use Rattle.std.specs.Prelude.{◌==◌}
 use Rattle.std.specs.List.{Contains, count_by, All}
 use Rattle.std.proofs.lemmas.Int.{ints}
-use Rattle.std.proofs.lemmas.Bool.{cases_Bool, or_cases, or_left, or_right, eq-eqb, ne_eqb, eqb-true, eqb-false, cases_eq, cases_lt, cond-true, cond-false, false_from_ne_true}
+use Rattle.std.proofs.lemmas.Bool.{eq-eqb, ne_eqb, cases_eq, cases_lt}
 use Rattle.std.proofs.lemmas.Nat.{mul-le}
 use Rattle.std.proofs.lemmas.Bool.Decides.{nat_tests}
 use Rattle.std.proofs.lemmas.List.Elements.{All-contains}
 use Rattle.std.proofs.lemmas.List.Sums.{sum_by-cons, get_or-le-sum_by}
 use Rattle.guillotiere.specs.Boxes.{Sides, Box, box_sides, Fits, IsPositive, IsNonempty, IsWithin, AreDisjoint, covers}
-use Rattle.guillotiere.specs.Choice.{Options, AreValid, up, rounded, reaches, class_of, least_margin, HasEqualSide, IsFitting, IsCandidate, HasBetterMargin, IsBest, ComesFirst, IsPick, HasRoom, HasNoRoom}
+use Rattle.guillotiere.specs.Choice.{Options, up, rounded, reaches, class_of, HasEqualSide, IsFitting, IsCandidate, HasBetterMargin, ComesFirst, IsPick, HasRoom, HasNoRoom}
 use Rattle.guillotiere.specs.Requests.{CanBeRounded}
 use Rattle.guillotiere.specs.Searches.{Shown, shown_at, IsAsGood, IsBestShown, FitsNone, FitsOnlyFrom, AreOfClass}
 use Rattle.guillotiere.proofs.Choosing.{margin-equal_side, equal_side-margin, equal_side_cases}
@@ -184,3 +184,7 @@ up-least n a k h p =
       | inl l ↦ absurd (omega (arith, mul-le (k + 1) a q a (omega arith) (omega arith)))
       | inr g ↦ mul-le q a k a g (omega arith)
     ]
+
+-- a smaller side is rounded to no more
+pub up-mono : (m n a : ℕ) → 0 < a → m ≤ n → up m a ≤ up n a
+up-mono m n a h l = up-least m a ((n + (a - 1)) / a) h (omega (arith, up-le n a h))

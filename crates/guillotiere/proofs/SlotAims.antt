@@ -1,6 +1,6 @@
 -- the slot of a free leaf and its box name the same leaf
-use Rattle.std.proofs.Common.{ℕ, ◌+◌, ◌*◌, ◌<◌, ◌≤◌, ◌≡◌, ◌==◌, Bool, true, false, cond, List, refl, sym, ap, ap₂, subst, ◌∙◌, ◌⊎◌, inl, inr, arith, eqb}
-use Rattle.std.proofs.lemmas.Bool.{cases_eq, eqb-true, eqb-false, eq-eqb, ne_eqb}
+use Rattle.std.proofs.Common.{ℕ, ◌+◌, ◌*◌, ◌≤◌, ◌≡◌, ◌==◌, Bool, true, false, cond, List, refl, sym, ap, ap₂, subst, ◌∙◌, arith}
+use Rattle.std.proofs.lemmas.Bool.{eqb-true}
 use Rattle.guillotiere.specs.declared.slots.Node.{Node}
 use Rattle.guillotiere.specs.declared.slots.NodeKind.TheVariants as kind
 use Rattle.guillotiere.specs.Boxes.{Axis, Position, Sides, Box, other, side, sized, moved, box_at, box_sides, same_box, origin, Fits, IsPositive}
@@ -9,11 +9,10 @@ use Rattle.guillotiere.specs.Pixels.{box_of, rectangle_of}
 use Rattle.guillotiere.specs.Cuts.{cut}
 use Rattle.guillotiere.specs.Trees.{Tree, IsWellFormed, free_boxes}
 use Rattle.guillotiere.specs.Changes.{need, needed, place_need}
-use Rattle.guillotiere.specs.Slots.{node_at, use_count, no_slot, axis_of}
-use Rattle.guillotiere.specs.Numbered.{Numbered, tally, same, erase, End, Free, Alloc, Seq}
-use Rattle.guillotiere.specs.Standing.{Sequence, Standing, Stands, IsPlaced, inside, member_box, spot}
-use Rattle.guillotiere.proofs.Frames.{same-self, same-ne}
-use Rattle.guillotiere.proofs.TreeBasics.{one_if, same_box-itself, same_box-true, free_among}
+use Rattle.guillotiere.specs.Slots.{node_at, no_slot, axis_of}
+use Rattle.guillotiere.specs.Numbered.{Numbered, erase, End, Free, Alloc, Seq}
+use Rattle.guillotiere.specs.Standing.{Sequence, Standing, Stands, inside, member_box, spot}
+use Rattle.guillotiere.proofs.TreeBasics.{one_if, same_box-itself, free_among}
 use Rattle.guillotiere.proofs.TreePlacing.{hits, hits-seq, hits-free, hits_once}
 use Rattle.guillotiere.proofs.Weights.{free_tally, free_once}
 

@@ -18,7 +18,9 @@ nonempty-at Horizontal p q e w h k = (omega arith, omega arith)
 nonempty-at Vertical p q e w h k = (omega arith, omega arith)
 
 exact-member : (r : Rectangle) (s : Sequence) (p e : ℕ) → r ≡ rectangle_of (member_box s p e) → 0 < e → 0 < s.width → IsExact r
-exact-member r s p e is h k = record { box = member_box s p e; is = is; nonempty = nonempty-at s.axis p s.start e s.width h k }
+exact-member r s p e is h k =
+    let P : Rectangle → Type 0 = λ x. IsExact x in
+    subst P (sym is) (record { unsigned = refl; nonempty = nonempty-at s.axis p s.start e s.width h k })
 
 -- of a member and what comes after it
 either : (P : ℕ → Type 0) (i j t : ℕ) → P j → (0 < t → P i) → 0 < same i j + t → P i

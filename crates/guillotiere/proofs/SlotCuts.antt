@@ -1,23 +1,21 @@
 -- how the five cuts of a free leaf are made by the calls on slots
-use Rattle.std.proofs.Common.{ℕ, ◌+◌, ◌-◌, ◌<◌, ◌≤◌, ◌≡◌, ◌≢◌, ◌==◌, Bool, true, false, cond, List, refl, sym, ap, ap₂, subst, ◌∙◌, ◌⊎◌, inl, inr, arith, eqb}
-use Rattle.std.proofs.lemmas.Bool.{cases_eq, cond-true, cond-false}
+use Rattle.std.proofs.Common.{ℕ, ◌+◌, ◌-◌, ◌≤◌, ◌≡◌, ◌≢◌, true, false, List, refl, sym, ap, ap₂, subst, ◌∙◌, arith}
+use Rattle.std.proofs.lemmas.Bool.{cond-true, cond-false}
 use Rattle.guillotiere.specs.declared.slots.Node.{Node}
-use Rattle.guillotiere.specs.Boxes.{Axis, Position, Sides, Box, other, same_axis, side, box_sides, origin}
+use Rattle.guillotiere.specs.Boxes.{Axis, Sides, Box, other, same_axis, side, box_sides, origin}
 use Rattle.guillotiere.specs.Pixels.{box_of}
 use Rattle.guillotiere.specs.Cuts.{Cut, cut}
 use Rattle.guillotiere.specs.Cuts.Cut.{Whole, Strip, Corner}
-use Rattle.guillotiere.specs.Trees.{Members}
-use Rattle.guillotiere.specs.Trees as tree
-use Rattle.guillotiere.specs.Changes.{put, place}
+use Rattle.guillotiere.specs.Changes.{place}
 use Rattle.guillotiere.specs.Slots.{node_at, axis_of}
 use Rattle.guillotiere.specs.Numbered.{Numbered, tally, same, erase, id_of, granted_at, split_at, wrapped_at, End, Free, Alloc, Seq}
-use Rattle.guillotiere.specs.Standing.{Sequence, Stands}
-use Rattle.guillotiere.proofs.Frames.{same-self, same-ne}
+use Rattle.guillotiere.specs.Standing.{Sequence}
+use Rattle.guillotiere.proofs.Frames.{same-ne}
 use Rattle.guillotiere.proofs.Joining.{ne-from_same}
 use Rattle.guillotiere.proofs.Weights.{weigh, tally-weigh, free_tally, free_tally-le, free_once}
 use Rattle.guillotiere.proofs.Splitting.{split-absent}
 use Rattle.guillotiere.proofs.Wrapping.{wrapped-absent}
-use Rattle.guillotiere.proofs.SlotAims.{IsAim, IsChoice, IsFitting, aim-choice, tree_in}
+use Rattle.guillotiere.proofs.SlotAims.{IsChoice, IsFitting, aim-choice, tree_in}
 use Rattle.guillotiere.proofs.SlotPlacing.{IsChange, Puts, erase-change, granted-here, granted-other, split-here, split-other, wrapped-here, wrapped-other, granted-absent}
 
 -- the unused slots that a placing takes, each once

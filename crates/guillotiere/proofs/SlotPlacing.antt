@@ -1,24 +1,16 @@
 -- the calls on slots by which a request is placed, one after another, make the model's placing
-use Rattle.std.proofs.Common.{ℕ, ◌+◌, ◌-◌, ◌<◌, ◌≤◌, ◌≡◌, ◌==◌, Bool, true, false, cond, List, refl, sym, ap, ap₂, subst, ◌∙◌, ◌⊎◌, inl, inr, arith, eqb}
-use Rattle.std.proofs.lemmas.Bool.{cases_eq, eqb-true, eqb-false, eq-eqb, ne_eqb, cond-true, cond-false}
-use Rattle.guillotiere.specs.declared.slots.Node.{Node}
-use Rattle.guillotiere.specs.declared.slots.NodeKind.TheVariants as kind
-use Rattle.guillotiere.specs.Boxes.{Axis, Position, Sides, Box, other, same_axis, side, sized, moved, box_at, box_sides, same_box, origin}
-use Rattle.guillotiere.specs.Pixels.{box_of}
+use Rattle.std.proofs.Common.{ℕ, ◌-◌, ◌≤◌, ◌≡◌, ◌==◌, Bool, true, false, cond, refl, sym, ap, ap₂, ◌∙◌, inl, inr, arith, eqb}
+use Rattle.std.proofs.lemmas.Bool.{cases_eq, eq-eqb, ne_eqb, cond-true, cond-false}
+use Rattle.guillotiere.specs.Boxes.{Axis, Position, Sides, Box, other, side, sized, moved, box_at, box_sides, same_box}
 use Rattle.guillotiere.specs.Cuts.{Cut, cut}
-use Rattle.guillotiere.specs.Cuts.Cut.{Whole, Strip, Corner}
 use Rattle.guillotiere.specs.Trees.{Members}
 use Rattle.guillotiere.specs.Trees as tree
-use Rattle.guillotiere.specs.Changes.{put, placed, place}
-use Rattle.guillotiere.specs.Slots.{node_at, use_count, no_slot, axis_of}
-use Rattle.guillotiere.specs.Numbered.{Numbered, tally, same, erase, id_of, granted_at, split_at, wrapped_at, End, Free, Alloc, Seq}
-use Rattle.guillotiere.specs.Standing.{Sequence, Stands}
-use Rattle.guillotiere.proofs.Frames.{same-self, same-ne}
+use Rattle.guillotiere.specs.Changes.{put, placed}
+use Rattle.guillotiere.specs.Numbered.{Numbered, same, erase, id_of, granted_at, split_at, wrapped_at, End, Free, Alloc, Seq}
+use Rattle.guillotiere.proofs.Frames.{same-self}
 use Rattle.guillotiere.proofs.Joining.{ne-from_same}
-use Rattle.guillotiere.proofs.Weights.{weigh, tally-weigh, free_tally, free_tally-le, free_once}
-use Rattle.guillotiere.proofs.Splitting.{split-absent}
-use Rattle.guillotiere.proofs.Wrapping.{wrapped-absent}
-use Rattle.guillotiere.proofs.SlotAims.{IsAim, IsChoice, IsFitting, aim-choice, tree_in}
+use Rattle.guillotiere.proofs.Weights.{weigh, free_tally}
+use Rattle.guillotiere.proofs.SlotAims.{IsAim}
 
 -- one step at a free member
 

@@ -1,5 +1,5 @@
 -- The calls of the store keep what it holds: from what the calls on nodes and on lists ensure.
-use Rattle.std.proofs.Common.{ℕ, ◌+◌, ◌<◌, ◌≤◌, ◌≡◌, ◌≢◌, ◌^◌, List, [], ◌∷◌, refl, sym, ap, ◌∙◌, arith, length, Bool, true, false, eqb, inl, inr, subst}
+use Rattle.std.proofs.Common.{ℕ, ◌+◌, ◌<◌, ◌≤◌, ◌≡◌, ◌≢◌, ◌^◌, List, [], ◌∷◌, refl, sym, ap, ◌∙◌, ◌++◌, arith, length, set, length-set, Bool, true, false, eqb, inl, inr, subst}
 use Rattle.std.proofs.lemmas.Bool.{cases_eq, eq-eqb, ne_eqb, cond-true, cond-false}
 use Rattle.guillotiere.specs.declared.slots.Slot.{Slot}
 use Rattle.guillotiere.specs.declared.slots.Link.{Link}
@@ -11,12 +11,16 @@ use Rattle.guillotiere.specs.Choice.{Options}
 use Rattle.guillotiere.specs.Pixels.{options_of}
 use Rattle.guillotiere.specs.Trees.{IsCut, total}
 use Rattle.guillotiere.specs.Slots.{nodes, rings, node_at, use_count, KeepsUse, no_slot}
-use Rattle.guillotiere.specs.Numbered.{Numbered, erase, marked, joined, lifted, granted_at, split_at, wrapped_at}
+use Rattle.guillotiere.specs.Numbered.{Numbered, erase, tally, marked, joined, lifted, granted_at, split_at, wrapped_at}
 use Rattle.guillotiere.specs.Standing.{Sequence, Stands}
-use Rattle.guillotiere.specs.Lists.{AreFiled, is_free}
+use Rattle.guillotiere.proofs.Frames.{Standing-same}
+use Rattle.guillotiere.specs.Lists.{AreFiled, Line, front, is_free}
+use Rattle.std.proofs.lemmas.List.{length-map, length_push}
+use Rattle.guillotiere.specs.Reading.{extent_of}
+use Rattle.guillotiere.specs.Parts.{front_node, back_node, inner_node}
 use Rattle.guillotiere.specs.Links.{with_mark, with_count, rest_of, held_with, held_without, IsExact, IsTaken}
 use Rattle.guillotiere.specs.Stored.{Shelf, Holding, Holds, HoldsWith}
-use Rattle.guillotiere.specs.Holdings.{node_in, with_loose, with_tree, IsLooseLeaf, IsReadyWith, with_held, after_take, after_grant, after_mark, after_join, after_lift, after_split, after_wrap}
+use Rattle.guillotiere.specs.Holdings.{node_in, with_loose, with_tree, IsLooseLeaf, IsReadyWith, HasSlotsFor, with_held, after_take, after_grant, after_mark, after_join, after_lift, after_split, after_wrap}
 use Rattle.guillotiere.proofs.Filing.{with_mark-same, with_mark-other, with_count-same, with_count-other}
 use Rattle.guillotiere.proofs.Taking.{AreFiled-moved, AreFiled-nodes, IsMoved}
 use Rattle.guillotiere.proofs.NumberedCuts.{total-marked, cut-marked, total-granted, cut-granted, total-joined, cut-joined, total-lifted, cut-lifted, total-split, cut-split, total-wrapped, cut-wrapped}
@@ -56,16 +60,16 @@ pub filed-one : (o : Options) (ns ms : List Node) (rs ts : List Ring) (lists : L
     → AreFiled o ns rs lists unused spare held (λ j. 0) loose → AreFiled o ms ts lists unused spare held (λ j. 0) (with_mark loose i mark)
 filed-one o ns ms rs ts lists unused spare held loose i mark same here used others filed =
     let moved : (k : ℕ) → IsMoved (node_at ns k) (node_at ms k) (loose k) (with_mark loose i mark k) =
-        λ k. elim (cases_eq k i) [
-          | inl e ↦ subst (λ x. IsMoved (node_at ns x) (node_at ms x) (loose x) (with_mark loose i mark x)) (sym e)
-              (subst (λ b. IsMoved (node_at ns i) (node_at ms i) (loose i) b) (sym (with_mark-same loose i mark)) here)
-          | inr ne ↦ moved-kept (node_at ns k) (node_at ms k) (loose k) (with_mark loose i mark k) (others k ne) (with_mark-other loose i mark k ne)
-        ] in
+    λ k. elim (cases_eq k i) [
+      | inl e ↦ subst (λ x. IsMoved (node_at ns x) (node_at ms x) (loose x) (with_mark loose i mark x)) (sym e)
+          (subst (λ b. IsMoved (node_at ns i) (node_at ms i) (loose i) b) (sym (with_mark-same loose i mark)) here)
+      | inr ne ↦ moved-kept (node_at ns k) (node_at ms k) (loose k) (with_mark loose i mark k) (others k ne) (with_mark-other loose i mark k ne)
+    ] in
     let counts : (k : ℕ) → k < length rs → 0 + use_count (node_at ms k).kind ≡ 0 + use_count (node_at ns k).kind =
-        λ k _. elim (cases_eq k i) [
-          | inl e ↦ subst (λ x. 0 + use_count (node_at ms x).kind ≡ 0 + use_count (node_at ns x).kind) (sym e) (omega (arith, used))
-          | inr ne ↦ omega (arith, use-kept (node_at ns k) (node_at ms k) (others k ne))
-        ] in
+    λ k _. elim (cases_eq k i) [
+      | inl e ↦ subst (λ x. 0 + use_count (node_at ms x).kind ≡ 0 + use_count (node_at ns x).kind) (sym e) (omega (arith, used))
+      | inr ne ↦ omega (arith, use-kept (node_at ns k) (node_at ms k) (others k ne))
+    ] in
     subst (λ r. AreFiled o ms r lists unused spare held (λ j. 0) (with_mark loose i mark)) (sym same)
     (AreFiled-moved o ns ms rs lists unused spare held (λ j. 0) (λ j. 0) loose (with_mark loose i mark) moved counts filed)
 
@@ -88,8 +92,8 @@ granted-holds v old mid new at eo en long tree this others same h leaf =
     (omega (arith, leaf.holds.short, ap (λ s. length s) eo, long)) leaf.holds
     (subst G eo (tree h.sequence h.tree (subst Q (sym eo) leaf.holds.stands)))
     (filed-one (options_of v.options) (nodes old) (nodes mid) (rings old) (rings mid) v.lists v.unused h.spare h.held h.loose at false same
-      (inr (inl leaf.loose, inr (ap is_free is_granted)))
-      (ap use_count is_granted ∙ sym (ap use_count was_free)) others (subst F (sym eo) leaf.holds.filed))
+    (inr (inl leaf.loose, inr (ap is_free is_granted)))
+    (ap use_count is_granted ∙ sym (ap use_count was_free)) others (subst F (sym eo) leaf.holds.filed))
     (cut-granted at (node_in v at).generation h.sequence.width h.tree leaf.holds.cut)
     (total-granted at (node_in v at).generation h.tree)
 
@@ -129,8 +133,8 @@ marked-holds v old mid new at a tree was_granted is_now_free others same h holds
     (short-mid v.slots old mid new a holds.short) holds
     (tree h.sequence h.tree (stands-before (λ i. 0) v old h a.given holds))
     (filed-one (options_of v.options) (nodes old) (nodes mid) (rings old) (rings mid) v.lists v.unused h.spare h.held h.loose at true same
-      (inr (inr (ap is_free was), inl refl))
-      (ap use_count is_now_free ∙ sym (ap use_count was)) others (filed-before (λ i. 0) v old h a.given holds))
+    (inr (inr (ap is_free was), inl refl))
+    (ap use_count is_now_free ∙ sym (ap use_count was)) others (filed-before (λ i. 0) v old h a.given holds))
     (cut-marked at h.sequence.width h.tree holds.cut)
     (total-marked at h.tree)
 
@@ -152,21 +156,21 @@ filed-two o ns ms rs ts lists unused spare held hand hand' loose loose' i j same
     let M : ℕ → Type 0 = λ x. IsMoved (node_at ns x) (node_at ms x) (loose x) (loose' x) in
     let C : ℕ → Type 0 = λ x. hand' x + use_count (node_at ms x).kind ≡ hand x + use_count (node_at ns x).kind in
     let moved : (k : ℕ) → M k =
-        λ k. elim (cases_eq k i) [
-          | inl e ↦ subst M (sym e) c.first
-          | inr ne ↦ elim (cases_eq k j) [
-            | inl e ↦ subst M (sym e) c.second
-            | inr nf ↦ moved-kept (node_at ns k) (node_at ms k) (loose k) (loose' k) (c.others k ne nf) (c.marks k ne nf)
-          ]
-        ] in
+    λ k. elim (cases_eq k i) [
+      | inl e ↦ subst M (sym e) c.first
+      | inr ne ↦ elim (cases_eq k j) [
+        | inl e ↦ subst M (sym e) c.second
+        | inr nf ↦ moved-kept (node_at ns k) (node_at ms k) (loose k) (loose' k) (c.others k ne nf) (c.marks k ne nf)
+      ]
+    ] in
     let counts : (k : ℕ) → k < length rs → C k =
-        λ k _. elim (cases_eq k j) [
-          | inl e ↦ subst C (sym e) c.counted
-          | inr ne ↦ elim (cases_eq k i) [
-            | inl e ↦ subst C (sym e) (omega (arith, c.used, c.hands i c.apart))
-            | inr nf ↦ omega (arith, use-kept (node_at ns k) (node_at ms k) (c.others k nf ne), c.hands k ne)
-          ]
-        ] in
+    λ k _. elim (cases_eq k j) [
+      | inl e ↦ subst C (sym e) c.counted
+      | inr ne ↦ elim (cases_eq k i) [
+        | inl e ↦ subst C (sym e) (omega (arith, c.used, c.hands i c.apart))
+        | inr nf ↦ omega (arith, use-kept (node_at ns k) (node_at ms k) (c.others k nf ne), c.hands k ne)
+      ]
+    ] in
     subst (λ r. AreFiled o ms r lists unused spare held hand' loose') (sym same)
     (AreFiled-moved o ns ms rs lists unused spare held hand hand' loose loose' moved counts filed)
 
@@ -202,7 +206,7 @@ hand-back hand j m none i =
 pub listed-holds : (v : Shelf) (old mid new : List Slot) (lists : List FreeList) (h : Holding) (held : ℕ → List ℕ) (loose : ℕ → Bool)
     → AreSlots v.slots old mid new → nodes mid ≡ nodes old
     → (AreFiled (options_of v.options) (nodes old) (rings old) v.lists v.unused h.spare h.held (λ i. 0) h.loose
-      → AreFiled (options_of v.options) (nodes mid) (rings mid) lists v.unused h.spare held (λ i. 0) loose)
+    → AreFiled (options_of v.options) (nodes mid) (rings mid) lists v.unused h.spare held (λ i. 0) loose)
     → Holds v h → Holds (record v { slots = new; lists = lists }) (record h { held = held; loose = loose })
 listed-holds v old mid new lists h held loose a same filed holds =
     let Q : List Slot → Type 0 = λ slots. Holds (record v { slots = slots; lists = lists }) (record h { held = held; loose = loose }) in
@@ -277,8 +281,8 @@ joined-holds v old mid old2 mid2 new unused i j eo long back en tree was_free is
       others = others;
     } in
     let filed : AreFiled (options_of v.options) (nodes mid) (rings mid) v.lists v.unused h.spare h.held (with_count (λ k. 0) j 1) (with_mark h.loose j false) =
-        filed-two (options_of v.options) (nodes old) (nodes mid) (rings old) (rings mid) v.lists v.unused h.spare h.held (λ k. 0) (with_count (λ k. 0) j 1) h.loose (with_mark h.loose j false) i j
-        same two (filed-before (λ k. 0) v old h eo holds) in
+    filed-two (options_of v.options) (nodes old) (nodes mid) (rings old) (rings mid) v.lists v.unused h.spare h.held (λ k. 0) (with_count (λ k. 0) j 1) h.loose (with_mark h.loose j false) i j
+    same two (filed-before (λ k. 0) v old h eo holds) in
     held_again (λ k. 0) (λ k. 0) v old mid2 new unused h (joined i h.tree) (j ∷ h.spare) (with_mark h.loose j false) eo en
     (omega (arith, back.long, ap (λ s. length s) back.given, long, ap (λ s. length s) eo, holds.short)) holds
     (stands-given v mid old2 mid2 unused j h.sequence (joined i h.tree) back (tree h.sequence h.tree (stands-before (λ k. 0) v old h eo holds)))
@@ -309,8 +313,8 @@ lifted-holds v old mid old2 mid2 new unused i c eo long back en tree was_contain
       others = λ k ne nf. others k nf ne;
     } in
     let filed : AreFiled (options_of v.options) (nodes mid) (rings mid) v.lists v.unused h.spare h.held (with_count (λ k. 0) c 1) (with_mark (with_mark h.loose i true) c false) =
-        filed-two (options_of v.options) (nodes old) (nodes mid) (rings old) (rings mid) v.lists v.unused h.spare h.held (λ k. 0) (with_count (λ k. 0) c 1) h.loose (with_mark (with_mark h.loose i true) c false) i c
-        same two (filed-before (λ k. 0) v old h eo holds) in
+    filed-two (options_of v.options) (nodes old) (nodes mid) (rings old) (rings mid) v.lists v.unused h.spare h.held (λ k. 0) (with_count (λ k. 0) c 1) h.loose (with_mark (with_mark h.loose i true) c false) i c
+    same two (filed-before (λ k. 0) v old h eo holds) in
     held_again (λ k. 0) (λ k. 0) v old mid2 new unused h (lifted i h.tree) (c ∷ h.spare) (with_mark (with_mark h.loose i true) c false) eo en
     (omega (arith, back.long, ap (λ s. length s) back.given, long, ap (λ s. length s) eo, holds.short)) holds
     (stands-given v mid old2 mid2 unused c h.sequence (lifted i h.tree) back (tree h.sequence h.tree holds.top (stands-before (λ k. 0) v old h eo holds)))
@@ -337,10 +341,165 @@ joined-holds_at v old mid old2 mid2 new unused i j k e eo long back en tree was_
     let L : ℕ → Type 0 = λ x. h.loose x ≡ true in
     subst P e
     (joined-holds v old mid old2 mid2 new unused i j eo long back en tree (node-before (λ n. n.kind ≡ kind.Free) v old i eo was_free) is_free_now apart
-      (node-before (λ n. n.kind ≡ kind.Free) v old j eo (subst K (sym e) other_free)) gone others same h holds loose_i (subst L (sym e) loose_k))
+    (node-before (λ n. n.kind ≡ kind.Free) v old j eo (subst K (sym e) other_free)) gone others same h holds loose_i (subst L (sym e) loose_k))
 
 -- a fact of the nodes after a call and a giving back
 pub given-nodes : (P : List Node → Type 0) (v : Shelf) (mid old2 mid2 new : List Slot) (unused : Link) (j : ℕ) → GivesBack v mid old2 mid2 unused j → new ≡ mid2 → P (nodes mid) → P (nodes new)
 given-nodes P v mid old2 mid2 new unused j b en p =
     let Q : List Slot → Type 0 = λ slots. P (nodes slots) in
     subst Q (sym en) (subst P (sym b.same_nodes) (subst Q (sym b.given) p))
+
+-- the tree stays where a slot that isn't used changes, and stays unused
+pub stands-taken : (ns ms : List Node) (i : ℕ) (s : Sequence) (n : Numbered) → (node_at ns i).kind ≡ kind.Unused → (node_at ms i).kind ≡ kind.Unused
+    → ((k : ℕ) → k ≢ i → node_at ms k ≡ node_at ns k) → Stands ns s n → Stands ms s n
+stands-taken ns ms i s n was is others stands =
+    let counts : (k : ℕ) → tally k n ≡ use_count (node_at ms k).kind =
+    λ k. elim (cases_eq k i) [
+      | inl e ↦ subst (λ x. tally x n ≡ use_count (node_at ms x).kind) (sym e) (stands.numbered i ∙ ap use_count was ∙ sym (ap use_count is))
+      | inr ne ↦ stands.numbered k ∙ ap (λ m. use_count m.kind) (sym (others k ne))
+    ] in
+    record {
+      standing = Standing-same ns ms s no_slot 0 n (λ j h. elim (cases_eq j i) [
+        | inl e ↦ absurd (omega (arith, ap (λ x. tally x n) e, stands.numbered i, ap use_count was))
+        | inr ne ↦ others j ne
+      ]) stands.standing;
+      numbered = counts;
+    }
+
+-- an unused slot is taken
+pub taken-holds : (v : Shelf) (new : List Slot) (unused : Link) (at : ℕ) (h : Holding) (hand : ℕ → ℕ)
+    → length new ≤ 16777216
+    → ((k : ℕ) → k ≢ at → node_at (nodes new) k ≡ node_at (nodes v.slots) k)
+    → IsTaken (options_of v.options) v.slots new v.lists v.unused unused h.spare h.held hand h.loose at
+    → HoldsWith hand v h → HoldsWith (with_count hand at 1) (record v { slots = new; unused = unused }) (after_take h)
+taken-holds v new unused at h hand short others taken holds =
+    held_again hand (with_count hand at 1) v v.slots new new unused h h.tree (rest_of h.spare) h.loose refl refl short holds
+    (stands-taken (nodes v.slots) (nodes new) at h.sequence h.tree taken.was_unused taken.is_unused others holds.stands)
+    taken.filed holds.cut refl
+
+length-rings : (slots : List Slot) → length (rings slots) ≡ length slots
+length-rings slots = simp length-map
+
+length-nodes : (slots : List Slot) → length (nodes slots) ≡ length slots
+length-nodes slots = simp length-map
+
+-- there are not too many slots once one is taken for which there was room
+pub taken-short : (v : Shelf) (new : List Slot) (capacity i : ℕ) (n : Node) (slot : Slot) (h : Holding) (hand : ℕ → ℕ)
+    → HoldsWith hand v h → HasSlotsFor 1 capacity v h
+    → ((v.unused.number ≡ no_slot → ⊥) → nodes new ≡ set (nodes v.slots) i n)
+    → (v.unused.number ≡ no_slot → new ≡ v.slots ++ slot ∷ [])
+    → length new ≤ 16777216
+taken-short v new capacity i n slot h hand holds room again fresh =
+    elim (cases_eq v.unused.number no_slot) [
+      | inl e ↦
+          let one : length new ≡ length v.slots + 1 = ap (λ s. length s) (fresh e) ∙ length_push v.slots slot in
+          elim room [
+            | inl some ↦ absurd (some-front h.spare (rings v.slots) (omega (arith, length-rings v.slots, holds.short)) holds.filed.line (sym holds.filed.begins ∙ e) some)
+            | inr r ↦ omega (arith, one, r.1)
+          ]
+      | inr ne ↦
+          let same : length (nodes new) ≡ length (nodes v.slots) = ap (λ s. length s) (again ne) ∙ length-set (nodes v.slots) i n in
+          omega (arith, same, length-nodes new, length-nodes v.slots, holds.short)
+    ]
+  where
+    some-front : (xs : List ℕ) (rs : List Ring) → length rs ≤ 16777216 → Line rs xs → front xs ≡ no_slot → 1 ≤ length xs → ⊥
+    some-front [] rs short line e h = omega arith
+    some-front (x ∷ xs) rs short line e h = omega (arith, line.0, e)
+
+-- a free leaf and an unused slot are two
+pub apart-kinds : (ns : List Node) (i j : ℕ) → (node_at ns i).kind ≡ kind.Free → (node_at ns j).kind ≡ kind.Unused → i ≢ j
+apart-kinds ns i j free unused e =
+    let z : kind.Free ≡ kind.Unused = sym free ∙ ap (λ x. (node_at ns x).kind) e ∙ unused in cc
+
+-- the slot in hand takes what a loose leaf doesn't keep
+pub split-holds : (v : Shelf) (old mid new : List Slot) (at fresh p : ℕ) (after before : Link) → AreSlots v.slots old mid new
+    → ((s : Sequence) (n : Numbered) → Stands (nodes old) s n → Stands (nodes mid) s (split_at at fresh p n))
+    → (node_in v at).kind ≡ kind.Free → (node_in v fresh).kind ≡ kind.Unused → 0 < p → p < extent_of (node_in v at)
+    → node_at (nodes mid) at ≡ front_node (node_at (nodes old) at) p after
+    → node_at (nodes mid) fresh ≡ back_node (node_at (nodes old) at) p before (node_at (nodes old) fresh)
+    → ((k : ℕ) → k ≢ at → k ≢ fresh → KeepsUse (node_at (nodes old) k) (node_at (nodes mid) k))
+    → rings mid ≡ rings old
+    → (h : Holding) (hand : ℕ → ℕ) → IsReadyWith hand v at fresh h
+    → HoldsWith (with_count hand fresh 0) (record v { slots = new }) (after_split at fresh p h)
+split-holds v old mid new at fresh p after before a tree free_v unused_v positive less_v front back others same h hand r =
+    let free : (node_at (nodes old) at).kind ≡ kind.Free = node-before (λ n. n.kind ≡ kind.Free) v old at a.given free_v in
+    let unused : (node_at (nodes old) fresh).kind ≡ kind.Unused = node-before (λ n. n.kind ≡ kind.Unused) v old fresh a.given unused_v in
+    let less : p < extent_of (node_at (nodes old) at) = node-before (λ n. p < extent_of n) v old at a.given less_v in
+    let apart : at ≢ fresh = apart-kinds (nodes old) at fresh free unused in
+    let back_free : (node_at (nodes mid) fresh).kind ≡ kind.Free = ap (λ n. n.kind) back in
+    let stands : Stands (nodes old) h.sequence h.tree = stands-before hand v old h a.given r.holds in
+    let two : ChangesTwo (nodes old) (nodes mid) at fresh hand (with_count hand fresh 0) h.loose (with_mark h.loose fresh true) = record {
+      apart = apart;
+      first = inr (inl r.loose, inl (with_mark-other h.loose fresh true at apart ∙ r.loose));
+      second = inr (inr (ap is_free unused), inl (with_mark-same h.loose fresh true));
+      used = ap (λ n. use_count n.kind) front;
+      counted = omega (arith, with_count-same hand fresh 0, ap use_count back_free, ap use_count unused, r.in_hand);
+      hands = λ k ne. with_count-other hand fresh 0 k ne;
+      marks = λ k _ ne. with_mark-other h.loose fresh true k ne;
+      others = others;
+    } in
+    held_again hand (with_count hand fresh 0) v old mid new v.unused h (split_at at fresh p h.tree) h.spare (with_mark h.loose fresh true) a.given a.left
+    (short-mid v.slots old mid new a r.holds.short) r.holds
+    (tree h.sequence h.tree stands)
+    (filed-two (options_of v.options) (nodes old) (nodes mid) (rings old) (rings mid) v.lists v.unused h.spare h.held hand (with_count hand fresh 0) h.loose (with_mark h.loose fresh true) at fresh
+    same two (filed-before hand v old h a.given r.holds))
+    (cut-split at fresh p (nodes old) h.sequence no_slot 0 h.tree positive less stands.standing r.holds.cut)
+    (total-split at fresh p (nodes old) h.sequence no_slot 0 h.tree less stands.standing)
+
+-- the slot in hand becomes the lone child of what was a loose leaf
+pub wrapped-holds : (v : Shelf) (old mid new : List Slot) (at fresh : ℕ) (link : Link) → AreSlots v.slots old mid new
+    → ((s : Sequence) (n : Numbered) → Stands (nodes old) s n → Stands (nodes mid) s (wrapped_at at fresh s.width n))
+    → (node_in v at).kind ≡ kind.Free → (node_in v fresh).kind ≡ kind.Unused
+    → node_at (nodes mid) at ≡ record (node_at (nodes old) at) { kind = kind.Container }
+    → node_at (nodes mid) fresh ≡ inner_node (node_at (nodes old) at) link (node_at (nodes old) fresh)
+    → ((k : ℕ) → k ≢ at → k ≢ fresh → KeepsUse (node_at (nodes old) k) (node_at (nodes mid) k))
+    → rings mid ≡ rings old
+    → (h : Holding) (hand : ℕ → ℕ) → IsReadyWith hand v at fresh h
+    → HoldsWith (with_count hand fresh 0) (record v { slots = new }) (after_wrap at fresh h)
+wrapped-holds v old mid new at fresh link a tree free_v unused_v outer inner others same h hand r =
+    let free : (node_at (nodes old) at).kind ≡ kind.Free = node-before (λ n. n.kind ≡ kind.Free) v old at a.given free_v in
+    let unused : (node_at (nodes old) fresh).kind ≡ kind.Unused = node-before (λ n. n.kind ≡ kind.Unused) v old fresh a.given unused_v in
+    let apart : at ≢ fresh = apart-kinds (nodes old) at fresh free unused in
+    let outer_kind : (node_at (nodes mid) at).kind ≡ kind.Container = ap (λ n. n.kind) outer in
+    let inner_free : (node_at (nodes mid) fresh).kind ≡ kind.Free = ap (λ n. n.kind) inner in
+    let two : ChangesTwo (nodes old) (nodes mid) at fresh hand (with_count hand fresh 0) h.loose (with_mark (with_mark h.loose fresh true) at false) = record {
+      apart = apart;
+      first = inr (inl r.loose, inr (ap is_free outer_kind));
+      second = inr (inr (ap is_free unused), inl (with_mark-other (with_mark h.loose fresh true) at false fresh (λ e. apart (sym e)) ∙ with_mark-same h.loose fresh true));
+      used = ap use_count outer_kind ∙ sym (ap use_count free);
+      counted = omega (arith, with_count-same hand fresh 0, ap use_count inner_free, ap use_count unused, r.in_hand);
+      hands = λ k ne. with_count-other hand fresh 0 k ne;
+      marks = λ k ne nf. with_mark-other (with_mark h.loose fresh true) at false k ne ∙ with_mark-other h.loose fresh true k nf;
+      others = others;
+    } in
+    held_again hand (with_count hand fresh 0) v old mid new v.unused h (wrapped_at at fresh h.sequence.width h.tree) h.spare (with_mark (with_mark h.loose fresh true) at false) a.given a.left
+    (short-mid v.slots old mid new a r.holds.short) r.holds
+    (tree h.sequence h.tree (stands-before hand v old h a.given r.holds))
+    (filed-two (options_of v.options) (nodes old) (nodes mid) (rings old) (rings mid) v.lists v.unused h.spare h.held hand (with_count hand fresh 0) h.loose (with_mark (with_mark h.loose fresh true) at false) at fresh
+    same two (filed-before hand v old h a.given r.holds))
+    (cut-wrapped at fresh h.sequence.width h.tree r.holds.wide r.holds.cut)
+    (total-wrapped at fresh h.sequence.width h.tree)
+
+-- a slot keeps its use in the shelf
+pub others-carried : (v : Shelf) (old mid new : List Slot) (i j : ℕ) → AreSlots v.slots old mid new
+    → ((k : ℕ) → k ≢ i → k ≢ j → KeepsUse (node_at (nodes old) k) (node_at (nodes mid) k))
+    → (k : ℕ) → k ≢ i → k ≢ j → KeepsUse (node_in v k) (node_at (nodes new) k)
+others-carried v old mid new i j a f k ne nf =
+    let P : List Slot → Type 0 = λ slots. KeepsUse (node_at (nodes slots) k) (node_at (nodes mid) k) in
+    let Q : List Slot → Type 0 = λ slots. KeepsUse (node_in v k) (node_at (nodes slots) k) in
+    subst Q (sym a.left) (subst P a.given (f k ne nf))
+
+-- the same where the extent is said in another way
+pub split-holds_at : (v : Shelf) (old mid new : List Slot) (at fresh p q : ℕ) (after before : Link) → q ≡ p → AreSlots v.slots old mid new
+    → ((s : Sequence) (n : Numbered) → Stands (nodes old) s n → Stands (nodes mid) s (split_at at fresh q n))
+    → (node_in v at).kind ≡ kind.Free → (node_in v fresh).kind ≡ kind.Unused → 0 < p → p < extent_of (node_in v at)
+    → node_at (nodes mid) at ≡ front_node (node_at (nodes old) at) q after
+    → node_at (nodes mid) fresh ≡ back_node (node_at (nodes old) at) q before (node_at (nodes old) fresh)
+    → ((k : ℕ) → k ≢ at → k ≢ fresh → KeepsUse (node_at (nodes old) k) (node_at (nodes mid) k))
+    → rings mid ≡ rings old
+    → (h : Holding) (hand : ℕ → ℕ) → IsReadyWith hand v at fresh h
+    → HoldsWith (with_count hand fresh 0) (record v { slots = new }) (after_split at fresh p h)
+split-holds_at v old mid new at fresh p q after before e a tree free_v unused_v positive less front back others same h hand r =
+    let P : ℕ → Type 0 = λ x. HoldsWith (with_count hand fresh 0) (record v { slots = new }) (after_split at fresh x h) in
+    let L : ℕ → Type 0 = λ x. x < extent_of (node_in v at) in
+    subst P e (split-holds v old mid new at fresh q after before a tree free_v unused_v (omega (arith, e, positive)) (subst L (sym e) less) front back others same h hand r)

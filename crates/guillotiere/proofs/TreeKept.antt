@@ -73,7 +73,7 @@ ids-seq_before : (e : ℕ) (inner m : Members) → ids (seq_before e inner m) �
 ids-seq_before e (Free k End) m = ids-free_before e m
 ids-seq_before e inner m = refl
 
-ids-nf : (m : Members) → ids (nf m) ≡ ids m
+pub ids-nf : (m : Members) → ids (nf m) ≡ ids m
 ids-nf End = refl
 ids-nf (Free e rest) = ids-free_before e (nf rest) ∙ ids-nf rest
 ids-nf (Alloc id e rest) = ap (λ (k : List ℕ). id ∷ k) (ids-nf rest)

@@ -1,6 +1,6 @@
 -- One slot leaves a list, and one joins it in front.
 use Rattle.std.proofs.Common.{ℕ, ◌+◌, ◌<◌, ◌≤◌, ◌≡◌, List, [], ◌∷◌, refl, sym, ap, ◌∙◌, ◌⊎◌, inl, inr, arith, length, set, get_or-set_same, get_or-set_other, length-set, eqb, zero, suc}
-use Rattle.std.proofs.lemmas.Bool.{cases_eq, cases_lt, cond_both, eqb-true, eqb-false, ne_eqb, eq-eqb, cond-true, cond-false}
+use Rattle.std.proofs.lemmas.Bool.{cases_eq, cases_lt, cond_both, eqb-true, eqb-false, eq-eqb, cond-true}
 use Rattle.std.proofs.lemmas.List.{get_or_past}
 use Rattle.guillotiere.specs.declared.slots.Ring.{Ring}
 use Rattle.guillotiere.specs.declared.slots.Link.{Link}
@@ -9,7 +9,7 @@ use Rattle.guillotiere.specs.Slots.{ring_at, blank_ring, no_slot}
 use Rattle.guillotiere.specs.Numbered.{same}
 use Rattle.guillotiere.specs.Standing.{IsSlot}
 use Rattle.guillotiere.specs.Lists.{IsList, Chain, Line, occurs, without, front, back}
-use Rattle.guillotiere.specs.Links.{IsListed, IsUnlisted, with_next, with_ring_previous}
+use Rattle.guillotiere.specs.Links.{IsListed, with_next, with_ring_previous}
 use Rattle.guillotiere.proofs.Occurrences.{same-self, same-ne, ne-from_occurs, ne-from_same, front_in, front_of, is_first, front-without, occurs-without, length-without}
 
 -- a list stands where the rings of its slots are the same, and no slot is gone

@@ -1,12 +1,15 @@
 -- The free boxes of the simple allocator as it stores them: three lists of rectangles, one for each class.
 use Rattle.std.specs.Prelude.{◌≡◌, ℕ, zero, suc, ◌+◌, ◌-◌, ◌<◌, true, false, List, [], ◌∷◌, ◌++◌, map, filter, All, Vec, vec_len, vec_capacity, Option, Some, slice_get, MatchOption}
 use Rattle.guillotiere.specs.declared.geometry.Rectangle.{Rectangle}
+use Rattle.guillotiere.specs.declared.geometry.Size.{Size}
+use Rattle.guillotiere.specs.declared.options.AllocatorOptions.{AllocatorOptions}
+use Rattle.guillotiere.specs.declared.simple.Place.{Place}
 use Rattle.guillotiere.specs.Boxes.{Box, Sides, IsNonempty, box_sides}
-use Rattle.guillotiere.specs.Choice.{Options, class_of}
-use Rattle.guillotiere.specs.Pixels.{box_of}
+use Rattle.guillotiere.specs.Choice.{Options, class_of, IsPick}
+use Rattle.guillotiere.specs.Pixels.{box_of, sides_of, options_of}
 use Rattle.guillotiere.specs.Rectangles.{IsUnsigned}
 use Rattle.guillotiere.specs.Searches.{Shown, shown_at}
-use Rattle.guillotiere.specs.Simple.{is_kept}
+use Rattle.guillotiere.specs.Simple.{SimpleState, IsSimple, is_kept}
 
 -- the rectangles of one of the lists
 abbrev pub items_at : {Z : Type 0} → List (Vec Rectangle Z) → ℕ → List Rectangle
@@ -47,3 +50,18 @@ kept_of o b = filter (is_kept o) (b ∷ [])
 abbrev pub IsHome : Options → Rectangle → Option ℕ → Type 0
 IsHome o part home =
     MatchOption home (is_kept o (box_of part) ≡ false) (λ class. (is_kept o (box_of part) ≡ true) × IsStoredIn o class part)
+
+-- the rectangle that a place names stands there, and it is the box that the request takes
+pub record IsPicked {Z : Type 0} (lists : List (Vec Rectangle Z)) (o : Options) (r : Sides) (place : Place) : Type 0 where
+  pub class : place.class < 3
+  pub at : slice_get (items_at lists place.class) place.at ≡ Some place.rectangle
+  pub pick : IsPick (listed lists) o r (box_of place.rectangle)
+
+-- the state that is stored in these lists, for an atlas of this size and with these options
+abbrev pub state_of : {Z : Type 0} → List (Vec Rectangle Z) → Sides → AllocatorOptions → SimpleState
+state_of lists size options = record { free = listed lists; size = size; options = options_of options }
+
+-- what a simple allocator stores
+pub record IsStoredState {Z : Type 0} (lists : List (Vec Rectangle Z)) (size : Size) (options : AllocatorOptions) : Type 0 where
+  pub simple : IsSimple (state_of lists (sides_of size) options)
+  pub classes : AreInClasses (options_of options) lists

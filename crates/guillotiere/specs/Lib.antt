@@ -26,10 +26,12 @@ pub mod Parts
 pub mod Calm
 pub mod Settling
 pub mod Stored
-pub mod Holdings
-pub mod Replies
 pub mod Links
+pub mod Picks
+pub mod Holdings
 pub mod Visits
 pub mod Starts
 pub mod Freeing
 pub mod Planning
+pub mod Replies
+pub mod Batches

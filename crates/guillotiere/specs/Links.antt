@@ -7,17 +7,18 @@ use Rattle.guillotiere.specs.declared.slots.Ring.{Ring}
 use Rattle.guillotiere.specs.declared.slots.NodeKind.TheVariants as kind
 use Rattle.guillotiere.specs.declared.lists.FreeList.{FreeList}
 use Rattle.guillotiere.specs.declared.geometry.Rectangle.{Rectangle}
-use Rattle.guillotiere.specs.Boxes.{Box, IsNonempty}
-use Rattle.guillotiere.specs.Pixels.{rectangle_of}
+use Rattle.guillotiere.specs.Boxes.{IsNonempty}
+use Rattle.guillotiere.specs.Pixels.{box_of}
+use Rattle.guillotiere.specs.Rectangles.{IsUnsigned}
 use Rattle.guillotiere.specs.Choice.{Options}
 use Rattle.guillotiere.specs.Slots.{nodes, rings, node_at, ring_at}
-use Rattle.guillotiere.specs.Lists.{IsList, Line, AreFiled, occurs, without, front}
+use Rattle.guillotiere.specs.Lists.{IsList, AreFiled, occurs, without}
 
--- slot i stands in some list
+-- the list is in order, and slot i stands in it
 abbrev pub IsListed : List Ring → FreeList → ℕ → Type 0
 IsListed rs list i = (xs : List ℕ) × IsList rs list xs × (0 < occurs i xs)
 
--- slot i stands not in some list
+-- the list is in order, and slot i does not stand in it
 abbrev pub IsUnlisted : List Ring → FreeList → ℕ → Type 0
 IsUnlisted rs list i = (xs : List ℕ) × IsList rs list xs × (occurs i xs ≡ 0)
 
@@ -47,9 +48,8 @@ held_with held m i k = if k == m then i ∷ held k else held k
 
 -- a rectangle with sides above 0, and no corner below 0
 pub record IsExact (r : Rectangle) : Type 0 where
-  pub box : Box
-  pub is : r ≡ rectangle_of box
-  pub nonempty : IsNonempty box
+  pub unsigned : IsUnsigned r
+  pub nonempty : IsNonempty (box_of r)
 
 -- the lists are in order, and slot i is not loose
 pub record IsKept (o : Options) (slots : List Slot) (lists : List FreeList) (i : ℕ) : Type 0 where

@@ -1,15 +1,14 @@
 -- What a free leaf becomes where a request is placed. No public clause cites this module.
-use Rattle.std.specs.Prelude.{ℕ, ◌≡◌, ◌≢◌, ◌<◌, ◌+◌, List}
+use Rattle.std.specs.Prelude.{ℕ, ◌+◌}
 use Rattle.guillotiere.specs.declared.slots.Link.{Link}
 use Rattle.guillotiere.specs.declared.slots.Node.{Node}
-use Rattle.guillotiere.specs.declared.slots.NodeKind.{NodeKind}
 use Rattle.guillotiere.specs.declared.slots.NodeKind.TheVariants as kind
 use Rattle.guillotiere.specs.declared.cut.Orientation.{Orientation}
 use Rattle.guillotiere.specs.declared.cut.Orientation.TheVariants as orientation
-use Rattle.guillotiere.specs.Boxes.{Axis, Box, other, side, box_sides}
+use Rattle.guillotiere.specs.Boxes.{Axis, Box}
 use Rattle.guillotiere.specs.Boxes.Axis.{Horizontal, Vertical}
 use Rattle.guillotiere.specs.Pixels.{box_of, rectangle_of}
-use Rattle.guillotiere.specs.Slots.{node_at, axis_of, no_slot}
+use Rattle.guillotiere.specs.Slots.{axis_of, no_slot}
 
 -- the first p of a box along an axis
 abbrev pub front_part : Axis → (p : ℕ) → Box → Box
@@ -55,24 +54,3 @@ inner_node container at unused =
       axis = flipped container.axis;
       generation = unused.generation;
     }
-
--- what a slot is used for
-pub record IsUse (n : Node) (k : NodeKind) (b : Box) (g : ℕ) : Type 0 where
-  pub kind : n.kind ≡ k
-  pub area : n.area ≡ rectangle_of b
-  pub generation : n.generation ≡ g
-
--- the box of a slot, and the axis of its sequence
-abbrev pub box_in : List Node → ℕ → Box
-box_in ns i = box_of (node_at ns i).area
-
-abbrev pub axis_in : List Node → ℕ → Axis
-axis_in ns i = axis_of (node_at ns i).axis
-
--- a part of a leaf along its axis, above nothing and below all of it
-abbrev pub IsAlong : List Node → ℕ → (extent : ℕ) → Type 0
-IsAlong ns i extent = (0 < extent) × (extent < side (axis_in ns i) (box_sides (box_in ns i)))
-
--- the same across its axis
-abbrev pub IsAcross : List Node → ℕ → (extent : ℕ) → Type 0
-IsAcross ns i extent = (0 < extent) × (extent < side (other (axis_in ns i)) (box_sides (box_in ns i)))

@@ -62,7 +62,7 @@ IsPlannedTree (plan.StripAcross q) at width granted g old new =
 IsPlannedTree (plan.CornerAcross p q) at width granted g old new =
     (s : ℕ) × (c : ℕ) × (l : ℕ)
     × (new ≡ granted_at granted g (split_at granted l (natural p) (wrapped_at c granted width
-        (split_at c s (natural q) (wrapped_at at c width old)))))
+    (split_at c s (natural q) (wrapped_at at c width old)))))
 
 -- slot `at` is a loose leaf, the only one, for which the plan is feasible, and there are slots for it
 pub record IsPlaceableAt (v : Shelf) (capacity at : ℕ) (p : Plan) (h : Holding) : Type 0 where

@@ -9,7 +9,6 @@ use Rattle.guillotiere.specs.declared.cut.Orientation.{Orientation}
 use Rattle.guillotiere.specs.declared.cut.Orientation.TheVariants as orientation
 use Rattle.guillotiere.specs.Boxes.{Axis}
 use Rattle.guillotiere.specs.Boxes.Axis.{Horizontal, Vertical}
-
 pub use Rattle.guillotiere.specs.Rectangles.{axis_of}
 
 -- the number of no slot

@@ -131,6 +131,6 @@ abbrev pub PicksExist : Type 0
 PicksExist = (free : List Box) (o : Options) (s : Sides) → HasRoom free o s → (f : Box) × IsPick free o (rounded o s) f
 
 -- where a request has room, each positive one that is no wider and no higher has room
-abbrev pub SmallerRequestsFit : Type 0
-SmallerRequestsFit =
+abbrev pub SmallerFits : Type 0
+SmallerFits =
     (free : List Box) (o : Options) (r s : Sides) → HasRoom free o s → IsPositive r → Fits r s → HasRoom free o r

@@ -1,18 +1,22 @@
 //! The atlas allocator.
-ghost use Rattle.std.specs.Prelude.{◌≡◌, ◌≤◌, ◌<◌, ◌+◌, ◌-◌, ◌↔◌, ℕ, List, [], IsTrue, IfOk, IfSome, OnErr, IfNone, IsOkUnless, IsSome, option_map, None, Some, Ok};
+ghost use Rattle.std.specs.Prelude.{◌≡◌, ◌≤◌, ◌<◌, ◌+◌, ◌-◌, ◌↔◌, ℕ, List, [], IsTrue, IfOk, IfSome, OnErr, IfNone, IsOkUnless, OnOk, length, IsSome, option_map, None, Some, Ok};
 ghost use Rattle.guillotiere.specs.Boxes.{IsPositive};
 ghost use Rattle.guillotiere.specs.Choice.{AreValid};
 ghost use Rattle.guillotiere.specs.Pixels.{sides_of, size_of, options_of, rectangle_of};
-ghost use Rattle.guillotiere.specs.States.{live_in, used_in, started, IsSound};
+ghost use Rattle.guillotiere.specs.States.{live_in, used_in, started, after_freeing, IsSound, IsLive};
 ghost use Rattle.std.specs.List.{FoldsTo};
 ghost use Rattle.std.specs.Fn.{CalledAt};
 ghost use Rattle.guillotiere.specs.declared.geometry.Rectangle.{Rectangle as Area};
 ghost use Rattle.guillotiere.specs.declared.allocation.Allocation.{Allocation as Grant};
 ghost use Rattle.guillotiere.specs.Visits.{AreFreeAreas, AreGrants, CalledAtGrant};
+ghost use Rattle.guillotiere.specs.Changes.{only};
+ghost use Rattle.guillotiere.specs.TreeLaws.{is_among};
+ghost use Rattle.guillotiere.specs.Batches.{AreLiveOnce};
 ghost use Rattle.guillotiere.specs.Steps.{Step};
 ghost use Rattle.guillotiere.specs.Steps.AtlasCall.{Allocate, Deallocate};
 
 use crate::allocation::{AllocId, Allocation, SlotCount};
+use crate::batch::are_named_once;
 use crate::error::AtlasError;
 use crate::geometry::{Rectangle, Size};
 use crate::lists::empty_lists;
@@ -20,6 +24,7 @@ use crate::options::{AllocatorOptions, DEFAULT_OPTIONS};
 use crate::slots::{Link, NO_SLOT, NodeKind};
 use crate::store::Store;
 use crate::turns::Turns;
+use crate::tree::free_leaf;
 use crate::walks::{gather_allocated, gather_free, named_slot, visit_allocated, visit_free};
 use std::alloc::{Allocator, Global};
 use std::marker::Model;
@@ -155,6 +160,68 @@ impl<A: Allocator + Copy> AtlasAllocator<A> {
     {
         let at = named_slot(&self.store.slots, id)?;
         Some(self.store.slots[at].node.area)
+    }
+
+    /// Frees the box of an id: it joins the free space beside it. `NotLive` if the id isn't live, and then nothing changes.
+    /// Takes no memory, and at most one turn more than there are members fewer.
+    pub fn deallocate(&mut self, id: AllocId) -> Result<(), AtlasError>
+        ensures step { Step (state_of self.old) (Deallocate id) (deallocate_reply result) (state_of self.new) }
+        ensures refused { OnErr result (self.new ≡ self.old) }
+        ensures unless { IsOkUnless result AtlasError.NotLive }
+        ensures turns { self.new.turns + used_in (state_of self.new) ≤ self.old.turns + 1 + used_in (state_of self.old) }
+    {
+        if !self.is_live(id) {
+            return Err(AtlasError::NotLive);
+        }
+        self.free(id);
+        Ok(())
+    }
+
+    /// Frees the boxes of the ids of a list, in an order that can't be told. `NotLive` if one of them isn't live or stands
+    /// twice, and then nothing changes. Takes no memory, time in proportion to the list, and at most one turn an id more
+    /// than there are members fewer.
+    pub fn deallocate_all(&mut self, ids: &[AllocId]) -> Result<(), AtlasError>
+        ensures freed { OnOk result (state_of self.new ≡ after_freeing (state_of self.old) (is_among ids.now)) }
+        ensures ok { (result ≡ Ok tt) ↔ AreLiveOnce (state_of self.old) ids.now }
+        ensures unless { IsOkUnless result AtlasError.NotLive }
+        ensures refused { OnErr result (self.new ≡ self.old) }
+        ensures none { ids.now ≡ [] → self.new ≡ self.old }
+        ensures turns { self.new.turns + used_in (state_of self.new) ≤ self.old.turns + length ids.now + used_in (state_of self.old) }
+    {
+        if !self.are_live_once(ids) {
+            return Err(AtlasError::NotLive);
+        }
+        for id in ids {
+            self.free(*id);
+        }
+        Ok(())
+    }
+
+    // Whether each of these ids is live, and none stands twice.
+    fn are_live_once(&mut self, ids: &[AllocId]) -> bool
+        ensures live { IsTrue result ↔ AreLiveOnce (state_of self.old) ids.now }
+        ensures same { self.new ≡ self.old }
+        ensures sound { IsSound (state_of self.old) }
+    {
+        are_named_once(&mut self.store.slots, ids)
+    }
+
+    // Whether an id is live.
+    fn is_live(&self, id: AllocId) -> bool
+        ensures { IsTrue result ↔ IsLive (state_of self.now) id }
+    {
+        named_slot(&self.store.slots, id).is_some()
+    }
+
+    // Frees the box of a live id.
+    fn free(&mut self, id: AllocId)
+        requires { IsLive (state_of self.old) id }
+        ensures state { state_of self.new ≡ after_freeing (state_of self.old) (only id) }
+        ensures turns { self.new.turns + used_in (state_of self.new) ≡ self.old.turns + 1 + used_in (state_of self.old) }
+    {
+        let number = id.serialize() % MOST_SLOTS;
+        let given = free_leaf(&mut self.store, Link { number });
+        self.used -= given;
     }
 
     /// Calls `visit` on each free rectangle once, in an order that is left open. Asks that `visit` may be called.

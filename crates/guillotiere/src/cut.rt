@@ -1,6 +1,6 @@
 //! How a rectangle is cut for a request that fits it.
 ghost use Rattle.std.specs.Prelude.{◌≡◌, ◌≤ℤ◌, ◌*◌, [], ◌∷◌, pos};
-ghost use Rattle.guillotiere.specs.Boxes.{Box};
+ghost use Rattle.guillotiere.specs.Boxes.{Box, box_at};
 ghost use Rattle.guillotiere.specs.Cuts.{cap, cut_axis};
 ghost use Rattle.guillotiere.specs.Pixels.{IsMeasurable, natural, rectangle_of, sides_of};
 ghost use Rattle.guillotiere.specs.Rectangles.{FitsInto, IsRestOf, Tile, axis_of, granted_in, measured, rest_in};
@@ -59,6 +59,21 @@ fn corner_of(chosen: Rectangle, size: Size) -> Point
     Point {
         x: chosen.min.x + size.width,
         y: chosen.min.y + size.height,
+    }
+}
+
+/// The part of `chosen` that a request of this size takes: at its `min`.
+pub fn granted(chosen: Rectangle, size: Size) -> Rectangle
+    requires measurable { IsMeasurable chosen }
+    requires fits { FitsInto size chosen }
+    ensures granted { result ≡ granted_in chosen size }
+
+    // What this is on the boxes of the model.
+    ensures boxes { (f : Box) → chosen ≡ rectangle_of f → result ≡ rectangle_of (box_at f.min (sides_of size)) }
+{
+    Rectangle {
+        min: chosen.min,
+        max: corner_of(chosen, size),
     }
 }
 

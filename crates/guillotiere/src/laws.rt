@@ -6,7 +6,7 @@ ghost use Rattle.guillotiere.specs.Trees.Members.{End, Free, Alloc};
 ghost use Rattle.guillotiere.specs.Changes.{fresh, only, release, grown};
 ghost use Rattle.guillotiere.specs.Examples.{Shows, sides, box, both, one_corner, other_corner, capped_corner, grown_full, grown_below, quarters, row_of_three, half_between};
 ghost use Rattle.guillotiere.specs.TreeLaws.{LeavesTile, AreasAddUp, ReleasesInAnyOrder, GrantsAreUndone, GrowthAndReleaseSwap, NothingLiveIsOneFree, PlacingsKeepTrees, ReleasesKeepTrees, GrowthsKeepTrees, FreedHasRoom, MembersAreCounted};
-ghost use Rattle.guillotiere.specs.StepLaws.{StepsKeep, PicksAreOne, PicksExist, SmallerRequestsFit, GrantsLieInside, FreeingsRemoveOne, GrowthsKeepBoxes, RearrangingsLoseNothing, RefusalsChangeNothing, StepsAnswerAsDue};
+ghost use Rattle.guillotiere.specs.StepLaws.{StepsKeep, PicksAreOne, PicksExist, SmallerFits, GrantsLieInside, FreeingsRemoveOne, GrowthsKeepBoxes, RearrangingsLoseNothing, RefusalsChangeNothing, StepsAnswerAsDue};
 ghost use Rattle.guillotiere.specs.RunLaws.{RunsKeepOrder, RunsLeaveNoTrace};
 
 /// In a well formed tree of cuts each unit square of the atlas lies in exactly one leaf's box, and no
@@ -116,11 +116,6 @@ pub fn picks_exist()
     ensures { PicksExist }
 {}
 
-/// Where a request has room, each positive one that is no wider and no higher has room.
-pub fn smaller_requests_fit()
-    ensures { SmallerRequestsFit }
-{}
-
 /// A granted box lies inside a free box of before, with sides barely above those asked for, and is added to what is live.
 pub fn grants_lie_inside()
     ensures { GrantsLieInside }
@@ -159,4 +154,9 @@ pub fn runs_keep_order()
 /// After a run the freeing of what it granted leaves the tree of the run without its grants.
 pub fn runs_leave_no_trace()
     ensures { RunsLeaveNoTrace }
+{}
+
+/// From one state, if a request fits, each positive request no wider and no higher fits.
+pub fn smaller_fits()
+    ensures { SmallerFits }
 {}

@@ -3,6 +3,7 @@
 
 mod allocation;
 mod atlas;
+mod batch;
 mod choice;
 mod cut;
 mod error;
@@ -10,19 +11,20 @@ mod geometry;
 pub mod laws;
 mod lists;
 mod options;
-mod pieces;
+mod pick;
 mod placing;
+mod simple;
 mod slots;
 mod start;
 mod store;
 mod tree;
 mod turns;
 mod walks;
-mod simple;
 
 pub use allocation::{AllocId, Allocation, SlotCount};
 pub use atlas::AtlasAllocator;
 pub use error::AtlasError;
 pub use geometry::{Point, Rectangle, Size, point2, size2};
 pub use options::{AllocatorOptions, DEFAULT_OPTIONS};
+pub use simple::SimpleAtlasAllocator;
 pub use slots::NodeKind;

@@ -1,7 +1,7 @@
 //! The lists of free slots, by class and band, and the list of unused slots: links inside the slots.
-ghost use Rattle.std.specs.Prelude.{◌≡◌, ◌+◌, ◌<◌, ◌≤◌, ◌≤ℤ◌, ℕ, Bool, true, false, pos, List, [], ◌∷◌, ◌++◌, length, replicate, slice_set, vec_capacity, vec_len};
-ghost use Rattle.guillotiere.specs.Boxes.{Fits, box_sides};
-ghost use Rattle.guillotiere.specs.Choice.{Options, class_of, reaches};
+ghost use Rattle.std.specs.Prelude.{◌≡◌, ◌+◌, ◌<◌, ℕ, Bool, true, false, pos, List, [], ◌∷◌, ◌++◌, length, replicate, slice_set, vec_capacity, vec_len};
+ghost use Rattle.guillotiere.specs.Boxes.{Fits, IsPositive, box_sides};
+ghost use Rattle.guillotiere.specs.Choice.{Options};
 ghost use Rattle.guillotiere.specs.Pixels.{box_of, options_of, sides_of};
 ghost use Rattle.guillotiere.specs.Slots.{blank_slot, nodes, rings, node_at, ring_at};
 ghost use Rattle.guillotiere.specs.Standing.{IsSlot};
@@ -9,12 +9,12 @@ ghost use Rattle.guillotiere.specs.Lists.{AreFiled, IsList, Line, band_of, blank
 ghost use Rattle.guillotiere.specs.declared.slots.NodeKind.TheVariants.{Free};
 ghost use Rattle.guillotiere.specs.Links.{IsExact, IsKept, IsListed, IsLoose, IsTaken, IsUnlisted, held_with, held_without, renewed, with_count, with_mark, with_next, with_ring_previous};
 
+use crate::choice::class;
 use crate::cut::Orientation;
 use crate::geometry::{Rectangle, Size, point2};
 use crate::options::AllocatorOptions;
 use crate::slots::{
-    Link, NO_SLOT, Node, NodeKind, Ring, Slot, read_node, read_ring, write_node,
-    write_ring,
+    Link, NO_SLOT, Node, NodeKind, Ring, Slot, read_node, read_ring, write_node, write_ring,
 };
 use std::alloc::Allocator;
 
@@ -55,38 +55,13 @@ pub fn band(size: Size) -> usize
     }
 }
 
-// Whether a side is at least the threshold.
-fn is_reached(threshold: i32, size: Size) -> bool
-    requires wide { pos 0 ≤ℤ size.width }
-    requires high { pos 0 ≤ℤ size.height }
-    ensures { result ≡ reaches threshold (sides_of size) }
-{
-    size.width >= threshold || size.height >= threshold
-}
-
-// 2 for a large size, 1 for a medium one and 0 for a small one.
-fn class(options: &AllocatorOptions, size: Size) -> usize
-    requires wide { pos 0 ≤ℤ size.width }
-    requires high { pos 0 ≤ℤ size.height }
-    ensures { result ≡ class_of (options_of options.now) (sides_of size) }
-{
-    if is_reached(options.large_size_threshold, size) {
-        2
-    } else if is_reached(options.small_size_threshold, size) {
-        1
-    } else {
-        0
-    }
-}
-
 /// The number of the list for a rectangle of this size.
 pub fn list_number(options: &AllocatorOptions, size: Size) -> usize
-    requires wide { pos 0 ≤ℤ size.width }
-    requires high { pos 0 ≤ℤ size.height }
+    requires { IsPositive (sides_of size) }
     ensures number { result ≡ list_of (options_of options.now) (sides_of size) }
     ensures inside { result < LISTS }
 {
-    8 * class(options, size) + band(size)
+    8 * class(size, options) + band(size)
 }
 
 /// `next` comes after `at` in its list; nothing happens where `at` is no slot.
@@ -206,11 +181,10 @@ pub fn push_front(slots: &mut [Slot], list: &mut FreeList, at: Link, size: Size)
     *list = list_with(*list, at, size);
 }
 
-// The size of an exact rectangle.
-fn exact_size(area: Rectangle) -> Size
+/// The size of an exact rectangle.
+pub fn exact_size(area: Rectangle) -> Size
     requires { IsExact area }
-    ensures wide { pos 0 ≤ℤ result.width }
-    ensures high { pos 0 ≤ℤ result.height }
+    ensures positive { IsPositive (sides_of result) }
     ensures sides { sides_of result ≡ box_sides (box_of area) }
 {
     area.size()

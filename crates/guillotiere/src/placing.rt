@@ -12,15 +12,14 @@ ghost use Rattle.guillotiere.specs.Parts.{front_part, back_part, flipped, front_
 
 use crate::cut::Orientation;
 use crate::geometry::{Rectangle, point2};
-use crate::slots::{
-    Link, NO_SLOT, Node, NodeKind, Slot, read_node, set_previous, write_node,
-};
+use crate::slots::{Link, NO_SLOT, Node, NodeKind, Slot, read_node, set_previous, write_node};
 
 /// A free leaf becomes allocated.
 pub fn grant_leaf(slots: &mut [Slot], at: Link)
     requires inside { at.number < length slots.old }
     requires free { (node_at (nodes slots.old) at.number).kind ≡ Free }
-    ensures tree { (s : Sequence) (n : Numbered) → Stands (nodes slots.old) s n → Stands (nodes slots.new) s (granted_at at.number (node_at (nodes slots.old) at.number).generation n) }
+    ensures tree { (s : Sequence) (n : Numbered) → Stands (nodes slots.old) s n
+        → Stands (nodes slots.new) s (granted_at at.number (node_at (nodes slots.old) at.number).generation n) }
     ensures granted { node_at (nodes slots.new) at.number ≡ record (node_at (nodes slots.old) at.number) { kind = Alloc } }
     ensures others { (k : ℕ) → k ≢ at.number → KeepsUse (node_at (nodes slots.old) k) (node_at (nodes slots.new) k) }
     ensures same_rings { rings slots.new ≡ rings slots.old }
@@ -78,11 +77,16 @@ pub fn split_leaf(slots: &mut [Slot], at: Link, fresh: Link, extent: i32)
     requires positive { 0 < natural extent }
     requires less { natural extent < extent_of (node_at (nodes slots.old) at.number) }
     requires short { length slots.old < NO_SLOT }
-    ensures tree { (s : Sequence) (n : Numbered) → Stands (nodes slots.old) s n → Stands (nodes slots.new) s (split_at at.number fresh.number (natural extent) n) }
-    ensures more { (s : Sequence) (n : Numbered) → Stands (nodes slots.old) s n → numbers (split_at at.number fresh.number (natural extent) n) ≡ numbers n + 1 }
-    ensures front { node_at (nodes slots.new) at.number ≡ front_node (node_at (nodes slots.old) at.number) (natural extent) fresh }
-    ensures back { node_at (nodes slots.new) fresh.number ≡ back_node (node_at (nodes slots.old) at.number) (natural extent) at (node_at (nodes slots.old) fresh.number) }
-    ensures others { (k : ℕ) → k ≢ at.number → k ≢ fresh.number → KeepsUse (node_at (nodes slots.old) k) (node_at (nodes slots.new) k) }
+    ensures tree { (s : Sequence) (n : Numbered) → Stands (nodes slots.old) s n
+        → Stands (nodes slots.new) s (split_at at.number fresh.number (natural extent) n) }
+    ensures more { (s : Sequence) (n : Numbered) → Stands (nodes slots.old) s n
+        → numbers (split_at at.number fresh.number (natural extent) n) ≡ numbers n + 1 }
+    ensures front { node_at (nodes slots.new) at.number
+        ≡ front_node (node_at (nodes slots.old) at.number) (natural extent) fresh }
+    ensures back { node_at (nodes slots.new) fresh.number
+        ≡ back_node (node_at (nodes slots.old) at.number) (natural extent) at (node_at (nodes slots.old) fresh.number) }
+    ensures others { (k : ℕ) → k ≢ at.number → k ≢ fresh.number
+        → KeepsUse (node_at (nodes slots.old) k) (node_at (nodes slots.new) k) }
     ensures same_rings { rings slots.new ≡ rings slots.old }
 {
     let leaf = read_node(slots, at);
@@ -110,11 +114,16 @@ pub fn wrap_leaf(slots: &mut [Slot], at: Link, fresh: Link)
     requires inside { fresh.number < length slots.old }
     requires unused { (node_at (nodes slots.old) fresh.number).kind ≡ Unused }
     requires short { length slots.old < NO_SLOT }
-    ensures tree { (s : Sequence) (n : Numbered) → Stands (nodes slots.old) s n → Stands (nodes slots.new) s (wrapped_at at.number fresh.number s.width n) }
-    ensures more { (s : Sequence) (n : Numbered) → Stands (nodes slots.old) s n → numbers (wrapped_at at.number fresh.number s.width n) ≡ numbers n + 1 }
-    ensures outer { node_at (nodes slots.new) at.number ≡ record (node_at (nodes slots.old) at.number) { kind = Container } }
-    ensures inner { node_at (nodes slots.new) fresh.number ≡ inner_node (node_at (nodes slots.old) at.number) at (node_at (nodes slots.old) fresh.number) }
-    ensures others { (k : ℕ) → k ≢ at.number → k ≢ fresh.number → KeepsUse (node_at (nodes slots.old) k) (node_at (nodes slots.new) k) }
+    ensures tree { (s : Sequence) (n : Numbered) → Stands (nodes slots.old) s n
+        → Stands (nodes slots.new) s (wrapped_at at.number fresh.number s.width n) }
+    ensures more { (s : Sequence) (n : Numbered) → Stands (nodes slots.old) s n
+        → numbers (wrapped_at at.number fresh.number s.width n) ≡ numbers n + 1 }
+    ensures outer { node_at (nodes slots.new) at.number
+        ≡ record (node_at (nodes slots.old) at.number) { kind = Container } }
+    ensures inner { node_at (nodes slots.new) fresh.number
+        ≡ inner_node (node_at (nodes slots.old) at.number) at (node_at (nodes slots.old) fresh.number) }
+    ensures others { (k : ℕ) → k ≢ at.number → k ≢ fresh.number
+        → KeepsUse (node_at (nodes slots.old) k) (node_at (nodes slots.new) k) }
     ensures same_rings { rings slots.new ≡ rings slots.old }
 {
     let leaf = read_node(slots, at);

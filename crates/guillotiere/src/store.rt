@@ -97,6 +97,7 @@ impl<A: Allocator> Store<A> {
         ensures was_unused { (node_in (shelf_of self.old) result.number).kind ≡ Unused }
         ensures is_unused { (node_in (shelf_of self.new) result.number).kind ≡ Unused }
         ensures inside { result.number < length self.new.slots.items }
+        ensures longer { length self.old.slots.items ≤ length self.new.slots.items }
         ensures others { (k : ℕ) → k ≢ result.number → node_in (shelf_of self.new) k ≡ node_in (shelf_of self.old) k }
         ensures options { self.new.options ≡ self.old.options }
         ensures turns { self.new.turns ≡ self.old.turns }
@@ -188,7 +189,7 @@ impl<A: Allocator> Store<A> {
         ensures kept { (h : Holding) (n : ℕ) → IsLooseLeaf (shelf_of self.old) at.number h → HasSlotsFor (n + 2) (vec_capacity self.old.slots) (shelf_of self.old) h
             → (spare : List ℕ) × Holds (shelf_of self.new) (with_spare spare (after_split result.0.number result.1.number (natural extent) (after_wrap at.number result.0.number h)))
             × HasSlotsFor n (vec_capacity self.new.slots) (shelf_of self.new) (with_spare spare h) }
-        ensures outer { node_in (shelf_of self.new) at.number ≡ record (node_in (shelf_of self.old) at.number) { kind = Container } }
+        ensures outer { KeepsUse (record (node_in (shelf_of self.old) at.number) { kind = Container }) (node_in (shelf_of self.new) at.number) }
         ensures front { (unused : Node) × (node_in (shelf_of self.new) result.0.number ≡ front_node (inner_node (node_in (shelf_of self.old) at.number) at unused) (natural extent) result.1) }
         ensures back { (unused : Node) × (other : Node) × (node_in (shelf_of self.new) result.1.number ≡ back_node (inner_node (node_in (shelf_of self.old) at.number) at unused) (natural extent) result.0 other) }
         ensures front_apart { result.0.number ≢ at.number }

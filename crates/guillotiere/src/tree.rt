@@ -1,8 +1,11 @@
 //! Placing a request in the tree of slots, and freeing it, by the calls of `store`.
-ghost use Rattle.std.specs.Prelude.{◌≡◌, ◌+◌, ◌<◌, ◌≤◌, [], IfSome, None, true, vec_capacity, length};
+ghost use Rattle.std.specs.Prelude.{◌≡◌, ◌+◌, ◌<◌, ◌≤◌, [], IfSome, None, true, false, vec_capacity, length};
 ghost use Rattle.guillotiere.specs.declared.slots.Node.{Node};
 ghost use Rattle.guillotiere.specs.declared.slots.NodeKind.TheVariants.{Free};
-ghost use Rattle.guillotiere.specs.Boxes.{IsPositive, Fits, box_sides};
+ghost use Rattle.guillotiere.specs.Boxes.{IsPositive, Fits, box_sides, side, other};
+ghost use Rattle.guillotiere.specs.Cuts.{cut, cut_axis};
+ghost use Rattle.guillotiere.specs.Cuts.Cut.{Whole, Strip, Corner};
+ghost use Rattle.guillotiere.specs.Slots.{axis_of};
 ghost use Rattle.guillotiere.specs.Pixels.{box_of, rectangle_of, sides_of, natural};
 ghost use Rattle.guillotiere.specs.Trees.{IsNormal};
 ghost use Rattle.guillotiere.specs.Numbered.{erase};
@@ -14,6 +17,7 @@ ghost use Rattle.guillotiere.specs.Planning.{slots_of, IsPlanFor, IsFeasible, Is
 
 use crate::cut::{Orientation, orientation_of};
 use crate::geometry::Size;
+use crate::lists::exact_size;
 use crate::slots::{Link, NO_SLOT, Node};
 use crate::store::Store;
 use std::alloc::Allocator;
@@ -47,6 +51,46 @@ pub fn slots_needed(plan: Plan) -> u32
     }
 }
 
+// How many sides of a size are those of the whole: two, one or none.
+fn equal_sides(whole: Size, size: Size) -> u32
+    requires whole { IsPositive (sides_of whole) }
+    requires positive { IsPositive (sides_of size) }
+    ensures most { result ≤ 2 }
+    ensures two { result ≡ 2 → cut (sides_of whole) (sides_of size) ≡ Whole }
+    ensures one { result ≡ 1 → cut (sides_of whole) (sides_of size) ≡ Strip (cut_axis (sides_of whole) (sides_of size)) }
+    ensures none { result ≡ 0 → cut (sides_of whole) (sides_of size) ≡ Corner (cut_axis (sides_of whole) (sides_of size)) }
+{
+    if whole.width == size.width {
+        if whole.height == size.height { 2 } else { 1 }
+    } else if whole.height == size.height {
+        1
+    } else {
+        0
+    }
+}
+
+// Whether the greater part remains along this axis.
+fn remains_along(whole: Size, size: Size, axis: Orientation) -> bool
+    requires whole { IsPositive (sides_of whole) }
+    requires positive { IsPositive (sides_of size) }
+    requires fits { Fits (sides_of size) (sides_of whole) }
+    ensures along { result ≡ true → cut_axis (sides_of whole) (sides_of size) ≡ axis_of axis }
+    ensures across { result ≡ false → cut_axis (sides_of whole) (sides_of size) ≡ other (axis_of axis) }
+{
+    orientation_of(whole, size) == axis
+}
+
+// The pixels of a size along an axis, and those across it.
+fn along_and_across(size: Size, axis: Orientation) -> (i32, i32)
+    ensures along { natural result.0 ≡ side (axis_of axis) (sides_of size) }
+    ensures across { natural result.1 ≡ side (other (axis_of axis)) (sides_of size) }
+{
+    match axis {
+        Orientation::Horizontal => (size.width, size.height),
+        Orientation::Vertical => (size.height, size.width),
+    }
+}
+
 /// The plan for a request that fits a leaf.
 pub fn plan_for(leaf: &Node, size: Size) -> Plan
     requires exact { leaf.now.area ≡ rectangle_of (box_of leaf.now.area) }
@@ -55,18 +99,18 @@ pub fn plan_for(leaf: &Node, size: Size) -> Plan
     ensures line { IsPlanFor leaf.now (sides_of size) result }
     ensures feasible { IsFeasible result (extent_of leaf.now) (across_of leaf.now) }
 {
-    let whole = leaf.area.size();
-    let is_along = orientation_of(whole, size) == leaf.axis;
-    let (along, across) = match leaf.axis {
-        Orientation::Horizontal => (size.width, size.height),
-        Orientation::Vertical => (size.height, size.width),
-    };
-    let is_wide = whole.width == size.width;
-    let is_high = whole.height == size.height;
-    if is_wide && is_high {
+    let whole = exact_size(leaf.area);
+    let is_along = remains_along(whole, size, leaf.axis);
+    let (along, across) = along_and_across(size, leaf.axis);
+    let equal = equal_sides(whole, size);
+    if equal == 2 {
         Plan::Whole
-    } else if is_wide || is_high {
-        if is_along { Plan::StripAlong(along) } else { Plan::StripAcross(across) }
+    } else if equal == 1 {
+        if is_along {
+            Plan::StripAlong(along)
+        } else {
+            Plan::StripAcross(across)
+        }
     } else if is_along {
         Plan::CornerAlong(along, across)
     } else {
@@ -175,7 +219,10 @@ fn turn<A: Allocator>(store: &mut Store<A>, at: Link) -> Option<Link>
         store.join(node.previous);
         return Some(node.previous);
     }
-    if node.previous.number == NO_SLOT && node.next.number == NO_SLOT && node.parent.number != NO_SLOT {
+    if node.previous.number == NO_SLOT
+        && node.next.number == NO_SLOT
+        && node.parent.number != NO_SLOT
+    {
         return Some(store.lift(at));
     }
     None

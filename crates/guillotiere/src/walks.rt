@@ -13,7 +13,7 @@ use crate::slots::{NodeKind, Slot};
 use std::alloc::Allocator;
 
 // How many numbers of slots an id can hold: they take its low 24 bits.
-const SLOT_NUMBERS: u32 = 16777216;
+pub const SLOT_NUMBERS: u32 = 16777216;
 
 /// The id of the slot with this number in this generation.
 pub fn slot_id(number: usize, generation: u8) -> AllocId

@@ -1,5 +1,5 @@
-use Rattle.std.proofs.Common.{◌<◌, ◌≡◌, ap, ◌∙◌, arith, length}
-use Rattle.guillotiere.specs.Slots.{nodes, rings, node_at}
+use Rattle.std.proofs.Common.{ap, ◌∙◌, arith}
+use Rattle.guillotiere.specs.Slots.{nodes, rings}
 use Rattle.guillotiere.specs.Lists.{node_sides}
 use Rattle.guillotiere.specs.Pixels.{options_of, sides_of}
 use Rattle.guillotiere.proofs.Filing.{is-unlisted, number-is, listed-by, length-rings}

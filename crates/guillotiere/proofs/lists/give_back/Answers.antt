@@ -1,6 +1,4 @@
-use Rattle.std.proofs.Common.{refl, ap, ◌∙◌, ◌<◌, ◌≡◌, length, subst}
-use Rattle.std.proofs.lemmas.List.{length-map}
-use Rattle.guillotiere.specs.Slots.{nodes, rings}
+use Rattle.std.proofs.Common.{refl}
 use Rattle.guillotiere.proofs.Taking.{given-by}
 use Rattle.guillotiere.proofs.lists.give_back.Goals as goal
 

@@ -1,4 +1,4 @@
-use Rattle.std.proofs.Common.{◌<◌, ◌≡◌, length, refl, arith}
+use Rattle.std.proofs.Common.{◌<◌, length, refl, arith}
 use Rattle.std.proofs.lemmas.List.{length-map}
 use Rattle.guillotiere.specs.Slots.{rings}
 use Rattle.guillotiere.proofs.Unlinking.{IsList-pushed, others-pushed, length-list}

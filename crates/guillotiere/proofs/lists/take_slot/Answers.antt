@@ -1,4 +1,4 @@
-use Rattle.std.proofs.Common.{ap, ◌∙◌, ◌<◌, ◌≡◌, sym, refl, arith, rules, length}
+use Rattle.std.proofs.Common.{ap, ◌∙◌, rules}
 use Rattle.std.proofs.lemmas.List.{with_items_is}
 use Rattle.guillotiere.specs.Slots.{rings, ring_at}
 use Rattle.guillotiere.proofs.Taking.{taken-fresh, taken-again_by}

@@ -1,8 +1,8 @@
-use Rattle.std.proofs.Common.{◌<◌, ◌≡◌, length, sym, ap, ◌∙◌, arith}
+use Rattle.std.proofs.Common.{◌<◌, length, arith}
 use Rattle.std.proofs.lemmas.List.{length-map}
-use Rattle.guillotiere.specs.Slots.{rings, ring_at}
+use Rattle.guillotiere.specs.Slots.{rings}
 use Rattle.guillotiere.proofs.Occurrences.{length-occurs}
-use Rattle.guillotiere.proofs.Unlinking.{can-unlink, CanUnlink, unlinked-by, IsList-unlinked, others-unlinked}
+use Rattle.guillotiere.proofs.Unlinking.{can-unlink, unlinked-by, IsList-unlinked, others-unlinked}
 use Rattle.guillotiere.proofs.lists.unlink.Goals as goal
 
 pub read_ring-ring-requires : goal.read_ring-ring-requires

@@ -1,4 +1,4 @@
-use Rattle.std.proofs.Common.{◌<◌, ◌≡◌, ap, ◌∙◌, arith, length}
+use Rattle.std.proofs.Common.{arith}
 use Rattle.guillotiere.specs.Slots.{nodes, rings}
 use Rattle.guillotiere.specs.Pixels.{options_of}
 use Rattle.guillotiere.proofs.Filing.{is-listed, number-is, unlisted-by, length-rings}

@@ -1,4 +1,4 @@
-use Rattle.std.proofs.Common.{◌≡◌, pos, ◌≤ℤ◌, FitsSigned, w32, to_z, of_z, rules, refl, sym, ◌∙◌, arith}
+use Rattle.std.proofs.Common.{◌≡◌, pos, ◌≤ℤ◌, FitsSigned, w32, rules, refl, sym, ◌∙◌, arith}
 use Rattle.std.proofs.lemmas.Int.{to_z-of_z, ints}
 use Rattle.std.proofs.lemmas.Bool.{true≢false}
 use Rattle.guillotiere.specs.Boxes.{Sides, Fits, box_sides}

@@ -14,16 +14,15 @@ enlist-requires-clause-exact g c =
 
 pub returns-clause-kept : goal.returns-clause-kept
 returns-clause-kept g c = λ h leaf.
-    let held : _ = held_with h.held (list_of (options_of c.args.self.now.options) (node_sides (node_at (nodes c.deref_mut.result.now) c.args.at.number))) c.args.at.number in
-    (
+    let held : _ = held_with h.held (list_of (options_of c.args.self.now.options) (node_sides (node_at (nodes c.deref_mut.result.now) c.args.at.number))) c.args.at.number in (
       held,
       listed-holds (shelf_of c.args.self.now) c.deref_mut.result.now c.enlist.new.slots _ c.enlist.new.lists h held (with_mark h.loose c.args.at.number false)
-      (record {
-        given = c.deref_mut.ensures.value;
-        left = with_items_is c.args.self.now.slots c.enlist.new.slots (c.enlist.auto.slots ∙ c.deref_mut.ensures.len);
-        long = c.enlist.auto.slots;
-      })
-      c.enlist.ensures.same_nodes
-      (λ filed. c.enlist.ensures.filed c.args.self.now.unused h.spare h.held (λ i. 0) h.loose filed leaf.loose)
-      leaf.holds,
+          (record {
+            given = c.deref_mut.ensures.value;
+            left = with_items_is c.args.self.now.slots c.enlist.new.slots (c.enlist.auto.slots ∙ c.deref_mut.ensures.len);
+            long = c.enlist.auto.slots;
+          })
+          c.enlist.ensures.same_nodes
+          (λ filed. c.enlist.ensures.filed c.args.self.now.unused h.spare h.held (λ i. 0) h.loose filed leaf.loose)
+          leaf.holds,
     )

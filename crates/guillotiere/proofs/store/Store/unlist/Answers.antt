@@ -13,12 +13,12 @@ pub returns-clause-kept : goal.returns-clause-kept
 returns-clause-kept g c = λ h holds listed. (
   held_without h.held c.args.at.number,
   listed-holds (shelf_of c.args.self.now) c.deref_mut.result.now c.unlist.new.slots _ c.unlist.new.lists h (held_without h.held c.args.at.number) (with_mark h.loose c.args.at.number true)
-  (record {
-    given = c.deref_mut.ensures.value;
-    left = with_items_is c.args.self.now.slots c.unlist.new.slots (c.unlist.auto.slots ∙ c.deref_mut.ensures.len);
-    long = c.unlist.auto.slots;
-  })
-  c.unlist.ensures.same_nodes
-  (λ filed. c.unlist.ensures.filed c.args.self.now.unused h.spare h.held (λ i. 0) h.loose filed listed)
-  holds,
+      (record {
+        given = c.deref_mut.ensures.value;
+        left = with_items_is c.args.self.now.slots c.unlist.new.slots (c.unlist.auto.slots ∙ c.deref_mut.ensures.len);
+        long = c.unlist.auto.slots;
+      })
+      c.unlist.ensures.same_nodes
+      (λ filed. c.unlist.ensures.filed c.args.self.now.unused h.spare h.held (λ i. 0) h.loose filed listed)
+      holds,
 )

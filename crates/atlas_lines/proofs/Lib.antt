@@ -1,0 +1,9 @@
+pub mod Decimals
+pub mod Known
+pub mod Numbers
+pub mod Parting
+pub mod Keywords
+pub mod Runs
+pub mod Joins
+pub mod Outcomes
+pub mod Readings

@@ -1,0 +1,105 @@
+-- An input has one list of lines, and a line one command.
+use Rattle.std.proofs.Common.{◌≡◌, ℕ, ◌≢◌, ◌^◌, ℤ, pos, neg_ℤ, List, [], ◌∷◌, ◌++◌, refl, sym, ap, ◌∙◌, subst, inl, inr, arith, append_assoc, append-nil}
+use Rattle.std.specs.Char.{digit_value}
+use Rattle.std.specs.List.{AllByRecursion}
+use Rattle.std.specs.Str.Parse.{AllDigits, IsNumeral, digits_value}
+use Rattle.guillotiere.specs.declared.geometry.Size.{Size}
+use Rattle.atlas_lines.specs.declared.commands.Command.{Command}
+use Rattle.atlas_lines.specs.declared.commands.Command.TheVariants.{Simple, Take}
+use Rattle.atlas_lines.specs.Grammar.{SpellsNumber, SpellsSize, SpellsArguments, Spells, keyword}
+use Rattle.atlas_lines.specs.Lines.{HasNoEnd, ended, all_ended, ArePieces, AreLines, last_line}
+use Rattle.atlas_lines.specs.Words.{BeginsWithWord, BeginsWithNumber}
+use Rattle.atlas_lines.proofs.Parting.{one_word, number_no_space, same_size, size_begins}
+use Rattle.atlas_lines.proofs.Keywords.{only_simple, only_take, keyword_no_space, arguments_spaced, first_is_keyword}
+use Rattle.atlas_lines.proofs.Outcomes.{parted}
+
+-- ---- lines
+
+-- a line with its LF stands at the front in one way
+same_first : (l m x y : List ℕ) → HasNoEnd l → HasNoEnd m → l ++ 10 ∷ x ≡ m ++ 10 ∷ y → (l ≡ m) × (x ≡ y)
+same_first [] [] x y hl hm e = (refl, cc)
+same_first [] (b ∷ m) x y hl hm e = absurd (hm.0 (let h : 10 ≡ b = cc in sym h))
+same_first (a ∷ l) [] x y hl hm e = absurd (hl.0 cc)
+same_first (a ∷ l) (b ∷ m) x y hl hm e =
+    let tails : l ++ 10 ∷ x ≡ m ++ 10 ∷ y = cc in
+    let heads : a ≡ b = cc in
+    let more = same_first l m x y hl.1 hm.1 tails in
+    (let first = more.0 in cc, more.1)
+
+-- bytes without an LF are no line with its LF
+no_first : (l x rest : List ℕ) → HasNoEnd rest → rest ≡ l ++ 10 ∷ x → ⊥
+no_first [] x [] h e = absurd (cc)
+no_first [] x (r ∷ rest) h e = h.0 cc
+no_first (a ∷ l) x [] h e = absurd (cc)
+no_first (a ∷ l) x (r ∷ rest) h e = no_first l x rest h.1 cc
+
+shifted : (l : List ℕ) (ls : List (List ℕ)) (rest : List ℕ) → all_ended (l ∷ ls) ++ rest ≡ l ++ 10 ∷ (all_ended ls ++ rest)
+shifted l ls rest = append_assoc (ended l) (all_ended ls) rest ∙ append_assoc l (10 ∷ []) (all_ended ls ++ rest)
+
+same_pieces : (xs ys : List (List ℕ)) (r s : List ℕ) → AllByRecursion HasNoEnd xs → AllByRecursion HasNoEnd ys → HasNoEnd r → HasNoEnd s → all_ended xs ++ r ≡ all_ended ys ++ s → (xs ≡ ys) × (r ≡ s)
+same_pieces [] [] r s hx hy hr hs e = (refl, e)
+same_pieces [] (y ∷ ys) r s hx hy hr hs e = absurd (no_first y (all_ended ys ++ s) r hr (e ∙ shifted y ys s))
+same_pieces (x ∷ xs) [] r s hx hy hr hs e = absurd (no_first x (all_ended xs ++ r) s hs (sym e ∙ shifted x xs r))
+same_pieces (x ∷ xs) (y ∷ ys) r s hx hy hr hs e =
+    let first = same_first x y (all_ended xs ++ r) (all_ended ys ++ s) hx.0 hy.0 (sym (shifted x xs r) ∙ e ∙ shifted y ys s) in
+    let more = same_pieces xs ys r s hx.1 hy.1 hr hs first.1 in
+    (let f = first.0 in let g = more.0 in cc, more.1)
+
+pub same_lines : (input : List ℕ) (lines others : List (List ℕ)) → AreLines input lines → AreLines input others → lines ≡ others
+same_lines input lines others a b =
+    let same = same_pieces a.before b.before a.rest b.rest a.pieces.each b.pieces.each a.pieces.partial b.pieces.partial (sym a.pieces.whole ∙ b.pieces.whole) in
+    let f = same.0 in
+    let g = same.1 in
+    let h = a.lines_are in
+    let k = b.lines_are in
+    cc
+
+pub some_lines : (input : List ℕ) → (lines : List (List ℕ)) × AreLines input lines
+some_lines input = let p = parted input in (p.lines ++ last_line p.rest, record { before = p.lines; rest = p.rest; pieces = p.pieces; lines_are = refl })
+
+-- ---- commands
+
+no_minus : (digits : List ℕ) (text : List ℕ) → IsNumeral 10 text → text ≡ 45 ∷ digits → ⊥
+no_minus digits [] numeral e = absurd (cc)
+no_minus digits (d ∷ ds) numeral e = let value : digit_value d ≡ 36 = ap digit_value (let h : d ≡ 45 = cc in h) in let small = numeral.1.0 in omega arith
+
+pub same_number : (y z : ℤ) (text : List ℕ) → SpellsNumber y text → SpellsNumber z text → y ≡ z
+same_number y z text a b =
+    elim a.1 [
+      | inl p ↦ elim b.1 [ inl q ↦ p.1 ∙ sym q.1 | inr q ↦ absurd (no_minus q.0 text p.0 q.1) ]
+      | inr p ↦
+          elim b.1 [
+            | inl q ↦ absurd (no_minus p.0 text q.0 p.1)
+            | inr q ↦ let same : p.0 ≡ q.0 = (let e = p.1 in let f = q.1 in cc) in p.3 ∙ ap (λ (d : List ℕ). neg_ℤ (pos (digits_value 10 d))) same ∙ sym q.3
+          ]
+    ]
+
+-- the number at the front and what follows it
+same_argument : (text : List ℕ) (y z : ℤ) (r s : List ℕ) → BeginsWithNumber text y r → BeginsWithNumber text z s → (y ≡ z) × (r ≡ s)
+same_argument text y z r s a b =
+    let after : a.word ++ r ≡ b.word ++ s = (let e = a.whole in let f = b.whole in cc) in
+    let same = one_word (a.word ++ r) a.word r b.word s
+    (record { whole = refl; no_space = number_no_space y a.word a.spells; spaced = a.spaced }) (record { whole = after; no_space = number_no_space z b.word b.spells; spaced = b.spaced }) in
+    let P : List ℕ → Type 0 = SpellsNumber y in
+    (same_number y z b.word (subst P same.0 a.spells) b.spells, same.1)
+
+pub one_size : (a b : Size) (text : List ℕ) → SpellsSize a text → SpellsSize b text → a ≡ b
+one_size a b text p q =
+    let f = size_begins a text p in
+    let g = size_begins b text q in
+    let width = same_argument text a.width b.width f.0 g.0 f.1 g.1 in
+    let P : List ℕ → Type 0 = λ t. BeginsWithNumber t a.height [] in
+    let height = same_argument g.0 a.height b.height [] [] (subst P width.1 f.2) g.2 in
+    same_size a b width.0 height.0
+
+-- the keyword at the front of a line that spells a command
+begins_with_keyword : (c : Command) (line : List ℕ) (spells : Spells c line) → BeginsWithWord line (keyword c) spells.0
+begins_with_keyword c line spells = record { whole = spells.1; no_space = keyword_no_space c; spaced = arguments_spaced c spells.0 spells.2 }
+
+pub same_command : (line : List ℕ) (c d : Command) → Spells c line → Spells d line → c ≡ d
+same_command line (Simple size) d spells other =
+    let is = only_simple d line (keyword (Simple size)) spells.0 (begins_with_keyword (Simple size) line spells) refl other in
+    ap (λ s. Simple s) (one_size size is.0 spells.0 spells.2 is.2) ∙ sym is.1
+same_command line (Take size) d spells other =
+    let is = only_take d line (keyword (Take size)) spells.0 (begins_with_keyword (Take size) line spells) refl other in
+    ap (λ s. Take s) (one_size size is.0 spells.0 spells.2 is.2) ∙ sym is.1

@@ -1,0 +1,9 @@
+pub mod Devices
+pub mod Grammar
+pub mod Words
+pub mod Lines
+pub mod Machine
+pub mod Replies
+pub mod Texts
+pub mod Ends
+pub mod Progress

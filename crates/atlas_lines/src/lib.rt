@@ -1,0 +1,18 @@
+//! The lines of the program `atlas_tool`: commands in, reply lines out.
+#![tactic(auto)]
+
+mod buffer;
+mod commands;
+mod devices;
+mod digits;
+pub mod laws;
+mod replies;
+mod run;
+mod standard;
+mod tool;
+mod words;
+
+pub use commands::{Command, parse_line};
+pub use devices::{ToolInput, ToolOutput};
+pub use run::{ToolEnd, ToolFault, run_lines};
+pub use standard::{StdInput, StdOutput};

@@ -1,0 +1,105 @@
+//! Replies, and their text in a fixed buffer.
+ghost use Rattle.std.specs.Prelude.{◌≡◌, ◌≤◌, ◌+◌, ◌++◌, true, false, not, length};
+ghost use Rattle.std.specs.Io.KnownBytes.{Appends};
+ghost use Rattle.atlas_lines.specs.Devices.{WritesBeginning};
+ghost use Rattle.atlas_lines.specs.Replies.{spaced_number, reply_text, bad_line_text, corners_text, refusal_text};
+
+use crate::buffer::FixedBytes;
+use crate::devices::{ToolOutput, write_all};
+use crate::digits::{push_signed, push_unsigned};
+use guillotiere::{AtlasError, Rectangle};
+
+/// What a command is answered.
+#[derive(Clone, Copy, Debug, PartialEq, Eq)]
+pub enum Reply {
+    /// `ok`
+    Completed,
+    /// `at X0 Y0 X1 Y1`
+    Placed(Rectangle),
+    /// `none`
+    NotPlaced,
+    /// `no simple`
+    NoSimple,
+    /// `bad call`
+    Invalid,
+    /// `refused` and what was refused
+    Declined(AtlasError),
+}
+
+// Adds a space and a number at the end.
+fn push_spaced<const N: usize>(text: &mut FixedBytes<N>, number: i32)
+    requires { length text.old + 22 ≤ N }
+    ensures text { text.new ≡ text.old ++ spaced_number number }
+    ensures length { length text.new ≤ length text.old + 22 }
+{
+    text.push(b' ');
+    push_signed(text, number);
+}
+
+// Adds ` X0 Y0 X1 Y1` at the end.
+fn push_corners<const N: usize>(text: &mut FixedBytes<N>, rectangle: Rectangle)
+    requires { length text.old + 88 ≤ N }
+    ensures text { text.new ≡ text.old ++ corners_text rectangle }
+    ensures length { length text.new ≤ length text.old + 88 }
+{
+    push_spaced(text, rectangle.min.x);
+    push_spaced(text, rectangle.min.y);
+    push_spaced(text, rectangle.max.x);
+    push_spaced(text, rectangle.max.y);
+}
+
+fn refusal(error: AtlasError) -> &'static [u8]
+    ensures text { result.now ≡ refusal_text error }
+    ensures length { length result.now ≤ 20 }
+{
+    match error {
+        AtlasError::Memory => b"refused memory",
+        AtlasError::Slots => b"refused slots",
+        AtlasError::NotLive => b"refused not live",
+    }
+}
+
+// Longer than each reply line.
+const LINE: usize = 160;
+
+/// The line that answers a command, with its LF.
+pub fn reply_line(reply: Reply) -> FixedBytes<LINE>
+    ensures { result ≡ reply_text reply }
+{
+    let mut text = FixedBytes::new();
+    match reply {
+        Reply::Completed => text.push_all(b"ok"),
+        Reply::Placed(rectangle) => {
+            text.push_all(b"at");
+            push_corners(&mut text, rectangle);
+        }
+        Reply::NotPlaced => text.push_all(b"none"),
+        Reply::NoSimple => text.push_all(b"no simple"),
+        Reply::Invalid => text.push_all(b"bad call"),
+        Reply::Declined(error) => text.push_all(refusal(error)),
+    }
+    text.push(b'\n');
+    text
+}
+
+/// The line that answers a bad line with this number, with its LF.
+pub fn bad_line(number: u64) -> FixedBytes<LINE>
+    ensures { result ≡ bad_line_text number }
+{
+    let mut text = FixedBytes::new();
+    text.push_all(b"bad line ");
+    push_unsigned(&mut text, number);
+    text.push(b'\n');
+    text
+}
+
+/// Writes the reply to a command. `false` where the device failed.
+pub fn send<W: ToolOutput>(output: &mut W, reply: Reply) -> bool
+    requires { W.has_failed output.old ≡ false }
+    ensures written { result ≡ true → Appends (W.contents output.old) (W.contents output.new) (reply_text reply) }
+    ensures failed { W.has_failed output.new ≡ not result }
+    ensures beginning { result ≡ false → WritesBeginning (W.contents output.old) (W.contents output.new) (reply_text reply) }
+{
+    let line = reply_line(reply);
+    write_all(output, line.as_slice())
+}

@@ -1,0 +1,196 @@
+//! A run of the tool, from the bytes of a reader to the bytes of a writer.
+ghost use Rattle.std.specs.Prelude.{◌≡◌, ◌≤◌, ◌<◌, ◌+◌, ◌-◌, ◌^◌, [], ◌∷◌, length, Some, None, Ok, Err, true, false, IsNone, OnSome};
+ghost use Rattle.atlas_lines.specs.Lines.{HasNoEnd};
+ghost use Rattle.atlas_lines.specs.Ends.{Ends, is_read_fault, is_write_fault};
+ghost use Rattle.atlas_lines.specs.Progress.{EndsBadly, LineEnds, Continues, place_at_start, is_write_end};
+
+use crate::buffer::FixedBytes;
+use crate::commands::parse_line;
+use crate::devices::{ToolInput, ToolOutput, write_all};
+use crate::replies::{bad_line, send};
+use crate::tool::Tool;
+use std::alloc::Allocator;
+use std::marker::Model;
+
+/// How a run ended where no device failed.
+#[derive(Clone, Copy, Debug, PartialEq, Eq)]
+pub enum ToolEnd {
+    /// At the end of the input.
+    Done,
+    /// At the line with this number, counted from 1, which spells no command or has more than 120 bytes.
+    BadLine(u64),
+    /// After 18446744073709551615 bytes, the most that a run reads.
+    Limit,
+}
+
+/// Which device failed.
+#[derive(Clone, Copy, Debug, PartialEq, Eq)]
+pub enum ToolFault {
+    /// A read failed.
+    Read,
+    /// A write failed, or took none of some bytes.
+    Write,
+}
+
+// A line of more bytes is bad.
+const LINE: usize = 120;
+
+// How many bytes are asked for at once.
+const BLOCK: usize = 4096;
+
+// The tool, the line that has begun, and how many lines came before it.
+#[derive(Drop)]
+struct Progress<A: Allocator + Copy> {
+    tool: Tool<A>,
+    line: FixedBytes<LINE>,
+    number: u64,
+}
+
+impl<A: Allocator + Copy> Model for Progress<A> {
+    ghost use Rattle.atlas_lines.specs.Progress.{Place};
+
+    ghost Value = { Place };
+
+    ghost view = { λ p. record { held = p.tool; line = p.line; number = p.number } };
+}
+
+impl<A: Allocator + Copy> Progress<A> {
+    fn new(alloc: A) -> Self
+        ensures { result ≡ place_at_start }
+    {
+        Progress {
+            tool: Tool::new(alloc),
+            line: FixedBytes::new(),
+            number: 0,
+        }
+    }
+
+    // Answers the line as a bad one.
+    fn end_badly<W: ToolOutput>(&self, output: &mut W) -> Result<ToolEnd, ToolFault>
+        requires room { self.now.number < 2 ^ 64 - 1 }
+        requires output { W.has_failed output.old ≡ false }
+        ensures line { EndsBadly result self.now (W.contents output.old) (W.contents output.new) }
+        ensures failed { W.has_failed output.new ≡ is_write_fault result }
+    {
+        let number = self.number + 1;
+        if write_all(output, bad_line(number).as_slice()) {
+            Ok(ToolEnd::BadLine(number))
+        } else {
+            Err(ToolFault::Write)
+        }
+    }
+
+    // Carries out the line that has begun, of which no byte is still to come.
+    fn end_line<W: ToolOutput>(&mut self, output: &mut W) -> Option<Result<ToolEnd, ToolFault>>
+        requires room { self.old.number < 2 ^ 64 - 1 }
+        requires output { W.has_failed output.old ≡ false }
+        ensures line { LineEnds result self.old self.new (W.contents output.old) (W.contents output.new) }
+        ensures failed { W.has_failed output.new ≡ is_write_end result }
+    {
+        if self.line.len() > 0 {
+            let Some(command) = parse_line(self.line.as_slice()) else {
+                return Some(self.end_badly(output));
+            };
+            let reply = self.tool.carry_out(command);
+            if !send(output, reply) {
+                return Some(Err(ToolFault::Write));
+            }
+        }
+        self.next_line();
+        None
+    }
+
+    // Makes the next line begin.
+    fn next_line(&mut self)
+        requires { self.old.number < 2 ^ 64 - 1 }
+        ensures { self.new ≡ record { held = self.old.held; line = []; number = self.old.number + 1 } }
+    {
+        self.line.clear();
+        self.number += 1;
+    }
+
+    // Takes the next byte.
+    fn take_byte<W: ToolOutput>(
+        &mut self,
+        byte: u8,
+        output: &mut W,
+    ) -> Option<Result<ToolEnd, ToolFault>>
+        requires room { self.old.number + length self.old.line < 2 ^ 64 - 1 }
+        requires line { HasNoEnd self.old.line }
+        requires output { W.has_failed output.old ≡ false }
+        ensures continues { Continues result self.old (byte ∷ []) self.new (W.contents output.old) (W.contents output.new) }
+        ensures line { IsNone result → HasNoEnd self.new.line }
+        ensures room { IsNone result → self.new.number + length self.new.line ≤ self.old.number + length self.old.line + 1 }
+        ensures failed { W.has_failed output.new ≡ is_write_end result }
+    {
+        if byte == b'\n' {
+            return self.end_line(output);
+        }
+        if self.line.len() == LINE {
+            return Some(self.end_badly(output));
+        }
+        self.line.push(byte);
+        None
+    }
+
+    // Takes the next bytes.
+    fn take_block<W: ToolOutput>(
+        &mut self,
+        block: &[u8],
+        output: &mut W,
+    ) -> Option<Result<ToolEnd, ToolFault>>
+        requires room { self.old.number + length self.old.line + length block.now < 2 ^ 64 }
+        requires line { HasNoEnd self.old.line }
+        requires output { W.has_failed output.old ≡ false }
+        ensures continues { Continues result self.old block.now self.new (W.contents output.old) (W.contents output.new) }
+        ensures line { IsNone result → HasNoEnd self.new.line }
+        ensures room { IsNone result → self.new.number + length self.new.line ≤ self.old.number + length self.old.line + length block.now }
+        ensures failed { W.has_failed output.new ≡ is_write_end result }
+    {
+        for byte in block {
+            if let Some(end) = self.take_byte(*byte, output) {
+                return Some(end);
+            }
+        }
+        None
+    }
+}
+
+/// Carries out the lines that the reader gives, one after another, and writes their replies, up to the reader's end, the
+/// first bad line, the limit or the first failure of a device. Reading takes no memory. A failure isn't tried again.
+pub fn run_lines<A: Allocator + Copy, R: ToolInput, W: ToolOutput>(
+    alloc: A,
+    input: &mut R,
+    output: &mut W,
+) -> Result<ToolEnd, ToolFault>
+    requires input { R.has_failed input.old ≡ false }
+    requires output { W.has_failed output.old ≡ false }
+    // How the run ended, and what was written by then.
+    ensures ends { Ends result (R.remaining input.old) (R.remaining input.new) (W.contents output.old) (W.contents output.new) }
+    // A fault comes exactly where its device failed.
+    ensures read_failed { R.has_failed input.new ≡ is_read_fault result }
+    ensures write_failed { W.has_failed output.new ≡ is_write_fault result }
+{
+    let mut progress = Progress::new(alloc);
+    let mut left = u64::MAX;
+    let mut buffer = [0u8; BLOCK];
+    while left > 0 {
+        let room = if left < BLOCK as u64 {
+            left as usize
+        } else {
+            BLOCK
+        };
+        let piece = &mut buffer[..room];
+        let Some(count) = input.read(piece) else {
+            return Err(ToolFault::Read);
+        };
+        if count == 0 {
+            return progress.end_line(output).unwrap_or(Ok(ToolEnd::Done));
+        }
+        left -= count as u64;
+        if let Some(end) = progress.take_block(&piece[..count], output) {
+            return end;
+        }
+    }
+    Ok(ToolEnd::Limit)
+}

@@ -1,0 +1,77 @@
+//! The words of a line, and the numbers that they spell.
+ghost use Rattle.std.specs.Prelude.{◌≡◌, ◌<◌, ℕ, ℤ, List, Some, IfSome, IsSomeAnd, pos};
+ghost use Rattle.guillotiere.specs.declared.geometry.Size.{Size};
+ghost use Rattle.atlas_lines.specs.Grammar.{SpellsUnsigned, SpellsNumber, SpellsSize};
+ghost use Rattle.atlas_lines.specs.Words.{BeginsWithWord, BeginsWithNumber};
+
+use guillotiere::{Size, size2};
+
+/// The bytes before the first space, and the rest from it on.
+pub fn first_word(text: &[u8]) -> (&[u8], &[u8])
+    ensures { BeginsWithWord text.now result.0.now result.1.now }
+{
+    for (i, byte) in text.iter().enumerate() {
+        if *byte == b' ' {
+            return text.split_at(i);
+        }
+    }
+    text.split_at(text.len())
+}
+
+/// The number that decimal digits write, where it fits a `u32`.
+pub fn unsigned(text: &[u8]) -> Option<u32>
+    ensures found { IfSome result (λ n. SpellsUnsigned n text.now) }
+    ensures only { (n : ℕ) → SpellsUnsigned n text.now → result ≡ Some n }
+{
+    if text.is_empty() {
+        return None;
+    }
+    let mut value: u32 = 0;
+    let mut rest = text;
+    while let Some((byte, tail)) = rest.split_first() {
+        if !byte.is_ascii_digit() {
+            return None;
+        }
+        value = value.checked_mul(10)?.checked_add(u32::from(*byte - b'0'))?;
+        rest = tail;
+    }
+    Some(value)
+}
+
+/// The number that an optional `-` and decimal digits write, where it fits an `i32`.
+pub fn number(text: &[u8]) -> Option<i32>
+    ensures found { IfSome result (λ z. SpellsNumber z text.now) }
+    ensures only { (z : ℤ) → SpellsNumber z text.now → result ≡ Some z }
+{
+    let (first, digits) = text.split_first()?;
+    if *first == b'-' {
+        return i32::try_from(-i64::from(unsigned(digits)?)).ok();
+    }
+    i32::try_from(unsigned(text)?).ok()
+}
+
+/// The number that a space and a word spell, and what follows them.
+pub fn number_argument(text: &[u8]) -> Option<(i32, &[u8])>
+    ensures found { IfSome result (λ found. BeginsWithNumber text.now found.0 found.1.now) }
+    ensures only { (z : ℤ) (rest : List ℕ) → BeginsWithNumber text.now z rest → IsSomeAnd result (λ found. (found.0 ≡ z) × (found.1.now ≡ rest)) }
+{
+    let (first, after) = text.split_first()?;
+    if *first != b' ' {
+        return None;
+    }
+    let (word, rest) = first_word(after);
+    Some((number(word)?, rest))
+}
+
+/// The size that two numbers spell, each after one space.
+pub fn size_arguments(text: &[u8]) -> Option<Size>
+    ensures found { IfSome result (λ size. SpellsSize size text.now) }
+    ensures only { (size : Size) → SpellsSize size text.now → result ≡ Some size }
+{
+    let (width, rest) = number_argument(text)?;
+    let (height, rest) = number_argument(rest)?;
+    if !rest.is_empty() {
+        return None;
+    }
+    Some(size2(width, height))
+}

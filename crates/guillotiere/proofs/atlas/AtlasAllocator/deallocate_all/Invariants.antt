@@ -1,0 +1,15 @@
+use Rattle.std.proofs.Common.{◌≡◌, ◌+◌, drop}
+use Rattle.guillotiere.specs.States.{used_in}
+use Rattle.guillotiere.specs.Stored.{state_of}
+use Rattle.guillotiere.specs.Batches.{AreLiveOnce}
+use Rattle.guillotiere.proofs.FreedLists.{after_each}
+use Rattle.guillotiere.proofs.atlas.AtlasAllocator.deallocate_all.Given as goal
+
+abbrev pub invariant-loop-id : goal.invariant-loop-id
+invariant-loop-id g l =
+    record {
+      live : AreLiveOnce (state_of l.self) (drop l.id-index l.ids);
+      each : after_each (state_of l.self) (drop l.id-index l.ids) ≡ after_each (state_of l.fn.self) l.ids;
+      turns : l.self.turns + used_in (state_of l.self) ≡ l.fn.self.turns + l.id-index + used_in (state_of l.fn.self);
+      none : l.id-index ≡ 0 → l.self ≡ l.fn.self;
+    }

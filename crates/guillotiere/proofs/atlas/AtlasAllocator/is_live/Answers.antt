@@ -1,0 +1,13 @@
+use Rattle.std.proofs.Common.{sym, ap, ◌∙◌, ◌≡◌, ◌↔◌, true, subst}
+use Rattle.guillotiere.specs.States.{IsLive}
+use Rattle.guillotiere.specs.Stored.{state_of}
+use Rattle.guillotiere.proofs.FreedAtlas.{live-found}
+use Rattle.guillotiere.proofs.atlas.AtlasAllocator.is_live.Goals as goal
+
+pub returns : goal.returns
+returns g c =
+    let is = live-found _ c.self.invariant c.args.id c.deref.result.now c.named_slot.result c.deref.ensures.value c.named_slot.ensures.named c.named_slot.ensures.none in
+    rw (← c.self.view_is) (
+      (λ t. is.0 (sym c.is_some.ensures ∙ t)),
+      (λ live. c.is_some.ensures ∙ is.1 live),
+    )

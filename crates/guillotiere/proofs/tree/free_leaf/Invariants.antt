@@ -1,0 +1,17 @@
+use Rattle.std.proofs.Common.{◌≡◌, ◌+◌, ◌-◌, length}
+use Rattle.guillotiere.specs.Stored.{Holding}
+use Rattle.guillotiere.specs.Holdings.{shelf_of, KeepsRoom}
+use Rattle.guillotiere.specs.Freeing.{IsFreeable}
+use Rattle.guillotiere.proofs.Turning.{IsFreeing}
+use Rattle.guillotiere.proofs.tree.free_leaf.Given as goal
+
+abbrev pub invariant-loop-next : goal.invariant-loop-next
+invariant-loop-next g l =
+    record {
+      freeing : (h : Holding) → IsFreeable (shelf_of l.fn.store) l.fn.slot.number h → (m : Holding) × IsFreeing (shelf_of l.store) l.fn.slot.number l.at.number l.given h m;
+      turns : l.store.turns.count ≡ l.fn.store.turns.count + 1 + l.given;
+      room : KeepsRoom l.fn.store l.store;
+    }
+
+abbrev pub decreases-loop-next : goal.decreases-loop-next
+decreases-loop-next g l = length l.fn.store.slots.items - l.given

@@ -1,0 +1,27 @@
+use Rattle.std.proofs.Common.{◌≡◌, true, false, refl, sym, ap, ◌∙◌}
+use denote.Enum.Bare.{sameb}
+use Rattle.guillotiere.specs.contracts.cut.Orientation.{the_type}
+use Rattle.guillotiere.specs.declared.cut.Orientation.{Orientation}
+use Rattle.guillotiere.specs.declared.cut.Orientation.TheVariants.{Horizontal, Vertical}
+use Rattle.guillotiere.specs.Boxes.{other}
+use Rattle.guillotiere.specs.Slots.{axis_of}
+use Rattle.guillotiere.proofs.PlanLines.{above-natural, le-natural}
+use Rattle.guillotiere.proofs.tree.remains_along.Goals as goal
+
+by_axis : (o axis : Orientation) → sameb the_type o axis ≡ true → axis_of o ≡ axis_of axis
+by_axis Horizontal Horizontal e = refl
+by_axis Horizontal Vertical e = cc
+by_axis Vertical Horizontal e = cc
+by_axis Vertical Vertical e = refl
+
+by_other : (o axis : Orientation) → sameb the_type o axis ≡ false → axis_of o ≡ other (axis_of axis)
+by_other Horizontal Horizontal e = cc
+by_other Horizontal Vertical e = refl
+by_other Vertical Horizontal e = refl
+by_other Vertical Vertical e = cc
+
+pub returns : goal.returns
+returns c = record {
+  along = λ e. sym c.orientation_of.ensures ∙ by_axis c.orientation_of.result c.args.axis (sym c.eq.ensures ∙ e);
+  across = λ e. sym c.orientation_of.ensures ∙ by_other c.orientation_of.result c.args.axis (sym c.eq.ensures ∙ e);
+}

@@ -1,0 +1,57 @@
+//! Sizes, boxes and options.
+
+use crate::tables::{rectangle, size};
+use guillotiere::{AllocatorOptions, DEFAULT_OPTIONS, Rectangle, point2, size2};
+use std::test::Fail;
+
+#[test]
+fn boxes_are_measured(rt: HostRuntime) {
+    let too_wide = rectangle((-1, 0, 2147483647, 5));
+    assert!(rt; !too_wide.is_measurable());
+    let backward = rectangle((0, 0, -5, -5));
+    assert!(rt; backward.is_measurable());
+    assert_eq!(rt; backward.width(), -5);
+    assert_eq!(rt; backward.height(), -5);
+    assert_eq!(rt; backward.size(), size2(-5, -5));
+    assert!(rt; backward.is_empty());
+    assert!(rt; !rectangle((0, 0, 1, 1)).is_empty());
+    assert_eq!(rt; Rectangle::from(size2(3, 4)), rectangle((0, 0, 3, 4)));
+    assert_eq!(rt; rectangle((1, 2, 3, 4)).max, point2(3, 4));
+}
+
+#[test]
+fn sizes_are_empty_at_zero_and_below(rt: HostRuntime) {
+    for (sides, want) in [
+        ((1, 1), false),
+        ((0, 5), true),
+        ((5, 0), true),
+        ((-3, 5), true),
+    ] {
+        assert_eq!(rt; size(sides).is_empty(), want, "{sides:?}");
+    }
+}
+
+#[test]
+fn options_are_tested(rt: HostRuntime) -> Result<(), Fail> {
+    let default = AllocatorOptions::default();
+    assert_eq!(rt; default, DEFAULT_OPTIONS);
+    assert_eq!(rt; default.alignment, size2(1, 1));
+    assert_eq!(rt; default.small_size_threshold, 32);
+    assert_eq!(rt; default.large_size_threshold, 256);
+    let table = [
+        ((1, 1), -2147483648, 2147483647, true),
+        ((1, 1), 33, 32, false),
+        ((1, 0), 32, 256, false),
+        ((0, 1), 32, 256, false),
+        ((8, 8), -1, -1, true),
+    ];
+    for (alignment, small, large, want) in table {
+        let options = AllocatorOptions {
+            alignment: size(alignment),
+            small_size_threshold: small,
+            large_size_threshold: large,
+        };
+        assert_eq!(rt; options.is_valid(), want, "{alignment:?} {small} {large}");
+    }
+    Ok(())
+}

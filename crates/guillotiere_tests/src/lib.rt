@@ -1,0 +1,20 @@
+//! Tests over the crates of this repository. Expected values are worked by hand from the rules, or recorded from the
+//! Rust crate `guillotiere` 0.7.0; none is an answer of the code under test.
+#![tactic(auto)]
+
+#[cfg(test)]
+mod geometry;
+#[cfg(test)]
+mod simple_recorded;
+#[cfg(test)]
+mod simple_rows;
+#[cfg(test)]
+mod simple_sessions;
+#[cfg(test)]
+mod tables;
+#[cfg(test)]
+mod tool_devices;
+#[cfg(test)]
+mod tool_faults;
+#[cfg(test)]
+mod tool_rows;
