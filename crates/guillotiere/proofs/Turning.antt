@@ -15,7 +15,6 @@ use Rattle.guillotiere.specs.Lists.{occurs}
 use Rattle.guillotiere.specs.Stored.{Shelf, Holding, Holds, IsLooseOnly}
 use Rattle.guillotiere.specs.Holdings.{IsLooseLeaf, KeepsRoom, node_in, with_loose, with_held, after_mark, after_join, after_lift}
 use Rattle.guillotiere.specs.Freeing.{IsSettlingAt, IsTurned, IsFreeable, IsFreed}
-use Rattle.guillotiere.specs.Settling.{IsSettlingTree}
 use Rattle.guillotiere.proofs.Filing.{with_mark-same, with_mark-other}
 use Rattle.guillotiere.proofs.Occurrences.{same-self, same-ne, ne-from_same}
 use Rattle.guillotiere.proofs.Joining.{first-joined}
@@ -26,7 +25,7 @@ use Rattle.guillotiere.proofs.Releasing.{calm-Stands, full-from_normal, full-mar
 use Rattle.guillotiere.proofs.TreeNormal.{nf-normal}
 use Rattle.guillotiere.proofs.Normal.{nf-joined, nf-lifted}
 use Rattle.guillotiere.proofs.Reading.{numbers-less, numbers-few}
-use Rattle.guillotiere.proofs.Settling.{full-joined, full-lifted, settled, next-slot, previous-slot, previous-leads}
+use Rattle.guillotiere.proofs.Settling.{IsSettlingTree, full-joined, full-lifted, settled, next-slot, previous-slot, previous-leads}
 
 pub few-slots : (v : Shelf) (h : Holding) → Holds v h → length (nodes v.slots) ≤ 16777216
 few-slots v h w = simp length-map w.short
