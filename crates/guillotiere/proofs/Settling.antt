@@ -1,26 +1,19 @@
 -- the steps of a freeing, seen from the whole tree
-use Rattle.std.proofs.Common.{ℕ, ◌+◌, ◌<◌, ◌≤◌, ◌≡◌, List, refl, sym, ap, ◌∙◌, ◌⊎◌, inl, inr, arith, length, eqb, Bool}
+use Rattle.std.proofs.Common.{ℕ, ◌+◌, ◌<◌, ◌≤◌, ◌≡◌, List, refl, sym, ap, ◌∙◌, ◌⊎◌, inl, inr, arith, length, eqb}
 use Rattle.std.proofs.lemmas.Bool.{cases_eq, cond_both}
 use Rattle.guillotiere.specs.declared.slots.Node.{Node}
 use Rattle.guillotiere.specs.declared.slots.NodeKind.TheVariants as kind
 use Rattle.guillotiere.specs.Slots.{node_at, use_count, no_slot}
 use Rattle.guillotiere.specs.Trees as tree
-use Rattle.guillotiere.specs.Boxes.{Axis}
 use Rattle.guillotiere.specs.Trees.{Members, Tree, IsNormal}
-use Rattle.guillotiere.specs.Changes.{nf, mark, only, release}
-use Rattle.guillotiere.specs.Numbered.{Numbered, tally, first_slot, same, numbers, erase, id_of, marked, joined, grown_by, lifted, lifted_to, End, Free, Alloc, Seq}
-use Rattle.guillotiere.specs.Standing.{Sequence, Standing, Stands, IsTree, IsWhole, IsSlot, inside}
-use Rattle.guillotiere.specs.Reading.{tree_of, numbered_of}
-use Rattle.guillotiere.proofs.Reading.{IsNonempty, numbers-less, members_of-Stands, axis_of-Stands, tree_of-Stands, tree-by_parts, nonempty-tally, numbered_of-Stands}
+use Rattle.guillotiere.specs.Numbered.{Numbered, tally, first_slot, same, numbers, erase, joined, grown_by, lifted, lifted_to, End, Free, Alloc, Seq}
+use Rattle.guillotiere.specs.Standing.{Sequence, Standing, Stands, IsWhole, IsSlot, inside}
+use Rattle.guillotiere.proofs.Reading.{numbers-less}
 use Rattle.guillotiere.proofs.JoiningWrites.{used-inside, none-unused, not-none}
-use Rattle.guillotiere.proofs.Normal.{nf-joined, nf-lifted}
 use Rattle.guillotiere.proofs.Frames.{same-self, same-ne}
-use Rattle.guillotiere.proofs.Joining.{split_pos, first-joined}
-use Rattle.guillotiere.proofs.Lifting.{first-lifted}
-use Rattle.guillotiere.proofs.Releasing.{calm-Stands, full-from_normal, full-marked, erase-marked_at}
+use Rattle.guillotiere.proofs.Joining.{split_pos}
 use Rattle.guillotiere.proofs.Closing.{next-in}
 use Rattle.guillotiere.proofs.Calm.{calm-all, normal-from_calm}
-use Rattle.guillotiere.proofs.TreeNormal.{nf-normal}
 use Rattle.guillotiere.specs.Calm.{IsCalmAt, IsCalmBut, NoneEmpty}
 
 -- the slots stand for the whole tree n, whose top sequence is s; `at` is free, and all else is calm
