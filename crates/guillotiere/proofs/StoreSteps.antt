@@ -395,7 +395,10 @@ taken-short v new capacity i n slot h hand holds room again fresh =
           let one : length new ≡ length v.slots + 1 = ap (λ s. length s) (fresh e) ∙ length_push v.slots slot in
           elim room [
             | inl some ↦ absurd (some-front h.spare (rings v.slots) (omega (arith, length-rings v.slots, holds.short)) holds.filed.line (sym holds.filed.begins ∙ e) some)
-            | inr r ↦ omega (arith, one, r.1)
+            | inr r ↦ elim (cases_eq (length h.spare) 0) [
+              | inl z ↦ omega (arith, one, r.1, z)
+              | inr nz ↦ absurd (some-front h.spare (rings v.slots) (omega (arith, length-rings v.slots, holds.short)) holds.filed.line (sym holds.filed.begins ∙ e) (omega arith))
+            ]
           ]
       | inr ne ↦
           let same : length (nodes new) ≡ length (nodes v.slots) = ap (λ s. length s) (again ne) ∙ length-set (nodes v.slots) i n in

@@ -1,5 +1,5 @@
 -- A slot is taken and put to use at once.
-use Rattle.std.proofs.Common.{ℕ, ◌+◌, ◌<◌, ◌≤◌, ◌≡◌, ◌≢◌, List, refl, sym, ap, ◌∙◌, arith, length, true, inl, inr, subst, vec_capacity, Bool, false}
+use Rattle.std.proofs.Common.{ℕ, ◌+◌, ◌-◌, [], ◌∷◌, ◌<◌, ◌≤◌, ◌≡◌, ◌≢◌, List, refl, sym, ap, ◌∙◌, arith, length, true, inl, inr, subst, vec_capacity, Bool, false}
 use Rattle.guillotiere.specs.declared.store.Store.{Store}
 use Rattle.guillotiere.specs.declared.slots.NodeKind.TheVariants as kind
 use Rattle.guillotiere.specs.Links.{with_count, with_mark, rest_of}
@@ -27,6 +27,11 @@ slots-kept old new n h r slots =
       | inl s ↦ inl s
       | inr s ↦ inr (omega (arith, r.slots, r.capacity, s.0), omega (arith, r.slots, s.1))
     ]
+
+-- a list that loses its first
+pub rest-length : (xs : List ℕ) → length (rest_of xs) ≡ length xs - 1
+rest-length [] = refl
+rest-length (x ∷ xs) = omega arith
 
 -- a free leaf is another slot than one that is unused
 pub apart-leaf : (v : Shelf) (i j : ℕ) → (node_in v i).kind ≡ kind.Free → (node_in v j).kind ≡ kind.Unused → i ≢ j
