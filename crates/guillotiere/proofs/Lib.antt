@@ -90,3 +90,4 @@ pub mod Hiding
 pub mod FreedLists
 pub mod PlacingChains
 pub mod PlanLines
+pub mod SpareCounts
