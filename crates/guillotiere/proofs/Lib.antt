@@ -91,3 +91,4 @@ pub mod FreedLists
 pub mod PlacingChains
 pub mod PlanLines
 pub mod SpareCounts
+pub mod ChosenSlots

@@ -74,7 +74,7 @@ unmark_cases loose k i l =
       | inr ne ↦ (ne, sym (with_mark-other loose k false i ne) ∙ l)
     ]
 
-only-more : (loose : ℕ → Bool) (k : ℕ) (ks : List ℕ) → ((i : ℕ) → occurs i ks ≡ 0 → loose i ≡ false) → (i : ℕ) → occurs i (k ∷ ks) ≡ 0 → with_mark loose k true i ≡ false
+pub only-more : (loose : ℕ → Bool) (k : ℕ) (ks : List ℕ) → ((i : ℕ) → occurs i ks ≡ 0 → loose i ≡ false) → (i : ℕ) → occurs i (k ∷ ks) ≡ 0 → with_mark loose k true i ≡ false
 only-more loose k ks only i z =
     elim (cases_eq i k) [
       | inl e ↦ absurd (omega (arith, ap (λ j. occurs j (k ∷ ks)) e, same-self k))
