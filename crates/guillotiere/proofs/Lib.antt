@@ -92,3 +92,5 @@ pub mod PlacingChains
 pub mod PlanLines
 pub mod SpareCounts
 pub mod ChosenSlots
+pub mod PlannedSlots
+pub mod GrantedAtlas
