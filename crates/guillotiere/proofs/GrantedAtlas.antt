@@ -1,6 +1,9 @@
 -- Granting a request in an atlas.
 use Rattle.std.proofs.Common.{ℕ, ◌+◌, ◌-◌, ◌%◌, ◌^◌, ◌<◌, ◌≤◌, ◌≡◌, max, List, [], length, refl, sym, ap, subst, ◌∙◌, ◌⊎◌, inl, inr, arith}
 use Rattle.std.proofs.lemmas.List.{length-map}
+use Rattle.std.specs.Prelude.{Option, Result, Err}
+use Rattle.guillotiere.specs.declared.allocation.Allocation.{Allocation}
+use Rattle.guillotiere.specs.Replies.{allocate_reply}
 use Rattle.guillotiere.specs.declared.slots.NodeKind.TheVariants as kind
 use Rattle.guillotiere.specs.declared.slots.Slot.{Slot}
 use Rattle.guillotiere.specs.declared.geometry.Size.{Size}
@@ -198,12 +201,15 @@ module _ (v : Stored) (a : IsAtlas v) (request : Sides) (size : Size) (sized : C
 
   -- in the words of the calls: `made` are the slots once there is room
   module _ (made : Shelf) (same : made ≡ v.shelf) (needed : ℕ) (is_needed : needed ≡ slots_of p.plan) where
-    pub refused-step : (error : AtlasError) → IsShortOf v.used v.limit needed (length v.shelf.slots) error → (turns before : ℕ)
-        → Step (state_of (record { stored = v; turns = before })) (Allocate request) (Refused error)
+    pub refused-step : (result : Result (Option Allocation) AtlasError) (error : AtlasError) → result ≡ Err error → IsShortOf v.used v.limit needed (length v.shelf.slots) error → (turns before : ℕ)
+        → Step (state_of (record { stored = v; turns = before })) (Allocate request) (allocate_reply result)
         (state_of (record { stored = record { shelf = made; first = v.first; used = v.used; size = v.size; limit = v.limit }; turns = turns }))
-    refused-step error short turns before =
-        let P : Shelf → Type 0 = λ u. Step (state_of (record { stored = v; turns = before })) (Allocate request) (Refused error) (state_of (record { stored = record { shelf = u; first = v.first; used = v.used; size = v.size; limit = v.limit }; turns = turns })) in
-        subst P (sym same) (step-refused v a request p chosen_here sized.0.positive error (subst (λ n. IsShortOf v.used v.limit n (length v.shelf.slots) error) is_needed short))
+    refused-step result error is short turns before =
+        let after : Shelf → State = λ u. state_of (record { stored = record { shelf = u; first = v.first; used = v.used; size = v.size; limit = v.limit }; turns = turns }) in
+        let here : Step (state_of (record { stored = v; turns = before })) (Allocate request) (Refused error) (after v.shelf) =
+        step-refused v a request p chosen_here sized.0.positive error (subst (λ n. IsShortOf v.used v.limit n (length v.shelf.slots) error) is_needed short) in
+        subst (λ (r : Result (Option Allocation) AtlasError). Step (state_of (record { stored = v; turns = before })) (Allocate request) (allocate_reply r) (after made)) (sym is)
+        (subst (λ u. Step (state_of (record { stored = v; turns = before })) (Allocate request) (Refused error) (after u)) (sym same) here)
 
     module _ (capacity : ℕ) (ok : (v.used + needed ≤ v.limit) × ((v.used + needed ≤ length made.slots) ⊎ (v.used + needed ≤ capacity))) where
       grantable_here : IsGrantable made capacity (rounded (options_of v.shelf.options) request) p a.holding

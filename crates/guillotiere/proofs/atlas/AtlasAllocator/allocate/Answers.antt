@@ -1,5 +1,5 @@
 use Rattle.std.proofs.Common.{rules, ◌+◌, ◌≡◌, ◌≤◌, refl, ap, sym, ◌∙◌, arith}
-use Rattle.std.specs.Prelude.{vec_capacity}
+use Rattle.std.specs.Prelude.{vec_capacity, Err}
 use Rattle.guillotiere.specs.Pixels.{box_of, sides_of}
 use Rattle.guillotiere.specs.Holdings.{shelf_of}
 use Rattle.guillotiere.proofs.Observing.{used-IsAtlas}
@@ -26,7 +26,11 @@ pub make_room-requires-clause-used : goal.make_room-requires-clause-used
 make_room-requires-clause-used g c = omega (arith, used-IsAtlas _ c.self.invariant, c.self.invariant.sound.counted, c.self.invariant.sound.limited)
 
 pub returns-in_err-make_room-clause-step : goal.returns-in_err-make_room-clause-step
-returns-in_err-make_room-clause-step g c = let h = c.from_residual.ensures in let k = c.in_err-make_room.ensures.refused in ?
+returns-in_err-make_room-clause-step g c =
+    let same : c.from_residual.result ≡ Err c.in_err-make_room.field-0.0 = search rules in
+    rw (← c.self.view_is)
+    (refused-step _ c.self.invariant (sides_of c.args.requested_size) c.in-Some.size c.in-Some.ensures c.in-Some-choose.chosen c.in-Some-choose.ensures.some
+    (shelf_of c.make_room.new.store) c.make_room.ensures.same c.slots_needed-needed.result c.slots_needed-needed.ensures c.from_residual.result c.in_err-make_room.field-0.0 same c.in_err-make_room.ensures.refused c.make_room.new.store.turns.count c.self.inside.store.turns.count)
 
 pub granted-rectangle-requires-clause-measurable : goal.granted-rectangle-requires-clause-measurable
 granted-rectangle-requires-clause-measurable g c =
