@@ -1,5 +1,5 @@
 -- the free slot that a request takes, and how it is granted
-use Rattle.std.proofs.Common.{ℕ, ◌+◌, ◌<◌, ◌≤◌, ◌≡◌, ◌≢◌, List, [], ◌∷◌, length, Bool, true, false, refl, sym, ap, subst, ◌∙◌, ◌⊎◌, inl, inr, arith}
+use Rattle.std.proofs.Common.{ℕ, ◌<◌, ◌≡◌, List, [], length, true, false, refl, sym, ap, subst, ◌∙◌, inl, inr, arith}
 use Rattle.std.proofs.lemmas.List.{length-map}
 use Rattle.guillotiere.specs.declared.slots.Slot.{Slot}
 use Rattle.guillotiere.specs.declared.slots.Node.{Node}
@@ -11,14 +11,12 @@ use Rattle.guillotiere.specs.Boxes.{Sides, Box, origin, box_sides, Fits}
 use Rattle.guillotiere.specs.Pixels.{box_of, rectangle_of, options_of}
 use Rattle.guillotiere.specs.Choice.{IsPick}
 use Rattle.guillotiere.specs.Trees.{ungranted, leaves}
-use Rattle.guillotiere.specs.Slots.{nodes, node_at, use_count}
+use Rattle.guillotiere.specs.Slots.{nodes, node_at}
 use Rattle.guillotiere.specs.Numbered.{erase, id_of}
 use Rattle.guillotiere.specs.Reading.{extent_of}
-use Rattle.guillotiere.specs.Links.{with_mark}
-use Rattle.guillotiere.specs.Lists.{occurs}
 use Rattle.guillotiere.specs.Picks.{AreFreeBoxes, IsFreeSlot, IsSearchable}
 use Rattle.guillotiere.specs.Stored.{Shelf, Holding, Holds}
-use Rattle.guillotiere.specs.Holdings.{node_in, across_of, HasSlotsFor, with_loose, with_held}
+use Rattle.guillotiere.specs.Holdings.{node_in, across_of, with_loose, with_held}
 use Rattle.guillotiere.specs.Planning.{IsPlanFor, IsFeasible, IsPlaceableAt, IsPlanned}
 use Rattle.guillotiere.specs.Chosen.{IsAtRest, IsChosen, IsGrantable, IsGrantMade}
 use Rattle.guillotiere.proofs.Filing.{with_mark-same}
@@ -114,8 +112,11 @@ module _ (v v' : Shelf) (capacity capacity' : ℕ) (r : Sides) (p : Chosen) (h :
 
     pub grant-made : (id : ℕ) (node : Node) → node ≡ node_in new to → id ≡ id_of to node.generation → (to : ℕ) × (h' : Holding) × IsGrantMade new p id to h h'
     grant-made id node same is =
-        let q = placed_there.1 in
-        (to, placed_there.0, record {
-          planned = record { holds = q.holds; listed = q.listed; tree = q.tree; sequence = q.sequence; granted = q.granted; spare = q.spare };
-          names = is ∙ ap (λ (n : Node). id_of to n.generation) same;
-        })
+        let q = placed_there.1 in (
+          to,
+          placed_there.0,
+          record {
+            planned = record { holds = q.holds; listed = q.listed; tree = q.tree; sequence = q.sequence; granted = q.granted; spare = q.spare };
+            names = is ∙ ap (λ (n : Node). id_of to n.generation) same;
+          },
+        )

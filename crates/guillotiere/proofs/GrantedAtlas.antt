@@ -1,35 +1,32 @@
 -- Granting a request in an atlas.
-use Rattle.std.proofs.Common.{ℕ, ◌+◌, ◌-◌, ◌%◌, ◌^◌, ◌<◌, ◌≤◌, ◌≡◌, max, List, [], length, refl, sym, ap, subst, ◌∙◌, ◌⊎◌, inl, inr, arith}
-use Rattle.std.proofs.lemmas.List.{length-map}
+use Rattle.std.proofs.Common.{ℕ, ◌+◌, ◌%◌, ◌^◌, ◌<◌, ◌≤◌, ◌≡◌, max, List, length, refl, sym, ap, subst, ◌∙◌, ◌⊎◌, inl, inr, arith}
 use Rattle.std.specs.Prelude.{Option, Result, Err}
 use Rattle.guillotiere.specs.declared.allocation.Allocation.{Allocation}
 use Rattle.guillotiere.specs.Replies.{allocate_reply}
-use Rattle.guillotiere.specs.declared.slots.NodeKind.TheVariants as kind
-use Rattle.guillotiere.specs.declared.slots.Slot.{Slot}
 use Rattle.guillotiere.specs.declared.geometry.Size.{Size}
 use Rattle.guillotiere.specs.declared.geometry.Rectangle.{Rectangle}
 use Rattle.guillotiere.specs.declared.requests.Chosen.{Chosen}
 use Rattle.guillotiere.specs.declared.error.AtlasError.{AtlasError}
 use Rattle.guillotiere.specs.declared.error.AtlasError.TheVariants.{Memory, Slots, NotLive}
-use Rattle.guillotiere.specs.Boxes.{Sides, Box, Axis, other, side, origin, box_at, box_sides, Fits, IsPositive}
+use Rattle.guillotiere.specs.Boxes.{Sides, Box, other, side, origin, box_at, box_sides, Fits, IsPositive}
 use Rattle.guillotiere.specs.Pixels.{box_of, rectangle_of, sides_of, size_of, options_of}
 use Rattle.guillotiere.specs.Rectangles.{FitsInto, IsUnsigned}
 use Rattle.guillotiere.specs.Requests.{CanBeRounded}
-use Rattle.guillotiere.specs.Choice.{rounded, IsPick, IsFitting, HasNoRoom}
+use Rattle.guillotiere.specs.Choice.{rounded, IsFitting, HasNoRoom}
 use Rattle.guillotiere.specs.Trees.{Tree, Grant, ids, slot_count, ungranted, leaves}
 use Rattle.guillotiere.specs.Trees as tree
 use Rattle.guillotiere.specs.Changes.{place, place_need}
-use Rattle.guillotiere.specs.States.{State, IsSound, free_in, used_in, after_placing}
+use Rattle.guillotiere.specs.States.{State, free_in, after_placing}
 use Rattle.guillotiere.specs.Steps.{Step, Takes, Grants, nodes_with}
 use Rattle.guillotiere.specs.Steps.AtlasCall.{Allocate}
-use Rattle.guillotiere.specs.Steps.AtlasReply.{Refused, NoRoom}
-use Rattle.guillotiere.specs.Slots.{nodes, node_at, use_count}
+use Rattle.guillotiere.specs.Steps.AtlasReply.{Refused}
+use Rattle.guillotiere.specs.Slots.{nodes}
 use Rattle.guillotiere.specs.Numbered.{erase, numbers, id_of}
 use Rattle.guillotiere.specs.Reading.{tree_of}
 use Rattle.guillotiere.specs.Picks.{AreFreeBoxes}
-use Rattle.guillotiere.specs.Stored.{Stored, Shelf, Holding, Holds, IsAtlas, state_of}
-use Rattle.guillotiere.specs.Holdings.{node_in, HasSlotsFor}
-use Rattle.guillotiere.specs.Planning.{slots_of, IsPlanned}
+use Rattle.guillotiere.specs.Stored.{Stored, Shelf, Holding, IsAtlas, state_of}
+use Rattle.guillotiere.specs.Holdings.{node_in}
+use Rattle.guillotiere.specs.Planning.{slots_of}
 use Rattle.guillotiere.specs.Chosen.{IsAtRest, IsChosen, IsGrantable, IsGrantMade, IsShortOf}
 use Rattle.guillotiere.proofs.Picking.{no_room_unrounded}
 use Rattle.guillotiere.proofs.Rounding.{rounded_positive}
@@ -135,8 +132,16 @@ module _ (v : Stored) (a : IsAtlas v) (request : Sides) where
 
       kept-placed : length u.slots ≡ max (length v.shelf.slots) (tree.nodes (place (sides_of v.size) (box_of p.area) wanted id (tree_of (nodes v.shelf.slots))).members)
       kept-placed =
-          omega (arith, spare-count v.shelf a.holding a.holds, spare-count u h w.planned.holds, more, w.planned.spare, a.used, need,
-            place_nodes (sides_of v.size) (tree_of (nodes v.shelf.slots)) (box_of p.area) wanted id)
+          omega (
+            arith,
+            spare-count v.shelf a.holding a.holds,
+            spare-count u h w.planned.holds,
+            more,
+            w.planned.spare,
+            a.used,
+            need,
+            place_nodes (sides_of v.size) (tree_of (nodes v.shelf.slots)) (box_of p.area) wanted id,
+          )
 
       pub state-placing : (used turns : ℕ) → after used turns ≡ after_placing now (box_of p.area) wanted id
       state-placing used turns = state-placed (after used turns) now (box_of p.area) wanted id tree-placed refl (ap options_of same_options) refl kept-placed

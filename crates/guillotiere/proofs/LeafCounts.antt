@@ -1,18 +1,17 @@
 -- What is live and what is free, counted over the slots that hold a tree.
-use Rattle.std.proofs.Common.{ℕ, zero, suc, ◌+◌, ◌*◌, ◌<◌, ◌≤◌, ◌≡◌, Bool, true, false, cond, List, [], ◌∷◌, map, refl, sym, ap, ◌∙◌, arith}
+use Rattle.std.proofs.Common.{ℕ, ◌+◌, ◌*◌, ◌≡◌, Bool, true, false, cond, List, [], ◌∷◌, map, refl, sym, ap, ◌∙◌, arith}
 use Rattle.std.specs.List.{count_by}
 use Rattle.guillotiere.specs.declared.slots.Node.{Node}
 use Rattle.guillotiere.specs.declared.slots.NodeKind.{NodeKind}
 use Rattle.guillotiere.specs.declared.slots.NodeKind.TheVariants as kind
-use Rattle.guillotiere.specs.declared.geometry.Rectangle.{Rectangle}
-use Rattle.guillotiere.specs.Boxes.{Axis, Position, Box, other, moved}
+use Rattle.guillotiere.specs.Boxes.{Axis, Box, other, moved}
 use Rattle.guillotiere.specs.Boxes.Axis.{Horizontal, Vertical}
 use Rattle.guillotiere.specs.Pixels.{box_of}
-use Rattle.guillotiere.specs.Trees.{Grant, grant, Members}
+use Rattle.guillotiere.specs.Trees.{Grant, grant}
 use Rattle.guillotiere.specs.Slots.{node_at, use_count, no_slot}
 use Rattle.guillotiere.specs.Lists.{is_free}
 use Rattle.guillotiere.specs.Numbered.{Numbered, id_of, erase, End, Free, Alloc, Seq}
-use Rattle.guillotiere.specs.Standing.{Sequence, Standing, Stands, IsPlaced, inside, member_box, spot}
+use Rattle.guillotiere.specs.Standing.{Sequence, Standing, Stands, inside, member_box, spot}
 use Rattle.guillotiere.specs.Replies.{grant_of}
 use Rattle.guillotiere.specs.Visits.{is_alloc, allocation_at, allocated_from, free_areas}
 use Rattle.guillotiere.proofs.TreeBasics.{one_if, live_among, free_among, live_among-seq, free_among-seq}

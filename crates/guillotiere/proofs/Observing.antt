@@ -1,17 +1,17 @@
 -- What an atlas shows of its state, read from its slots.
-use Rattle.std.proofs.Common.{ℕ, zero, suc, ◌+◌, ◌<◌, ◌≤◌, ◌≡◌, Bool, List, [], ◌∷◌, map, length, refl, sym, ap, subst, ◌∙◌, arith}
+use Rattle.std.proofs.Common.{ℕ, ◌<◌, ◌≤◌, ◌≡◌, Bool, List, [], map, length, refl, sym, ap, subst, ◌∙◌, arith}
 use Rattle.std.specs.List.{count_by}
 use Rattle.std.proofs.lemmas.List.{length-map}
 use Rattle.guillotiere.specs.declared.slots.Slot.{Slot}
 use Rattle.guillotiere.specs.declared.slots.Node.{Node}
 use Rattle.guillotiere.specs.declared.slots.NodeKind.TheVariants as kind
-use Rattle.guillotiere.specs.Boxes.{Axis, Box, other, side, origin}
+use Rattle.guillotiere.specs.Boxes.{Axis, Box, side, origin}
 use Rattle.guillotiere.specs.Boxes.Axis.{Horizontal, Vertical}
 use Rattle.guillotiere.specs.Pixels.{box_of, sides_of}
 use Rattle.guillotiere.specs.Trees.{Grant, Members, IsOneFree, total, live, free_boxes}
 use Rattle.guillotiere.specs.Trees as tree
 use Rattle.guillotiere.specs.Slots.{nodes, node_at, use_count, no_slot}
-use Rattle.guillotiere.specs.Numbered.{Numbered, tally, first_slot, numbers, erase, End, Free, Alloc, Seq}
+use Rattle.guillotiere.specs.Numbered.{Numbered, tally, first_slot, erase, End, Free, Alloc, Seq}
 use Rattle.guillotiere.specs.Standing.{Sequence, Stands, spot}
 use Rattle.guillotiere.specs.Reading.{tree_of}
 use Rattle.guillotiere.specs.Replies.{grant_of}

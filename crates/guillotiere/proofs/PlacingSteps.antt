@@ -1,5 +1,5 @@
 -- the calls of the store, one after another, by which a plan is carried out
-use Rattle.std.proofs.Common.{ℕ, ◌+◌, ◌-◌, ◌<◌, ◌≤◌, ◌≡◌, ◌≢◌, List, [], ◌∷◌, length, Bool, true, false, refl, sym, ap, subst, ◌∙◌, ◌⊎◌, inl, inr, arith}
+use Rattle.std.proofs.Common.{ℕ, ◌+◌, ◌-◌, ◌≤◌, ◌≡◌, ◌≢◌, List, [], ◌∷◌, length, Bool, true, false, refl, sym, ap, subst, ◌∙◌, ◌⊎◌, inl, inr, arith}
 use Rattle.std.proofs.lemmas.Bool.{cases_eq}
 use Rattle.guillotiere.specs.declared.slots.Link.{Link}
 use Rattle.guillotiere.specs.declared.slots.Node.{Node}
@@ -8,7 +8,7 @@ use Rattle.guillotiere.specs.declared.cut.Orientation.{Orientation}
 use Rattle.guillotiere.specs.declared.cut.Orientation.TheVariants as orientation
 use Rattle.guillotiere.specs.declared.tree.Plan.{Plan}
 use Rattle.guillotiere.specs.Slots.{nodes, node_at, use_count, KeepsUse}
-use Rattle.guillotiere.specs.Numbered.{Numbered, tally, split_at, wrapped_at}
+use Rattle.guillotiere.specs.Numbered.{tally}
 use Rattle.guillotiere.specs.Lists.{occurs}
 use Rattle.guillotiere.specs.Links.{with_mark}
 use Rattle.guillotiere.specs.Reading.{extent_of}
@@ -132,8 +132,8 @@ split-stage v v' capacity capacity' n at k p ks h w s room l =
       slots = got.2;
       spared = got.3;
       fresh = (λ i m. fresh_slot v v' h (with_spare got.0 (after_split at k p h)) k i s.holds got.1
-        (omega (arith, same-self k, tally-split k at k p h.tree (free_once (nodes v.slots) at h.sequence h.tree leaf.kind s.holds.stands)))
-        (s.free i m));
+          (omega (arith, same-self k, tally-split k at k p h.tree (free_once (nodes v.slots) at h.sequence h.tree leaf.kind s.holds.stands)))
+          (s.free i m));
     }
 
 -- what is told of a wrapping
@@ -175,8 +175,8 @@ wrap-stage v v' capacity capacity' n at k ks h w s room l =
       slots = got.2;
       spared = got.3;
       fresh = (λ i m. fresh_slot v v' h (with_spare got.0 (after_wrap at k h)) k i s.holds got.1
-        (omega (arith, same-self k, tally-wrapped k at k h.sequence.width h.tree (free_once (nodes v.slots) at h.sequence h.tree leaf.kind s.holds.stands)))
-        (s.free i m));
+          (omega (arith, same-self k, tally-wrapped k at k h.sequence.width h.tree (free_once (nodes v.slots) at h.sequence h.tree leaf.kind s.holds.stands)))
+          (s.free i m));
     }
 
 -- what is told of a wrapping in two
@@ -282,7 +282,7 @@ across-inner leaf at unused = by_axis leaf.axis
 
 pub is-split : (v v' : Shelf) (capacity capacity' p : ℕ) (at k : Link)
     → ((h : Holding) (n : ℕ) → IsLooseLeaf v at.number h → HasSlotsFor (n + 1) capacity v h
-        → (spare : List ℕ) × Holds v' (with_spare spare (after_split at.number k.number p h)) × HasSlotsFor n capacity' v' (with_spare spare h) × (length spare ≡ length h.spare - 1))
+    → (spare : List ℕ) × Holds v' (with_spare spare (after_split at.number k.number p h)) × HasSlotsFor n capacity' v' (with_spare spare h) × (length spare ≡ length h.spare - 1))
     → node_in v' at.number ≡ front_node (node_in v at.number) p k
     → (unused : Node) × (node_in v' k.number ≡ back_node (node_in v at.number) p at unused)
     → k.number ≢ at.number
@@ -299,7 +299,7 @@ is-split v v' capacity capacity' p at k kept front back apart others = record {
 
 pub is-wrapped : (v v' : Shelf) (capacity capacity' : ℕ) (at k : Link)
     → ((h : Holding) (n : ℕ) → IsLooseLeaf v at.number h → HasSlotsFor (n + 1) capacity v h
-        → (spare : List ℕ) × Holds v' (with_spare spare (after_wrap at.number k.number h)) × HasSlotsFor n capacity' v' (with_spare spare h) × (length spare ≡ length h.spare - 1))
+    → (spare : List ℕ) × Holds v' (with_spare spare (after_wrap at.number k.number h)) × HasSlotsFor n capacity' v' (with_spare spare h) × (length spare ≡ length h.spare - 1))
     → (unused : Node) × (node_in v' k.number ≡ inner_node (node_in v at.number) at unused)
     → k.number ≢ at.number
     → ((i : ℕ) → i ≢ at.number → i ≢ k.number → KeepsUse (node_in v i) (node_in v' i))
@@ -315,7 +315,7 @@ is-wrapped v v' capacity capacity' at k kept inner apart others = record {
 
 pub is-wrapped_two : (v v' : Shelf) (capacity capacity' p : ℕ) (at k j : Link)
     → ((h : Holding) (n : ℕ) → IsLooseLeaf v at.number h → HasSlotsFor (n + 2) capacity v h
-        → (spare : List ℕ) × Holds v' (with_spare spare (after_split k.number j.number p (after_wrap at.number k.number h))) × HasSlotsFor n capacity' v' (with_spare spare h) × (length spare ≡ length h.spare - 2))
+    → (spare : List ℕ) × Holds v' (with_spare spare (after_split k.number j.number p (after_wrap at.number k.number h))) × HasSlotsFor n capacity' v' (with_spare spare h) × (length spare ≡ length h.spare - 2))
     → (unused : Node) × (node_in v' k.number ≡ front_node (inner_node (node_in v at.number) at unused) p j)
     → (unused : Node) × (o : Node) × (node_in v' j.number ≡ back_node (inner_node (node_in v at.number) at unused) p k o)
     → k.number ≢ at.number
@@ -336,7 +336,7 @@ is-wrapped_two v v' capacity capacity' p at k j kept front back front_apart back
 
 pub is-split_at : (v v' : Shelf) (capacity capacity' p q : ℕ) (at k : Link) → q ≡ p
     → ((h : Holding) (n : ℕ) → IsLooseLeaf v at.number h → HasSlotsFor (n + 1) capacity v h
-        → (spare : List ℕ) × Holds v' (with_spare spare (after_split at.number k.number q h)) × HasSlotsFor n capacity' v' (with_spare spare h) × (length spare ≡ length h.spare - 1))
+    → (spare : List ℕ) × Holds v' (with_spare spare (after_split at.number k.number q h)) × HasSlotsFor n capacity' v' (with_spare spare h) × (length spare ≡ length h.spare - 1))
     → node_in v' at.number ≡ front_node (node_in v at.number) q k
     → (unused : Node) × (node_in v' k.number ≡ back_node (node_in v at.number) q at unused)
     → k.number ≢ at.number
@@ -347,7 +347,7 @@ is-split_at v v' capacity capacity' p q at k e kept front back apart others =
 
 pub is-wrapped_two_at : (v v' : Shelf) (capacity capacity' p q : ℕ) (at k j : Link) → q ≡ p
     → ((h : Holding) (n : ℕ) → IsLooseLeaf v at.number h → HasSlotsFor (n + 2) capacity v h
-        → (spare : List ℕ) × Holds v' (with_spare spare (after_split k.number j.number q (after_wrap at.number k.number h))) × HasSlotsFor n capacity' v' (with_spare spare h) × (length spare ≡ length h.spare - 2))
+    → (spare : List ℕ) × Holds v' (with_spare spare (after_split k.number j.number q (after_wrap at.number k.number h))) × HasSlotsFor n capacity' v' (with_spare spare h) × (length spare ≡ length h.spare - 2))
     → (unused : Node) × (node_in v' k.number ≡ front_node (inner_node (node_in v at.number) at unused) q j)
     → (unused : Node) × (o : Node) × (node_in v' j.number ≡ back_node (inner_node (node_in v at.number) at unused) q k o)
     → k.number ≢ at.number

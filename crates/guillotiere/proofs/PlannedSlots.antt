@@ -1,11 +1,11 @@
 -- the slot that a plan grants was not allocated, and the first slot stays
-use Rattle.std.proofs.Common.{ℕ, ◌+◌, ◌<◌, ◌≤◌, ◌≡◌, ◌⊎◌, inl, inr, refl, sym, ap, ◌∙◌, arith}
+use Rattle.std.proofs.Common.{ℕ, ◌<◌, ◌≤◌, ◌≡◌, ◌⊎◌, inl, inr, sym, ap, ◌∙◌, arith}
 use Rattle.guillotiere.specs.declared.tree.Plan.{Plan}
 use Rattle.guillotiere.specs.declared.tree.Plan.TheVariants as plan
 use Rattle.guillotiere.specs.declared.slots.NodeKind.TheVariants as kind
 use Rattle.guillotiere.specs.Pixels.{natural}
 use Rattle.guillotiere.specs.Slots.{nodes, use_count}
-use Rattle.guillotiere.specs.Numbered.{Numbered, tally, same, first_slot, granted_at, split_at, wrapped_at}
+use Rattle.guillotiere.specs.Numbered.{Numbered, tally, first_slot, split_at, wrapped_at}
 use Rattle.guillotiere.specs.Stored.{Shelf, Holding, Holds}
 use Rattle.guillotiere.specs.Holdings.{node_in}
 use Rattle.guillotiere.specs.Planning.{IsPlannedTree, IsPlanned}

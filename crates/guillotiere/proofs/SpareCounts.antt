@@ -1,9 +1,9 @@
 -- how many slots are unused
-use Rattle.std.proofs.Common.{ℕ, zero, suc, ◌+◌, ◌<◌, ◌≤◌, ◌≡◌, List, [], ◌∷◌, length, refl, sym, ap, ◌∙◌, inl, inr, arith}
+use Rattle.std.proofs.Common.{ℕ, zero, suc, ◌+◌, ◌<◌, ◌≤◌, ◌≡◌, List, [], ◌∷◌, length, refl, ap, inl, inr, arith}
 use Rattle.std.proofs.lemmas.Bool.{cases_eq}
 use Rattle.std.proofs.lemmas.List.{length-map}
 use Rattle.guillotiere.specs.declared.slots.Ring.{Ring}
-use Rattle.guillotiere.specs.Slots.{nodes, rings, node_at, use_count}
+use Rattle.guillotiere.specs.Slots.{nodes, rings}
 use Rattle.guillotiere.specs.Numbered.{Numbered, tally, same, numbers}
 use Rattle.guillotiere.specs.Lists.{Line, occurs}
 use Rattle.guillotiere.specs.Stored.{Shelf, Holding, Holds}

@@ -1,10 +1,10 @@
 -- A slot is taken and put to use at once.
-use Rattle.std.proofs.Common.{ℕ, ◌+◌, ◌-◌, [], ◌∷◌, ◌<◌, ◌≤◌, ◌≡◌, ◌≢◌, List, refl, sym, ap, ◌∙◌, arith, length, true, inl, inr, subst, vec_capacity, Bool, false}
+use Rattle.std.proofs.Common.{ℕ, ◌-◌, [], ◌∷◌, ◌≡◌, ◌≢◌, List, refl, sym, ◌∙◌, arith, length, true, inl, inr, subst, vec_capacity, false}
 use Rattle.guillotiere.specs.declared.store.Store.{Store}
 use Rattle.guillotiere.specs.declared.slots.NodeKind.TheVariants as kind
 use Rattle.guillotiere.specs.Links.{with_count, with_mark, rest_of}
-use Rattle.guillotiere.specs.Stored.{Shelf, Holding, Holds, HoldsWith}
-use Rattle.guillotiere.specs.Holdings.{shelf_of, node_in, HasSlotsFor, IsLooseLeaf, IsReadyWith, KeepsRoom, with_spare, after_take, after_split, after_wrap}
+use Rattle.guillotiere.specs.Stored.{Shelf, Holding, HoldsWith}
+use Rattle.guillotiere.specs.Holdings.{shelf_of, node_in, HasSlotsFor, IsReadyWith, KeepsRoom, after_take, after_wrap}
 use Rattle.guillotiere.proofs.Filing.{with_count-same, with_count-other, with_mark-same, with_mark-other}
 use Rattle.std.proofs.lemmas.Bool.{cases_eq}
 use Rattle.guillotiere.proofs.StoreSteps.{holds-hand, hand-back, apart-kinds}

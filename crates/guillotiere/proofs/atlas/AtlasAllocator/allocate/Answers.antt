@@ -1,4 +1,4 @@
-use Rattle.std.proofs.Common.{rules, ◌+◌, ◌≡◌, ◌≤◌, refl, ap, sym, ◌∙◌, arith}
+use Rattle.std.proofs.Common.{rules, ◌≡◌, refl, arith}
 use Rattle.std.specs.Prelude.{vec_capacity, Err}
 use Rattle.guillotiere.specs.Pixels.{box_of, sides_of}
 use Rattle.guillotiere.specs.Holdings.{shelf_of}
@@ -63,4 +63,4 @@ returns-clause-step g c =
 pub returns-clause-exact : goal.returns-clause-exact
 returns-clause-exact g c =
     unsigned_of c.granted-rectangle.result _ (c.granted-rectangle.ensures.boxes (box_of c.in-Some-choose.chosen.area)
-      (area-unsigned _ c.self.invariant (sides_of c.args.requested_size) c.in-Some.size c.in-Some.ensures c.in-Some-choose.chosen c.in-Some-choose.ensures.some))
+    (area-unsigned _ c.self.invariant (sides_of c.args.requested_size) c.in-Some.size c.in-Some.ensures c.in-Some-choose.chosen c.in-Some-choose.ensures.some))

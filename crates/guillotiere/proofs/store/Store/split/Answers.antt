@@ -1,4 +1,4 @@
-use Rattle.std.proofs.Common.{◌∙◌, ◌≡◌, ap, refl, ℕ, subst, sym, to_z, of_z, w32, vec_capacity}
+use Rattle.std.proofs.Common.{◌≡◌, ap, refl, ℕ, subst, to_z, of_z, w32}
 use Rattle.std.proofs.lemmas.Int.{to_z-of_z}
 use Rattle.guillotiere.specs.Pixels.{natural}
 use Rattle.guillotiere.specs.Parts.{back_node}

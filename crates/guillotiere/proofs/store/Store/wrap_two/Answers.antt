@@ -1,12 +1,11 @@
-use Rattle.std.proofs.Common.{◌∙◌, ◌≡◌, ◌≢◌, ◌+◌, ◌<◌, ap, refl, ℕ, subst, sym, arith, to_z, of_z, w32, vec_capacity}
+use Rattle.std.proofs.Common.{◌∙◌, ◌≡◌, ◌≢◌, ◌+◌, ap, ℕ, subst, sym, arith, to_z, of_z, w32, vec_capacity}
 use Rattle.std.proofs.lemmas.Int.{to_z-of_z}
 use Rattle.guillotiere.specs.declared.slots.Node.{Node}
-use Rattle.guillotiere.specs.declared.slots.NodeKind.TheVariants.{Free, Container}
 use Rattle.guillotiere.specs.Pixels.{natural}
 use Rattle.guillotiere.specs.Parts.{front_node, back_node, inner_node}
 use Rattle.guillotiere.specs.Slots.{KeepsUse}
 use Rattle.guillotiere.specs.Links.{with_count, rest_of}
-use Rattle.guillotiere.specs.Stored.{Holding, Holds, HoldsWith}
+use Rattle.guillotiere.specs.Stored.{Holding, HoldsWith}
 use Rattle.guillotiere.specs.Holdings.{shelf_of, node_in, HasSlotsFor, IsLooseLeaf, after_take, after_split, after_wrap}
 use Rattle.guillotiere.proofs.Filing.{with_count-same}
 use Rattle.guillotiere.proofs.StoreSteps.{holds-hand}
