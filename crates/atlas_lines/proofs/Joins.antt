@@ -13,7 +13,7 @@ use Rattle.atlas_lines.specs.Machine.{ToolState}
 use Rattle.atlas_lines.specs.Replies.{bad_line_text}
 use Rattle.atlas_lines.specs.Texts.{IsBad, LineOwes, OwesText}
 use Rattle.atlas_lines.specs.Progress.{Place, state_at, Advances, IsCertainlyBad, MeetsBadLine, OwesBeginning, Stops, Continues, EndsBadly, LineEnds}
-use Rattle.atlas_lines.proofs.Known.{Appends_twice}
+use Rattle.atlas_lines.proofs.Known.{Appends_none, Appends_twice}
 
 pub all_ended_twice : (xs ys : List (List ℕ)) → all_ended (xs ++ ys) ≡ all_ended xs ++ all_ended ys
 all_ended_twice [] ys = refl
@@ -226,3 +226,18 @@ block_stops end a b block i s o p q h f w step =
     let parts : take (i + 1) block ++ drop (i + 1) block ≡ block = take-append-drop (i + 1) block in
     subst P parts (stops_before end a (take (i + 1) block) (drop (i + 1) block) o q
     (subst P (sym (take_more block i 0 h)) (stops_after end a b (take i block) (get_or block i 0 ∷ []) s o p q f w step)))
+
+-- a byte that goes on with the line
+pub byte_continues : (inside old : Place) (byte : ℕ) (line : List ℕ) (o : Option (List ℕ)) → inside ≡ old → line ≡ inside.line ++ byte ∷ []
+    → Continues None old (byte ∷ []) (record { held = inside.held; line = line; number = inside.number }) o o
+byte_continues inside old byte line o e f = (
+  [],
+  record {
+    lines = [];
+    whole = ap (λ (p : Place). p.line ++ byte ∷ []) (sym e) ∙ sym f;
+    each = tt;
+    number = (let n : inside.number ≡ old.number = ap (λ (p : Place). p.number) e in omega arith);
+    owed = (refl, ap (λ (p : Place). state_at p) e);
+  },
+  Appends_none o,
+)

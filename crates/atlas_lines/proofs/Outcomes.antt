@@ -1,5 +1,5 @@
 -- How a run ends, told of the lines of its input.
-use Rattle.std.proofs.Common.{◌≡◌, ℕ, ◌+◌, ◌<◌, ◌≢◌, ◌⊎◌, inl, inr, List, [], ◌∷◌, ◌++◌, length, take, unwrap_or, Option, Some, None, Result, Ok, Err, refl, sym, ap, ◌∙◌, subst, arith, append_assoc, append-nil, length-append}
+use Rattle.std.proofs.Common.{◌≡◌, ℕ, ◌+◌, ◌<◌, ◌≤◌, ◌≢◌, ◌⊎◌, inl, inr, List, [], ◌∷◌, ◌++◌, length, take, unwrap_or, Option, Some, None, Result, Ok, Err, false, refl, sym, ap, ◌∙◌, subst, arith, append_assoc, append-nil, length-append}
 use Rattle.std.proofs.lemmas.Bool.{cases_eq}
 use Rattle.std.specs.List.{AllByRecursion}
 use Rattle.std.specs.Io.KnownBytes.{Consumes, IsAtEnd}
@@ -7,14 +7,14 @@ use Rattle.atlas_lines.specs.declared.run.ToolEnd.{ToolEnd}
 use Rattle.atlas_lines.specs.declared.run.ToolEnd.TheVariants.{Done, BadLine, Limit}
 use Rattle.atlas_lines.specs.declared.run.ToolFault.{ToolFault}
 use Rattle.atlas_lines.specs.declared.run.ToolFault.TheVariants.{Read, Write}
-use Rattle.atlas_lines.specs.Devices.{Holds, WritesBeginning}
+use Rattle.atlas_lines.specs.Devices.{KeepsOrHides, Holds, WritesBeginning}
 use Rattle.atlas_lines.specs.Lines.{HasNoEnd, ended, all_ended, ArePieces, AreLines, last_line}
 use Rattle.atlas_lines.specs.Machine.{ToolState, state_of, at_start}
 use Rattle.atlas_lines.specs.Replies.{bad_line_text}
 use Rattle.atlas_lines.specs.Texts.{IsBad, LineOwes, OwesText}
-use Rattle.atlas_lines.specs.Ends.{OwesFirst, OwesToBadLine, EndsAtEnd, EndsAtWrite, Ends}
-use Rattle.atlas_lines.specs.Progress.{Place, state_at, place_at_start, Advances, IsCertainlyBad, MeetsBadLine, OwesBeginning, Stops, Continues, RepliesTo, LineEnds, HasRun}
-use Rattle.atlas_lines.proofs.Known.{Appends_none, Appends_twice, Consumes_none, Consumes_nothing, Consumes_twice, Holds_at_end, Holds_with_rest}
+use Rattle.atlas_lines.specs.Ends.{is_read_fault, is_write_fault, OwesFirst, OwesToBadLine, EndsAtEnd, EndsAtRead, EndsAtWrite, Ends}
+use Rattle.atlas_lines.specs.Progress.{Place, state_at, place_at_start, Advances, IsCertainlyBad, MeetsBadLine, OwesBeginning, Stops, Continues, RepliesTo, LineEnds, HasRun, is_write_end}
+use Rattle.atlas_lines.proofs.Known.{Appends_none, Appends_twice, Consumes_none, Consumes_nothing, Consumes_twice, ReadsBeginning_kept, Holds_at_end, Holds_with_rest}
 use Rattle.atlas_lines.proofs.Joins.{all_ended_twice, each_twice, owes_twice, advance_none, advance_twice, stops_after, meets_more, WritesBeginning_after}
 
 -- the lines and the rest of some bytes
@@ -155,6 +155,12 @@ pub run_starts : (input output : Option (List ℕ)) (place : Place) → place �
 run_starts input output place e =
     subst (λ p. HasRun input input output output p 0) (sym e)
     (record { bytes = []; text = []; read = Consumes_none input; counted = refl; advances = advance_none place_at_start; written = Appends_none output })
+
+pub no_end_at_start : (place : Place) → place ≡ place_at_start → HasNoEnd place.line
+no_end_at_start place e = subst (λ (p : Place). HasNoEnd p.line) (sym e) tt
+
+pub no_room_at_start : (place : Place) → place ≡ place_at_start → place.number + length place.line ≤ 0
+no_room_at_start place e = subst (λ (p : Place). p.number + length p.line ≤ 0) (sym e) (omega arith)
 
 -- one more block
 pub run_goes_on : (i j k o p q : Option (List ℕ)) (old new : Place) (block : List ℕ) (n m : ℕ) → HasRun i j o p old n → Consumes j k block → Continues None old block new p q → length block + n ≡ m
@@ -303,3 +309,30 @@ input_ends result end i j k o p q place new n count buffer is run zero read at_e
     } in
     let P : Result ToolEnd ToolFault → Type 0 = λ r. Ends r i k o q in
     subst P (sym is) (last_line_ends end i k o p q place new n here at_end no_end ends)
+
+-- a run that was answered in full or in part isn't one that ended at a read
+pub end_not_read : (end : Option (Result ToolEnd ToolFault)) (place new : Place) (p q : Option (List ℕ)) → LineEnds end place new p q → is_read_fault (unwrap_or end (Ok Done)) ≡ false
+end_not_read None place new p q ends = refl
+end_not_read (Some (Ok end)) place new p q ends = refl
+end_not_read (Some (Err Write)) place new p q ends = refl
+end_not_read (Some (Err Read)) place new p q (inl bad) = absurd bad.1
+end_not_read (Some (Err Read)) place new p q (inr reply) = absurd (let e = reply.0 in cc)
+
+pub end_is_write : (end : Option (Result ToolEnd ToolFault)) → is_write_end end ≡ is_write_fault (unwrap_or end (Ok Done))
+end_is_write None = refl
+end_is_write (Some end) = refl
+
+pub stop_not_read : (end : Result ToolEnd ToolFault) (place : Place) (bytes : List ℕ) (p q : Option (List ℕ)) → Stops end place bytes p q → is_read_fault end ≡ false
+stop_not_read (Ok end) place bytes p q stops = refl
+stop_not_read (Err Write) place bytes p q stops = refl
+stop_not_read (Err Read) place bytes p q stops = absurd stops
+
+-- a read that failed
+pub read_ends : (i j k o p : Option (List ℕ)) (place : Place) (n : ℕ) → HasRun i j o p place n → KeepsOrHides j k → HasNoEnd place.line → EndsAtRead i k o p
+read_ends i j k o p place n run kept no_end = record {
+  bytes = run.bytes;
+  text = run.text;
+  read = ReadsBeginning_kept i j k run.bytes run.read kept;
+  owes = record { lines = run.advances.lines; rest = place.line; state = state_at place; pieces = record { whole = run.advances.whole; each = run.advances.each; partial = no_end }; owed = run.advances.owed };
+  written = run.written;
+}

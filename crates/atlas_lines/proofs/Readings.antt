@@ -1,16 +1,16 @@
 -- An input has one list of lines, and a line one command.
-use Rattle.std.proofs.Common.{◌≡◌, ℕ, ◌≢◌, ◌^◌, ℤ, pos, neg_ℤ, List, [], ◌∷◌, ◌++◌, refl, sym, ap, ◌∙◌, subst, inl, inr, arith, append_assoc, append-nil}
+use Rattle.std.proofs.Common.{◌≡◌, ℕ, ℤ, pos, neg_ℤ, List, [], ◌∷◌, ◌++◌, refl, sym, ap, ◌∙◌, subst, inl, inr, arith, append_assoc}
 use Rattle.std.specs.Char.{digit_value}
 use Rattle.std.specs.List.{AllByRecursion}
-use Rattle.std.specs.Str.Parse.{AllDigits, IsNumeral, digits_value}
+use Rattle.std.specs.Str.Parse.{IsNumeral, digits_value}
 use Rattle.guillotiere.specs.declared.geometry.Size.{Size}
 use Rattle.atlas_lines.specs.declared.commands.Command.{Command}
 use Rattle.atlas_lines.specs.declared.commands.Command.TheVariants.{Simple, Take}
-use Rattle.atlas_lines.specs.Grammar.{SpellsNumber, SpellsSize, SpellsArguments, Spells, keyword}
-use Rattle.atlas_lines.specs.Lines.{HasNoEnd, ended, all_ended, ArePieces, AreLines, last_line}
+use Rattle.atlas_lines.specs.Grammar.{SpellsNumber, SpellsSize, Spells, keyword}
+use Rattle.atlas_lines.specs.Lines.{HasNoEnd, ended, all_ended, AreLines, last_line}
 use Rattle.atlas_lines.specs.Words.{BeginsWithWord, BeginsWithNumber}
 use Rattle.atlas_lines.proofs.Parting.{one_word, number_no_space, same_size, size_begins}
-use Rattle.atlas_lines.proofs.Keywords.{only_simple, only_take, keyword_no_space, arguments_spaced, first_is_keyword}
+use Rattle.atlas_lines.proofs.Keywords.{only_simple, only_take, keyword_no_space, arguments_spaced}
 use Rattle.atlas_lines.proofs.Outcomes.{parted}
 
 -- ---- lines

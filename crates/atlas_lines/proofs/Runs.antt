@@ -1,5 +1,9 @@
 -- The steps of a run, and how they join.
-use Rattle.std.proofs.Common.{◌≡◌, ℕ, ◌+◌, ◌<◌, ◌≤◌, inr, List, [], ◌∷◌, length, Option, Some, None, refl, sym, ap, ◌∙◌, subst, arith}
+use Rattle.std.proofs.Common.{◌≡◌, ℕ, ◌+◌, ◌<◌, ◌≤◌, inr, List, [], ◌∷◌, length, Option, Some, None, refl, sym, ap, ◌∙◌, subst, arith, ℤ, pos, negsuc, ◌≤ℤ◌, ◌⊎◌, inl}
+use Rattle.std.proofs.lemmas.Int.{ints}
+use Rattle.guillotiere.specs.declared.geometry.Size.{Size}
+use Rattle.guillotiere.specs.Boxes.{IsPositive}
+use Rattle.guillotiere.specs.Pixels.{natural, sides_of}
 use Rattle.std.specs.Io.KnownBytes.{Appends}
 use Rattle.atlas_lines.specs.declared.commands.Command.{Command}
 use Rattle.atlas_lines.specs.declared.replies.Reply.{Reply}
@@ -17,6 +21,12 @@ bad_unread line text read e some none only =
       λ empty. omega (arith, ap length empty),
       λ command spells. let P : List ℕ → Type 0 = Spells command in let is = only command (subst P (sym e) spells) in absurd (cc),
     )
+
+-- a step from what a place holds
+pub step_from : (inside place : Place) (command : Command) (reply : Reply) (new : ToolState) → inside ≡ place → ToolStep (state_at inside) command reply new → ToolStep (state_at place) command reply new
+step_from inside place command reply new e step =
+    let P : Place → Type 0 = λ p. ToolStep (state_at p) command reply new in
+    subst P e step
 
 -- what a command's line owes
 pub owed_by : (old new : ToolState) (line text : List ℕ) (command : Command) (reply : Reply) → text ≡ line → 0 < length line → length line ≤ 120
@@ -49,3 +59,12 @@ pub skipped : (old middle new : Place) (out_old out_new : Option (List ℕ)) →
     → new ≡ record { held = middle.held; line = []; number = middle.number + 1 } → RepliesTo old new out_old out_new
 skipped old middle new out_old out_new none same e f =
     replied old middle new old.held out_old out_old out_new [] (owed_nothing (state_at old) old.line none) (Appends_none out_old) same e f
+
+not_above : (z : ℤ) → z ≤ℤ pos 0 → 0 < natural z → ⊥
+not_above (pos n) low high = omega (arith, ints)
+not_above (negsuc n) low high = omega arith
+
+-- a size with a side of 0 or less has no positive sides
+pub empty_size : (size : Size) → (size.width ≤ℤ pos 0) ⊎ (size.height ≤ℤ pos 0) → IsPositive (sides_of size) → ⊥
+empty_size size (inl width) positive = not_above size.width width positive.0
+empty_size size (inr height) positive = not_above size.height height positive.1

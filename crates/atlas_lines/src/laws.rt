@@ -8,11 +8,9 @@ ghost use Rattle.atlas_lines.specs.Lines.{AreLines};
 pub fn one_reading()
     ensures some { (input : List ℕ) → (lines : List (List ℕ)) × AreLines input lines }
     ensures only { (input : List ℕ) (lines others : List (List ℕ)) → AreLines input lines → AreLines input others → lines ≡ others }
-{
-}
+{}
 
 /// No line spells two commands.
 pub fn one_command()
     ensures { (line : List ℕ) (command other : Command) → Spells command line → Spells other line → command ≡ other }
-{
-}
+{}

@@ -38,6 +38,19 @@ const LINE: usize = 120;
 // How many bytes are asked for at once.
 const BLOCK: usize = 4096;
 
+// How many bytes are asked for, where so many may still be read.
+fn room(left: u64) -> usize
+    ensures within { result ≤ left }
+    ensures short { result ≤ 4096 }
+    ensures some { 0 < left → 0 < result }
+{
+    if left < BLOCK as u64 {
+        left as usize
+    } else {
+        BLOCK
+    }
+}
+
 // The tool, the line that has begun, and how many lines came before it.
 #[derive(Drop)]
 struct Progress<A: Allocator + Copy> {
@@ -154,6 +167,37 @@ impl<A: Allocator + Copy> Progress<A> {
         }
         None
     }
+
+    // Reads to the end of the run, from its start.
+    fn run<R: ToolInput, W: ToolOutput>(
+        &mut self,
+        input: &mut R,
+        output: &mut W,
+    ) -> Result<ToolEnd, ToolFault>
+        requires start { self.old ≡ place_at_start }
+        requires input { R.has_failed input.old ≡ false }
+        requires output { W.has_failed output.old ≡ false }
+        ensures ends { Ends result (R.remaining input.old) (R.remaining input.new) (W.contents output.old) (W.contents output.new) }
+        ensures read_failed { R.has_failed input.new ≡ is_read_fault result }
+        ensures write_failed { W.has_failed output.new ≡ is_write_fault result }
+    {
+        let mut left = u64::MAX;
+        let mut buffer = [0u8; BLOCK];
+        while left > 0 {
+            let piece = &mut buffer[..room(left)];
+            let Some(count) = input.read(piece) else {
+                return Err(ToolFault::Read);
+            };
+            if count == 0 {
+                return self.end_line(output).unwrap_or(Ok(ToolEnd::Done));
+            }
+            left -= count as u64;
+            if let Some(end) = self.take_block(&piece[..count], output) {
+                return end;
+            }
+        }
+        Ok(ToolEnd::Limit)
+    }
 }
 
 /// Carries out the lines that the reader gives, one after another, and writes their replies, up to the reader's end, the
@@ -171,26 +215,7 @@ pub fn run_lines<A: Allocator + Copy, R: ToolInput, W: ToolOutput>(
     ensures read_failed { R.has_failed input.new ≡ is_read_fault result }
     ensures write_failed { W.has_failed output.new ≡ is_write_fault result }
 {
-    let mut progress = Progress::new(alloc);
-    let mut left = u64::MAX;
-    let mut buffer = [0u8; BLOCK];
-    while left > 0 {
-        let room = if left < BLOCK as u64 {
-            left as usize
-        } else {
-            BLOCK
-        };
-        let piece = &mut buffer[..room];
-        let Some(count) = input.read(piece) else {
-            return Err(ToolFault::Read);
-        };
-        if count == 0 {
-            return progress.end_line(output).unwrap_or(Ok(ToolEnd::Done));
-        }
-        left -= count as u64;
-        if let Some(end) = progress.take_block(&piece[..count], output) {
-            return end;
-        }
-    }
-    Ok(ToolEnd::Limit)
+    // A reference is small, whatever the allocator is, so that all of this lies on the stack.
+    let mut progress = Progress::new(&alloc);
+    progress.run(input, output)
 }

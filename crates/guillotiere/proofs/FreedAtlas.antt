@@ -1,13 +1,11 @@
 -- Freeing the box of a live id in an atlas.
-use Rattle.std.proofs.Common.{ℕ, ◌+◌, ◌-◌, ◌*◌, ◌/◌, ◌%◌, ◌^◌, ◌<◌, ◌≤◌, ◌≡◌, ◌↔◌, max, Bool, true, false, List, [], Option, Some, None, length, refl, sym, ap, subst, ◌∙◌, arith, Contains, ◌≢◌}
+use Rattle.std.proofs.Common.{ℕ, ◌+◌, ◌-◌, ◌/◌, ◌%◌, ◌^◌, ◌<◌, ◌≤◌, ◌≡◌, ◌↔◌, max, Bool, true, false, List, Option, Some, None, length, refl, sym, ap, subst, ◌∙◌, arith, Contains}
 use Rattle.std.specs.Option.{IfSome, IfNone, is_some}
 use Rattle.std.proofs.lemmas.Bool.{and_parts, eqb-true, false≢true}
-use Rattle.std.proofs.lemmas.List.{length-map}
 use Rattle.guillotiere.specs.declared.slots.Slot.{Slot}
 use Rattle.guillotiere.specs.declared.slots.Node.{Node}
 use Rattle.guillotiere.specs.declared.slots.NodeKind.TheVariants as kind
-use Rattle.guillotiere.specs.declared.options.AllocatorOptions.{AllocatorOptions}
-use Rattle.guillotiere.specs.Pixels.{sides_of, options_of}
+use Rattle.guillotiere.specs.Pixels.{options_of}
 use Rattle.guillotiere.specs.Trees.{Tree, ids, IsNormal}
 use Rattle.guillotiere.specs.Trees as tree
 use Rattle.guillotiere.specs.Changes.{nf, mark, only, release}
@@ -15,7 +13,7 @@ use Rattle.guillotiere.specs.States.{State, IsSound, after_freeing, used_in}
 use Rattle.guillotiere.specs.Slots.{nodes, node_at, use_count, no_slot}
 use Rattle.guillotiere.specs.Numbered.{Numbered, tally, first_slot, numbers, erase, id_of, End, Free, Alloc, Seq}
 use Rattle.guillotiere.specs.Reading.{tree_of}
-use Rattle.guillotiere.specs.Stored.{Stored, Shelf, Holding, Holds, IsAtlas, state_of}
+use Rattle.guillotiere.specs.Stored.{Stored, Shelf, Holding, IsAtlas, state_of}
 use Rattle.guillotiere.specs.Visits.{is_named}
 use Rattle.guillotiere.specs.Freeing.{IsFreeable, IsFreed}
 use Rattle.guillotiere.proofs.Frames.{same-self}
@@ -24,7 +22,7 @@ use Rattle.guillotiere.proofs.Reading.{IsNonempty, tree_of-Stands}
 use Rattle.guillotiere.proofs.Normal.{numbers-erase}
 use Rattle.guillotiere.proofs.TreeCounts.{release_nodes}
 use Rattle.guillotiere.proofs.StepKeeping.{freeing_sound}
-use Rattle.guillotiere.proofs.SlotIds.{IsIdAt, id_slot, slot_id}
+use Rattle.guillotiere.proofs.SlotIds.{id_slot, slot_id}
 use Rattle.guillotiere.proofs.NamedSlots.{id_of-parts, is_alloc-true, named-true}
 use Rattle.guillotiere.proofs.Observing.{nodes-short, nodes-below, members-IsAtlas, nonempty-IsAtlas, tree_of-IsAtlas}
 

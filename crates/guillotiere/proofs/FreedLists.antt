@@ -1,13 +1,13 @@
 -- Freeing the ids of a list one after another.
-use Rattle.std.proofs.Common.{ℕ, ◌+◌, ◌≤◌, ◌<◌, ◌≡◌, ◌↔◌, ◌||◌, max, Bool, true, false, cond, List, [], ◌∷◌, length, drop, get_or, refl, sym, ap, subst, ◌∙◌, ◌⊎◌, inl, inr, arith, Contains}
+use Rattle.std.proofs.Common.{ℕ, ◌+◌, ◌≤◌, ◌<◌, ◌≡◌, Bool, true, false, cond, List, [], ◌∷◌, length, drop, get_or, refl, sym, ap, subst, ◌∙◌, inl, inr, arith, Contains}
 use Rattle.std.proofs.lemmas.Bool.{ne_eqb, eqb-false, true≢false}
 use Rattle.std.proofs.lemmas.List.{drop_more, drop_all}
 use Rattle.std.proofs.lemmas.List.Elements.{Contains-append_left, Contains-append_right, Contains-append_cases}
 use Rattle.guillotiere.specs.Trees.{Members, Tree, ids}
 use Rattle.guillotiere.specs.Trees as tree
-use Rattle.guillotiere.specs.Changes.{nf, mark, only, release}
+use Rattle.guillotiere.specs.Changes.{mark, only, release}
 use Rattle.guillotiere.specs.TreeLaws.{is_among}
-use Rattle.guillotiere.specs.States.{State, IsSound, IsLive, after_freeing, used_in}
+use Rattle.guillotiere.specs.States.{State, IsSound, IsLive, after_freeing}
 use Rattle.guillotiere.specs.Slots.{nodes}
 use Rattle.guillotiere.specs.Stored.{Stored, IsAtlas, state_of}
 use Rattle.guillotiere.specs.Batches.{AreLiveOnce, AreNamedOnce}

@@ -1,10 +1,9 @@
 -- Hiding the slots of ids, and showing them again.
-use Rattle.std.proofs.Common.{ℕ, ◌+◌, ◌-◌, ◌/◌, ◌%◌, ◌^◌, ◌<◌, ◌≤◌, ◌≡◌, ◌≢◌, ◌↔◌, ◌&&◌, ◌==◌, ◌||◌, Bool, true, false, List, [], ◌∷◌, ◌++◌, length, take, drop, set, get_or, map, refl, sym, ap, subst, ◌∙◌, ◌⊎◌, inl, inr, arith, eqb}
-use Rattle.std.proofs.lemmas.Bool.{cases_eq, ne_eqb, eq-eqb, eqb-false, true≢false, false≢true, and_parts}
-use Rattle.std.proofs.lemmas.List.{length-map, take_more, take_all, take-append-drop, get_or-set_same, get_or-set_other, length-set, set-set, set-get_or}
+use Rattle.std.proofs.Common.{ℕ, ◌+◌, ◌/◌, ◌%◌, ◌^◌, ◌<◌, ◌≡◌, ◌≢◌, ◌↔◌, ◌&&◌, ◌==◌, ◌||◌, Bool, true, false, List, [], ◌∷◌, ◌++◌, length, take, drop, set, get_or, refl, sym, ap, subst, ◌∙◌, inl, inr, arith}
+use Rattle.std.proofs.lemmas.Bool.{cases_eq, ne_eqb, eqb-false, true≢false}
+use Rattle.std.proofs.lemmas.List.{take_more, take_all, take-append-drop, get_or-set_same, get_or-set_other, length-set, set-set, set-get_or}
 use Rattle.guillotiere.specs.declared.slots.Slot.{Slot}
 use Rattle.guillotiere.specs.declared.slots.Node.{Node}
-use Rattle.guillotiere.specs.declared.slots.NodeKind.{NodeKind}
 use Rattle.guillotiere.specs.declared.slots.NodeKind.TheVariants as kind
 use Rattle.guillotiere.specs.Changes.{only}
 use Rattle.guillotiere.specs.TreeLaws.{is_among}
@@ -13,7 +12,7 @@ use Rattle.guillotiere.specs.Numbered.{id_of}
 use Rattle.guillotiere.specs.Visits.{is_alloc, is_named}
 use Rattle.guillotiere.specs.Batches.{AreNamedOnce, with_kind, hidden, AreHidable}
 use Rattle.guillotiere.proofs.JoiningWrites.{used-inside}
-use Rattle.guillotiere.proofs.FreedAtlas.{IsNamed, named-parts}
+use Rattle.guillotiere.proofs.FreedAtlas.{named-parts}
 
 hidden-append : (ns : List Node) (xs ys : List ℕ) → hidden ns (xs ++ ys) ≡ hidden (hidden ns xs) ys
 hidden-append ns [] ys = refl

@@ -1,8 +1,8 @@
 -- The slot that an id names, and the live grant of that id.
-use Rattle.std.proofs.Common.{ℕ, zero, suc, ◌+◌, ◌*◌, ◌/◌, ◌%◌, ◌^◌, ◌<◌, ◌≤◌, ◌≡◌, ◌&&◌, ◌==◌, eqb, Bool, true, false, cond, List, [], ◌∷◌, map, length, get_or, Option, Some, None, IsSome, option_map, refl, sym, ap, subst, ◌∙◌, arith}
+use Rattle.std.proofs.Common.{ℕ, zero, suc, ◌+◌, ◌/◌, ◌%◌, ◌^◌, ◌<◌, ◌≤◌, ◌≡◌, ◌&&◌, ◌==◌, eqb, Bool, true, false, cond, List, [], ◌∷◌, length, get_or, Option, Some, None, IsSome, option_map, refl, sym, ap, subst, ◌∙◌, arith}
 use Rattle.std.specs.Prelude.{find}
 use Rattle.std.specs.List.{count_by}
-use Rattle.std.proofs.lemmas.Bool.{and_parts, and_from, eqb-true, eq-eqb, true≢false, false≢true}
+use Rattle.std.proofs.lemmas.Bool.{and_parts, and_from, eqb-true, eq-eqb, false≢true}
 use Rattle.std.proofs.lemmas.List.{length-map}
 use Rattle.guillotiere.specs.declared.slots.Slot.{Slot}
 use Rattle.guillotiere.specs.declared.slots.Node.{Node}
@@ -15,9 +15,8 @@ use Rattle.guillotiere.specs.Trees.{Grant, grant, live}
 use Rattle.guillotiere.specs.Slots.{nodes, node_at, use_count}
 use Rattle.guillotiere.specs.Numbered.{id_of}
 use Rattle.guillotiere.specs.Reading.{tree_of}
-use Rattle.guillotiere.specs.Replies.{grant_of}
 use Rattle.guillotiere.specs.Stored.{Stored, IsAtlas}
-use Rattle.guillotiere.specs.Visits.{is_alloc, allocated_from, is_named, named_area}
+use Rattle.guillotiere.specs.Visits.{is_alloc, is_named, named_area}
 use Rattle.guillotiere.proofs.TreeBasics.{one_if, same_box-true, same_box-itself}
 use Rattle.guillotiere.proofs.Counting.{count_by-cons}
 use Rattle.guillotiere.proofs.JoiningWrites.{used-inside}

@@ -1,28 +1,28 @@
 -- the steps of a freeing, seen from the whole tree
-use Rattle.std.proofs.Common.{ℕ, ◌+◌, ◌<◌, ◌≤◌, ◌≡◌, List, refl, sym, ap, ◌∙◌, ◌⊎◌, inl, inr, arith, length, eqb, Bool}
+use Rattle.std.proofs.Common.{ℕ, ◌+◌, ◌<◌, ◌≤◌, ◌≡◌, List, refl, sym, ap, ◌∙◌, ◌⊎◌, inl, inr, arith, length, eqb}
 use Rattle.std.proofs.lemmas.Bool.{cases_eq, cond_both}
 use Rattle.guillotiere.specs.declared.slots.Node.{Node}
 use Rattle.guillotiere.specs.declared.slots.NodeKind.TheVariants as kind
 use Rattle.guillotiere.specs.Slots.{node_at, use_count, no_slot}
 use Rattle.guillotiere.specs.Trees as tree
-use Rattle.guillotiere.specs.Boxes.{Axis}
 use Rattle.guillotiere.specs.Trees.{Members, Tree, IsNormal}
-use Rattle.guillotiere.specs.Changes.{nf, mark, only, release}
-use Rattle.guillotiere.specs.Numbered.{Numbered, tally, first_slot, same, numbers, erase, id_of, marked, joined, grown_by, lifted, lifted_to, End, Free, Alloc, Seq}
-use Rattle.guillotiere.specs.Standing.{Sequence, Standing, Stands, IsTree, IsWhole, IsSlot, inside}
-use Rattle.guillotiere.specs.Reading.{tree_of, numbered_of}
-use Rattle.guillotiere.proofs.Reading.{IsNonempty, numbers-less, members_of-Stands, axis_of-Stands, tree_of-Stands, tree-by_parts, nonempty-tally, numbered_of-Stands}
+use Rattle.guillotiere.specs.Numbered.{Numbered, tally, first_slot, same, numbers, erase, joined, grown_by, lifted, lifted_to, End, Free, Alloc, Seq}
+use Rattle.guillotiere.specs.Standing.{Sequence, Standing, Stands, IsWhole, IsSlot, inside}
+use Rattle.guillotiere.proofs.Reading.{numbers-less}
 use Rattle.guillotiere.proofs.JoiningWrites.{used-inside, none-unused, not-none}
-use Rattle.guillotiere.proofs.Normal.{nf-joined, nf-lifted}
 use Rattle.guillotiere.proofs.Frames.{same-self, same-ne}
-use Rattle.guillotiere.proofs.Joining.{split_pos, first-joined}
-use Rattle.guillotiere.proofs.Lifting.{first-lifted}
-use Rattle.guillotiere.specs.Settling.{IsSettling, IsSettlingTree, IsTurn, IsTurnOf}
-use Rattle.guillotiere.proofs.Releasing.{calm-Stands, full-from_normal, full-marked, erase-marked_at}
+use Rattle.guillotiere.proofs.Joining.{split_pos}
 use Rattle.guillotiere.proofs.Closing.{next-in}
 use Rattle.guillotiere.proofs.Calm.{calm-all, normal-from_calm}
-use Rattle.guillotiere.proofs.TreeNormal.{nf-normal}
 use Rattle.guillotiere.specs.Calm.{IsCalmAt, IsCalmBut, NoneEmpty}
+
+-- the slots stand for the whole tree n, whose top sequence is s; `at` is free, and all else is calm
+pub record IsSettlingTree (ns : List Node) (s : Sequence) (n : Numbered) (at : ℕ) : Type 0 where
+  pub top : s.parent ≡ no_slot
+  pub stands : Stands ns s n
+  pub full : NoneEmpty (erase n)
+  pub free : (node_at ns at).kind ≡ kind.Free
+  pub calm : IsCalmBut ns at
 
 pub fewer : (ns : List Node) (s : Sequence) (n less : Numbered) (j : ℕ) → Stands ns s n → (node_at ns j).kind ≡ kind.Free → ((x : ℕ) → tally x less + same x j ≡ tally x n) → numbers less + 1 ≡ numbers n
 fewer ns s n less j h f is =
@@ -86,85 +86,6 @@ full-lifted i (Free j e rest) h = full-lifted i rest h
 full-lifted i (Alloc j g e rest) h = full-lifted i rest h
 full-lifted i (Seq j e inner rest) h =
     cond_both (eqb i j) (lifted_to j e inner rest) (Seq j e (lifted i inner) (lifted i rest)) (λ m. NoneEmpty (erase m)) (λ _. full-lifted_to j e inner rest h) (λ _. ((λ q. h.0 (lifted-End i inner q)), full-lifted i inner h.1, full-lifted i rest h.2))
-
--- a tree with members has a first one
-numbers-some : (n : Numbered) → 0 < numbers n → IsNonempty n
-numbers-some End l = absurd (omega arith)
-numbers-some (Free j e rest) l = omega (arith, same-self j)
-numbers-some (Alloc j g e rest) l = omega (arith, same-self j)
-numbers-some (Seq j e inner rest) l = omega (arith, same-self j)
-
--- the turn that joins the leaf i with the next one
-pub turn-joined : (ns ms : List Node) (i at : ℕ) (s : Sequence) (n : Numbered) → IsSettlingTree ns s n at → ((s : Sequence) (n : Numbered) → Stands ns s n → Stands ms s (joined i n)) → ((s : Sequence) (n : Numbered) → Stands ns s n → numbers (joined i n) + 1 ≡ numbers n) → (node_at ms i).kind ≡ kind.Free → IsCalmBut ms i → IsTurnOf ms s n (joined i n) i
-turn-joined ns ms i at s n w tree less free calm =
-    record {
-      settling = record { top = w.top; stands = tree s n w.stands; full = full-joined i n w.full; free = free; calm = calm };
-      same_first = first-joined i n;
-      same_nf = nf-joined i n;
-      fewer = less s n w.stands;
-    }
-
--- the turn that lifts a lone leaf to its container c
-pub turn-lifted : (ns ms : List Node) (c at : ℕ) (s : Sequence) (n : Numbered) → IsSettlingTree ns s n at → ((s : Sequence) (n : Numbered) → s.parent ≡ no_slot → Stands ns s n → Stands ms s (lifted c n)) → ((s : Sequence) (n : Numbered) → s.parent ≡ no_slot → Stands ns s n → numbers (lifted c n) + 1 ≡ numbers n) → (node_at ms c).kind ≡ kind.Free → IsCalmBut ms c → IsTurnOf ms s n (lifted c n) c
-turn-lifted ns ms c at s n w tree less free calm =
-    record {
-      settling = record { top = w.top; stands = tree s n w.top w.stands; full = full-lifted c n w.full; free = free; calm = calm };
-      same_first = first-lifted c n;
-      same_nf = nf-lifted c n;
-      fewer = less s n w.top w.stands;
-    }
-
--- what is read from the slots of a tree
-pub settling-read : (ns : List Node) (s : Sequence) (n : Numbered) (at : ℕ) → length ns < no_slot → IsSettlingTree ns s n at → IsSettling ns at
-settling-read ns s n at short w =
-    let full = w.full in
-    record {
-      whole = (s, n, w.top, w.stands);
-      full = rw (members_of-Stands ns s n short w.top w.stands) full;
-      free = w.free;
-      calm = w.calm;
-    }
-
--- and back
-pub settling-tree : (ns : List Node) (at : ℕ) → length ns < no_slot → (w : IsSettling ns at) → IsSettlingTree ns w.whole.0 w.whole.1 at
-settling-tree ns at short w =
-    let t = w.whole in
-    let full = w.full in
-    record {
-      top = t.2;
-      stands = t.3;
-      full = rw (members_of-Stands ns t.0 t.1 short t.2 t.3) at full;
-      free = w.free;
-      calm = w.calm;
-    }
-
--- the tree of slots that settle has a member
-pub settling-some : (ns : List Node) (s : Sequence) (n : Numbered) (at : ℕ) → IsSettlingTree ns s n at → IsNonempty n
-settling-some ns s n at w =
-    let free = w.free in
-    nonempty-tally at n (rw (w.stands.numbered at, free) (omega arith))
-
--- a turn lowers the number of members that is read from the slots
-pub turn-smaller : (ns ms : List Node) (s : Sequence) (n m : Numbered) (before at : ℕ) → length ns < no_slot → length ms < no_slot → IsSettlingTree ns s n before → IsTurnOf ms s n m at → numbers (numbered_of ms) < numbers (numbered_of ns)
-turn-smaller ns ms s n m before at ln lm w t =
-    let a = ap numbers (numbered_of-Stands ns s n ln w.top w.stands) in
-    let b = ap numbers (numbered_of-Stands ms s m lm t.settling.top t.settling.stands) in
-    omega (arith, a, b, t.fewer)
-
--- a turn, by what is read from the slots
-pub turn-read : (ns ms : List Node) (at : ℕ) (s : Sequence) (n m : Numbered) → length ns < no_slot → length ms < no_slot → s.parent ≡ no_slot → Stands ns s n → IsTurnOf ms s n m at → IsTurn ns ms at
-turn-read ns ms at s n m ln lm top h w =
-    let k = w.settling.stands in
-    let a = numbered_of-Stands ns s n ln top h in
-    let b = numbered_of-Stands ms s m lm top k in
-    let some = settling-some ms s m at w.settling in
-    let some_before : IsNonempty n = numbers-some n (omega (arith, w.fewer)) in
-    record {
-      settling = settling-read ms s m at lm w.settling;
-      same_axis = axis_of-Stands ms s m lm top k some ∙ sym (axis_of-Stands ns s n ln top h some_before);
-      same_nf = ap (λ v. nf (erase v)) b ∙ w.same_nf ∙ sym (ap (λ v. nf (erase v)) a);
-      fewer = ap (λ v. numbers v + 1) b ∙ w.fewer ∙ sym (ap numbers a);
-    }
 
 -- what a slot says of the slot before it
 abbrev pub IsBefore : List Node → ℕ → ℕ → Numbered → Type 0
@@ -234,40 +155,3 @@ settled ns k s n short w nn np alone =
     let calm = calm-all ns s n k u w.stands w.calm here w.free np in
     let none : tally no_slot n ≡ 0 = w.stands.numbered no_slot ∙ ap use_count u in
     normal-from_calm ns s no_slot 0 n none w.full (λ x _. calm x) w.stands.standing
-
--- the same, by what is read from the slots; the tree is its own normal form
-pub settled-read : (ns : List Node) (k : ℕ) → length ns < no_slot → IsSettling ns k → ((node_at ns (node_at ns k).next.number).kind ≡ kind.Free → ⊥) → ((node_at ns (node_at ns k).previous.number).kind ≡ kind.Free → ⊥) → ((node_at ns k).previous.number ≡ no_slot → (node_at ns k).next.number ≡ no_slot → (node_at ns k).parent.number ≡ no_slot) → IsNormal (tree_of ns).members × ((tree_of ns).members ≡ nf (tree_of ns).members)
-settled-read ns k short w nn np alone =
-    let t = w.whole in
-    let is : (tree_of ns).members ≡ erase t.1 = members_of-Stands ns t.0 t.1 short t.2 t.3 in
-    let normal = settled ns k t.0 t.1 short (settling-tree ns k short w) nn np alone in
-    let same : erase t.1 ≡ nf (erase t.1) = sym (nf-normal (erase t.1) normal) in
-    (rw is normal, rw is same)
-
--- marking an allocated leaf of a normal tree leaves it to settle
-pub settling-marked : (ns ms : List Node) (i : ℕ) (s : Sequence) (n : Numbered) → length ns ≤ 16777216 → s.parent ≡ no_slot → (node_at ns i).kind ≡ kind.Alloc → Stands ns s n → IsNormal (erase n) → ((s : Sequence) (n : Numbered) → Stands ns s n → Stands ms s (marked i n)) → (((k : ℕ) → IsCalmAt ns k) → IsCalmBut ms i) → (node_at ms i).kind ≡ kind.Free → IsSettlingTree ms s (marked i n) i
-settling-marked ns ms i s n few top was h normal tree calm free =
-    let li : i < length ns = used-inside ns i (rw was (omega arith)) in
-    record {
-      top = top;
-      stands = tree s n h;
-      full = full-marked ns i s n few li h (full-from_normal (erase n) normal);
-      free = free;
-      calm = calm (calm-Stands ns s n (omega arith) top h normal);
-    }
-
--- a normal tree m that has the normal form of n, with the leaf at i marked, is the release of n
-pub released : (ns ms : List Node) (i : ℕ) (s : Sequence) (n m : Numbered) → length ns ≤ 16777216 → length ms < no_slot → s.parent ≡ no_slot → (node_at ns i).kind ≡ kind.Alloc → Stands ns s n → Stands ms s m → IsNonempty m → IsNormal (erase m) → nf (erase m) ≡ nf (erase (marked i n)) → tree_of ms ≡ release (only (id_of i (node_at ns i).generation)) (tree_of ns)
-released ns ms i s n m few short top was h k some normal same =
-    let li : i < length ns = used-inside ns i (rw was (omega arith)) in
-    let here : IsNonempty n = nonempty-tally i n (rw (h.numbered i, was) (omega arith)) in
-    let set = only (id_of i (node_at ns i).generation) in
-    let is : erase m ≡ nf (mark set (erase n)) = sym (nf-normal (erase m) normal) ∙ same ∙ ap nf (erase-marked_at ns i s n few li h) in
-    let before : tree_of ns ≡ record { axis = s.axis; members = erase n } = tree_of-Stands ns s n (omega arith) top h here in
-    let after : tree_of ms ≡ record { axis = s.axis; members = erase m } = tree_of-Stands ms s m short top k some in
-    let with_members : Members → Tree = λ v. record { axis = s.axis; members = v } in
-    after ∙ ap with_members is ∙ sym (ap (release set) before)
-
--- slots that keep the axis, and whose members become the normal form of the marked ones, hold the release
-pub released-read : (t u v : Tree) (set : ℕ → Bool) → u.axis ≡ t.axis → u.members ≡ mark set t.members → v.axis ≡ u.axis → v.members ≡ nf u.members → v ≡ release set t
-released-read t u v set ua um va vm = tree-by_parts v t.axis (nf (mark set t.members)) (va ∙ ua) (vm ∙ ap nf um)

@@ -1,16 +1,14 @@
 -- The lists of leaves that an atlas shows.
-use Rattle.std.proofs.Common.{ℕ, zero, suc, ◌+◌, ◌%◌, ◌^◌, ◌<◌, ◌≤◌, ◌≡◌, Bool, true, false, cond, List, [], ◌∷◌, map, length, All, IfOk, Result, Ok, Err, refl, sym, ap, subst, ◌∙◌, arith}
+use Rattle.std.proofs.Common.{ℕ, suc, ◌+◌, ◌%◌, ◌^◌, ◌<◌, ◌≤◌, ◌≡◌, Bool, true, false, cond, List, [], ◌∷◌, map, length, All, IfOk, Result, Ok, Err, refl, sym, subst, arith}
 use Rattle.std.proofs.lemmas.List.Elements.{All-nil, All-cons}
 use Rattle.guillotiere.specs.declared.slots.Slot.{Slot}
 use Rattle.guillotiere.specs.declared.slots.Node.{Node}
 use Rattle.guillotiere.specs.declared.slots.NodeKind.{NodeKind}
 use Rattle.guillotiere.specs.declared.slots.NodeKind.TheVariants as kind
 use Rattle.guillotiere.specs.declared.allocation.Allocation.{Allocation}
-use Rattle.guillotiere.specs.declared.geometry.Rectangle.{Rectangle}
 use Rattle.guillotiere.specs.Trees.{Grant}
 use Rattle.guillotiere.specs.Slots.{nodes, node_at, use_count}
 use Rattle.guillotiere.specs.Lists.{is_free}
-use Rattle.guillotiere.specs.Numbered.{id_of}
 use Rattle.guillotiere.specs.Replies.{grant_of, AreRising, IsExact}
 use Rattle.guillotiere.specs.Stored.{Stored, IsAtlas, state_of}
 use Rattle.guillotiere.specs.Visits.{AreGrants, AreFreeAreas, is_alloc, allocation_at, allocated_from, free_areas}

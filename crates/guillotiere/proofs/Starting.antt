@@ -1,30 +1,20 @@
 -- An atlas of one free slot.
-use Rattle.std.proofs.Common.{ℕ, ℤ, pos, negsuc, zero, suc, ◌+◌, ◌<◌, ◌≤◌, ◌≡◌, ◌^◌, Bool, true, false, cond, List, [], ◌∷◌, length, replicate, eqb, refl, sym, ap, subst, ◌∙◌, ◌⊎◌, inl, inr, arith}
+use Rattle.std.proofs.Common.{ℕ, ℤ, pos, negsuc, zero, suc, ◌+◌, ◌<◌, ◌≤◌, ◌≡◌, ◌^◌, true, false, List, [], ◌∷◌, length, replicate, refl, sym, ap, subst, ◌∙◌, inl, inr, arith}
 use Rattle.std.proofs.lemmas.Bool.{cases_eq, eq-eqb, ne_eqb}
 use Rattle.std.proofs.lemmas.List.Elements.{All-nil}
-use Rattle.guillotiere.specs.declared.slots.Slot.{Slot}
-use Rattle.guillotiere.specs.declared.slots.Node.{Node}
-use Rattle.guillotiere.specs.declared.slots.Link.{Link}
-use Rattle.guillotiere.specs.declared.slots.NodeKind.TheVariants as kind
-use Rattle.guillotiere.specs.declared.lists.FreeList.{FreeList}
-use Rattle.guillotiere.specs.declared.cut.Orientation.TheVariants as orientation
 use Rattle.guillotiere.specs.declared.geometry.Size.{Size}
-use Rattle.guillotiere.specs.declared.geometry.Rectangle.{Rectangle}
-use Rattle.guillotiere.specs.declared.options.AllocatorOptions.{AllocatorOptions}
-use Rattle.guillotiere.specs.Boxes.{Axis, Sides, Box, box_at, sized, IsPositive}
-use Rattle.guillotiere.specs.Boxes.Axis.{Horizontal, Vertical}
+use Rattle.guillotiere.specs.Boxes.{IsPositive}
 use Rattle.guillotiere.specs.Pixels.{natural, sides_of, size_of, options_of, rectangle_of}
-use Rattle.guillotiere.specs.Choice.{Options, AreValid}
-use Rattle.guillotiere.specs.Trees.{Tree}
+use Rattle.guillotiere.specs.Choice.{AreValid}
 use Rattle.guillotiere.specs.Changes.{fresh}
-use Rattle.guillotiere.specs.States.{State, IsSound, started}
-use Rattle.guillotiere.specs.Slots.{nodes, rings, node_at, use_count, no_slot}
-use Rattle.guillotiere.specs.Numbered.{Numbered, same, tally, End, Free}
-use Rattle.guillotiere.specs.Standing.{Sequence, Stands, Standing, member_box}
+use Rattle.guillotiere.specs.States.{IsSound, started}
+use Rattle.guillotiere.specs.Slots.{nodes, node_at, use_count, no_slot}
+use Rattle.guillotiere.specs.Numbered.{tally, End, Free}
+use Rattle.guillotiere.specs.Standing.{Stands, member_box}
 use Rattle.guillotiere.specs.Lists.{blank_list}
 use Rattle.guillotiere.specs.Links.{with_mark}
 use Rattle.guillotiere.specs.Reading.{tree_of}
-use Rattle.guillotiere.specs.Stored.{Shelf, Stored, Holding, Holds, IsAtlas, state_of}
+use Rattle.guillotiere.specs.Stored.{Shelf, Stored, Holds, IsAtlas, state_of}
 use Rattle.guillotiere.specs.Holdings.{IsLooseLeaf}
 use Rattle.guillotiere.specs.Starts.{one_free_slot, loose_holding, start_holding}
 use Rattle.guillotiere.proofs.Frames.{same-self, same-ne}

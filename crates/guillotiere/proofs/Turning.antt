@@ -8,25 +8,24 @@ use Rattle.guillotiere.specs.declared.store.Store.{Store}
 use Rattle.guillotiere.specs.Trees.{IsNormal}
 use Rattle.guillotiere.specs.Changes.{nf}
 use Rattle.guillotiere.specs.Calm.{IsCalmAt, IsCalmBut, NoneEmpty}
-use Rattle.guillotiere.specs.Slots.{nodes, rings, node_at, use_count, no_slot}
-use Rattle.guillotiere.specs.Numbered.{Numbered, erase, numbers, same, tally, marked, joined, lifted, first_slot, End, Free, Alloc, Seq}
-use Rattle.guillotiere.specs.Standing.{IsSlot, Stands, IsWhole, IsTree}
+use Rattle.guillotiere.specs.Slots.{nodes, rings, use_count, no_slot}
+use Rattle.guillotiere.specs.Numbered.{Numbered, erase, numbers, same, tally, marked, lifted, first_slot, End, Free, Alloc, Seq}
+use Rattle.guillotiere.specs.Standing.{IsSlot, IsWhole, IsTree}
 use Rattle.guillotiere.specs.Lists.{occurs}
 use Rattle.guillotiere.specs.Stored.{Shelf, Holding, Holds, IsLooseOnly}
 use Rattle.guillotiere.specs.Holdings.{IsLooseLeaf, KeepsRoom, node_in, with_loose, with_held, after_mark, after_join, after_lift}
 use Rattle.guillotiere.specs.Freeing.{IsSettlingAt, IsTurned, IsFreeable, IsFreed}
-use Rattle.guillotiere.specs.Settling.{IsSettlingTree}
 use Rattle.guillotiere.proofs.Filing.{with_mark-same, with_mark-other}
 use Rattle.guillotiere.proofs.Occurrences.{same-self, same-ne, ne-from_same}
 use Rattle.guillotiere.proofs.Joining.{first-joined}
-use Rattle.guillotiere.proofs.JoiningWrites.{can-join, used-inside, none-unused}
+use Rattle.guillotiere.proofs.JoiningWrites.{can-join, used-inside}
 use Rattle.guillotiere.proofs.Lifting.{first-lifted}
 use Rattle.guillotiere.proofs.Marking.{first-marked}
 use Rattle.guillotiere.proofs.Releasing.{calm-Stands, full-from_normal, full-marked, erase-marked_at}
 use Rattle.guillotiere.proofs.TreeNormal.{nf-normal}
 use Rattle.guillotiere.proofs.Normal.{nf-joined, nf-lifted}
 use Rattle.guillotiere.proofs.Reading.{numbers-less, numbers-few}
-use Rattle.guillotiere.proofs.Settling.{full-joined, full-lifted, settled, next-slot, previous-slot, previous-leads}
+use Rattle.guillotiere.proofs.Settling.{IsSettlingTree, full-joined, full-lifted, settled, next-slot, previous-slot, previous-leads}
 
 pub few-slots : (v : Shelf) (h : Holding) → Holds v h → length (nodes v.slots) ≤ 16777216
 few-slots v h w = simp length-map w.short

@@ -24,7 +24,6 @@ pub mod Lists
 pub mod Reading
 pub mod Parts
 pub mod Calm
-pub mod Settling
 pub mod Stored
 pub mod Links
 pub mod Picks

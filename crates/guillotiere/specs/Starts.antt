@@ -1,5 +1,5 @@
 -- The start of an atlas: one free slot. No public clause cites this module.
-use Rattle.std.specs.Prelude.{ℕ, pos, Bool, true, false, List, []}
+use Rattle.std.specs.Prelude.{ℕ, pos, true, false, List, []}
 use Rattle.guillotiere.specs.declared.slots.Slot.{Slot}
 use Rattle.guillotiere.specs.declared.slots.NodeKind.TheVariants as kind
 use Rattle.guillotiere.specs.declared.cut.Orientation.TheVariants as orientation

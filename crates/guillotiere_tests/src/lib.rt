@@ -12,3 +12,9 @@ mod simple_rows;
 mod simple_sessions;
 #[cfg(test)]
 mod tables;
+#[cfg(test)]
+mod tool_devices;
+#[cfg(test)]
+mod tool_faults;
+#[cfg(test)]
+mod tool_rows;

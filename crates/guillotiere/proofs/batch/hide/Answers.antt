@@ -1,5 +1,5 @@
-use Rattle.std.proofs.Common.{◌∙◌, refl}
-use Rattle.guillotiere.specs.Slots.{nodes, rings}
+use Rattle.std.proofs.Common.{◌∙◌}
+use Rattle.guillotiere.specs.Slots.{nodes}
 use Rattle.guillotiere.proofs.Hiding.{hidden-more, hidable-more, not-hidable}
 use Rattle.guillotiere.proofs.batch.hide.Goals as goal
 

@@ -1,4 +1,4 @@
-use Rattle.std.proofs.Common.{refl, ◌∙◌, arith, sym, ap, ◌<◌, length}
+use Rattle.std.proofs.Common.{◌∙◌, arith, ap, ◌<◌, length}
 use Rattle.guillotiere.specs.declared.turns.Turns.{Turns}
 use Rattle.guillotiere.specs.Holdings.{shelf_of, node_in}
 use Rattle.guillotiere.proofs.Turning.{freeing-marked, freeing-turned, freeing-short, freed-listed, loose-same, keeps-room}

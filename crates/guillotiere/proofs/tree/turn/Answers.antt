@@ -1,4 +1,4 @@
-use Rattle.std.proofs.Common.{◌≡◌, ◌+◌, ap, ◌∙◌, refl, arith, length, sym}
+use Rattle.std.proofs.Common.{◌≡◌, ap, ◌∙◌, refl, arith, sym}
 use Rattle.std.proofs.lemmas.Bool.{true≢false}
 use Rattle.guillotiere.specs.declared.slots.Node.{Node}
 use Rattle.guillotiere.specs.declared.slots.NodeKind.TheVariants.{Free}

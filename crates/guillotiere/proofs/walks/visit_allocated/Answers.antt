@@ -1,4 +1,4 @@
-use Rattle.std.proofs.Common.{rules, of_calls, refl, ◌≡◌}
+use Rattle.std.proofs.Common.{rules, of_calls, refl}
 use Rattle.guillotiere.proofs.WalkSteps.{visits-allocated, passes-allocated}
 use Rattle.guillotiere.proofs.walks.visit_allocated.Goals as goal
 use Rattle.guillotiere.proofs.walks.visit_allocated.Goals.{then-eq, else-eq}

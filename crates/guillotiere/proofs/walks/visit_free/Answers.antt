@@ -1,4 +1,4 @@
-use Rattle.std.proofs.Common.{rules, of_calls, refl, ◌≡◌}
+use Rattle.std.proofs.Common.{rules, of_calls, refl}
 use Rattle.guillotiere.proofs.WalkSteps.{visits-free, passes-free}
 use Rattle.guillotiere.proofs.walks.visit_free.Goals as goal
 use Rattle.guillotiere.proofs.walks.visit_free.Goals.{then-eq, else-eq}

@@ -2,7 +2,7 @@ use Rattle.std.proofs.Common.{rules, inl, inr, ap, ◌∙◌, refl}
 use Rattle.atlas_lines.specs.Machine.{state_of}
 use Rattle.atlas_lines.specs.Replies.{reply_text}
 use Rattle.atlas_lines.specs.Progress.{Place}
-use Rattle.atlas_lines.proofs.Runs.{bad_unread, owed_by, replied, skipped}
+use Rattle.atlas_lines.proofs.Runs.{bad_unread, step_from, owed_by, replied, skipped}
 use Rattle.atlas_lines.proofs.run.Progress.end_line.Goals as goal
 use Rattle.atlas_lines.proofs.run.Progress.end_line.Goals.{then-len-gt0+in-Some+else-not-send, else-len-gt0}
 
@@ -17,7 +17,8 @@ returns-then-not-send-clause-line g c =
       record {
         held = c.carry_out-reply.new.self;
         text = reply_text c.carry_out-reply.result;
-        owed = owed_by _ (state_of c.carry_out-reply.new.self) c.args.self.now.line c.as_slice.result.now c.in-Some.command c.carry_out-reply.result (search rules) (search rules) (search rules) (search rules) (search rules);
+        owed = owed_by _ (state_of c.carry_out-reply.new.self) c.args.self.now.line c.as_slice.result.now c.in-Some.command c.carry_out-reply.result (search rules) (search rules) (search rules) (search rules)
+            (step_from _ c.args.self.now c.in-Some.command c.carry_out-reply.result (state_of c.carry_out-reply.new.self) c.self.view_is c.carry_out-reply.ensures);
         written = c.if-not-send.ensures.beginning refl;
       },
     )
@@ -29,7 +30,8 @@ returns-clause-line g c =
           replied c.args.self.now c.if-len-gt0.self c.next_line.new.self w.carry_out-reply.new.self _ (g.W.ToolOutput.contents w.send.new.output) (g.W.ToolOutput.contents c.if-len-gt0.output)
           (reply_text w.carry_out-reply.result)
           (owed_by _ (state_of w.carry_out-reply.new.self) c.args.self.now.line w.as_slice.result.now w.in-Some.command w.carry_out-reply.result
-          (search rules) (search rules) (search rules) (search rules) (search rules))
+          (search rules) (search rules) (search rules) (search rules)
+          (step_from _ c.args.self.now w.in-Some.command w.carry_out-reply.result (state_of w.carry_out-reply.new.self) c.self.view_is w.carry_out-reply.ensures))
           (w.if-not-send.ensures.written refl) (ap g.W.ToolOutput.contents w.output-is)
           (w.self-is ∙ ap (λ (p : Place). record { held = w.carry_out-reply.new.self; line = p.line; number = p.number }) c.self.view_is) c.next_line.ensures
       | else-len-gt0 w ↦

@@ -1,4 +1,3 @@
-use Rattle.guillotiere.specs.Stored.{state_of}
 use Rattle.guillotiere.specs.Visits.{AreGrants}
 use Rattle.guillotiere.proofs.ShownLists.{grants-IsAtlas, listed}
 use Rattle.guillotiere.proofs.atlas.AtlasAllocator.allocations.Goals as goal

@@ -1,4 +1,4 @@
-use Rattle.std.proofs.Common.{sym, subst, ◌∙◌, ◌≡◌, ◌↔◌}
+use Rattle.std.proofs.Common.{sym, subst}
 use Rattle.guillotiere.specs.Slots.{nodes}
 use Rattle.guillotiere.specs.Batches.{AreNamedOnce}
 use Rattle.guillotiere.proofs.FreedLists.{named-live_once, live-named_once}

@@ -1,6 +1,6 @@
-use Rattle.std.proofs.Common.{◌≡◌, ◌+◌, ◌≤◌, ap, sym, subst, ◌∙◌, refl, arith, drop, length}
+use Rattle.std.proofs.Common.{◌+◌, ap, sym, subst, ◌∙◌, arith, drop, length}
 use Rattle.guillotiere.specs.States.{used_in}
-use Rattle.guillotiere.specs.Stored.{AtlasValue, state_of}
+use Rattle.guillotiere.specs.Stored.{state_of}
 use Rattle.guillotiere.specs.Batches.{AreLiveOnce}
 use Rattle.guillotiere.proofs.FreedLists.{after_each, each-all, once-after, head-live, each-next, each-none}
 use Rattle.guillotiere.proofs.atlas.AtlasAllocator.deallocate_all.Goals as goal

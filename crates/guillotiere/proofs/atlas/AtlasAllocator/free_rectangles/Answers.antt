@@ -1,4 +1,3 @@
-use Rattle.guillotiere.specs.Stored.{state_of}
 use Rattle.guillotiere.specs.Visits.{AreFreeAreas}
 use Rattle.guillotiere.proofs.ShownLists.{free_areas-IsAtlas, listed}
 use Rattle.guillotiere.proofs.atlas.AtlasAllocator.free_rectangles.Goals as goal

@@ -1,6 +1,4 @@
-use Rattle.std.proofs.Common.{sym, ap, ◌∙◌, ◌≡◌, ◌↔◌, true, subst}
-use Rattle.guillotiere.specs.States.{IsLive}
-use Rattle.guillotiere.specs.Stored.{state_of}
+use Rattle.std.proofs.Common.{sym, ◌∙◌}
 use Rattle.guillotiere.proofs.FreedAtlas.{live-found}
 use Rattle.guillotiere.proofs.atlas.AtlasAllocator.is_live.Goals as goal
 

@@ -1,0 +1,152 @@
+//! Runs of the tool's lines.
+
+use crate::tool_devices::{Sink, Source};
+use atlas_lines::{Command, StdInput, StdOutput, ToolEnd, parse_line, run_lines};
+use guillotiere::size2;
+use std::test::Fail;
+
+// What is read, what is written, and how the run ends.
+const ROWS: [(&[u8], &[u8], ToolEnd); 13] = [
+    (b"", b"", ToolEnd::Done),
+    (
+        b"simple 100 300\ntake 100 100\ntake 100 100\ntake 100 100\ntake 1 1\n",
+        b"ok\nat 0 0 100 100\nat 0 100 100 200\nat 0 200 100 300\nnone\n",
+        ToolEnd::Done,
+    ),
+    (
+        b"simple 100 100\ntake 50 50\ntake 50 50\ntake 50 50\ntake 50 50\ntake 1 1\n",
+        b"ok\nat 0 0 50 50\nat 50 0 100 50\nat 0 50 50 100\nat 50 50 100 100\nnone\n",
+        ToolEnd::Done,
+    ),
+    (
+        b"take 5 5\nsimple 0 5\nsimple 10 10\nfrob\ntake 1 1\n",
+        b"no simple\nbad call\nok\nbad line 4\n",
+        ToolEnd::BadLine(4),
+    ),
+    (
+        b"simple 10 10\n\ntake 0005 -0\ntake 1  1\n",
+        b"ok\nnone\nbad line 4\n",
+        ToolEnd::BadLine(4),
+    ),
+    // a line of 120 bytes
+    (
+        b"simple 10 10\ntake 00000000000000000000000000000000000000000000000000000000000000000000000000000000000000000000000000000000000000004 4\n",
+        b"ok\nat 0 0 4 4\n",
+        ToolEnd::Done,
+    ),
+    // a line of 121 bytes
+    (
+        b"simple 10 10\ntake 000000000000000000000000000000000000000000000000000000000000000000000000000000000000000000000000000000000000000004 4\n",
+        b"ok\nbad line 2\n",
+        ToolEnd::BadLine(2),
+    ),
+    (
+        b"simple 10 10\ntake -2147483648 1\ntake 2147483648 1\n",
+        b"ok\nnone\nbad line 3\n",
+        ToolEnd::BadLine(3),
+    ),
+    (
+        b"simple 10 10\ntake 4 4",
+        b"ok\nat 0 0 4 4\n",
+        ToolEnd::Done,
+    ),
+    // an unsuccessful `simple` leaves the allocator as it was, a successful one replaces it
+    (
+        b"simple 10 10\nsimple 5 -1\ntake 10 10\nsimple 5 5\ntake 6 5\ntake 5 5\n",
+        b"ok\nbad call\nat 0 0 10 10\nok\nnone\nat 0 0 5 5\n",
+        ToolEnd::Done,
+    ),
+    (b"\n\n\n", b"", ToolEnd::Done),
+    (b"\n\nfrob", b"bad line 3\n", ToolEnd::BadLine(3)),
+    (
+        b"simple 2147483647 2147483647\ntake 2147483647 2147483646\ntake 2147483647 1\n",
+        b"ok\nat 0 0 2147483647 2147483646\nat 0 2147483646 2147483647 2147483647\n",
+        ToolEnd::Done,
+    ),
+];
+
+// Each of these alone spells no command.
+const BAD_LINES: [&[u8]; 23] = [
+    b" take 1 1",
+    b"take 1 1 ",
+    b"take +1 1",
+    b"take - 1",
+    b"take 1",
+    b"Take 1 1",
+    b"take 1 1\r",
+    b"take\t1 1",
+    b"take 1 1\0",
+    b"take 1 1\xff",
+    b"\0",
+    b"\xff",
+    b"atlas 1 1",
+    b"take 1 1 1",
+    b"simple",
+    b"simple 1",
+    b"take 1 --1",
+    b"take 1 -",
+    b"take 1 2147483648",
+    b"take 1 -2147483649",
+    b"take 1 99999999999999999999",
+    b"take 1 1x",
+    b"take 1 0x1",
+];
+
+#[test]
+fn rows(rt: HostRuntime) -> Result<(), Fail> {
+    for (text, want, end) in ROWS {
+        let mut input = StdInput::new(text);
+        let mut held = Vec::new(rt.alloc());
+        let mut output = StdOutput::new(&mut held);
+        assert_eq!(rt;
+            run_lines(rt.alloc(), &mut input, &mut output),
+            Ok(end),
+            "{text:?}"
+        );
+        assert_eq!(rt; held.as_slice(), want, "{text:?}");
+    }
+    Ok(())
+}
+
+#[test]
+fn rows_by_any_step(rt: HostRuntime) -> Result<(), Fail> {
+    for (text, want, end) in ROWS {
+        for step in [1, 2, 3, 7, 64, 5000] {
+            let mut input = Source::ending(text, step);
+            let mut output = Sink::new(Vec::new(rt.alloc()), 5000, step, true);
+            let got = run_lines(rt.alloc(), &mut input, &mut output);
+            assert_eq!(rt; got, Ok(end), "{text:?} by {step}");
+            assert_eq!(rt; output.held(), want, "{text:?} by {step}");
+        }
+    }
+    Ok(())
+}
+
+#[test]
+fn bad_lines(rt: HostRuntime) {
+    for line in BAD_LINES {
+        assert_eq!(rt; parse_line(line), None, "{line:?}");
+        let mut input = StdInput::new(line);
+        let mut held = Vec::new(rt.alloc());
+        let mut output = StdOutput::new(&mut held);
+        let got = run_lines(rt.alloc(), &mut input, &mut output);
+        assert_eq!(rt; got, Ok(ToolEnd::BadLine(1)), "{line:?}");
+        assert_eq!(rt; held.as_slice(), b"bad line 1\n".as_slice(), "{line:?}");
+    }
+}
+
+#[test]
+fn lines_spell_commands(rt: HostRuntime) {
+    let table: [(&[u8], Command); 4] = [
+        (b"simple 100 300", Command::Simple(size2(100, 300))),
+        (
+            b"take -0005 2147483647",
+            Command::Take(size2(-5, 2147483647)),
+        ),
+        (b"take -2147483648 -0", Command::Take(size2(-2147483648, 0))),
+        (b"simple 0 007", Command::Simple(size2(0, 7))),
+    ];
+    for (line, want) in table {
+        assert_eq!(rt; parse_line(line), Some(want), "{line:?}");
+    }
+}
