@@ -1,6 +1,6 @@
 -- two free neighbours become one
-use Rattle.std.proofs.Common.{ℕ, ◌+◌, ◌<◌, ◌≤◌, ◌≡◌, List, refl, sym, ap, ◌∙◌, ◌⊎◌, inl, inr, arith, add_assoc, eqb, cond, true, false}
-use Rattle.std.proofs.lemmas.Bool.{cases_eq, cond_both, eqb-true, eqb-false, eq-eqb, ne_eqb, cond-true, cond-false}
+use Rattle.std.proofs.Common.{ℕ, ◌+◌, ◌<◌, ◌≤◌, ◌≡◌, List, refl, sym, ap, ◌∙◌, ◌⊎◌, inl, inr, arith, add_assoc, eqb}
+use Rattle.std.proofs.lemmas.Bool.{cases_eq, cond_both, eqb-true, eqb-false, ne_eqb, cond-false}
 use Rattle.guillotiere.specs.declared.slots.Node.{Node}
 use Rattle.guillotiere.specs.Boxes.{Axis, box_at, sized}
 use Rattle.guillotiere.specs.Pixels.{rectangle_of}
@@ -9,9 +9,9 @@ use Rattle.guillotiere.specs.declared.slots.NodeKind.{NodeKind}
 use Rattle.guillotiere.specs.declared.slots.NodeKind.TheVariants as kind
 use Rattle.guillotiere.specs.Slots.{node_at, use_count, no_slot, KeepsUse}
 use Rattle.guillotiere.specs.Numbered.{Numbered, tally, first_slot, same, joined, grown_by, End, Free, Alloc, Seq}
-use Rattle.guillotiere.specs.Standing.{Sequence, Standing, Stands, IsPlaced, inside, member_box, spot}
+use Rattle.guillotiere.specs.Standing.{Sequence, Standing, Stands, inside, member_box, spot}
 use Rattle.guillotiere.proofs.Frames.{same-self, same-ne, Standing-same}
-use Rattle.guillotiere.proofs.Closing.{IsNone, IsIn, next-in, first-in}
+use Rattle.guillotiere.proofs.Closing.{IsNone, IsIn, next-in}
 
 pub split_pos : (a b : ℕ) → 0 < a + b → (0 < a) ⊎ (0 < b)
 split_pos a b l = grind arith

@@ -1,17 +1,17 @@
 -- what the writes of `join_next` make
-use Rattle.std.proofs.Common.{ℕ, ◌+◌, ◌<◌, ◌≤◌, ◌≡◌, List, refl, sym, ap, ◌∙◌, ◌⊎◌, inl, inr, arith, length, set, get_or-set_same, get_or-set_other, length-set}
-use Rattle.std.proofs.lemmas.Bool.{cases_eq, cases_lt}
+use Rattle.std.proofs.Common.{ℕ, ◌<◌, ◌≤◌, ◌≡◌, List, refl, sym, ap, ◌∙◌, inl, inr, arith, length, set, get_or-set_same, get_or-set_other, length-set}
+use Rattle.std.proofs.lemmas.Bool.{cases_lt}
 use Rattle.std.proofs.lemmas.List.{get_or_past}
 use Rattle.guillotiere.specs.declared.slots.Node.{Node}
 use Rattle.guillotiere.specs.declared.slots.Link.{Link}
 use Rattle.guillotiere.specs.declared.slots.NodeKind.TheVariants as kind
 use Rattle.guillotiere.specs.Slots.{node_at, blank_node, use_count, no_slot}
-use Rattle.guillotiere.specs.Numbered.{Numbered, tally, first_slot, same, joined, End, Free, Alloc, Seq}
-use Rattle.guillotiere.specs.Standing.{Sequence, Standing, Stands, IsPlaced, IsTree, IsSlot, with_previous}
-use Rattle.guillotiere.proofs.Frames.{same-self, same-ne}
-use Rattle.guillotiere.proofs.Closing.{IsNone, IsIn, next-in, first-in}
-use Rattle.guillotiere.proofs.Suffixes.{Suffix, suffix-at}
-use Rattle.guillotiere.proofs.Joining.{IsJoined, used-le, Stands-joined, ne-from_same, ne-from_count}
+use Rattle.guillotiere.specs.Numbered.{Numbered, tally, first_slot, same, End, Free, Alloc, Seq}
+use Rattle.guillotiere.specs.Standing.{Sequence, Standing, IsTree, IsSlot, with_previous}
+use Rattle.guillotiere.proofs.Frames.{same-self}
+use Rattle.guillotiere.proofs.Closing.{next-in, first-in}
+use Rattle.guillotiere.proofs.Suffixes.{suffix-at}
+use Rattle.guillotiere.proofs.Joining.{IsJoined, used-le}
 
 -- a use_count slot is in range
 pub used-inside : (ns : List Node) (i : ℕ) → 0 < use_count (node_at ns i).kind → i < length ns

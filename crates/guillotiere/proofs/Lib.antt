@@ -90,3 +90,7 @@ pub mod Hiding
 pub mod FreedLists
 pub mod PlacingChains
 pub mod PlanLines
+pub mod SpareCounts
+pub mod ChosenSlots
+pub mod PlannedSlots
+pub mod GrantedAtlas

@@ -1,15 +1,13 @@
 -- a lone free child takes the place of its container
-use Rattle.std.proofs.Common.{ℕ, ◌+◌, ◌<◌, ◌≤◌, ◌≡◌, List, refl, sym, ap, ◌∙◌, ◌⊎◌, inl, inr, arith, length, set, get_or-set_same, get_or-set_other, length-set, eqb, add-zero}
-use Rattle.std.proofs.lemmas.Bool.{cases_eq, cond_both, eqb-true, eqb-false, eq-eqb, ne_eqb, cond-true, cond-false}
+use Rattle.std.proofs.Common.{ℕ, ◌+◌, ◌<◌, ◌≤◌, ◌≡◌, List, refl, sym, ap, ◌∙◌, ◌⊎◌, inl, inr, arith, eqb}
+use Rattle.std.proofs.lemmas.Bool.{cases_eq, cond_both, eqb-true, eqb-false, ne_eqb, cond-false}
 use Rattle.guillotiere.specs.declared.slots.Node.{Node}
-use Rattle.guillotiere.specs.declared.slots.Link.{Link}
 use Rattle.guillotiere.specs.declared.slots.NodeKind.TheVariants as kind
-use Rattle.guillotiere.specs.Slots.{node_at, blank_node, use_count, no_slot}
-use Rattle.guillotiere.specs.Numbered.{Numbered, tally, first_slot, same, lifted, lifted_to, erase, End, Free, Alloc, Seq}
-use Rattle.guillotiere.specs.Standing.{Sequence, Standing, Stands, IsPlaced, IsTree, inside, member_box}
+use Rattle.guillotiere.specs.Slots.{node_at, use_count, no_slot}
+use Rattle.guillotiere.specs.Numbered.{Numbered, tally, first_slot, same, lifted, lifted_to, End, Free, Alloc, Seq}
+use Rattle.guillotiere.specs.Standing.{Sequence, Standing, Stands, IsPlaced, inside}
 use Rattle.guillotiere.proofs.Frames.{same-self, same-ne, Standing-same}
 use Rattle.guillotiere.proofs.Joining.{used-le, split_pos, ne-from_same, ne-from_count}
-use Rattle.guillotiere.proofs.JoiningWrites.{used-inside, none-unused}
 
 -- a member's parent holds the sequence, or is a member itself
 pub parent-in : (ns : List Node) (k : ℕ) (s : Sequence) (b p : ℕ) (n : Numbered) → Standing ns s b p n → 0 < tally k n → ((node_at ns k).parent.number ≡ s.parent) ⊎ (0 < tally (node_at ns k).parent.number n)

@@ -1,5 +1,5 @@
 -- What the calls on slots make of extents: they stay positive, and add up as before.
-use Rattle.std.proofs.Common.{ℕ, ◌+◌, ◌-◌, ◌<◌, ◌≤◌, ◌≡◌, List, refl, sym, ap, ◌∙◌, arith, Bool, true, false, eqb, cond, subst}
+use Rattle.std.proofs.Common.{ℕ, ◌+◌, ◌-◌, ◌<◌, ◌≡◌, List, refl, ap, ◌∙◌, arith, Bool, true, false, eqb, cond}
 use Rattle.std.proofs.lemmas.Bool.{cond_both, eqb-true}
 use Rattle.guillotiere.specs.declared.slots.Node.{Node}
 use Rattle.guillotiere.specs.Trees.{Members, IsCut, total}

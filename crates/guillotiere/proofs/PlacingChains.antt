@@ -1,33 +1,32 @@
 -- each plan, carried out by the calls of the store one after another
-use Rattle.std.proofs.Common.{ℕ, ◌+◌, ◌<◌, ◌≤◌, ◌≡◌, ◌≢◌, ℤ, List, [], ◌∷◌, length, Bool, true, false, refl, sym, ap, subst, ◌∙◌, ◌⊎◌, inl, inr, arith}
+use Rattle.std.proofs.Common.{ℕ, ◌-◌, ◌<◌, ◌≤◌, ◌≡◌, ◌≢◌, ℤ, [], ◌∷◌, length, true, false, refl, sym, ap, subst, ◌∙◌, inl, inr, arith}
 use Rattle.guillotiere.specs.declared.slots.Node.{Node}
-use Rattle.guillotiere.specs.declared.slots.NodeKind.TheVariants as kind
 use Rattle.guillotiere.specs.declared.tree.Plan.{Plan}
 use Rattle.guillotiere.specs.declared.tree.Plan.TheVariants as plan
 use Rattle.guillotiere.specs.Pixels.{natural}
 use Rattle.guillotiere.specs.Slots.{nodes, node_at}
-use Rattle.guillotiere.specs.Numbered.{Numbered, granted_at, split_at, wrapped_at}
-use Rattle.guillotiere.specs.Lists.{occurs}
+use Rattle.guillotiere.specs.Numbered.{granted_at, split_at, wrapped_at}
 use Rattle.guillotiere.specs.Links.{with_mark}
 use Rattle.guillotiere.specs.Reading.{extent_of}
-use Rattle.guillotiere.specs.Stored.{Shelf, Holding, Holds, IsLooseOnly}
+use Rattle.guillotiere.specs.Stored.{Shelf, Holding}
 use Rattle.guillotiere.specs.Holdings.{node_in, across_of, HasSlotsFor, IsLooseLeaf, with_loose, with_held, with_spare, after_split, after_wrap, after_grant}
-use Rattle.guillotiere.specs.Planning.{IsPlaceableAt, IsPlanned, IsPlannedTree}
+use Rattle.guillotiere.specs.Planning.{IsPlaceableAt, IsPlanned, IsPlannedTree, slots_of}
 use Rattle.guillotiere.proofs.Filing.{with_mark-same}
 use Rattle.guillotiere.proofs.PlacingSteps.{IsStage, stage-leaf, stage-order, first-stage, mark-stays, mark-apart, IsSplit, SplitTo, split-stage, IsWrapped, WrappedTo, wrap-stage, IsWrappedTwo, WrappedTwoTo, wrap_two-stage, IsGranted, grant-stage, IsListedIn, ListedTo, list-stage}
 
 -- fewer slots are there too
 pub fewer-slots : (m n capacity : ℕ) (v : Shelf) (h : Holding) → m ≤ n → HasSlotsFor n capacity v h → HasSlotsFor m capacity v h
-fewer-slots m n capacity v h l s = elim s [ inl a ↦ inl (omega arith) | inr b ↦ inr (omega arith, omega arith) ]
+fewer-slots m n capacity v h l s = elim s [ inl a ↦ inl (omega arith) | inr b ↦ inr (omega (arith, b.0), omega (arith, b.1)) ]
 
 planned-end : (v v' new : Shelf) (at to : ℕ) (p : Plan) (h h' : Holding) → IsGranted v v' to → nodes new.slots ≡ nodes v'.slots → IsStage new [] h'
-    → IsPlannedTree p at h.sequence.width to (node_in new to).generation h.tree h'.tree → h'.sequence ≡ h.sequence → IsPlanned new at to p h h'
-planned-end v v' new at to p h h' w same s tree sequence = record {
+    → IsPlannedTree p at h.sequence.width to (node_in new to).generation h.tree h'.tree → h'.sequence ≡ h.sequence → length h'.spare ≡ length h.spare - slots_of p → IsPlanned new at to p h h'
+planned-end v v' new at to p h h' w same s tree sequence spare = record {
   holds = s.holds;
   listed = s.only;
   tree = tree;
   sequence = sequence;
   granted = ap (λ ns. (node_at ns to).kind) same ∙ ap (λ (n : Node). n.kind) w.granted;
+  spare = spare;
 }
 
 generation-kept : (v v' new : Shelf) (to : ℕ) → IsGranted v v' to → nodes new.slots ≡ nodes v'.slots → (node_in v to).generation ≡ (node_in new to).generation
@@ -36,9 +35,11 @@ generation-kept v v' new to w same = sym (ap (λ ns. (node_at ns to).generation)
 -- the leaf is granted whole
 pub whole-planned : (v v' : Shelf) (capacity at : ℕ) (h : Holding) → IsPlaceableAt v capacity at plan.Whole h → IsGranted v v' at → (h' : Holding) × IsPlanned v' at at plan.Whole h h'
 whole-planned v v' capacity at h s w =
-    let h' : Holding = after_grant at (node_in v at).generation h in
-    (h', planned-end v v' v' at at plan.Whole h h' w refl (grant-stage v v' at [] h w (first-stage v capacity at plan.Whole h s) s.leaf.loose)
-      (refl, ap (λ g. granted_at at g h.tree) (generation-kept v v' v' at w refl)) refl)
+    let h' : Holding = after_grant at (node_in v at).generation h in (
+      h',
+      planned-end v v' v' at at plan.Whole h h' w refl (grant-stage v v' at [] h w (first-stage v capacity at plan.Whole h s) s.leaf.loose)
+          (refl, ap (λ g. granted_at at g h.tree) (generation-kept v v' v' at w refl)) refl (omega arith),
+    )
 
 -- cut along
 module _ (v0 v1 : Shelf) (c0 c1 at k : ℕ) (p : ℤ) (w1 : IsSplit v0 v1 c0 c1 at k (natural p)) (h : Holding) (s : IsPlaceableAt v0 c0 at (plan.StripAlong p) h) where
@@ -63,10 +64,11 @@ module _ (v0 v1 : Shelf) (c0 c1 at k : ℕ) (p : ℤ) (w1 : IsSplit v0 v1 c0 c1 
   pub strip_along-planned : (v2 v3 : Shelf) → IsGranted v1 v2 at → IsListedIn v2 v3 k → (h' : Holding) × IsPlanned v3 at at (plan.StripAlong p) h h'
   strip_along-planned v2 v3 w2 w3 =
       let h2 : Holding = after_grant at (node_in v1 at).generation strip1 in
-      let l : ListedTo v3 k [] h2 = list-stage v2 v3 k [] h2 w3 (strip2 v2 w2) strip_loose in
-      (with_loose k false (with_held l.held h2),
+      let l : ListedTo v3 k [] h2 = list-stage v2 v3 k [] h2 w3 (strip2 v2 w2) strip_loose in (
+        with_loose k false (with_held l.held h2),
         planned-end v1 v2 v3 at at (plan.StripAlong p) h (with_loose k false (with_held l.held h2)) w2 w3.nodes l.stage
-          (refl, k, ap (λ g. granted_at at g (split_at at k (natural p) h.tree)) (generation-kept v1 v2 v3 at w2 w3.nodes)) refl)
+            (refl, k, ap (λ g. granted_at at g (split_at at k (natural p) h.tree)) (generation-kept v1 v2 v3 at w2 w3.nodes)) refl strip_split.spared,
+      )
 
 -- cut across
 module _ (v0 v1 : Shelf) (c0 c1 at f b : ℕ) (q : ℤ) (w1 : IsWrappedTwo v0 v1 c0 c1 at f b (natural q)) (h : Holding) (s : IsPlaceableAt v0 c0 at (plan.StripAcross q) h) where
@@ -94,10 +96,11 @@ module _ (v0 v1 : Shelf) (c0 c1 at f b : ℕ) (q : ℤ) (w1 : IsWrappedTwo v0 v1
   pub strip_across-planned : (v2 v3 : Shelf) → IsGranted v1 v2 f → IsListedIn v2 v3 b → (h' : Holding) × IsPlanned v3 at f (plan.StripAcross q) h h'
   strip_across-planned v2 v3 w2 w3 =
       let h2 : Holding = after_grant f (node_in v1 f).generation across1 in
-      let l : ListedTo v3 b [] h2 = list-stage v2 v3 b [] h2 w3 (across2 v2 w2) across_back in
-      (with_loose b false (with_held l.held h2),
+      let l : ListedTo v3 b [] h2 = list-stage v2 v3 b [] h2 w3 (across2 v2 w2) across_back in (
+        with_loose b false (with_held l.held h2),
         planned-end v1 v2 v3 at f (plan.StripAcross q) h (with_loose b false (with_held l.held h2)) w2 w3.nodes l.stage
-          (b, ap (λ g. granted_at f g (split_at f b (natural q) (wrapped_at at f h.sequence.width h.tree))) (generation-kept v1 v2 v3 f w2 w3.nodes)) refl)
+            (b, ap (λ g. granted_at f g (split_at f b (natural q) (wrapped_at at f h.sequence.width h.tree))) (generation-kept v1 v2 v3 f w2 w3.nodes)) refl across_wrap.spared,
+      )
 
 -- the last three calls for a corner: slot g is granted, then k and l are listed
 module _ (v3 v4 : Shelf) (g k l : ℕ) (h3 : Holding) (s3 : IsStage v3 (g ∷ k ∷ l ∷ []) h3) (lg : h3.loose g ≡ true) (lk : h3.loose k ≡ true) (ll : h3.loose l ≡ true) (kg : k ≢ g) (lne : l ≢ g) (lk_ne : l ≢ k) (w4 : IsGranted v3 v4 g) where
@@ -121,16 +124,17 @@ module _ (v3 v4 : Shelf) (g k l : ℕ) (h3 : Holding) (s3 : IsStage v3 (g ∷ k 
       let m = corner_listed v5 w5 in
       (with_loose k false (with_held m.held corner4), stage-leaf v5 (l ∷ []) (with_loose k false (with_held m.held corner4)) l m.stage corner_last)
 
-  pub corner-planned : (at : ℕ) (p : Plan) (h : Holding) (v5 v6 : Shelf) → IsListedIn v4 v5 k → IsListedIn v5 v6 l → h3.sequence ≡ h.sequence
+  pub corner-planned : (at : ℕ) (p : Plan) (h : Holding) (v5 v6 : Shelf) → IsListedIn v4 v5 k → IsListedIn v5 v6 l → h3.sequence ≡ h.sequence → length h3.spare ≡ length h.spare - slots_of p
       → ((node_in v3 g).generation ≡ (node_in v6 g).generation → IsPlannedTree p at h.sequence.width g (node_in v6 g).generation h.tree (granted_at g (node_in v3 g).generation h3.tree))
       → (h' : Holding) × IsPlanned v6 at g p h h'
-  corner-planned at p h v5 v6 w5 w6 sequence tree =
+  corner-planned at p h v5 v6 w5 w6 sequence spare tree =
       let m = corner_listed v5 w5 in
       let h5 : Holding = with_loose k false (with_held m.held corner4) in
       let o : ListedTo v6 l [] h5 = list-stage v5 v6 l [] h5 w6 m.stage corner_last in
-      let same : nodes v6.slots ≡ nodes v4.slots = w6.nodes ∙ w5.nodes in
-      (with_loose l false (with_held o.held h5),
-        planned-end v3 v4 v6 at g p h (with_loose l false (with_held o.held h5)) w4 same o.stage (tree (generation-kept v3 v4 v6 g w4 same)) sequence)
+      let same : nodes v6.slots ≡ nodes v4.slots = w6.nodes ∙ w5.nodes in (
+        with_loose l false (with_held o.held h5),
+        planned-end v3 v4 v6 at g p h (with_loose l false (with_held o.held h5)) w4 same o.stage (tree (generation-kept v3 v4 v6 g w4 same)) sequence spare,
+      )
 
 -- cut along, and its first part across
 module _ (v0 v1 : Shelf) (c0 c1 at k : ℕ) (p q : ℤ) (w1 : IsSplit v0 v1 c0 c1 at k (natural p)) (h : Holding) (s : IsPlaceableAt v0 c0 at (plan.CornerAlong p q) h) where
@@ -210,8 +214,8 @@ module _ (v0 v1 : Shelf) (c0 c1 at k : ℕ) (p q : ℤ) (w1 : IsSplit v0 v1 c0 c
 
       pub corner_along-planned : (v4 v5 v6 : Shelf) → IsGranted v3 v4 g → IsListedIn v4 v5 k → IsListedIn v5 v6 l → (h' : Holding) × IsPlanned v6 at g (plan.CornerAlong p q) h h'
       corner_along-planned v4 v5 v6 w4 w5 w6 =
-          corner-planned v3 v4 g k l along3 along_stage3 along_g3 along_k3 along_l3 along_kg w3.apart along_lk w4 at (plan.CornerAlong p q) h v5 v6 w5 w6 refl
-            (λ e. (k, l, ap (λ x. granted_at g x (split_at g l (natural q) (wrapped_at at g h.sequence.width (split_at at k (natural p) h.tree)))) e))
+          corner-planned v3 v4 g k l along3 along_stage3 along_g3 along_k3 along_l3 along_kg w3.apart along_lk w4 at (plan.CornerAlong p q) h v5 v6 w5 w6 refl (omega (arith, along_split2.spared, along_wrap.spared, along_split.spared))
+          (λ e. (k, l, ap (λ x. granted_at g x (split_at g l (natural q) (wrapped_at at g h.sequence.width (split_at at k (natural p) h.tree)))) e))
 
 -- cut across, and its first part along
 module _ (v0 v1 : Shelf) (c0 c1 at c b : ℕ) (p q : ℤ) (w1 : IsWrappedTwo v0 v1 c0 c1 at c b (natural q)) (h : Holding) (s : IsPlaceableAt v0 c0 at (plan.CornerAcross p q) h) where
@@ -291,8 +295,8 @@ module _ (v0 v1 : Shelf) (c0 c1 at c b : ℕ) (p q : ℤ) (w1 : IsWrappedTwo v0 
 
       pub corner_across-planned : (v4 v5 v6 : Shelf) → IsGranted v3 v4 g → IsListedIn v4 v5 b → IsListedIn v5 v6 l → (h' : Holding) × IsPlanned v6 at g (plan.CornerAcross p q) h h'
       corner_across-planned v4 v5 v6 w4 w5 w6 =
-          corner-planned v3 v4 g b l both3 both_stage3 both_g3 both_b3 both_l3 both_bg w3.apart both_lb w4 at (plan.CornerAcross p q) h v5 v6 w5 w6 refl
-            (λ e. (b, c, l, ap (λ x. granted_at g x (split_at g l (natural p) (wrapped_at c g h.sequence.width (split_at c b (natural q) (wrapped_at at c h.sequence.width h.tree))))) e))
+          corner-planned v3 v4 g b l both3 both_stage3 both_g3 both_b3 both_l3 both_bg w3.apart both_lb w4 at (plan.CornerAcross p q) h v5 v6 w5 w6 refl (omega (arith, both_split.spared, both_again.spared, both_wrap.spared))
+          (λ e. (b, c, l, ap (λ x. granted_at g x (split_at g l (natural p) (wrapped_at c g h.sequence.width (split_at c b (natural q) (wrapped_at at c h.sequence.width h.tree))))) e))
 
 -- the same for a plan that is given by an equation
 pub kept-as : (v v' : Shelf) (capacity at to : ℕ) (p q : Plan) → p ≡ q

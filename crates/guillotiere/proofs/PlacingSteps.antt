@@ -1,5 +1,5 @@
 -- the calls of the store, one after another, by which a plan is carried out
-use Rattle.std.proofs.Common.{ℕ, ◌+◌, ◌<◌, ◌≤◌, ◌≡◌, ◌≢◌, List, [], ◌∷◌, length, Bool, true, false, refl, sym, ap, subst, ◌∙◌, ◌⊎◌, inl, inr, arith}
+use Rattle.std.proofs.Common.{ℕ, ◌+◌, ◌-◌, ◌≤◌, ◌≡◌, ◌≢◌, List, [], ◌∷◌, length, Bool, true, false, refl, sym, ap, subst, ◌∙◌, ◌⊎◌, inl, inr, arith}
 use Rattle.std.proofs.lemmas.Bool.{cases_eq}
 use Rattle.guillotiere.specs.declared.slots.Link.{Link}
 use Rattle.guillotiere.specs.declared.slots.Node.{Node}
@@ -8,7 +8,7 @@ use Rattle.guillotiere.specs.declared.cut.Orientation.{Orientation}
 use Rattle.guillotiere.specs.declared.cut.Orientation.TheVariants as orientation
 use Rattle.guillotiere.specs.declared.tree.Plan.{Plan}
 use Rattle.guillotiere.specs.Slots.{nodes, node_at, use_count, KeepsUse}
-use Rattle.guillotiere.specs.Numbered.{Numbered, tally, split_at, wrapped_at}
+use Rattle.guillotiere.specs.Numbered.{tally}
 use Rattle.guillotiere.specs.Lists.{occurs}
 use Rattle.guillotiere.specs.Links.{with_mark}
 use Rattle.guillotiere.specs.Reading.{extent_of}
@@ -74,7 +74,7 @@ unmark_cases loose k i l =
       | inr ne ↦ (ne, sym (with_mark-other loose k false i ne) ∙ l)
     ]
 
-only-more : (loose : ℕ → Bool) (k : ℕ) (ks : List ℕ) → ((i : ℕ) → occurs i ks ≡ 0 → loose i ≡ false) → (i : ℕ) → occurs i (k ∷ ks) ≡ 0 → with_mark loose k true i ≡ false
+pub only-more : (loose : ℕ → Bool) (k : ℕ) (ks : List ℕ) → ((i : ℕ) → occurs i ks ≡ 0 → loose i ≡ false) → (i : ℕ) → occurs i (k ∷ ks) ≡ 0 → with_mark loose k true i ≡ false
 only-more loose k ks only i z =
     elim (cases_eq i k) [
       | inl e ↦ absurd (omega (arith, ap (λ j. occurs j (k ∷ ks)) e, same-self k))
@@ -97,7 +97,7 @@ fresh_slot v v' h h' k i old new more free e =
 -- what is told of a split
 pub record IsSplit (v v' : Shelf) (capacity capacity' at k p : ℕ) : Type 0 where
   pub kept : (h : Holding) (n : ℕ) → IsLooseLeaf v at h → HasSlotsFor (n + 1) capacity v h
-      → (spare : List ℕ) × Holds v' (with_spare spare (after_split at k p h)) × HasSlotsFor n capacity' v' (with_spare spare h)
+      → (spare : List ℕ) × Holds v' (with_spare spare (after_split at k p h)) × HasSlotsFor n capacity' v' (with_spare spare h) × (length spare ≡ length h.spare - 1)
   pub front : (node_in v' at).kind ≡ (node_in v at).kind
   pub across : across_of (node_in v' at) ≡ across_of (node_in v at)
   pub back : (node_in v' k).kind ≡ kind.Free
@@ -108,6 +108,7 @@ pub record SplitTo (v v' : Shelf) (capacity' n at k p : ℕ) (ks : List ℕ) (h 
   pub spare : List ℕ
   pub stage : IsStage v' (k ∷ ks) (with_spare spare (after_split at k p h))
   pub slots : HasSlotsFor n capacity' v' (with_spare spare (after_split at k p h))
+  pub spared : length spare ≡ length h.spare - 1
   pub fresh : (i : ℕ) → h.loose i ≡ true → i ≢ k
 
 pub split-stage : (v v' : Shelf) (capacity capacity' n at k p : ℕ) (ks : List ℕ) (h : Holding) → IsSplit v v' capacity capacity' at k p
@@ -129,15 +130,16 @@ split-stage v v' capacity capacity' n at k p ks h w s room l =
         only = only-more h.loose k ks s.only;
       };
       slots = got.2;
+      spared = got.3;
       fresh = (λ i m. fresh_slot v v' h (with_spare got.0 (after_split at k p h)) k i s.holds got.1
-        (omega (arith, same-self k, tally-split k at k p h.tree (free_once (nodes v.slots) at h.sequence h.tree leaf.kind s.holds.stands)))
-        (s.free i m));
+          (omega (arith, same-self k, tally-split k at k p h.tree (free_once (nodes v.slots) at h.sequence h.tree leaf.kind s.holds.stands)))
+          (s.free i m));
     }
 
 -- what is told of a wrapping
 pub record IsWrapped (v v' : Shelf) (capacity capacity' at k : ℕ) : Type 0 where
   pub kept : (h : Holding) (n : ℕ) → IsLooseLeaf v at h → HasSlotsFor (n + 1) capacity v h
-      → (spare : List ℕ) × Holds v' (with_spare spare (after_wrap at k h)) × HasSlotsFor n capacity' v' (with_spare spare h)
+      → (spare : List ℕ) × Holds v' (with_spare spare (after_wrap at k h)) × HasSlotsFor n capacity' v' (with_spare spare h) × (length spare ≡ length h.spare - 1)
   pub inner : (node_in v' k).kind ≡ kind.Free
   pub extent : extent_of (node_in v' k) ≡ across_of (node_in v at)
   pub across : across_of (node_in v' k) ≡ extent_of (node_in v at)
@@ -148,6 +150,7 @@ pub record WrappedTo (v v' : Shelf) (capacity' n at k : ℕ) (ks : List ℕ) (h 
   pub spare : List ℕ
   pub stage : IsStage v' (k ∷ ks) (with_spare spare (after_wrap at k h))
   pub slots : HasSlotsFor n capacity' v' (with_spare spare (after_wrap at k h))
+  pub spared : length spare ≡ length h.spare - 1
   pub fresh : (i : ℕ) → h.loose i ≡ true → i ≢ k
 
 wrap_only : (loose : ℕ → Bool) (at k : ℕ) (ks : List ℕ) → ((i : ℕ) → occurs i (at ∷ ks) ≡ 0 → loose i ≡ false) → (i : ℕ) → occurs i (k ∷ ks) ≡ 0 → with_mark (with_mark loose k true) at false i ≡ false
@@ -170,15 +173,16 @@ wrap-stage v v' capacity capacity' n at k ks h w s room l =
         only = wrap_only h.loose at k ks s.only;
       };
       slots = got.2;
+      spared = got.3;
       fresh = (λ i m. fresh_slot v v' h (with_spare got.0 (after_wrap at k h)) k i s.holds got.1
-        (omega (arith, same-self k, tally-wrapped k at k h.sequence.width h.tree (free_once (nodes v.slots) at h.sequence h.tree leaf.kind s.holds.stands)))
-        (s.free i m));
+          (omega (arith, same-self k, tally-wrapped k at k h.sequence.width h.tree (free_once (nodes v.slots) at h.sequence h.tree leaf.kind s.holds.stands)))
+          (s.free i m));
     }
 
 -- what is told of a wrapping in two
 pub record IsWrappedTwo (v v' : Shelf) (capacity capacity' at k j p : ℕ) : Type 0 where
   pub kept : (h : Holding) (n : ℕ) → IsLooseLeaf v at h → HasSlotsFor (n + 2) capacity v h
-      → (spare : List ℕ) × Holds v' (with_spare spare (after_split k j p (after_wrap at k h))) × HasSlotsFor n capacity' v' (with_spare spare h)
+      → (spare : List ℕ) × Holds v' (with_spare spare (after_split k j p (after_wrap at k h))) × HasSlotsFor n capacity' v' (with_spare spare h) × (length spare ≡ length h.spare - 2)
   pub front : (node_in v' k).kind ≡ kind.Free
   pub across : across_of (node_in v' k) ≡ extent_of (node_in v at)
   pub back : (node_in v' j).kind ≡ kind.Free
@@ -190,6 +194,7 @@ pub record WrappedTwoTo (v v' : Shelf) (capacity' n at k j p : ℕ) (ks : List �
   pub spare : List ℕ
   pub stage : IsStage v' (j ∷ k ∷ ks) (with_spare spare (after_split k j p (after_wrap at k h)))
   pub slots : HasSlotsFor n capacity' v' (with_spare spare (after_split k j p (after_wrap at k h)))
+  pub spared : length spare ≡ length h.spare - 2
 
 pub wrap_two-stage : (v v' : Shelf) (capacity capacity' n at k j p : ℕ) (ks : List ℕ) (h : Holding) → IsWrappedTwo v v' capacity capacity' at k j p
     → IsStage v (at ∷ ks) h → HasSlotsFor (n + 2) capacity v h → h.loose at ≡ true → WrappedTwoTo v v' capacity' n at k j p ks h
@@ -212,6 +217,7 @@ wrap_two-stage v v' capacity capacity' n at k j p ks h w s room l =
         only = only-more (with_mark (with_mark h.loose k true) at false) j (k ∷ ks) (wrap_only h.loose at k ks s.only);
       };
       slots = got.2;
+      spared = got.3;
     }
 
 -- what is told of a grant
@@ -276,7 +282,7 @@ across-inner leaf at unused = by_axis leaf.axis
 
 pub is-split : (v v' : Shelf) (capacity capacity' p : ℕ) (at k : Link)
     → ((h : Holding) (n : ℕ) → IsLooseLeaf v at.number h → HasSlotsFor (n + 1) capacity v h
-        → (spare : List ℕ) × Holds v' (with_spare spare (after_split at.number k.number p h)) × HasSlotsFor n capacity' v' (with_spare spare h))
+    → (spare : List ℕ) × Holds v' (with_spare spare (after_split at.number k.number p h)) × HasSlotsFor n capacity' v' (with_spare spare h) × (length spare ≡ length h.spare - 1))
     → node_in v' at.number ≡ front_node (node_in v at.number) p k
     → (unused : Node) × (node_in v' k.number ≡ back_node (node_in v at.number) p at unused)
     → k.number ≢ at.number
@@ -293,7 +299,7 @@ is-split v v' capacity capacity' p at k kept front back apart others = record {
 
 pub is-wrapped : (v v' : Shelf) (capacity capacity' : ℕ) (at k : Link)
     → ((h : Holding) (n : ℕ) → IsLooseLeaf v at.number h → HasSlotsFor (n + 1) capacity v h
-        → (spare : List ℕ) × Holds v' (with_spare spare (after_wrap at.number k.number h)) × HasSlotsFor n capacity' v' (with_spare spare h))
+    → (spare : List ℕ) × Holds v' (with_spare spare (after_wrap at.number k.number h)) × HasSlotsFor n capacity' v' (with_spare spare h) × (length spare ≡ length h.spare - 1))
     → (unused : Node) × (node_in v' k.number ≡ inner_node (node_in v at.number) at unused)
     → k.number ≢ at.number
     → ((i : ℕ) → i ≢ at.number → i ≢ k.number → KeepsUse (node_in v i) (node_in v' i))
@@ -309,7 +315,7 @@ is-wrapped v v' capacity capacity' at k kept inner apart others = record {
 
 pub is-wrapped_two : (v v' : Shelf) (capacity capacity' p : ℕ) (at k j : Link)
     → ((h : Holding) (n : ℕ) → IsLooseLeaf v at.number h → HasSlotsFor (n + 2) capacity v h
-        → (spare : List ℕ) × Holds v' (with_spare spare (after_split k.number j.number p (after_wrap at.number k.number h))) × HasSlotsFor n capacity' v' (with_spare spare h))
+    → (spare : List ℕ) × Holds v' (with_spare spare (after_split k.number j.number p (after_wrap at.number k.number h))) × HasSlotsFor n capacity' v' (with_spare spare h) × (length spare ≡ length h.spare - 2))
     → (unused : Node) × (node_in v' k.number ≡ front_node (inner_node (node_in v at.number) at unused) p j)
     → (unused : Node) × (o : Node) × (node_in v' j.number ≡ back_node (inner_node (node_in v at.number) at unused) p k o)
     → k.number ≢ at.number
@@ -330,7 +336,7 @@ is-wrapped_two v v' capacity capacity' p at k j kept front back front_apart back
 
 pub is-split_at : (v v' : Shelf) (capacity capacity' p q : ℕ) (at k : Link) → q ≡ p
     → ((h : Holding) (n : ℕ) → IsLooseLeaf v at.number h → HasSlotsFor (n + 1) capacity v h
-        → (spare : List ℕ) × Holds v' (with_spare spare (after_split at.number k.number q h)) × HasSlotsFor n capacity' v' (with_spare spare h))
+    → (spare : List ℕ) × Holds v' (with_spare spare (after_split at.number k.number q h)) × HasSlotsFor n capacity' v' (with_spare spare h) × (length spare ≡ length h.spare - 1))
     → node_in v' at.number ≡ front_node (node_in v at.number) q k
     → (unused : Node) × (node_in v' k.number ≡ back_node (node_in v at.number) q at unused)
     → k.number ≢ at.number
@@ -341,7 +347,7 @@ is-split_at v v' capacity capacity' p q at k e kept front back apart others =
 
 pub is-wrapped_two_at : (v v' : Shelf) (capacity capacity' p q : ℕ) (at k j : Link) → q ≡ p
     → ((h : Holding) (n : ℕ) → IsLooseLeaf v at.number h → HasSlotsFor (n + 2) capacity v h
-        → (spare : List ℕ) × Holds v' (with_spare spare (after_split k.number j.number q (after_wrap at.number k.number h))) × HasSlotsFor n capacity' v' (with_spare spare h))
+    → (spare : List ℕ) × Holds v' (with_spare spare (after_split k.number j.number q (after_wrap at.number k.number h))) × HasSlotsFor n capacity' v' (with_spare spare h) × (length spare ≡ length h.spare - 2))
     → (unused : Node) × (node_in v' k.number ≡ front_node (inner_node (node_in v at.number) at unused) q j)
     → (unused : Node) × (o : Node) × (node_in v' j.number ≡ back_node (inner_node (node_in v at.number) at unused) q k o)
     → k.number ≢ at.number

@@ -1,5 +1,5 @@
 -- the plan of a request: its line of the cut table, and that it can be carried out
-use Rattle.std.proofs.Common.{ℕ, ◌+◌, ◌-◌, ◌<◌, ◌≤◌, ◌≡◌, ◌≢◌, Bool, true, false, ℤ, pos, negsuc, ◌≤ℤ◌, refl, sym, ap, subst, ◌∙◌, arith, eqb, cond, ◌&&◌, ◌||◌}
+use Rattle.std.proofs.Common.{◌<◌, ◌≤◌, ◌≡◌, ◌≢◌, Bool, true, false, ℤ, pos, negsuc, ◌≤ℤ◌, refl, ap, subst, arith, eqb, cond, ◌&&◌, ◌||◌}
 use Rattle.std.proofs.lemmas.Bool.{eq-eqb, ne_eqb}
 use Rattle.std.proofs.lemmas.Int.{ints}
 use Rattle.guillotiere.specs.declared.tree.Plan.{Plan}
@@ -7,7 +7,7 @@ use Rattle.guillotiere.specs.declared.tree.Plan.TheVariants as plan
 use Rattle.guillotiere.specs.declared.slots.Node.{Node}
 use Rattle.guillotiere.specs.declared.geometry.Size.{Size}
 use Rattle.guillotiere.specs.declared.geometry.Rectangle.{Rectangle}
-use Rattle.guillotiere.specs.Boxes.{Axis, Sides, Box, other, side, box_sides, Fits, IsPositive}
+use Rattle.guillotiere.specs.Boxes.{Axis, Sides, other, side, box_sides, Fits, IsPositive}
 use Rattle.guillotiere.specs.Boxes.Axis.{Horizontal, Vertical}
 use Rattle.guillotiere.specs.Cuts.{cut, cut_axis}
 use Rattle.guillotiere.specs.Cuts.Cut.{Whole, Strip, Corner}
@@ -87,18 +87,24 @@ feasible-for leaf r p positive fits for = by_plan p for
         (omega (arith, for.1, positive-side a r positive), omega (arith, for.1, says.1))
     by_plan (plan.CornerAlong p q) for =
         let a = axis_of leaf.axis in
-        let says : CutSays (Corner a) (box_sides (box_of leaf.area)) r = subst (λ c. CutSays c (box_sides (box_of leaf.area)) r) for.0 (cut_says (box_sides (box_of leaf.area)) r positive fits) in
-        (omega (arith, for.1, positive-side a r positive), omega (arith, for.1, less-side a r (box_sides (box_of leaf.area)) says),
-          omega (arith, for.2, positive-side (other a) r positive), omega (arith, for.2, less-side (other a) r (box_sides (box_of leaf.area)) says))
+        let says : CutSays (Corner a) (box_sides (box_of leaf.area)) r = subst (λ c. CutSays c (box_sides (box_of leaf.area)) r) for.0 (cut_says (box_sides (box_of leaf.area)) r positive fits) in (
+          omega (arith, for.1, positive-side a r positive),
+          omega (arith, for.1, less-side a r (box_sides (box_of leaf.area)) says),
+          omega (arith, for.2, positive-side (other a) r positive),
+          omega (arith, for.2, less-side (other a) r (box_sides (box_of leaf.area)) says),
+        )
     by_plan (plan.StripAcross q) for =
         let a = axis_of leaf.axis in
         let says : CutSays (Strip (other a)) (box_sides (box_of leaf.area)) r = subst (λ c. CutSays c (box_sides (box_of leaf.area)) r) for.0 (cut_says (box_sides (box_of leaf.area)) r positive fits) in
         (omega (arith, for.1, positive-side (other a) r positive), omega (arith, for.1, says.1))
     by_plan (plan.CornerAcross p q) for =
         let a = axis_of leaf.axis in
-        let says : CutSays (Corner (other a)) (box_sides (box_of leaf.area)) r = subst (λ c. CutSays c (box_sides (box_of leaf.area)) r) for.0 (cut_says (box_sides (box_of leaf.area)) r positive fits) in
-        (omega (arith, for.1, positive-side a r positive), omega (arith, for.1, less-side a r (box_sides (box_of leaf.area)) says),
-          omega (arith, for.2, positive-side (other a) r positive), omega (arith, for.2, less-side (other a) r (box_sides (box_of leaf.area)) says))
+        let says : CutSays (Corner (other a)) (box_sides (box_of leaf.area)) r = subst (λ c. CutSays c (box_sides (box_of leaf.area)) r) for.0 (cut_says (box_sides (box_of leaf.area)) r positive fits) in (
+          omega (arith, for.1, positive-side a r positive),
+          omega (arith, for.1, less-side a r (box_sides (box_of leaf.area)) says),
+          omega (arith, for.2, positive-side (other a) r positive),
+          omega (arith, for.2, less-side (other a) r (box_sides (box_of leaf.area)) says),
+        )
 
 -- a rectangle that a request fits
 pub exact-leaf : (area : Rectangle) (r : Sides) → area ≡ rectangle_of (box_of area) → IsPositive r → Fits r (box_sides (box_of area)) → IsExact area

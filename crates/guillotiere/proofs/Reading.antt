@@ -1,6 +1,5 @@
 -- the slots determine the tree
-use Rattle.std.proofs.Common.{ℕ, ℤ, pos, ◌+◌, ◌-◌, ◌<◌, ◌≤◌, ◌≡◌, List, refl, sym, ap, ◌∙◌, ◌⊎◌, inl, inr, arith, length, zero, suc, Bool, true, false, ◌&&◌, eqb, ltb, get_or}
-use Rattle.std.specs.List.{position_or_len}
+use Rattle.std.proofs.Common.{ℕ, ◌+◌, ◌<◌, ◌≤◌, ◌≡◌, List, refl, sym, ap, ◌∙◌, ◌⊎◌, inl, inr, arith, length, zero, suc, true}
 use Rattle.std.proofs.lemmas.Bool.{cases_eq, cases_lt, and_parts, and_from, eqb-true, eq-eqb, ltb-true, lt-ltb, true≢false}
 use Rattle.std.proofs.lemmas.List.{get_or_past}
 use Rattle.std.proofs.lemmas.List.Sums.{passes_at_first, fails_before_first}
@@ -12,10 +11,10 @@ use Rattle.guillotiere.specs.declared.slots.NodeKind.TheVariants as kind
 use Rattle.guillotiere.specs.Slots.{axis_of, node_at, blank_node, use_count, no_slot}
 use Rattle.guillotiere.specs.Trees.{Members, Tree}
 use Rattle.guillotiere.specs.Numbered.{Numbered, tally, first_slot, same, erase, numbers, End, Free, Alloc, Seq}
-use Rattle.guillotiere.specs.Standing.{Sequence, Standing, Stands, IsPlaced, inside, member_box, spot}
-use Rattle.guillotiere.specs.Reading.{extent_of, begins_in, head_of, built, read, numbered_of, tree_of}
+use Rattle.guillotiere.specs.Standing.{Sequence, Standing, Stands, inside, member_box, spot}
+use Rattle.guillotiere.specs.Reading.{extent_of, begins_in, head_of, read, numbered_of, tree_of}
 use Rattle.guillotiere.proofs.Frames.{same-self, same-ne}
-use Rattle.guillotiere.proofs.Joining.{used-le, split_pos, ne-from_same, ne-from_count}
+use Rattle.guillotiere.proofs.Joining.{used-le, split_pos, ne-from_same}
 use Rattle.guillotiere.proofs.JoiningWrites.{none-unused, used-inside}
 use Rattle.guillotiere.proofs.Lifting.{parent-in}
 

@@ -1,9 +1,9 @@
 -- The rectangle of each used slot is that of a nonempty box.
-use Rattle.std.proofs.Common.{ℕ, ◌+◌, ◌<◌, ◌≡◌, List, refl, sym, ap, ◌∙◌, arith, eqb, cond, subst, inl, inr}
+use Rattle.std.proofs.Common.{ℕ, ◌+◌, ◌<◌, ◌≡◌, List, refl, sym, arith, subst, inl, inr}
 use Rattle.std.proofs.lemmas.Bool.{cases_eq, cases_lt}
 use Rattle.guillotiere.specs.declared.slots.Node.{Node}
 use Rattle.guillotiere.specs.declared.geometry.Rectangle.{Rectangle}
-use Rattle.guillotiere.specs.Boxes.{Axis, Box, IsNonempty, sized, box_at}
+use Rattle.guillotiere.specs.Boxes.{Axis, IsNonempty, sized, box_at}
 use Rattle.guillotiere.specs.Boxes.Axis.{Horizontal, Vertical}
 use Rattle.guillotiere.specs.Pixels.{rectangle_of}
 use Rattle.guillotiere.specs.Trees.{IsCut}

@@ -1,6 +1,6 @@
 -- the ids of a standing tree are those of its allocated slots
-use Rattle.std.proofs.Common.{ℕ, ◌+◌, ◌*◌, ◌%◌, ◌^◌, ◌<◌, ◌≤◌, ◌≡◌, ◌==◌, Bool, true, false, cond, length, List, [], ◌∷◌, ◌++◌, refl, sym, ap, ap₂, subst, ◌∙◌, ◌⊎◌, inl, inr, arith, eqb}
-use Rattle.std.specs.List.{Contains, count_by}
+use Rattle.std.proofs.Common.{ℕ, ◌+◌, ◌%◌, ◌^◌, ◌<◌, ◌≤◌, ◌≡◌, ◌==◌, length, List, ◌∷◌, refl, sym, ap, ap₂, subst, ◌∙◌, inl, inr, arith, eqb}
+use Rattle.std.specs.List.{Contains}
 use Rattle.std.proofs.lemmas.Bool.{cases_eq, eq-eqb, ne_eqb}
 use Rattle.std.proofs.lemmas.List.Elements.{Contains-append_left, Contains-append_right, Contains-append_cases}
 use Rattle.std.proofs.lemmas.List.Sums.{sum_by-cons, sum_by-append}
@@ -8,9 +8,9 @@ use Rattle.std.proofs.Math.Nat.{add-mul-mod_self_left, mod-eq_of_lt}
 use Rattle.guillotiere.specs.declared.slots.Node.{Node}
 use Rattle.guillotiere.specs.declared.slots.NodeKind.TheVariants as kind
 use Rattle.guillotiere.specs.Trees.{ids, slot_count, AreApart}
-use Rattle.guillotiere.specs.Slots.{node_at, use_count, no_slot}
+use Rattle.guillotiere.specs.Slots.{node_at, no_slot}
 use Rattle.guillotiere.specs.Numbered.{Numbered, tally, same, erase, id_of, End, Free, Alloc, Seq}
-use Rattle.guillotiere.specs.Standing.{Sequence, Standing, Stands, IsPlaced, inside}
+use Rattle.guillotiere.specs.Standing.{Sequence, Standing, Stands, inside}
 use Rattle.guillotiere.proofs.Frames.{same-self, same-ne}
 use Rattle.guillotiere.proofs.Joining.{split_pos, used-le}
 use Rattle.guillotiere.proofs.JoiningWrites.{used-inside}

@@ -25,14 +25,14 @@ use Rattle.guillotiere.proofs.SlotCuts.{whole-placed, strip_along-placed, strip_
 
 -- no slot leaves the tree, and the taken one comes in
 
-split-keeps : (x i k p : ℕ) (n : Numbered) → tally x n ≤ tally x (split_at i k p n)
+pub split-keeps : (x i k p : ℕ) (n : Numbered) → tally x n ≤ tally x (split_at i k p n)
 split-keeps x i k p End = omega arith
 split-keeps x i k p (Free j e rest) =
     cond_both (eqb i j) (Free j p (Free k (e - p) rest)) (Free j e (split_at i k p rest)) (λ m. same x j + tally x rest ≤ tally x m) (λ _. omega arith) (λ _. omega (arith, split-keeps x i k p rest))
 split-keeps x i k p (Alloc j g e rest) = omega (arith, split-keeps x i k p rest)
 split-keeps x i k p (Seq j e inner rest) = omega (arith, split-keeps x i k p inner, split-keeps x i k p rest)
 
-split-adds : (x i k p : ℕ) (n : Numbered) → 0 < free_tally i n → tally x n + same x k ≤ tally x (split_at i k p n)
+pub split-adds : (x i k p : ℕ) (n : Numbered) → 0 < free_tally i n → tally x n + same x k ≤ tally x (split_at i k p n)
 split-adds x i k p End l = absurd (omega arith)
 split-adds x i k p (Free j e rest) l =
     cond_both (eqb i j) (Free j p (Free k (e - p) rest)) (Free j e (split_at i k p rest)) (λ m. same x j + tally x rest + same x k ≤ tally x m) (λ _. omega arith) (λ q. omega (arith, split-adds x i k p rest (omega (arith, same-ne i j (eqb-false i j q)))))
@@ -43,14 +43,14 @@ split-adds x i k p (Seq j e inner rest) l =
       | inr b ↦ omega (arith, split-keeps x i k p inner, split-adds x i k p rest b)
     ]
 
-wrapped-keeps : (x i k across : ℕ) (n : Numbered) → tally x n ≤ tally x (wrapped_at i k across n)
+pub wrapped-keeps : (x i k across : ℕ) (n : Numbered) → tally x n ≤ tally x (wrapped_at i k across n)
 wrapped-keeps x i k across End = omega arith
 wrapped-keeps x i k across (Free j e rest) =
     cond_both (eqb i j) (Seq j e (Free k across End) rest) (Free j e (wrapped_at i k across rest)) (λ m. same x j + tally x rest ≤ tally x m) (λ _. omega arith) (λ _. omega (arith, wrapped-keeps x i k across rest))
 wrapped-keeps x i k across (Alloc j g e rest) = omega (arith, wrapped-keeps x i k across rest)
 wrapped-keeps x i k across (Seq j e inner rest) = omega (arith, wrapped-keeps x i k e inner, wrapped-keeps x i k across rest)
 
-wrapped-adds : (x i k across : ℕ) (n : Numbered) → 0 < free_tally i n → tally x n + same x k ≤ tally x (wrapped_at i k across n)
+pub wrapped-adds : (x i k across : ℕ) (n : Numbered) → 0 < free_tally i n → tally x n + same x k ≤ tally x (wrapped_at i k across n)
 wrapped-adds x i k across End l = absurd (omega arith)
 wrapped-adds x i k across (Free j e rest) l =
     cond_both (eqb i j) (Seq j e (Free k across End) rest) (Free j e (wrapped_at i k across rest)) (λ m. same x j + tally x rest + same x k ≤ tally x m) (λ _. omega arith) (λ q. omega (arith, wrapped-adds x i k across rest (omega (arith, same-ne i j (eqb-false i j q)))))
@@ -63,7 +63,7 @@ wrapped-adds x i k across (Seq j e inner rest) l =
 
 -- the first part of a cut leaf is free, and so is the leaf inside a new container
 
-split-stays : (i k p : ℕ) (n : Numbered) → 0 < free_tally i n → 0 < free_tally i (split_at i k p n)
+pub split-stays : (i k p : ℕ) (n : Numbered) → 0 < free_tally i n → 0 < free_tally i (split_at i k p n)
 split-stays i k p End l = l
 split-stays i k p (Free j e rest) l =
     cond_both (eqb i j) (Free j p (Free k (e - p) rest)) (Free j e (split_at i k p rest)) (λ m. 0 < free_tally i m) (λ t. omega (arith, same-self i, ap (same i) (eqb-true i j t))) (λ q. omega (arith, split-stays i k p rest (omega (arith, same-ne i j (eqb-false i j q)))))
@@ -74,7 +74,7 @@ split-stays i k p (Seq j e inner rest) l =
       | inr b ↦ omega (arith, split-stays i k p rest b)
     ]
 
-wrapped-gains : (i k across : ℕ) (n : Numbered) → 0 < free_tally i n → 0 < free_tally k (wrapped_at i k across n)
+pub wrapped-gains : (i k across : ℕ) (n : Numbered) → 0 < free_tally i n → 0 < free_tally k (wrapped_at i k across n)
 wrapped-gains i k across End l = absurd (omega arith)
 wrapped-gains i k across (Free j e rest) l =
     cond_both (eqb i j) (Seq j e (Free k across End) rest) (Free j e (wrapped_at i k across rest)) (λ m. 0 < free_tally k m) (λ _. omega (arith, same-self k)) (λ q. omega (arith, wrapped-gains i k across rest (omega (arith, same-ne i j (eqb-false i j q)))))

@@ -1,6 +1,6 @@
 -- The calls of the store keep what it holds: from what the calls on nodes and on lists ensure.
-use Rattle.std.proofs.Common.{ℕ, ◌+◌, ◌<◌, ◌≤◌, ◌≡◌, ◌≢◌, ◌^◌, List, [], ◌∷◌, refl, sym, ap, ◌∙◌, ◌++◌, arith, length, set, length-set, Bool, true, false, eqb, inl, inr, subst}
-use Rattle.std.proofs.lemmas.Bool.{cases_eq, eq-eqb, ne_eqb, cond-true, cond-false}
+use Rattle.std.proofs.Common.{ℕ, ◌+◌, ◌<◌, ◌≤◌, ◌≡◌, ◌≢◌, List, [], ◌∷◌, refl, sym, ap, ◌∙◌, ◌++◌, arith, length, set, length-set, Bool, true, false, inl, inr, subst}
+use Rattle.std.proofs.lemmas.Bool.{cases_eq}
 use Rattle.guillotiere.specs.declared.slots.Slot.{Slot}
 use Rattle.guillotiere.specs.declared.slots.Link.{Link}
 use Rattle.guillotiere.specs.declared.slots.Node.{Node}
@@ -18,9 +18,9 @@ use Rattle.guillotiere.specs.Lists.{AreFiled, Line, front, is_free}
 use Rattle.std.proofs.lemmas.List.{length-map, length_push}
 use Rattle.guillotiere.specs.Reading.{extent_of}
 use Rattle.guillotiere.specs.Parts.{front_node, back_node, inner_node}
-use Rattle.guillotiere.specs.Links.{with_mark, with_count, rest_of, held_with, held_without, IsExact, IsTaken}
+use Rattle.guillotiere.specs.Links.{with_mark, with_count, rest_of, IsExact, IsTaken}
 use Rattle.guillotiere.specs.Stored.{Shelf, Holding, Holds, HoldsWith}
-use Rattle.guillotiere.specs.Holdings.{node_in, with_loose, with_tree, IsLooseLeaf, IsReadyWith, HasSlotsFor, with_held, after_take, after_grant, after_mark, after_join, after_lift, after_split, after_wrap}
+use Rattle.guillotiere.specs.Holdings.{node_in, IsLooseLeaf, IsReadyWith, HasSlotsFor, after_take, after_grant, after_mark, after_join, after_lift, after_split, after_wrap}
 use Rattle.guillotiere.proofs.Filing.{with_mark-same, with_mark-other, with_count-same, with_count-other}
 use Rattle.guillotiere.proofs.Taking.{AreFiled-moved, AreFiled-nodes, IsMoved}
 use Rattle.guillotiere.proofs.NumberedCuts.{total-marked, cut-marked, total-granted, cut-granted, total-joined, cut-joined, total-lifted, cut-lifted, total-split, cut-split, total-wrapped, cut-wrapped}
@@ -395,7 +395,10 @@ taken-short v new capacity i n slot h hand holds room again fresh =
           let one : length new ≡ length v.slots + 1 = ap (λ s. length s) (fresh e) ∙ length_push v.slots slot in
           elim room [
             | inl some ↦ absurd (some-front h.spare (rings v.slots) (omega (arith, length-rings v.slots, holds.short)) holds.filed.line (sym holds.filed.begins ∙ e) some)
-            | inr r ↦ omega (arith, one, r.1)
+            | inr r ↦ elim (cases_eq (length h.spare) 0) [
+              | inl z ↦ omega (arith, one, r.1, z)
+              | inr nz ↦ absurd (some-front h.spare (rings v.slots) (omega (arith, length-rings v.slots, holds.short)) holds.filed.line (sym holds.filed.begins ∙ e) (omega arith))
+            ]
           ]
       | inr ne ↦
           let same : length (nodes new) ≡ length (nodes v.slots) = ap (λ s. length s) (again ne) ∙ length-set (nodes v.slots) i n in

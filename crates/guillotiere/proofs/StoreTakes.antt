@@ -1,10 +1,10 @@
 -- A slot is taken and put to use at once.
-use Rattle.std.proofs.Common.{ℕ, ◌+◌, ◌<◌, ◌≤◌, ◌≡◌, ◌≢◌, List, refl, sym, ap, ◌∙◌, arith, length, true, inl, inr, subst, vec_capacity, Bool, false}
+use Rattle.std.proofs.Common.{ℕ, ◌-◌, [], ◌∷◌, ◌≡◌, ◌≢◌, List, refl, sym, ◌∙◌, arith, length, true, inl, inr, subst, vec_capacity, false}
 use Rattle.guillotiere.specs.declared.store.Store.{Store}
 use Rattle.guillotiere.specs.declared.slots.NodeKind.TheVariants as kind
 use Rattle.guillotiere.specs.Links.{with_count, with_mark, rest_of}
-use Rattle.guillotiere.specs.Stored.{Shelf, Holding, Holds, HoldsWith}
-use Rattle.guillotiere.specs.Holdings.{shelf_of, node_in, HasSlotsFor, IsLooseLeaf, IsReadyWith, KeepsRoom, with_spare, after_take, after_split, after_wrap}
+use Rattle.guillotiere.specs.Stored.{Shelf, Holding, HoldsWith}
+use Rattle.guillotiere.specs.Holdings.{shelf_of, node_in, HasSlotsFor, IsReadyWith, KeepsRoom, after_take, after_wrap}
 use Rattle.guillotiere.proofs.Filing.{with_count-same, with_count-other, with_mark-same, with_mark-other}
 use Rattle.std.proofs.lemmas.Bool.{cases_eq}
 use Rattle.guillotiere.proofs.StoreSteps.{holds-hand, hand-back, apart-kinds}
@@ -27,6 +27,11 @@ slots-kept old new n h r slots =
       | inl s ↦ inl s
       | inr s ↦ inr (omega (arith, r.slots, r.capacity, s.0), omega (arith, r.slots, s.1))
     ]
+
+-- a list that loses its first
+pub rest-length : (xs : List ℕ) → length (rest_of xs) ≡ length xs - 1
+rest-length [] = refl
+rest-length (x ∷ xs) = omega arith
 
 -- a free leaf is another slot than one that is unused
 pub apart-leaf : (v : Shelf) (i j : ℕ) → (node_in v i).kind ≡ kind.Free → (node_in v j).kind ≡ kind.Unused → i ≢ j

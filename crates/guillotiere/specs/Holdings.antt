@@ -1,5 +1,5 @@
 -- How the calls on slots and lists change what they hold. No public clause cites this module.
-use Rattle.std.specs.Prelude.{ℕ, ◌+◌, ◌≡◌, ◌≤◌, ◌==◌, ◌⊎◌, Bool, true, false, List, ◌∷◌, length, vec_capacity, if◌then◌else◌}
+use Rattle.std.specs.Prelude.{ℕ, ◌+◌, ◌≡◌, ◌≤◌, ◌⊎◌, Bool, true, false, List, ◌∷◌, length, vec_capacity}
 use Rattle.guillotiere.specs.declared.store.Store.{Store}
 use Rattle.guillotiere.specs.declared.slots.Node.{Node}
 use Rattle.guillotiere.specs.declared.slots.NodeKind.TheVariants as kind
@@ -27,10 +27,11 @@ with_held held h = record h { held = held }
 abbrev pub with_spare : List ℕ → Holding → Holding
 with_spare spare h = record h { spare = spare }
 
--- n slots can be taken without memory: as many are unused, or there is room for as many
+-- n slots can be taken without memory: as many are unused, or there is room for the others
 abbrev pub HasSlotsFor : (n capacity : ℕ) → Shelf → Holding → Type 0
 HasSlotsFor n capacity v h =
-    (n ≤ length h.spare) ⊎ ((length v.slots + n ≤ capacity) × (length v.slots + n ≤ 16777216))
+    (n ≤ length h.spare)
+    ⊎ ((length v.slots + n ≤ length h.spare + capacity) × (length v.slots + n ≤ length h.spare + 16777216))
 
 -- the node at slot i
 abbrev pub node_in : Shelf → ℕ → Node

@@ -34,3 +34,4 @@ pub mod Freeing
 pub mod Planning
 pub mod Replies
 pub mod Batches
+pub mod Chosen

@@ -1,10 +1,10 @@
 -- Which slots a placing takes and what the tree becomes, by the lines of the cut table. No public clause cites this
 -- module.
-use Rattle.std.specs.Prelude.{ℕ, ◌≡◌, ◌+◌, ◌<◌, ◌∷◌, []}
+use Rattle.std.specs.Prelude.{ℕ, ◌≡◌, ◌-◌, ◌<◌, ◌∷◌, [], length}
 use Rattle.guillotiere.specs.declared.tree.Plan.{Plan}
 use Rattle.guillotiere.specs.declared.tree.Plan.TheVariants as plan
 use Rattle.guillotiere.specs.declared.slots.Node.{Node}
-use Rattle.guillotiere.specs.Boxes.{Sides, Box, other, side, box_sides}
+use Rattle.guillotiere.specs.Boxes.{Sides, other, side, box_sides}
 use Rattle.guillotiere.specs.Cuts.{cut}
 use Rattle.guillotiere.specs.Cuts.Cut.{Whole, Strip, Corner}
 use Rattle.guillotiere.specs.Pixels.{natural, box_of}
@@ -78,3 +78,5 @@ pub record IsPlanned (new : Shelf) (at to : ℕ) (p : Plan) (h h' : Holding) : T
   pub tree : IsPlannedTree p at h.sequence.width to (node_in new to).generation h.tree h'.tree
   pub sequence : h'.sequence ≡ h.sequence
   pub granted : (node_in new to).kind ≡ kind.Alloc
+  -- the slots come from the unused ones as long as there are any
+  pub spare : length h'.spare ≡ length h.spare - slots_of p

@@ -5,10 +5,7 @@ use Rattle.guillotiere.specs.declared.slots.Node.{Node}
 use Rattle.guillotiere.specs.declared.slots.Ring.{Ring}
 use Rattle.guillotiere.specs.declared.slots.NodeKind.{NodeKind}
 use Rattle.guillotiere.specs.declared.slots.NodeKind.TheVariants as kind
-use Rattle.guillotiere.specs.declared.cut.Orientation.{Orientation}
 use Rattle.guillotiere.specs.declared.cut.Orientation.TheVariants as orientation
-use Rattle.guillotiere.specs.Boxes.{Axis}
-use Rattle.guillotiere.specs.Boxes.Axis.{Horizontal, Vertical}
 pub use Rattle.guillotiere.specs.Rectangles.{axis_of}
 
 -- the number of no slot

@@ -17,14 +17,17 @@ ghost use Rattle.guillotiere.specs.Steps.AtlasCall.{Allocate, Deallocate};
 
 use crate::allocation::{AllocId, Allocation, SlotCount};
 use crate::batch::are_named_once;
+use crate::choice::rounded;
+use crate::cut::granted;
 use crate::error::AtlasError;
 use crate::geometry::{Rectangle, Size};
 use crate::lists::empty_lists;
 use crate::options::{AllocatorOptions, DEFAULT_OPTIONS};
+use crate::requests::{choose, grant, make_room};
 use crate::slots::{Link, NO_SLOT, NodeKind};
 use crate::store::Store;
+use crate::tree::{free_leaf, slots_needed};
 use crate::turns::Turns;
-use crate::tree::free_leaf;
 use crate::walks::{gather_allocated, gather_free, named_slot, visit_allocated, visit_free};
 use std::alloc::{Allocator, Global};
 use std::marker::Model;
@@ -160,6 +163,31 @@ impl<A: Allocator + Copy> AtlasAllocator<A> {
     {
         let at = named_slot(&self.store.slots, id)?;
         Some(self.store.slots[at].node.area)
+    }
+
+    /// Grants a request: the part of the rounded size at the `min` of the free rectangle that is picked. None if the size
+    /// is empty or, rounded up, fits no free rectangle. `Slots` if more slots would be used than the limit allows;
+    /// `Memory` if more would be used than ever since the last start, and memory for them is refused. Unless something
+    /// is granted, nothing changes. Takes no turns.
+    pub fn allocate(&mut self, requested_size: Size) -> Result<Option<Allocation>, AtlasError>
+        ensures step { Step (state_of self.old) (Allocate (sides_of requested_size)) (allocate_reply result) (state_of self.new) }
+        ensures exact { IfOk result (λ granted. IfSome granted (λ allocation. IsExact allocation.rectangle)) }
+        ensures none { result ≡ Ok None → self.new ≡ self.old }
+        ensures refused { OnErr result (self.new ≡ self.old) }
+        ensures turns { self.new.turns ≡ self.old.turns }
+    {
+        let Some(size) = rounded(requested_size, &self.store.options) else {
+            return Ok(None);
+        };
+        let Some(chosen) = choose(&self.store, size) else {
+            return Ok(None);
+        };
+        let needed = slots_needed(chosen.plan);
+        make_room(&mut self.store, self.used, self.limit, needed)?;
+        let rectangle = granted(chosen.area, size);
+        let id = grant(&mut self.store, chosen);
+        self.used += needed;
+        Ok(Some(Allocation { id, rectangle }))
     }
 
     /// Frees the box of an id: it joins the free space beside it. `NotLive` if the id isn't live, and then nothing changes.

@@ -13,6 +13,7 @@ mod lists;
 mod options;
 mod pick;
 mod placing;
+mod requests;
 mod simple;
 mod slots;
 mod start;

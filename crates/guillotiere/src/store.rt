@@ -1,5 +1,5 @@
 //! The slots of an atlas with their lists: each call keeps the tree that the slots stand for, and the lists, in order.
-ghost use Rattle.std.specs.Prelude.{◌≡◌, ◌≢◌, ◌+◌, ◌<◌, ◌≤◌, ◌↔◌, ◌⊎◌, ℕ, List, true, false, IsTrue, vec_capacity, length};
+ghost use Rattle.std.specs.Prelude.{◌≡◌, ◌≢◌, ◌+◌, ◌-◌, ◌<◌, ◌≤◌, ◌↔◌, ◌⊎◌, ℕ, List, true, false, IsTrue, vec_capacity, length};
 ghost use Rattle.guillotiere.specs.declared.slots.NodeKind.TheVariants.{Alloc, Free, Container, Unused};
 ghost use Rattle.guillotiere.specs.Pixels.{natural};
 ghost use Rattle.guillotiere.specs.Calm.{IsCalmAt, IsCalmBut};
@@ -149,7 +149,7 @@ impl<A: Allocator> Store<A> {
         requires less { natural extent < extent_of (node_in (shelf_of self.old) at.number) }
         ensures kept { (h : Holding) (n : ℕ) → IsLooseLeaf (shelf_of self.old) at.number h → HasSlotsFor (n + 1) (vec_capacity self.old.slots) (shelf_of self.old) h
             → (spare : List ℕ) × Holds (shelf_of self.new) (with_spare spare (after_split at.number result.number (natural extent) h))
-            × HasSlotsFor n (vec_capacity self.new.slots) (shelf_of self.new) (with_spare spare h) }
+            × HasSlotsFor n (vec_capacity self.new.slots) (shelf_of self.new) (with_spare spare h) × (length spare ≡ length h.spare - 1) }
         ensures front { node_in (shelf_of self.new) at.number ≡ front_node (node_in (shelf_of self.old) at.number) (natural extent) result }
         ensures back { (unused : Node) × (node_in (shelf_of self.new) result.number ≡ back_node (node_in (shelf_of self.old) at.number) (natural extent) at unused) }
         ensures apart { result.number ≢ at.number }
@@ -167,7 +167,7 @@ impl<A: Allocator> Store<A> {
         requires ready { (h : Holding) × IsLooseLeaf (shelf_of self.old) at.number h × HasSlotsFor 1 (vec_capacity self.old.slots) (shelf_of self.old) h }
         ensures kept { (h : Holding) (n : ℕ) → IsLooseLeaf (shelf_of self.old) at.number h → HasSlotsFor (n + 1) (vec_capacity self.old.slots) (shelf_of self.old) h
             → (spare : List ℕ) × Holds (shelf_of self.new) (with_spare spare (after_wrap at.number result.number h))
-            × HasSlotsFor n (vec_capacity self.new.slots) (shelf_of self.new) (with_spare spare h) }
+            × HasSlotsFor n (vec_capacity self.new.slots) (shelf_of self.new) (with_spare spare h) × (length spare ≡ length h.spare - 1) }
         ensures outer { node_in (shelf_of self.new) at.number ≡ record (node_in (shelf_of self.old) at.number) { kind = Container } }
         ensures inner { (unused : Node) × (node_in (shelf_of self.new) result.number ≡ inner_node (node_in (shelf_of self.old) at.number) at unused) }
         ensures apart { result.number ≢ at.number }
@@ -188,7 +188,7 @@ impl<A: Allocator> Store<A> {
         requires less { natural extent < across_of (node_in (shelf_of self.old) at.number) }
         ensures kept { (h : Holding) (n : ℕ) → IsLooseLeaf (shelf_of self.old) at.number h → HasSlotsFor (n + 2) (vec_capacity self.old.slots) (shelf_of self.old) h
             → (spare : List ℕ) × Holds (shelf_of self.new) (with_spare spare (after_split result.0.number result.1.number (natural extent) (after_wrap at.number result.0.number h)))
-            × HasSlotsFor n (vec_capacity self.new.slots) (shelf_of self.new) (with_spare spare h) }
+            × HasSlotsFor n (vec_capacity self.new.slots) (shelf_of self.new) (with_spare spare h) × (length spare ≡ length h.spare - 2) }
         ensures outer { KeepsUse (record (node_in (shelf_of self.old) at.number) { kind = Container }) (node_in (shelf_of self.new) at.number) }
         ensures front { (unused : Node) × (node_in (shelf_of self.new) result.0.number ≡ front_node (inner_node (node_in (shelf_of self.old) at.number) at unused) (natural extent) result.1) }
         ensures back { (unused : Node) × (other : Node) × (node_in (shelf_of self.new) result.1.number ≡ back_node (inner_node (node_in (shelf_of self.old) at.number) at unused) (natural extent) result.0 other) }

@@ -1,10 +1,17 @@
 use Rattle.std.specs.Prelude.{vec_capacity}
-use Rattle.std.proofs.Common.{rules, sym, ap, ◌∙◌, to_z, of_z, w32}
-use Rattle.std.proofs.lemmas.Int.{to_z-of_z}
+use Rattle.std.proofs.Common.{rules}
 use Rattle.guillotiere.specs.declared.tree.Plan.TheVariants as plan
 use Rattle.guillotiere.specs.Holdings.{shelf_of}
-use Rattle.guillotiere.proofs.PlacingChains.{kept-as}
+use Rattle.guillotiere.proofs.PlacingSteps.{IsGranted}
+use Rattle.guillotiere.proofs.PlacingChains.{kept-as, whole-planned}
 use Rattle.guillotiere.proofs.tree.place.Goals as goal
+
+pub returns-in-Whole-clause-kept : goal.returns-in-Whole-clause-kept
+returns-in-Whole-clause-kept g c =
+    let v = shelf_of c.args.store.now in
+    let w : IsGranted (shelf_of c.args.store.now) (shelf_of c.grant.new.self) c.args.at.number = record { kept = c.grant.ensures.kept; granted = c.grant.ensures.granted; others = c.grant.ensures.others } in
+    kept-as v (shelf_of c.grant.new.self) (vec_capacity c.args.store.now.slots) c.args.at.number c.args.at.number c.args.plan plan.Whole c.in-Whole.is
+    (λ h s. whole-planned v (shelf_of c.grant.new.self) (vec_capacity c.args.store.now.slots) c.args.at.number h s w)
 
 pub returns-in-StripAlong-clause-kept : goal.returns-in-StripAlong-clause-kept
 returns-in-StripAlong-clause-kept g c =

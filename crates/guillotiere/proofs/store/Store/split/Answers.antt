@@ -1,4 +1,4 @@
-use Rattle.std.proofs.Common.{◌∙◌, ◌≡◌, ap, refl, ℕ, subst, sym, to_z, of_z, w32, vec_capacity}
+use Rattle.std.proofs.Common.{◌≡◌, ap, refl, ℕ, subst, to_z, of_z, w32}
 use Rattle.std.proofs.lemmas.Int.{to_z-of_z}
 use Rattle.guillotiere.specs.Pixels.{natural}
 use Rattle.guillotiere.specs.Parts.{back_node}
@@ -6,7 +6,7 @@ use Rattle.guillotiere.specs.Links.{with_count, rest_of}
 use Rattle.guillotiere.specs.Stored.{HoldsWith}
 use Rattle.guillotiere.specs.declared.slots.Node.{Node}
 use Rattle.guillotiere.specs.Holdings.{shelf_of, node_in, after_take, after_split}
-use Rattle.guillotiere.proofs.StoreTakes.{ready-taken, used-taken, slots-kept, apart-leaf}
+use Rattle.guillotiere.proofs.StoreTakes.{ready-taken, used-taken, slots-kept, rest-length, apart-leaf}
 use Rattle.guillotiere.proofs.store.Store.split.Given as given
 use Rattle.guillotiere.proofs.store.Store.split.Goals as goal
 
@@ -33,6 +33,7 @@ returns-clause-kept g c = λ h n leaf slots.
           (c.split_with.ensures.kept (after_take h) (with_count (λ i. 0) fresh 1)
           (ready-taken (shelf_of c.take-fresh.new.self) c.args.at.number fresh (λ i. 0) h taken leaf.loose))),
       slots-kept c.take-fresh.new.self c.split_with.new.self n (after_take h) c.split_with.ensures.room (c.take-fresh.ensures.slots h (λ i. 0) n leaf.holds slots),
+      rest-length h.spare,
     )
 
 pub returns-clause-back : goal.returns-clause-back

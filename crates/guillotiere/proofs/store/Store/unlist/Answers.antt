@@ -1,4 +1,4 @@
-use Rattle.std.proofs.Common.{◌∙◌, true, false}
+use Rattle.std.proofs.Common.{◌∙◌, true}
 use Rattle.std.proofs.lemmas.List.{with_items_is}
 use Rattle.guillotiere.specs.Links.{held_without, with_mark}
 use Rattle.guillotiere.specs.Holdings.{shelf_of}

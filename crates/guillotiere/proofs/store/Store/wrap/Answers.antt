@@ -1,7 +1,7 @@
 use Rattle.std.proofs.Common.{refl, ℕ}
 use Rattle.guillotiere.specs.Links.{with_count, rest_of}
 use Rattle.guillotiere.specs.Holdings.{shelf_of, after_take, after_wrap}
-use Rattle.guillotiere.proofs.StoreTakes.{ready-taken, used-taken, slots-kept}
+use Rattle.guillotiere.proofs.StoreTakes.{ready-taken, used-taken, slots-kept, rest-length}
 use Rattle.guillotiere.proofs.store.Store.wrap.Goals as goal
 
 pub wrap_with-requires-clause-ready : goal.wrap_with-requires-clause-ready
@@ -22,4 +22,5 @@ returns-clause-kept g c = λ h n leaf slots.
           (c.wrap_with.ensures.kept (after_take h) (with_count (λ i. 0) fresh 1)
           (ready-taken (shelf_of c.take-fresh.new.self) c.args.at.number fresh (λ i. 0) h taken leaf.loose)),
       slots-kept c.take-fresh.new.self c.wrap_with.new.self n (after_take h) c.wrap_with.ensures.room (c.take-fresh.ensures.slots h (λ i. 0) n leaf.holds slots),
+      rest-length h.spare,
     )

@@ -1,16 +1,15 @@
-use Rattle.std.proofs.Common.{◌∙◌, ◌≡◌, ◌≢◌, ◌+◌, ◌<◌, ap, refl, ℕ, subst, sym, arith, to_z, of_z, w32, vec_capacity}
+use Rattle.std.proofs.Common.{◌∙◌, ◌≡◌, ◌≢◌, ◌+◌, ap, ℕ, subst, sym, arith, to_z, of_z, w32, vec_capacity}
 use Rattle.std.proofs.lemmas.Int.{to_z-of_z}
 use Rattle.guillotiere.specs.declared.slots.Node.{Node}
-use Rattle.guillotiere.specs.declared.slots.NodeKind.TheVariants.{Free, Container}
 use Rattle.guillotiere.specs.Pixels.{natural}
 use Rattle.guillotiere.specs.Parts.{front_node, back_node, inner_node}
 use Rattle.guillotiere.specs.Slots.{KeepsUse}
 use Rattle.guillotiere.specs.Links.{with_count, rest_of}
-use Rattle.guillotiere.specs.Stored.{Holding, Holds, HoldsWith}
+use Rattle.guillotiere.specs.Stored.{Holding, HoldsWith}
 use Rattle.guillotiere.specs.Holdings.{shelf_of, node_in, HasSlotsFor, IsLooseLeaf, after_take, after_split, after_wrap}
 use Rattle.guillotiere.proofs.Filing.{with_count-same}
 use Rattle.guillotiere.proofs.StoreSteps.{holds-hand}
-use Rattle.guillotiere.proofs.StoreTakes.{ready-taken, ready-wrapped, slots-kept, apart-leaf, two_hands, no-hand}
+use Rattle.guillotiere.proofs.StoreTakes.{ready-taken, ready-wrapped, slots-kept, rest-length, apart-leaf, two_hands, no-hand}
 use Rattle.guillotiere.proofs.store.Store.wrap_two.Given as given
 use Rattle.guillotiere.proofs.store.Store.wrap_two.Goals as goal
 
@@ -113,6 +112,7 @@ returns-clause-kept g c = λ h n leaf slots.
           (ready-wrapped (shelf_of c.wrap_with.new.self) at f b (after_take (after_take h)) (both-apart g c) (λ e. front-apart g c (sym e)) (held3 g c h leaf)))),
       slots-kept c.wrap_with.new.self c.split_with.new.self n (after_take (after_take h)) c.split_with.ensures.room
           (slots-kept c.take-front.new.self c.wrap_with.new.self n (after_take (after_take h)) c.wrap_with.ensures.room second),
+      omega (arith, rest-length (rest_of h.spare), rest-length h.spare),
     )
 
 pub returns-clause-front : goal.returns-clause-front

@@ -1,0 +1,122 @@
+-- the free slot that a request takes, and how it is granted
+use Rattle.std.proofs.Common.{ℕ, ◌<◌, ◌≡◌, List, [], length, true, false, refl, sym, ap, subst, ◌∙◌, inl, inr, arith}
+use Rattle.std.proofs.lemmas.List.{length-map}
+use Rattle.guillotiere.specs.declared.slots.Slot.{Slot}
+use Rattle.guillotiere.specs.declared.slots.Node.{Node}
+use Rattle.guillotiere.specs.declared.slots.NodeKind.TheVariants as kind
+use Rattle.guillotiere.specs.declared.choice.Found.{Found}
+use Rattle.guillotiere.specs.declared.requests.Chosen.{Chosen}
+use Rattle.guillotiere.specs.declared.tree.Plan.{Plan}
+use Rattle.guillotiere.specs.Boxes.{Sides, Box, origin, box_sides, Fits}
+use Rattle.guillotiere.specs.Pixels.{box_of, rectangle_of, options_of}
+use Rattle.guillotiere.specs.Choice.{IsPick}
+use Rattle.guillotiere.specs.Trees.{ungranted, leaves}
+use Rattle.guillotiere.specs.Slots.{nodes, node_at}
+use Rattle.guillotiere.specs.Numbered.{erase, id_of}
+use Rattle.guillotiere.specs.Reading.{extent_of}
+use Rattle.guillotiere.specs.Picks.{AreFreeBoxes, IsFreeSlot, IsSearchable}
+use Rattle.guillotiere.specs.Stored.{Shelf, Holding, Holds}
+use Rattle.guillotiere.specs.Holdings.{node_in, across_of, with_loose, with_held}
+use Rattle.guillotiere.specs.Planning.{IsPlanFor, IsFeasible, IsPlaceableAt, IsPlanned}
+use Rattle.guillotiere.specs.Chosen.{IsAtRest, IsChosen, IsGrantable, IsGrantMade}
+use Rattle.guillotiere.proofs.Filing.{with_mark-same}
+use Rattle.guillotiere.proofs.JoiningWrites.{used-inside}
+use Rattle.guillotiere.proofs.FreeSlots.{AreFreeBoxes-stands, exact-free, searchable}
+use Rattle.guillotiere.proofs.PlacingSteps.{only-more}
+
+module _ (v : Shelf) (h : Holding) (rest : IsAtRest v h) where
+  pub rest-searchable : (slots : List Slot) → slots ≡ v.slots → IsSearchable (options_of v.options) slots v.lists
+  rest-searchable slots e =
+      let P : List Slot → Type 0 = λ s. IsSearchable (options_of v.options) s v.lists in
+      subst P (sym e) (searchable (options_of v.options) v.slots v.lists v.unused h.spare h.held (λ i. 0) h.loose h.sequence h.tree rest.holds.filed (λ i. rest.listed i refl) rest.holds.stands rest.holds.wide rest.holds.cut)
+
+  pub rest-free : AreFreeBoxes (nodes v.slots) (ungranted (leaves h.sequence.axis origin h.sequence.width (erase h.tree)))
+  rest-free = AreFreeBoxes-stands (nodes v.slots) h.sequence h.tree rest.holds.stands rest.start
+
+  -- the slot that was found, in the words of the store
+  module _ (slots : List Slot) (e : slots ≡ v.slots) (r : Sides) (found : Found) (leaf : Node) (le : leaf ≡ node_in v found.at)
+      (free : IsFreeSlot (nodes slots) found.at) (area : (node_at (nodes slots) found.at).area ≡ found.rectangle)
+      (picked : (free : List Box) → AreFreeBoxes (nodes slots) free → IsPick free (options_of v.options) r (box_of found.rectangle)) where
+    free_here : (node_in v found.at).kind ≡ kind.Free
+    free_here = subst (λ s. IsFreeSlot (nodes s) found.at) e free
+
+    area_here : (node_in v found.at).area ≡ found.rectangle
+    area_here = subst (λ s. (node_at (nodes s) found.at).area ≡ found.rectangle) e area
+
+    picked_here : (free : List Box) → AreFreeBoxes (nodes v.slots) free → IsPick free (options_of v.options) r (box_of found.rectangle)
+    picked_here = subst (λ s. (free : List Box) → AreFreeBoxes (nodes s) free → IsPick free (options_of v.options) r (box_of found.rectangle)) e picked
+
+    pub found-exact : leaf.area ≡ rectangle_of (box_of leaf.area)
+    found-exact =
+        subst (λ (n : Node). n.area ≡ rectangle_of (box_of n.area)) (sym le)
+        (exact-free (nodes v.slots) h.sequence h.tree rest.holds.stands rest.holds.wide rest.holds.cut found.at free_here).unsigned
+
+    pub found-fits : Fits r (box_sides (box_of leaf.area))
+    found-fits =
+        let is : leaf.area ≡ found.rectangle = ap (λ (n : Node). n.area) le ∙ area_here in
+        subst (λ a. Fits r (box_sides (box_of a))) (sym is) (picked_here (ungranted (leaves h.sequence.axis origin h.sequence.width (erase h.tree))) rest-free).best.candidate.fitting.fits
+
+    pub found-chosen : (plan : Plan) → IsPlanFor leaf r plan → IsFeasible plan (extent_of leaf) (across_of leaf)
+        → IsChosen v r (record { at = record { number = found.at }; area = found.rectangle; plan = plan })
+    found-chosen plan line feasible = record {
+      free = free_here;
+      area = area_here;
+      pick = picked_here;
+      line = subst (λ n. IsPlanFor n r plan) le line;
+      feasible = subst (λ n. IsFeasible plan (extent_of n) (across_of n)) le feasible;
+    }
+
+-- what is told of a slot that leaves its list
+pub record IsUnlistedFrom (v v' : Shelf) (capacity capacity' at : ℕ) : Type 0 where
+  pub kept : (h : Holding) → Holds v h → h.loose at ≡ false → (held : ℕ → List ℕ) × Holds v' (with_loose at true (with_held held h))
+  pub nodes : nodes v'.slots ≡ nodes v.slots
+  pub long : length v'.slots ≡ length v.slots
+  pub roomy : capacity' ≡ capacity
+
+module _ (v v' : Shelf) (capacity capacity' : ℕ) (r : Sides) (p : Chosen) (h : Holding) (w : IsGrantable v capacity r p h) (u : IsUnlistedFrom v v' capacity capacity' p.at.number) where
+  left : (held : ℕ → List ℕ) × Holds v' (with_loose p.at.number true (with_held held h))
+  left = u.kept h w.rest.holds (w.rest.listed p.at.number refl)
+
+  abbrev unlisted : Holding
+  unlisted = with_loose p.at.number true (with_held left.0 h)
+
+  is_placeable : IsPlaceableAt v' capacity' p.at.number p.plan unlisted
+  is_placeable = record {
+    leaf = record {
+      holds = left.1;
+      kind = ap (λ ns. (node_at ns p.at.number).kind) u.nodes ∙ w.chosen.free;
+      loose = with_mark-same h.loose p.at.number true;
+    };
+    only = only-more h.loose p.at.number [] w.rest.listed;
+    feasible = subst (λ ns. IsFeasible p.plan (extent_of (node_at ns p.at.number)) (across_of (node_at ns p.at.number))) (sym u.nodes) w.chosen.feasible;
+    slots = elim w.slots [
+      | inl s ↦ inl s
+      | inr s ↦ inr (omega (arith, u.long, u.roomy, s.0), omega (arith, u.long, s.1))
+    ];
+  }
+
+  pub placeable-chosen : (h' : Holding) × IsPlaceableAt v' capacity' p.at.number p.plan h'
+  placeable-chosen = (unlisted, is_placeable)
+
+  module _ (new : Shelf) (to : ℕ) (kept : (h : Holding) → IsPlaceableAt v' capacity' p.at.number p.plan h → (h' : Holding) × IsPlanned new p.at.number to p.plan h h') where
+    placed_there : (h' : Holding) × IsPlanned new p.at.number to p.plan unlisted h'
+    placed_there = kept unlisted is_placeable
+
+    pub granted-inside : to < length new.slots
+    granted-inside =
+        let inside : to < length (nodes new.slots) = used-inside (nodes new.slots) to (rw placed_there.1.granted (omega arith)) in
+        simp length-map at inside
+
+    pub granted-short : to < 16777216
+    granted-short = omega (arith, granted-inside, placed_there.1.holds.short)
+
+    pub grant-made : (id : ℕ) (node : Node) → node ≡ node_in new to → id ≡ id_of to node.generation → (to : ℕ) × (h' : Holding) × IsGrantMade new p id to h h'
+    grant-made id node same is =
+        let q = placed_there.1 in (
+          to,
+          placed_there.0,
+          record {
+            planned = record { holds = q.holds; listed = q.listed; tree = q.tree; sequence = q.sequence; granted = q.granted; spare = q.spare };
+            names = is ∙ ap (λ (n : Node). id_of to n.generation) same;
+          },
+        )

@@ -1,0 +1,66 @@
+use Rattle.std.proofs.Common.{rules, ◌≡◌, refl, arith}
+use Rattle.std.specs.Prelude.{vec_capacity, Err}
+use Rattle.guillotiere.specs.Pixels.{box_of, sides_of}
+use Rattle.guillotiere.specs.Holdings.{shelf_of}
+use Rattle.guillotiere.proofs.Observing.{used-IsAtlas}
+use Rattle.guillotiere.proofs.Storing.{natural-fits}
+use Rattle.guillotiere.proofs.CuttingFromLists.{sides_of-size, unsigned-measurable, unsigned_of}
+use Rattle.guillotiere.proofs.GrantedAtlas.{no_room-unrounded, no_room-none, area-unsigned, area-fits, refused-step, some-grantable, grant-done}
+use Rattle.guillotiere.proofs.atlas.AtlasAllocator.allocate.Goals as goal
+
+pub returns-in_default-clause-step : goal.returns-in_default-clause-step
+returns-in_default-clause-step g c =
+    rw (← c.self.view_is) (
+      no_room-unrounded _ c.self.invariant (sides_of c.args.requested_size) c.in_default.ensures (natural-fits c.self.inside.size.width (search rules)) (natural-fits c.self.inside.size.height (search rules)),
+      refl,
+    )
+
+pub returns-in_default-choose-clause-step : goal.returns-in_default-choose-clause-step
+returns-in_default-choose-clause-step g c =
+    rw (← c.self.view_is) (
+      no_room-none _ c.self.invariant (sides_of c.args.requested_size) (sides_of c.in-Some.size) (sides_of-size c.in-Some.size _ c.in-Some.ensures.1) (c.choose.ensures.none c.in_default-choose.is),
+      refl,
+    )
+
+pub make_room-requires-clause-used : goal.make_room-requires-clause-used
+make_room-requires-clause-used g c = omega (arith, used-IsAtlas _ c.self.invariant, c.self.invariant.sound.counted, c.self.invariant.sound.limited)
+
+pub returns-in_err-make_room-clause-step : goal.returns-in_err-make_room-clause-step
+returns-in_err-make_room-clause-step g c =
+    let same : c.from_residual.result ≡ Err c.in_err-make_room.field-0.0 = search rules in
+    rw (← c.self.view_is)
+    (refused-step _ c.self.invariant (sides_of c.args.requested_size) c.in-Some.size c.in-Some.ensures c.in-Some-choose.chosen c.in-Some-choose.ensures.some
+    (shelf_of c.make_room.new.store) c.make_room.ensures.same c.slots_needed-needed.result c.slots_needed-needed.ensures c.from_residual.result c.in_err-make_room.field-0.0 same c.in_err-make_room.ensures.refused c.make_room.new.store.turns.count c.self.inside.store.turns.count)
+
+pub granted-rectangle-requires-clause-measurable : goal.granted-rectangle-requires-clause-measurable
+granted-rectangle-requires-clause-measurable g c =
+    unsigned-measurable c.in-Some-choose.chosen.area
+    (area-unsigned _ c.self.invariant (sides_of c.args.requested_size) c.in-Some.size c.in-Some.ensures c.in-Some-choose.chosen c.in-Some-choose.ensures.some)
+    (search rules) (search rules) (search rules) (search rules)
+
+pub granted-rectangle-requires-clause-fits : goal.granted-rectangle-requires-clause-fits
+granted-rectangle-requires-clause-fits g c =
+    area-fits _ c.self.invariant (sides_of c.args.requested_size) c.in-Some.size c.in-Some.ensures c.in-Some-choose.chosen c.in-Some-choose.ensures.some
+
+pub grant-id-requires : goal.grant-id-requires
+grant-id-requires g c =
+    some-grantable _ c.self.invariant (sides_of c.args.requested_size) c.in-Some.size c.in-Some.ensures c.in-Some-choose.chosen c.in-Some-choose.ensures.some
+    (shelf_of c.make_room.new.store) c.make_room.ensures.same c.slots_needed-needed.result c.slots_needed-needed.ensures (vec_capacity c.make_room.new.store.slots) c.in_ok-make_room.ensures.ok
+
+pub invariant_of-self-2 : goal.invariant_of-self-2
+invariant_of-self-2 g c =
+    (grant-done _ c.self.invariant (sides_of c.args.requested_size) c.in-Some.size c.in-Some.ensures c.in-Some-choose.chosen c.in-Some-choose.ensures.some
+    (shelf_of c.make_room.new.store) c.make_room.ensures.same c.slots_needed-needed.result c.slots_needed-needed.ensures (vec_capacity c.make_room.new.store.slots) c.in_ok-make_room.ensures.ok
+    (shelf_of c.grant-id.new.store) c.grant-id.result c.granted-rectangle.result c.grant-id.ensures.granted c.grant-id.ensures.options c.granted-rectangle.ensures.boxes).atlas
+
+pub returns-clause-step : goal.returns-clause-step
+returns-clause-step g c =
+    let done = grant-done _ c.self.invariant (sides_of c.args.requested_size) c.in-Some.size c.in-Some.ensures c.in-Some-choose.chosen c.in-Some-choose.ensures.some
+    (shelf_of c.make_room.new.store) c.make_room.ensures.same c.slots_needed-needed.result c.slots_needed-needed.ensures (vec_capacity c.make_room.new.store.slots) c.in_ok-make_room.ensures.ok
+    (shelf_of c.grant-id.new.store) c.grant-id.result c.granted-rectangle.result c.grant-id.ensures.granted c.grant-id.ensures.options c.granted-rectangle.ensures.boxes in
+    rw (← c.self.view_is) (done.granted c.grant-id.new.store.turns.count c.self.inside.store.turns.count)
+
+pub returns-clause-exact : goal.returns-clause-exact
+returns-clause-exact g c =
+    unsigned_of c.granted-rectangle.result _ (c.granted-rectangle.ensures.boxes (box_of c.in-Some-choose.chosen.area)
+    (area-unsigned _ c.self.invariant (sides_of c.args.requested_size) c.in-Some.size c.in-Some.ensures c.in-Some-choose.chosen c.in-Some-choose.ensures.some))

@@ -1,0 +1,47 @@
+-- The free slot that a request takes, and what is granted there. No public clause cites this module.
+use Rattle.std.specs.Prelude.{ℕ, ◌+◌, ◌<◌, ◌≤◌, ◌≡◌, List, []}
+use Rattle.guillotiere.specs.declared.requests.Chosen.{Chosen}
+use Rattle.guillotiere.specs.declared.slots.NodeKind.TheVariants as kind
+use Rattle.guillotiere.specs.declared.error.AtlasError.{AtlasError}
+use Rattle.guillotiere.specs.declared.error.AtlasError.TheVariants.{Memory, Slots, NotLive}
+use Rattle.guillotiere.specs.Boxes.{Sides, Box}
+use Rattle.guillotiere.specs.Choice.{IsPick}
+use Rattle.guillotiere.specs.Pixels.{box_of, options_of}
+use Rattle.guillotiere.specs.Slots.{nodes}
+use Rattle.guillotiere.specs.Numbered.{id_of}
+use Rattle.guillotiere.specs.Reading.{extent_of}
+use Rattle.guillotiere.specs.Picks.{AreFreeBoxes}
+use Rattle.guillotiere.specs.Stored.{Shelf, Holding, Holds, IsLooseOnly}
+use Rattle.guillotiere.specs.Holdings.{node_in, across_of, HasSlotsFor}
+use Rattle.guillotiere.specs.Planning.{IsPlanFor, IsFeasible, IsPlanned, slots_of}
+
+-- the slots stand for a tree that begins at 0, and each free slot stands in its list
+pub record IsAtRest (v : Shelf) (h : Holding) : Type 0 where
+  pub holds : Holds v h
+  pub listed : IsLooseOnly [] h
+  pub start : h.sequence.start ≡ 0
+
+-- the free slot that a request takes, and how it gives way
+pub record IsChosen (v : Shelf) (r : Sides) (p : Chosen) : Type 0 where
+  pub free : (node_in v p.at.number).kind ≡ kind.Free
+  pub area : (node_in v p.at.number).area ≡ p.area
+  pub pick : (free : List Box) → AreFreeBoxes (nodes v.slots) free → IsPick free (options_of v.options) r (box_of p.area)
+  pub line : IsPlanFor (node_in v p.at.number) r p.plan
+  pub feasible : IsFeasible p.plan (extent_of (node_in v p.at.number)) (across_of (node_in v p.at.number))
+
+-- there are slots for the plan
+pub record IsGrantable (v : Shelf) (capacity : ℕ) (r : Sides) (p : Chosen) (h : Holding) : Type 0 where
+  pub rest : IsAtRest v h
+  pub chosen : IsChosen v r p
+  pub slots : HasSlotsFor (slots_of p.plan) capacity v h
+
+-- the plan is carried out, and slot `to` is granted under this id
+pub record IsGrantMade (new : Shelf) (p : Chosen) (id to : ℕ) (h h' : Holding) : Type 0 where
+  pub planned : IsPlanned new p.at.number to p.plan h h'
+  pub names : id ≡ id_of to (node_in new to).generation
+
+-- why slots were refused
+abbrev pub IsShortOf : (used limit needed kept : ℕ) → AtlasError → Type 0
+IsShortOf used limit needed kept Slots = limit < used + needed
+IsShortOf used limit needed kept Memory = (used + needed ≤ limit) × (kept < used + needed)
+IsShortOf used limit needed kept NotLive = ⊥
