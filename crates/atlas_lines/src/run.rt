@@ -7,7 +7,7 @@ ghost use Rattle.atlas_lines.specs.Progress.{EndsBadly, LineEnds, Continues, pla
 use crate::buffer::FixedBytes;
 use crate::commands::parse_line;
 use crate::devices::{ToolInput, ToolOutput, write_all};
-use crate::replies::{bad_line, send};
+use crate::replies::bad_line;
 use crate::tool::Tool;
 use std::alloc::Allocator;
 use std::marker::Model;
@@ -104,8 +104,7 @@ impl<A: Allocator + Copy> Progress<A> {
             let Some(command) = parse_line(self.line.as_slice()) else {
                 return Some(self.end_badly(output));
             };
-            let reply = self.tool.carry_out(command);
-            if !send(output, reply) {
+            if !self.tool.reply_to(command, output) {
                 return Some(Err(ToolFault::Write));
             }
         }

@@ -3,6 +3,20 @@
 #![tactic(auto)]
 
 #[cfg(test)]
+mod atlas_calls;
+#[cfg(test)]
+mod atlas_churn;
+#[cfg(test)]
+mod atlas_freeing;
+#[cfg(test)]
+mod atlas_grants;
+#[cfg(test)]
+mod atlas_recorded;
+#[cfg(test)]
+mod atlas_sessions;
+#[cfg(test)]
+mod atlas_walks;
+#[cfg(test)]
 mod geometry;
 #[cfg(test)]
 mod simple_recorded;
