@@ -37,8 +37,8 @@ list_step f xs i d x old mid new block room more h e g r m = record {
   whole = more_pieces f xs i d x h e ∙ ap (λ t. t ++ f x) g.whole ∙ ap (λ t. (g.done ++ t) ++ f x) r.whole ∙ regroup g.done r.done room (f x) ∙ ap (λ t. (g.done ++ r.done) ++ t) (sym m);
 }
   where
-  regroup : (a b c d : List ℕ) → (a ++ (b ++ c)) ++ d ≡ (a ++ b) ++ (c ++ d)
-  regroup a b c d = simp append_assoc
+    regroup : (a b c d : List ℕ) → (a ++ (b ++ c)) ++ d ≡ (a ++ b) ++ (c ++ d)
+    regroup a b c d = simp append_assoc
 
 -- all pieces are the first ones and the others
 all_pieces : {X : Type 0} (f : X → List ℕ) (xs : List X) (i : ℕ) → flat_map f xs ≡ flat_map f (take i xs) ++ flat_map f (drop i xs)
@@ -52,7 +52,7 @@ list_stops f xs i last old mid new block g w =
     let P : List ℕ → Type 0 = λ t. WritesBeginning old new t in
     let whole : (flat_map f (take i xs) ++ []) ++ (flat_map f (drop i xs) ++ last) ≡ flat_map f xs ++ last =
     ap (λ t. t ++ (flat_map f (drop i xs) ++ last)) (append-nil (flat_map f (take i xs))) ∙ sym (append_assoc (flat_map f (take i xs)) (flat_map f (drop i xs)) last)
-        ∙ ap (λ t. t ++ last) (sym (all_pieces f xs i)) in
+    ∙ ap (λ t. t ++ last) (sym (all_pieces f xs i)) in
     subst P whole (begins_more old new (flat_map f (take i xs) ++ []) (flat_map f (drop i xs) ++ last) first)
 
 -- all lines were gathered

@@ -1,5 +1,5 @@
 -- The lists of the live and of the free boxes, as the code gathers them.
-use Rattle.std.proofs.Common.{◌≡◌, ℕ, ◌+◌, ◌<◌, ◌≤◌, ◌⊎◌, inl, inr, ℤ, pos, ◌<ℤ◌, ◌≤ℤ◌, List, [], ◌∷◌, length, map, get_or, cond, Option, Some, Bool, true, false, refl, sym, ap, ◌∙◌, subst, arith}
+use Rattle.std.proofs.Common.{◌≡◌, ℕ, ◌+◌, ◌<◌, ◌≤◌, ◌⊎◌, inl, inr, ℤ, pos, ◌<ℤ◌, ◌≤ℤ◌, List, [], ◌∷◌, length, map, get_or, cond, Option, Some, false, refl, sym, ap, ◌∙◌, subst, arith}
 use Rattle.std.specs.List.{All}
 use Rattle.std.specs.List.Sorted.{IsPermutation, IsSortedByKey}
 use Rattle.std.specs.Ordering.{is_lt, ordering_then, int_cmp, MatchOrdering}
@@ -19,7 +19,10 @@ use Rattle.guillotiere.specs.States.{State}
 use Rattle.guillotiere.specs.Replies.{grant_of, IsExact}
 use Rattle.guillotiere.specs.Stored.{AtlasValue, state_of}
 use Rattle.guillotiere.specs.Visits.{AreGrants, AreFreeAreas}
-use Rattle.atlas_lines.specs.Machine.{ToolReply, LooksAtAtlas, atlas_in, ShowsLive, HoldsHoles, AreInOrder, allocation_of}
+use Rattle.guillotiere.specs.Simple.{SimpleState}
+use Rattle.atlas_lines.specs.declared.replies.Reply.{Reply}
+use Rattle.atlas_lines.specs.Machine.{state_of as tool_state_of}
+use Rattle.atlas_lines.specs.Machine.{ToolReply, Held, with_atlas, with_simple, LooksAtAtlas, IsLine, ShowsSize, ShowsEmpty, atlas_in, ShowsLive, HoldsHoles, AreInOrder, allocation_of}
 
 same_allocation : (a : Allocation) → IsExact a.rectangle → a ≡ allocation_of (grant_of a)
 same_allocation a e = λ i. record { id = a.id; rectangle = e i }
@@ -95,8 +98,7 @@ in_order sorted exact order k b h =
 
 pub holes_listed : (state : State) (found sorted : List Rectangle) → AreFreeAreas state found → IsPermutation found sorted → IsSortedByKey corner_key corner_cmp sorted → HoldsHoles state sorted
 holes_listed state found sorted areas moved order =
-    let exact = All-permutation IsExact found sorted moved areas.exact in
-    (
+    let exact = All-permutation IsExact found sorted moved areas.exact in (
       map box_of sorted,
       record {
         free = λ p. sum_by-IsPermutation (λ b. cond (p b) 1 0) (map box_of found) (map box_of sorted) (IsPermutation-map box_of found sorted moved) ∙ areas.list p;
@@ -104,3 +106,27 @@ holes_listed state found sorted areas moved order =
       },
       areas_back sorted exact,
     )
+
+-- ---- looks at an atlas that stands in the tool
+
+pub looked_size : (held inside : Option AtlasValue) (value : AtlasValue) (reply : Reply) → inside ≡ held → inside ≡ Some value → ShowsSize (state_of value) reply
+    → LooksAtAtlas (atlas_in held) (λ state. IsLine (ShowsSize state)) (ToolReply.OneLine reply)
+looked_size held inside value reply e f shown =
+    let P : Option AtlasValue → Type 0 = λ atlas. LooksAtAtlas (atlas_in atlas) (λ state. IsLine (ShowsSize state)) (ToolReply.OneLine reply) in
+    subst P (sym f ∙ e) shown
+
+pub looked_empty : (held inside : Option AtlasValue) (value : AtlasValue) (reply : Reply) → inside ≡ held → inside ≡ Some value → ShowsEmpty (state_of value) reply
+    → LooksAtAtlas (atlas_in held) (λ state. IsLine (ShowsEmpty state)) (ToolReply.OneLine reply)
+looked_empty held inside value reply e f shown =
+    let P : Option AtlasValue → Type 0 = λ atlas. LooksAtAtlas (atlas_in atlas) (λ state. IsLine (ShowsEmpty state)) (ToolReply.OneLine reply) in
+    subst P (sym f ∙ e) shown
+
+-- a new atlas in the tool
+pub made_atlas : (held : Held) (simple : Option SimpleState) (value : AtlasValue) (made : State) → simple ≡ held.simple → state_of value ≡ made
+    → tool_state_of (record { atlas = Some value; simple = simple }) ≡ with_atlas (tool_state_of held) made
+made_atlas held simple value made e f = λ i. record { atlas = Some (f i); simple = e i }
+
+-- a new simple allocator in the tool
+pub made_simple : (held : Held) (atlas : Option AtlasValue) (value made : SimpleState) → atlas ≡ held.atlas → value ≡ made
+    → tool_state_of (record { atlas = atlas; simple = Some value }) ≡ with_simple (tool_state_of held) made
+made_simple held atlas value made e f = λ i. record { atlas = atlas_in (e i); simple = Some (f i) }

@@ -6,7 +6,6 @@ use Rattle.guillotiere.specs.Boxes.{IsPositive}
 use Rattle.guillotiere.specs.Pixels.{natural, sides_of}
 use Rattle.std.specs.Io.KnownBytes.{Appends}
 use Rattle.atlas_lines.specs.declared.commands.Command.{Command}
-
 use Rattle.atlas_lines.specs.Grammar.{Spells}
 use Rattle.atlas_lines.specs.Machine.{ToolReply, ToolState, ToolStep, Held, state_of}
 use Rattle.atlas_lines.specs.Progress.{Place, state_at, RepliesTo}

@@ -1,5 +1,5 @@
 -- The tool as a machine: the reply to each command, by the steps of the allocators.
-use Rattle.std.specs.Prelude.{ℕ, ◌≡◌, ◌+◌, ◌<◌, ◌↔◌, IsTrue, List, [], map, length, slice_index_or, Option, Some, None, option_map}
+use Rattle.std.specs.Prelude.{ℕ, ◌≡◌, ◌+◌, ◌<◌, ◌↔◌, IsTrue, List, [], map, length, slice_index_or, Option, Some, None}
 use Rattle.guillotiere.specs.declared.allocation.Allocation.{Allocation}
 use Rattle.guillotiere.specs.declared.error.AtlasError.TheVariants.{Memory}
 use Rattle.guillotiere.specs.declared.geometry.Rectangle.{Rectangle}

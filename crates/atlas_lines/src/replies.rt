@@ -123,4 +123,3 @@ pub fn bad_line(number: u64) -> FixedBytes<LINE>
     text.push(b'\n');
     text
 }
-

@@ -18,15 +18,16 @@ use guillotiere::{
 use std::alloc::Allocator;
 use std::marker::Model;
 
-/// What the tool holds: at first no allocator.
+/// What the tool holds: at first no allocator. It holds a reference to the memory's allocator, which is small whatever
+/// that allocator is.
 #[derive(Drop)]
-pub struct Tool<A: Allocator + Copy> {
-    alloc: A,
-    atlas: Option<AtlasAllocator<A>>,
-    simple: Option<SimpleAtlasAllocator<A>>,
+pub struct Tool<'a, A: Allocator> {
+    alloc: &'a A,
+    atlas: Option<AtlasAllocator<&'a A>>,
+    simple: Option<SimpleAtlasAllocator<&'a A>>,
 }
 
-impl<A: Allocator + Copy> Model for Tool<A> {
+impl<'a, A: Allocator> Model for Tool<'a, A> {
     ghost use Rattle.atlas_lines.specs.Machine.{Held};
 
     ghost Value = { Held };
@@ -53,9 +54,9 @@ fn ordered_holes<A: Allocator + Copy>(
     Ok(areas)
 }
 
-impl<A: Allocator + Copy> Tool<A> {
+impl<'a, A: Allocator> Tool<'a, A> {
     /// A tool that holds nothing yet. It takes no memory.
-    pub fn new(alloc: A) -> Self
+    pub fn new(alloc: &'a A) -> Self
         ensures { result ≡ record { atlas = None; simple = None } }
     {
         Tool {
@@ -66,7 +67,7 @@ impl<A: Allocator + Copy> Tool<A> {
     }
 
     /// Carries out a command.
-    pub fn carry_out(&mut self, command: Command) -> Answer<A>
+    pub fn carry_out(&mut self, command: Command) -> Answer<&'a A>
         ensures { ToolStep (state_of self.old) command (shown_by result) (state_of self.new) }
     {
         match command {
@@ -125,7 +126,10 @@ impl<A: Allocator + Copy> Tool<A> {
     fn create_atlas(&mut self, size: Size, options: &AllocatorOptions) -> Reply
         ensures { CreatesAtlas (state_of self.old) (sides_of size) (options_of options.now) result (state_of self.new) }
     {
-        if !is_positive(size) || !options.is_valid() {
+        if !is_positive(size) {
+            return Reply::Invalid;
+        }
+        if !options.is_valid() {
             return Reply::Invalid;
         }
         match AtlasAllocator::with_options(self.alloc, size, options) {
@@ -164,7 +168,7 @@ impl<A: Allocator + Copy> Tool<A> {
         }
     }
 
-    fn list_live(&self) -> Answer<A>
+    fn list_live(&self) -> Answer<&'a A>
         ensures { LooksAtAtlas (atlas_in self.now.atlas) ShowsLive (shown_by result) }
     {
         let Some(atlas) = &self.atlas else {
@@ -176,7 +180,7 @@ impl<A: Allocator + Copy> Tool<A> {
         }
     }
 
-    fn list_holes(&self) -> Answer<A>
+    fn list_holes(&self) -> Answer<&'a A>
         ensures { LooksAtAtlas (atlas_in self.now.atlas) ShowsHoles (shown_by result) }
     {
         let Some(atlas) = &self.atlas else {

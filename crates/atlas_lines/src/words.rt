@@ -114,8 +114,8 @@ pub fn id_argument(text: &[u8]) -> Option<AllocId>
     ensures found { IfSome result (λ id. SpellsId id text.now) }
     ensures only { (id : ℕ) → SpellsId id text.now → result ≡ Some id }
 {
-    let (first, word) = text.split_first()?;
-    if *first != b' ' {
+    let (space, word) = text.split_first()?;
+    if *space != b' ' {
         return None;
     }
     Some(AllocId::deserialize(unsigned(word)?))

@@ -27,6 +27,8 @@ mod simple_sessions;
 #[cfg(test)]
 mod tables;
 #[cfg(test)]
+mod tool_atlas;
+#[cfg(test)]
 mod tool_devices;
 #[cfg(test)]
 mod tool_faults;

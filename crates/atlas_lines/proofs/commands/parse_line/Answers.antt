@@ -1,4 +1,4 @@
-use Rattle.atlas_lines.proofs.Keywords.{in_parts, from_parts}
+use Rattle.atlas_lines.proofs.Keywords.{in_parts}
 use Rattle.atlas_lines.proofs.commands.parse_line.Goals as goal
 
 pub returns-clause-only : goal.returns-clause-only

@@ -1,4 +1,4 @@
-use Rattle.std.proofs.Common.{◌≡◌, length, rules}
+use Rattle.std.proofs.Common.{rules}
 use Rattle.atlas_lines.proofs.Parting.{atlas_begins, two_end, six_end}
 use Rattle.atlas_lines.proofs.words.atlas_arguments.Goals as goal
 

@@ -1,4 +1,4 @@
-use Rattle.std.proofs.Common.{◌≡◌, rules, arith}
+use Rattle.std.proofs.Common.{◌≡◌, arith}
 use Rattle.std.proofs.lemmas.Int.{to_z-of_z}
 use Rattle.atlas_lines.proofs.Parting.{next_begins, same_size}
 use Rattle.atlas_lines.proofs.words.size_argument.Goals as goal

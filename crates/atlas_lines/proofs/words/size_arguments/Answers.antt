@@ -1,4 +1,4 @@
-use Rattle.std.proofs.Common.{◌≡◌, [], length, Some, rules, arith, ap}
+use Rattle.std.proofs.Common.{◌≡◌, [], length, Some, rules, ap}
 use Rattle.atlas_lines.proofs.Parting.{size_begins, same_end}
 use Rattle.atlas_lines.proofs.words.size_arguments.Goals as goal
 

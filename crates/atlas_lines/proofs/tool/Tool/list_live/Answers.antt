@@ -1,4 +1,4 @@
-use Rattle.std.proofs.Common.{◌≡◌, ap}
+use Rattle.std.proofs.Common.{ap}
 use Rattle.atlas_lines.specs.Machine.{Held}
 use Rattle.atlas_lines.proofs.Lists.{live_looked}
 use Rattle.atlas_lines.proofs.tool.Tool.list_live.Goals as goal
