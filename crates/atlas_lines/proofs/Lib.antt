@@ -7,3 +7,5 @@ pub mod Runs
 pub mod Joins
 pub mod Outcomes
 pub mod Readings
+pub mod Blocks
+pub mod Lists

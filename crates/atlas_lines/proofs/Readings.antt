@@ -4,13 +4,14 @@ use Rattle.std.specs.Char.{digit_value}
 use Rattle.std.specs.List.{AllByRecursion}
 use Rattle.std.specs.Str.Parse.{IsNumeral, digits_value}
 use Rattle.guillotiere.specs.declared.geometry.Size.{Size}
+use Rattle.guillotiere.specs.declared.options.AllocatorOptions.{AllocatorOptions}
 use Rattle.atlas_lines.specs.declared.commands.Command.{Command}
-use Rattle.atlas_lines.specs.declared.commands.Command.TheVariants.{Simple, Take}
-use Rattle.atlas_lines.specs.Grammar.{SpellsNumber, SpellsSize, Spells, keyword}
+use Rattle.atlas_lines.specs.declared.commands.Command.TheVariants.{Simple, Take, Atlas, Alloc, Live, Holes, AskSize, Free, Empty}
+use Rattle.atlas_lines.specs.Grammar.{SpellsNumber, SpellsNumbers, SpellsSize, SpellsAtlas, SpellsId, Spells, keyword}
 use Rattle.atlas_lines.specs.Lines.{HasNoEnd, ended, all_ended, AreLines, last_line}
-use Rattle.atlas_lines.specs.Words.{BeginsWithWord, BeginsWithNumber}
-use Rattle.atlas_lines.proofs.Parting.{one_word, number_no_space, same_size, size_begins}
-use Rattle.atlas_lines.proofs.Keywords.{only_simple, only_take, keyword_no_space, arguments_spaced}
+use Rattle.atlas_lines.specs.Words.{BeginsWithWord, BeginsWithNumber, SpellsInParts}
+use Rattle.atlas_lines.proofs.Parting.{one_word, number_no_space, number_begins, same_size, same_options}
+use Rattle.atlas_lines.proofs.Keywords.{only_simple, only_take, only_atlas, only_alloc, only_free, only_live, only_holes, only_size, only_empty, keyword_no_space, arguments_spaced, in_parts}
 use Rattle.atlas_lines.proofs.Outcomes.{parted}
 
 -- ---- lines
@@ -83,23 +84,68 @@ same_argument text y z r s a b =
     let P : List ℕ → Type 0 = SpellsNumber y in
     (same_number y z b.word (subst P same.0 a.spells) b.spells, same.1)
 
+one_list : (text : List ℕ) (ys zs : List ℤ) → SpellsNumbers ys text → SpellsNumbers zs text → ys ≡ zs
+one_list text [] [] a b = refl
+one_list text [] (z ∷ zs) a b = absurd (let e = a in let f = b.2 in cc)
+one_list text (y ∷ ys) [] a b = absurd (let e = a.2 in let f = b in cc)
+one_list text (y ∷ ys) (z ∷ zs) a b =
+    let same = same_argument text y z a.1 b.1 (number_begins y ys text a) (number_begins z zs text b) in
+    let more = one_list b.1 ys zs (subst (SpellsNumbers ys) same.1 a.4) b.4 in
+    (let e = same.0 in cc)
+
 pub one_size : (a b : Size) (text : List ℕ) → SpellsSize a text → SpellsSize b text → a ≡ b
 one_size a b text p q =
-    let f = size_begins a text p in
-    let g = size_begins b text q in
-    let width = same_argument text a.width b.width f.0 g.0 f.1 g.1 in
-    let P : List ℕ → Type 0 = λ t. BeginsWithNumber t a.height [] in
-    let height = same_argument g.0 a.height b.height [] [] (subst P width.1 f.2) g.2 in
-    same_size a b width.0 height.0
+    let e = one_list text (a.width ∷ a.height ∷ []) (b.width ∷ b.height ∷ []) p q in
+    let w : a.width ≡ b.width = cc in
+    let h : a.height ≡ b.height = cc in
+    same_size a b w h
+
+numbers_of : Size → AllocatorOptions → List ℤ
+numbers_of size o = size.width ∷ size.height ∷ o.alignment.width ∷ o.alignment.height ∷ o.small_size_threshold ∷ o.large_size_threshold ∷ []
+
+same_numbers : (a b : Size) (o p : AllocatorOptions) → numbers_of a o ≡ numbers_of b p → Atlas a o ≡ Atlas b p
+unfolding numbers_of
+same_numbers a b o p e =
+    let w : a.width ≡ b.width = cc in
+    let h : a.height ≡ b.height = cc in
+    let across : o.alignment.width ≡ p.alignment.width = cc in
+    let down : o.alignment.height ≡ p.alignment.height = cc in
+    let small : o.small_size_threshold ≡ p.small_size_threshold = cc in
+    let large : o.large_size_threshold ≡ p.large_size_threshold = cc in
+    let size : a ≡ b = same_size a b w h in
+    let options : o ≡ p = same_options o p (same_size o.alignment p.alignment across down) small large in
+    cc
+
+two_or_six : (a b : Size) (p : AllocatorOptions) (text : List ℕ) → SpellsSize a text → SpellsNumbers (numbers_of b p) text → ⊥
+unfolding numbers_of
+two_or_six a b p text two six = let e = one_list text (a.width ∷ a.height ∷ []) (numbers_of b p) two six in absurd (cc)
+
+pub one_atlas : (a b : Size) (o p : AllocatorOptions) (text : List ℕ) → SpellsAtlas a o text → SpellsAtlas b p text → Atlas a o ≡ Atlas b p
+unfolding numbers_of
+one_atlas a b o p text (inl x) (inl y) = let size = one_size a b text x.0 y.0 in let e = x.1 in let f = y.1 in cc
+one_atlas a b o p text (inl x) (inr y) = absurd (two_or_six a b p text x.0 y)
+one_atlas a b o p text (inr x) (inl y) = absurd (two_or_six b a o text y.0 x)
+one_atlas a b o p text (inr x) (inr y) = same_numbers a b o p (one_list text (numbers_of a o) (numbers_of b p) x y)
+
+pub one_id : (a b : ℕ) (text : List ℕ) → SpellsId a text → SpellsId b text → a ≡ b
+one_id a b text p q =
+    let word : p.0 ≡ q.0 = (let e = p.1 in let f = q.1 in cc) in
+    p.2.1 ∙ ap (digits_value 10) word ∙ sym q.2.1
 
 -- the keyword at the front of a line that spells a command
 begins_with_keyword : (c : Command) (line : List ℕ) (spells : Spells c line) → BeginsWithWord line (keyword c) spells.0
 begins_with_keyword c line spells = record { whole = spells.1; no_space = keyword_no_space c; spaced = arguments_spaced c spells.0 spells.2 }
 
+same_parts : (word rest : List ℕ) (c d : Command) → SpellsInParts c word rest → SpellsInParts d word rest → c ≡ d
+same_parts word rest (Simple size) d spells other = let is = only_simple d word rest spells.0 other in ap (λ s. Simple s) (one_size size is.0 rest spells.1 is.2) ∙ sym is.1
+same_parts word rest (Take size) d spells other = let is = only_take d word rest spells.0 other in ap (λ s. Take s) (one_size size is.0 rest spells.1 is.2) ∙ sym is.1
+same_parts word rest (Atlas size options) d spells other = let is = only_atlas d word rest spells.0 other in one_atlas size is.0 options is.1 rest spells.1 is.3 ∙ sym is.2
+same_parts word rest (Alloc size) d spells other = let is = only_alloc d word rest spells.0 other in ap (λ s. Alloc s) (one_size size is.0 rest spells.1 is.2) ∙ sym is.1
+same_parts word rest (Free id) d spells other = let is = only_free d word rest spells.0 other in ap (λ s. Free s) (one_id id is.0 rest spells.1 is.2) ∙ sym is.1
+same_parts word rest Live d spells other = sym (only_live d word rest spells.0 other).0
+same_parts word rest Holes d spells other = sym (only_holes d word rest spells.0 other).0
+same_parts word rest AskSize d spells other = sym (only_size d word rest spells.0 other).0
+same_parts word rest Empty d spells other = sym (only_empty d word rest spells.0 other).0
+
 pub same_command : (line : List ℕ) (c d : Command) → Spells c line → Spells d line → c ≡ d
-same_command line (Simple size) d spells other =
-    let is = only_simple d line (keyword (Simple size)) spells.0 (begins_with_keyword (Simple size) line spells) refl other in
-    ap (λ s. Simple s) (one_size size is.0 spells.0 spells.2 is.2) ∙ sym is.1
-same_command line (Take size) d spells other =
-    let is = only_take d line (keyword (Take size)) spells.0 (begins_with_keyword (Take size) line spells) refl other in
-    ap (λ s. Take s) (one_size size is.0 spells.0 spells.2 is.2) ∙ sym is.1
+same_command line c d spells other = same_parts (keyword c) spells.0 c d (refl, spells.2) (in_parts d line (keyword c) spells.0 (begins_with_keyword c line spells) other)

@@ -6,9 +6,8 @@ use Rattle.guillotiere.specs.Boxes.{IsPositive}
 use Rattle.guillotiere.specs.Pixels.{natural, sides_of}
 use Rattle.std.specs.Io.KnownBytes.{Appends}
 use Rattle.atlas_lines.specs.declared.commands.Command.{Command}
-use Rattle.atlas_lines.specs.declared.replies.Reply.{Reply}
 use Rattle.atlas_lines.specs.Grammar.{Spells}
-use Rattle.atlas_lines.specs.Machine.{ToolState, ToolStep, Held, state_of}
+use Rattle.atlas_lines.specs.Machine.{ToolReply, ToolState, ToolStep, Held, state_of}
 use Rattle.atlas_lines.specs.Progress.{Place, state_at, RepliesTo}
 use Rattle.atlas_lines.specs.Replies.{reply_text}
 use Rattle.atlas_lines.proofs.Known.{Appends_none}
@@ -23,13 +22,13 @@ bad_unread line text read e some none only =
     )
 
 -- a step from what a place holds
-pub step_from : (inside place : Place) (command : Command) (reply : Reply) (new : ToolState) → inside ≡ place → ToolStep (state_at inside) command reply new → ToolStep (state_at place) command reply new
+pub step_from : (inside place : Place) (command : Command) (reply : ToolReply) (new : ToolState) → inside ≡ place → ToolStep (state_at inside) command reply new → ToolStep (state_at place) command reply new
 step_from inside place command reply new e step =
     let P : Place → Type 0 = λ p. ToolStep (state_at p) command reply new in
     subst P e step
 
 -- what a command's line owes
-pub owed_by : (old new : ToolState) (line text : List ℕ) (command : Command) (reply : Reply) → text ≡ line → 0 < length line → length line ≤ 120
+pub owed_by : (old new : ToolState) (line text : List ℕ) (command : Command) (reply : ToolReply) → text ≡ line → 0 < length line → length line ≤ 120
     → Spells command text → ToolStep old command reply new → LineOwes old line (reply_text reply) new
 owed_by old new [] text command reply e some short spells step = absurd (omega arith)
 owed_by old new (b ∷ bs) text command reply e some short spells step =

@@ -3,8 +3,10 @@ use Rattle.std.specs.Prelude.{◌≡◌, ℕ, ◌<◌, ◌^◌, ℤ, pos, neg_�
 use Rattle.std.specs.Int.{w32}
 use Rattle.std.specs.Str.Parse.{IsNumeral, digits_value}
 use Rattle.guillotiere.specs.declared.geometry.Size.{Size}
+use Rattle.guillotiere.specs.declared.options.AllocatorOptions.{AllocatorOptions}
+use Rattle.guillotiere.specs.declared.options.TheConstants.{DEFAULT_OPTIONS}
 use Rattle.atlas_lines.specs.declared.commands.Command.{Command}
-use Rattle.atlas_lines.specs.declared.commands.Command.TheVariants.{Simple, Take}
+use Rattle.atlas_lines.specs.declared.commands.Command.TheVariants.{Simple, Take, Atlas, Alloc, Live, Holes, AskSize, Free, Empty}
 
 -- one or more decimal digits, with a value that fits a `u32`
 abbrev pub SpellsUnsigned : ℕ → List ℕ → Type 0
@@ -17,26 +19,51 @@ SpellsNumber z text =
     × ((IsNumeral 10 text × (z ≡ pos (digits_value 10 text)))
     ⊎ ((digits : List ℕ) × (text ≡ 45 ∷ digits) × IsNumeral 10 digits × (z ≡ neg_ℤ (pos (digits_value 10 digits)))))
 
--- each word after one space
-abbrev pub spaced : List (List ℕ) → List ℕ
-spaced [] = []
-spaced (word ∷ words) = 32 ∷ (word ++ spaced words)
+-- numbers, each after one space
+abbrev pub SpellsNumbers : List ℤ → List ℕ → Type 0
+SpellsNumbers [] text = text ≡ []
+SpellsNumbers (z ∷ zs) text =
+    (word : List ℕ) × (rest : List ℕ) × (text ≡ 32 ∷ (word ++ rest)) × SpellsNumber z word × SpellsNumbers zs rest
 
 -- the width and the height
 abbrev pub SpellsSize : Size → List ℕ → Type 0
-SpellsSize size text =
-    (width : List ℕ) × (height : List ℕ)
-    × (text ≡ spaced (width ∷ height ∷ [])) × SpellsNumber size.width width × SpellsNumber size.height height
+SpellsSize size text = SpellsNumbers (size.width ∷ size.height ∷ []) text
+
+-- the size alone, for the default options, or the size, the alignment, and the small and the large threshold
+abbrev pub SpellsAtlas : Size → AllocatorOptions → List ℕ → Type 0
+SpellsAtlas size options text =
+    (SpellsSize size text × (options ≡ DEFAULT_OPTIONS))
+    ⊎ SpellsNumbers
+    (size.width ∷ size.height ∷ options.alignment.width ∷ options.alignment.height ∷ options.small_size_threshold ∷ options.large_size_threshold ∷ [])
+    text
+
+-- an id, after one space
+abbrev pub SpellsId : ℕ → List ℕ → Type 0
+SpellsId id text = (word : List ℕ) × (text ≡ 32 ∷ word) × SpellsUnsigned id word
 
 -- the word that a command's line begins with
 abbrev pub keyword : Command → List ℕ
 keyword (Simple size) = codes "simple"
 keyword (Take size) = codes "take"
+keyword (Atlas size options) = codes "atlas"
+keyword (Alloc size) = codes "alloc"
+keyword Live = codes "live"
+keyword Holes = codes "holes"
+keyword AskSize = codes "size"
+keyword (Free id) = codes "free"
+keyword Empty = codes "empty"
 
 -- what follows that word
 abbrev pub SpellsArguments : Command → List ℕ → Type 0
 SpellsArguments (Simple size) text = SpellsSize size text
 SpellsArguments (Take size) text = SpellsSize size text
+SpellsArguments (Atlas size options) text = SpellsAtlas size options text
+SpellsArguments (Alloc size) text = SpellsSize size text
+SpellsArguments Live text = text ≡ []
+SpellsArguments Holes text = text ≡ []
+SpellsArguments AskSize text = text ≡ []
+SpellsArguments (Free id) text = SpellsId id text
+SpellsArguments Empty text = text ≡ []
 
 -- the bytes of a line, without its LF, spell this command
 abbrev pub Spells : Command → List ℕ → Type 0

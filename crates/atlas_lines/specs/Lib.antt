@@ -4,6 +4,8 @@ pub mod Words
 pub mod Lines
 pub mod Machine
 pub mod Replies
+pub mod Answers
+pub mod Blocks
 pub mod Texts
 pub mod Ends
 pub mod Progress

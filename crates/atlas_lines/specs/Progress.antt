@@ -23,7 +23,7 @@ abbrev pub state_at : Place → ToolState
 state_at place = state_of place.held
 
 abbrev pub place_at_start : Place
-place_at_start = record { held = record { simple = None }; line = []; number = 0 }
+place_at_start = record { held = record { atlas = None; simple = None }; line = []; number = 0 }
 
 -- these bytes, which follow the line that has begun, lead from old to new and owe this text
 pub record Advances (old : Place) (bytes text : List ℕ) (new : Place) : Type 0 where

@@ -1,12 +1,15 @@
 -- The text of each reply.
-use Rattle.std.specs.Prelude.{ℕ, ℤ, List, ◌++◌, codes, decimal}
+use Rattle.std.specs.Prelude.{ℕ, ℤ, Bool, true, false, List, ◌++◌, codes, decimal, length, flat_map}
 use Rattle.std.specs.Fmt.{signed_decimal}
+use Rattle.guillotiere.specs.declared.allocation.Allocation.{Allocation}
 use Rattle.guillotiere.specs.declared.geometry.Rectangle.{Rectangle}
 use Rattle.guillotiere.specs.declared.error.AtlasError.{AtlasError}
 use Rattle.guillotiere.specs.declared.error.AtlasError.TheVariants.{Memory, Slots, NotLive}
 use Rattle.atlas_lines.specs.declared.replies.Reply.{Reply}
-use Rattle.atlas_lines.specs.declared.replies.Reply.TheVariants.{Completed, Placed, NotPlaced, NoSimple, Invalid, Declined}
+use Rattle.atlas_lines.specs.declared.replies.Reply.TheVariants.{Completed, Placed, NotPlaced, Allocated, Extent, Truth, NoAtlas, NoSimple, Invalid, Declined}
 use Rattle.atlas_lines.specs.Lines.{ended}
+use Rattle.atlas_lines.specs.Machine.{ToolReply}
+use Rattle.atlas_lines.specs.Machine.ToolReply.{OneLine, LiveLines, HoleLines}
 
 -- a space and a number
 abbrev pub spaced_number : ℤ → List ℕ
@@ -21,14 +24,40 @@ refusal_text Memory = codes "refused memory"
 refusal_text Slots = codes "refused slots"
 refusal_text NotLive = codes "refused not live"
 
+abbrev pub truth_text : Bool → List ℕ
+truth_text true = codes "true"
+truth_text false = codes "false"
+
+-- a reply line with its LF
+abbrev pub line_text : Reply → List ℕ
+line_text Completed = ended (codes "ok")
+line_text (Placed r) = ended (codes "at" ++ corners_text r)
+line_text NotPlaced = ended (codes "none")
+line_text (Allocated a) = ended (codes "id " ++ decimal a.id ++ codes " at" ++ corners_text a.rectangle)
+line_text (Extent size) = ended (codes "size" ++ spaced_number size.width ++ spaced_number size.height)
+line_text (Truth answer) = ended (truth_text answer)
+line_text NoAtlas = ended (codes "no atlas")
+line_text NoSimple = ended (codes "no simple")
+line_text Invalid = ended (codes "bad call")
+line_text (Declined error) = ended (refusal_text error)
+
+-- the line of a live rectangle
+abbrev pub live_line : Allocation → List ℕ
+live_line a = ended (codes "box " ++ decimal a.id ++ corners_text a.rectangle)
+
+-- the line of a free rectangle
+abbrev pub hole_line : Rectangle → List ℕ
+hole_line r = ended (codes "hole" ++ corners_text r)
+
+-- a word and a count
+abbrev pub count_line : (word : List ℕ) → (count : ℕ) → List ℕ
+count_line word count = ended (word ++ decimal count)
+
 -- the reply lines, each with its LF
-abbrev pub reply_text : Reply → List ℕ
-reply_text Completed = ended (codes "ok")
-reply_text (Placed r) = ended (codes "at" ++ corners_text r)
-reply_text NotPlaced = ended (codes "none")
-reply_text NoSimple = ended (codes "no simple")
-reply_text Invalid = ended (codes "bad call")
-reply_text (Declined error) = ended (refusal_text error)
+abbrev pub reply_text : ToolReply → List ℕ
+reply_text (OneLine reply) = line_text reply
+reply_text (LiveLines granted) = flat_map live_line granted ++ count_line (codes "live ") (length granted)
+reply_text (HoleLines areas) = flat_map hole_line areas ++ count_line (codes "holes ") (length areas)
 
 -- the answer to a bad line with this number
 abbrev pub bad_line_text : ℕ → List ℕ

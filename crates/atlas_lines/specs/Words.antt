@@ -1,7 +1,10 @@
 -- How the parser parts a line into words.
 use Rattle.std.specs.Prelude.{◌≡◌, ℕ, ◌≢◌, ℤ, List, [], ◌∷◌, ◌++◌, ⊤}
 use Rattle.std.specs.List.{AllByRecursion}
-use Rattle.atlas_lines.specs.Grammar.{SpellsNumber}
+use Rattle.guillotiere.specs.declared.geometry.Size.{Size}
+use Rattle.guillotiere.specs.declared.options.AllocatorOptions.{AllocatorOptions}
+use Rattle.atlas_lines.specs.declared.commands.Command.{Command}
+use Rattle.atlas_lines.specs.Grammar.{SpellsNumber, SpellsNumbers, SpellsArguments, keyword}
 
 abbrev pub HasNoSpace : List ℕ → Type 0
 HasNoSpace text = AllByRecursion (λ byte. byte ≢ 32) text
@@ -23,3 +26,18 @@ pub record BeginsWithNumber (text : List ℕ) (number : ℤ) (rest : List ℕ) :
   pub whole : text ≡ 32 ∷ (word ++ rest)
   pub spells : SpellsNumber number word
   pub spaced : IsEmptyOrSpaced rest
+
+-- two numbers, each after a space, and the rest
+pub record BeginsWithSize (text : List ℕ) (size : Size) (rest : List ℕ) : Type 0 where
+  pub middle : List ℕ
+  pub width : BeginsWithNumber text size.width middle
+  pub height : BeginsWithNumber middle size.height rest
+
+-- the alignment, and the small and the large threshold
+abbrev pub SpellsOptions : AllocatorOptions → List ℕ → Type 0
+SpellsOptions options text =
+    SpellsNumbers (options.alignment.width ∷ options.alignment.height ∷ options.small_size_threshold ∷ options.large_size_threshold ∷ []) text
+
+-- the first word and the rest of a line spell this command
+abbrev pub SpellsInParts : Command → (word rest : List ℕ) → Type 0
+SpellsInParts command word rest = (word ≡ keyword command) × SpellsArguments command rest

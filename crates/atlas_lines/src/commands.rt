@@ -1,10 +1,11 @@
 //! Commands, and the lines that spell them.
-ghost use Rattle.std.specs.Prelude.{◌≡◌, Some, IfSome};
+ghost use Rattle.std.specs.Prelude.{◌≡◌, Some, IfSome, []};
 ghost use Rattle.atlas_lines.specs.declared.commands.Command.{Command};
 ghost use Rattle.atlas_lines.specs.Grammar.{Spells};
+ghost use Rattle.atlas_lines.specs.Words.{SpellsInParts};
 
-use crate::words::{first_word, size_arguments};
-use guillotiere::Size;
+use crate::words::{atlas_arguments, first_word, id_argument, size_arguments};
+use guillotiere::{AllocId, AllocatorOptions, Size};
 
 /// What a line asks of the tool.
 #[derive(Clone, Copy, Debug, PartialEq, Eq)]
@@ -13,6 +14,65 @@ pub enum Command {
     Simple(Size),
     /// `take W H`: request a rectangle of this size from the simple allocator.
     Take(Size),
+    /// `atlas W H`, or `atlas W H AW AH SMALL LARGE` with the alignment and the thresholds: make an atlas of this size with
+    /// these options, in place of an earlier one. The first form has the default options.
+    Atlas(Size, AllocatorOptions),
+    /// `alloc W H`: request a rectangle of this size from the atlas.
+    Alloc(Size),
+    /// `live`: list the allocated rectangles.
+    Live,
+    /// `holes`: list the free rectangles.
+    Holes,
+    /// `size`: tell the size of the atlas.
+    AskSize,
+    /// `free ID`: give the rectangle with this id back.
+    Free(AllocId),
+    /// `empty`: tell whether no rectangle is allocated.
+    Empty,
+}
+
+// The command, if nothing follows its word.
+fn alone(command: Command, rest: &[u8]) -> Option<Command>
+    ensures found { IfSome result (λ it. (it ≡ command) × (rest.now ≡ [])) }
+    ensures only { rest.now ≡ [] → result ≡ Some command }
+{
+    if rest.is_empty() { Some(command) } else { None }
+}
+
+// The command that begins with this word and has this rest.
+fn parse_words(word: &[u8], rest: &[u8]) -> Option<Command>
+    ensures found { IfSome result (λ command. SpellsInParts command word.now rest.now) }
+    ensures only { (command : Command) → SpellsInParts command word.now rest.now → result ≡ Some command }
+{
+    if word == b"simple".as_slice() {
+        return Some(Command::Simple(size_arguments(rest)?));
+    }
+    if word == b"take".as_slice() {
+        return Some(Command::Take(size_arguments(rest)?));
+    }
+    if word == b"atlas".as_slice() {
+        let (size, options) = atlas_arguments(rest)?;
+        return Some(Command::Atlas(size, options));
+    }
+    if word == b"alloc".as_slice() {
+        return Some(Command::Alloc(size_arguments(rest)?));
+    }
+    if word == b"free".as_slice() {
+        return Some(Command::Free(id_argument(rest)?));
+    }
+    if word == b"live".as_slice() {
+        return alone(Command::Live, rest);
+    }
+    if word == b"holes".as_slice() {
+        return alone(Command::Holes, rest);
+    }
+    if word == b"size".as_slice() {
+        return alone(Command::AskSize, rest);
+    }
+    if word == b"empty".as_slice() {
+        return alone(Command::Empty, rest);
+    }
+    None
 }
 
 /// The command that the bytes of a line, without its LF, spell. It takes no memory.
@@ -21,11 +81,5 @@ pub fn parse_line(line: &[u8]) -> Option<Command>
     ensures only { (command : Command) → Spells command line.now → result ≡ Some command }
 {
     let (word, rest) = first_word(line);
-    if word == b"simple".as_slice() {
-        return Some(Command::Simple(size_arguments(rest)?));
-    }
-    if word == b"take".as_slice() {
-        return Some(Command::Take(size_arguments(rest)?));
-    }
-    None
+    parse_words(word, rest)
 }

@@ -6,6 +6,7 @@ mod commands;
 mod devices;
 mod digits;
 pub mod laws;
+mod listing;
 mod replies;
 mod run;
 mod standard;

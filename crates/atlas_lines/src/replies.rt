@@ -1,16 +1,14 @@
 //! Replies, and their text in a fixed buffer.
-ghost use Rattle.std.specs.Prelude.{◌≡◌, ◌≤◌, ◌+◌, ◌++◌, true, false, not, length};
-ghost use Rattle.std.specs.Io.KnownBytes.{Appends};
-ghost use Rattle.atlas_lines.specs.Devices.{WritesBeginning};
-ghost use Rattle.atlas_lines.specs.Replies.{spaced_number, reply_text, bad_line_text, corners_text, refusal_text};
+ghost use Rattle.std.specs.Prelude.{◌≡◌, ◌≤◌, ◌+◌, ◌++◌, length};
+ghost use Rattle.atlas_lines.specs.Replies.{spaced_number, line_text, bad_line_text, corners_text, refusal_text};
 
 use crate::buffer::FixedBytes;
-use crate::devices::{ToolOutput, write_all};
 use crate::digits::{push_signed, push_unsigned};
-use guillotiere::{AtlasError, Rectangle};
+use guillotiere::{Allocation, AtlasError, Rectangle, Size};
+use std::alloc::Allocator;
 
-/// What a command is answered.
-#[derive(Clone, Copy, Debug, PartialEq, Eq)]
+/// A reply of one line.
+#[derive(Clone, Copy, Debug, PartialEq)]
 pub enum Reply {
     /// `ok`
     Completed,
@@ -18,12 +16,31 @@ pub enum Reply {
     Placed(Rectangle),
     /// `none`
     NotPlaced,
+    /// `id N at X0 Y0 X1 Y1`
+    Allocated(Allocation),
+    /// `size W H`
+    Extent(Size),
+    /// `true` or `false`
+    Truth(bool),
+    /// `no atlas`
+    NoAtlas,
     /// `no simple`
     NoSimple,
     /// `bad call`
     Invalid,
     /// `refused` and what was refused
     Declined(AtlasError),
+}
+
+/// What a command is answered.
+#[derive(Drop)]
+pub enum Answer<A: Allocator> {
+    /// One line.
+    OneLine(Reply),
+    /// `box N X0 Y0 X1 Y1` for each, then `live COUNT`
+    LiveLines(Vec<Allocation, A>),
+    /// `hole X0 Y0 X1 Y1` for each, then `holes COUNT`
+    HoleLines(Vec<Rectangle, A>),
 }
 
 // Adds a space and a number at the end.
@@ -36,8 +53,8 @@ fn push_spaced<const N: usize>(text: &mut FixedBytes<N>, number: i32)
     push_signed(text, number);
 }
 
-// Adds ` X0 Y0 X1 Y1` at the end.
-fn push_corners<const N: usize>(text: &mut FixedBytes<N>, rectangle: Rectangle)
+/// Adds ` X0 Y0 X1 Y1` at the end.
+pub fn push_corners<const N: usize>(text: &mut FixedBytes<N>, rectangle: Rectangle)
     requires { length text.old + 88 ≤ N }
     ensures text { text.new ≡ text.old ++ corners_text rectangle }
     ensures length { length text.new ≤ length text.old + 88 }
@@ -59,12 +76,12 @@ fn refusal(error: AtlasError) -> &'static [u8]
     }
 }
 
-// Longer than each reply line.
-const LINE: usize = 160;
+/// No reply line is longer.
+pub const LINE: usize = 160;
 
 /// The line that answers a command, with its LF.
 pub fn reply_line(reply: Reply) -> FixedBytes<LINE>
-    ensures { result ≡ reply_text reply }
+    ensures { result ≡ line_text reply }
 {
     let mut text = FixedBytes::new();
     match reply {
@@ -74,6 +91,20 @@ pub fn reply_line(reply: Reply) -> FixedBytes<LINE>
             push_corners(&mut text, rectangle);
         }
         Reply::NotPlaced => text.push_all(b"none"),
+        Reply::Allocated(allocation) => {
+            text.push_all(b"id ");
+            push_unsigned(&mut text, u64::from(allocation.id.serialize()));
+            text.push_all(b" at");
+            push_corners(&mut text, allocation.rectangle);
+        }
+        Reply::Extent(size) => {
+            text.push_all(b"size");
+            push_spaced(&mut text, size.width);
+            push_spaced(&mut text, size.height);
+        }
+        Reply::Truth(true) => text.push_all(b"true"),
+        Reply::Truth(false) => text.push_all(b"false"),
+        Reply::NoAtlas => text.push_all(b"no atlas"),
         Reply::NoSimple => text.push_all(b"no simple"),
         Reply::Invalid => text.push_all(b"bad call"),
         Reply::Declined(error) => text.push_all(refusal(error)),
@@ -91,15 +122,4 @@ pub fn bad_line(number: u64) -> FixedBytes<LINE>
     push_unsigned(&mut text, number);
     text.push(b'\n');
     text
-}
-
-/// Writes the reply to a command. `false` where the device failed.
-pub fn send<W: ToolOutput>(output: &mut W, reply: Reply) -> bool
-    requires { W.has_failed output.old ≡ false }
-    ensures written { result ≡ true → Appends (W.contents output.old) (W.contents output.new) (reply_text reply) }
-    ensures failed { W.has_failed output.new ≡ not result }
-    ensures beginning { result ≡ false → WritesBeginning (W.contents output.old) (W.contents output.new) (reply_text reply) }
-{
-    let line = reply_line(reply);
-    write_all(output, line.as_slice())
 }

@@ -7,7 +7,7 @@ ghost use Rattle.atlas_lines.specs.Progress.{EndsBadly, LineEnds, Continues, pla
 use crate::buffer::FixedBytes;
 use crate::commands::parse_line;
 use crate::devices::{ToolInput, ToolOutput, write_all};
-use crate::replies::{bad_line, send};
+use crate::replies::bad_line;
 use crate::tool::Tool;
 use std::alloc::Allocator;
 use std::marker::Model;
@@ -53,13 +53,13 @@ fn room(left: u64) -> usize
 
 // The tool, the line that has begun, and how many lines came before it.
 #[derive(Drop)]
-struct Progress<A: Allocator + Copy> {
-    tool: Tool<A>,
+struct Progress<'a, A: Allocator> {
+    tool: Tool<'a, A>,
     line: FixedBytes<LINE>,
     number: u64,
 }
 
-impl<A: Allocator + Copy> Model for Progress<A> {
+impl<'a, A: Allocator> Model for Progress<'a, A> {
     ghost use Rattle.atlas_lines.specs.Progress.{Place};
 
     ghost Value = { Place };
@@ -67,8 +67,8 @@ impl<A: Allocator + Copy> Model for Progress<A> {
     ghost view = { λ p. record { held = p.tool; line = p.line; number = p.number } };
 }
 
-impl<A: Allocator + Copy> Progress<A> {
-    fn new(alloc: A) -> Self
+impl<'a, A: Allocator> Progress<'a, A> {
+    fn new(alloc: &'a A) -> Self
         ensures { result ≡ place_at_start }
     {
         Progress {
@@ -104,8 +104,7 @@ impl<A: Allocator + Copy> Progress<A> {
             let Some(command) = parse_line(self.line.as_slice()) else {
                 return Some(self.end_badly(output));
             };
-            let reply = self.tool.carry_out(command);
-            if !send(output, reply) {
+            if !self.tool.reply_to(command, output) {
                 return Some(Err(ToolFault::Write));
             }
         }
@@ -215,7 +214,6 @@ pub fn run_lines<A: Allocator + Copy, R: ToolInput, W: ToolOutput>(
     ensures read_failed { R.has_failed input.new ≡ is_read_fault result }
     ensures write_failed { W.has_failed output.new ≡ is_write_fault result }
 {
-    // A reference is small, whatever the allocator is, so that all of this lies on the stack.
     let mut progress = Progress::new(&alloc);
     progress.run(input, output)
 }

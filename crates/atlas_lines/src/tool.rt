@@ -1,48 +1,97 @@
 //! The tool between its lines: what it holds, and how it carries out a command.
-ghost use Rattle.std.specs.Prelude.{◌≡◌, None};
-ghost use Rattle.guillotiere.specs.Pixels.{sides_of};
-ghost use Rattle.atlas_lines.specs.Machine.{ToolStep, CreatesSimple, RequestsSimple, state_of};
+ghost use Rattle.std.specs.Prelude.{◌≡◌, ◌↔◌, None, true, false, not, IsTrue, IfOk, IsOkUnless, map};
+ghost use Rattle.guillotiere.specs.declared.error.AtlasError.TheVariants as error;
+ghost use Rattle.guillotiere.specs.Boxes.{IsPositive};
+ghost use Rattle.guillotiere.specs.Pixels.{sides_of, options_of, rectangle_of};
+ghost use Rattle.guillotiere.specs.Steps.AtlasCall.{Allocate, Deallocate};
+ghost use Rattle.guillotiere.specs.Stored as stored;
+ghost use Rattle.atlas_lines.specs.Answers.{shown_by, Replies, BeginsToReply};
+ghost use Rattle.atlas_lines.specs.Machine.{ToolReply, ToolStep, CreatesSimple, RequestsSimple, CreatesAtlas, CallsAtlas, LooksAtAtlas, IsLine, ShowsLive, ShowsHoles, ShowsSize, ShowsEmpty, HoldsHoles, atlas_in, state_of};
 
 use crate::commands::Command;
-use crate::replies::Reply;
-use guillotiere::{SimpleAtlasAllocator, Size};
+use crate::devices::ToolOutput;
+use crate::listing::send;
+use crate::replies::{Answer, Reply};
+use guillotiere::{
+    AllocId, AllocatorOptions, AtlasAllocator, AtlasError, Rectangle, SimpleAtlasAllocator, Size,
+};
 use std::alloc::Allocator;
 use std::marker::Model;
 
-/// What the tool holds: at first no allocator.
+/// What the tool holds: at first no allocator. It holds a reference to the memory's allocator, which is small whatever
+/// that allocator is.
 #[derive(Drop)]
-pub struct Tool<A: Allocator + Copy> {
-    alloc: A,
-    simple: Option<SimpleAtlasAllocator<A>>,
+pub struct Tool<'a, A: Allocator> {
+    alloc: &'a A,
+    atlas: Option<AtlasAllocator<&'a A>>,
+    simple: Option<SimpleAtlasAllocator<&'a A>>,
 }
 
-impl<A: Allocator + Copy> Model for Tool<A> {
+impl<'a, A: Allocator> Model for Tool<'a, A> {
     ghost use Rattle.atlas_lines.specs.Machine.{Held};
 
     ghost Value = { Held };
 
-    ghost view = { λ t. record { simple = t.simple } };
+    ghost view = { λ t. record { atlas = t.atlas; simple = t.simple } };
 }
 
-impl<A: Allocator + Copy> Tool<A> {
+// Whether both sides are above 0.
+fn is_positive(size: Size) -> bool
+    ensures { IsTrue result ↔ IsPositive (sides_of size) }
+{
+    size.width > 0 && size.height > 0
+}
+
+// The free rectangles from above to below and from left to right.
+fn ordered_holes<A: Allocator + Copy>(
+    atlas: &AtlasAllocator<A>,
+) -> Result<Vec<Rectangle, A>, AtlasError>
+    ensures unless { IsOkUnless result error.Memory }
+    ensures list { IfOk result (λ found. HoldsHoles (stored.state_of atlas.now) found.items) }
+{
+    let mut areas = atlas.free_rectangles()?;
+    areas.sort_by_key(|area| (area.min.y, area.min.x))?;
+    Ok(areas)
+}
+
+impl<'a, A: Allocator> Tool<'a, A> {
     /// A tool that holds nothing yet. It takes no memory.
-    pub fn new(alloc: A) -> Self
-        ensures { result ≡ record { simple = None } }
+    pub fn new(alloc: &'a A) -> Self
+        ensures { result ≡ record { atlas = None; simple = None } }
     {
         Tool {
             alloc,
+            atlas: None,
             simple: None,
         }
     }
 
     /// Carries out a command.
-    pub fn carry_out(&mut self, command: Command) -> Reply
-        ensures { ToolStep (state_of self.old) command result (state_of self.new) }
+    pub fn carry_out(&mut self, command: Command) -> Answer<&'a A>
+        ensures { ToolStep (state_of self.old) command (shown_by result) (state_of self.new) }
     {
         match command {
-            Command::Simple(size) => self.create_simple(size),
-            Command::Take(size) => self.request_simple(size),
+            Command::Simple(size) => Answer::OneLine(self.create_simple(size)),
+            Command::Take(size) => Answer::OneLine(self.request_simple(size)),
+            Command::Atlas(size, options) => Answer::OneLine(self.create_atlas(size, &options)),
+            Command::Alloc(size) => Answer::OneLine(self.request(size)),
+            Command::Free(id) => Answer::OneLine(self.give_back(id)),
+            Command::Live => self.list_live(),
+            Command::Holes => self.list_holes(),
+            Command::AskSize => Answer::OneLine(self.tell_size()),
+            Command::Empty => Answer::OneLine(self.tell_empty()),
         }
+    }
+
+    /// Carries out a command and writes its reply. `false` where the device failed.
+    pub fn reply_to<W: ToolOutput>(&mut self, command: Command, output: &mut W) -> bool
+        requires { W.has_failed output.old ≡ false }
+        ensures written { result ≡ true → Replies (state_of self.old) command (state_of self.new) (W.contents output.old) (W.contents output.new) }
+        ensures failed { W.has_failed output.new ≡ not result }
+        ensures beginning { result ≡ false → BeginsToReply (state_of self.old) command (state_of self.new) (W.contents output.old) (W.contents output.new) }
+    {
+        let answer = self.carry_out(command);
+        send(output, &answer)
     }
 
     fn create_simple(&mut self, size: Size) -> Reply
@@ -61,7 +110,8 @@ impl<A: Allocator + Copy> Tool<A> {
     }
 
     fn request_simple(&mut self, size: Size) -> Reply
-        ensures { RequestsSimple self.old.simple (sides_of size) result self.new.simple }
+        ensures step { RequestsSimple self.old.simple (sides_of size) result self.new.simple }
+        ensures atlas { self.new.atlas ≡ self.old.atlas }
     {
         let Some(simple) = &mut self.simple else {
             return Reply::NoSimple;
@@ -70,6 +120,93 @@ impl<A: Allocator + Copy> Tool<A> {
             Ok(Some(rectangle)) => Reply::Placed(rectangle),
             Ok(None) => Reply::NotPlaced,
             Err(error) => Reply::Declined(error),
+        }
+    }
+
+    fn create_atlas(&mut self, size: Size, options: &AllocatorOptions) -> Reply
+        ensures { CreatesAtlas (state_of self.old) (sides_of size) (options_of options.now) result (state_of self.new) }
+    {
+        if !is_positive(size) {
+            return Reply::Invalid;
+        }
+        if !options.is_valid() {
+            return Reply::Invalid;
+        }
+        match AtlasAllocator::with_options(self.alloc, size, options) {
+            Ok(made) => {
+                self.atlas = Some(made);
+                Reply::Completed
+            }
+            Err(error) => Reply::Declined(error),
+        }
+    }
+
+    fn request(&mut self, size: Size) -> Reply
+        ensures step { CallsAtlas (atlas_in self.old.atlas) (Allocate (sides_of size)) result (atlas_in self.new.atlas) }
+        ensures simple { self.new.simple ≡ self.old.simple }
+    {
+        let Some(atlas) = &mut self.atlas else {
+            return Reply::NoAtlas;
+        };
+        match atlas.allocate(size) {
+            Ok(Some(allocation)) => Reply::Allocated(allocation),
+            Ok(None) => Reply::NotPlaced,
+            Err(error) => Reply::Declined(error),
+        }
+    }
+
+    fn give_back(&mut self, id: AllocId) -> Reply
+        ensures step { CallsAtlas (atlas_in self.old.atlas) (Deallocate id) result (atlas_in self.new.atlas) }
+        ensures simple { self.new.simple ≡ self.old.simple }
+    {
+        let Some(atlas) = &mut self.atlas else {
+            return Reply::NoAtlas;
+        };
+        match atlas.deallocate(id) {
+            Ok(()) => Reply::Completed,
+            Err(error) => Reply::Declined(error),
+        }
+    }
+
+    fn list_live(&self) -> Answer<&'a A>
+        ensures { LooksAtAtlas (atlas_in self.now.atlas) ShowsLive (shown_by result) }
+    {
+        let Some(atlas) = &self.atlas else {
+            return Answer::OneLine(Reply::NoAtlas);
+        };
+        match atlas.allocations() {
+            Ok(found) => Answer::LiveLines(found),
+            Err(error) => Answer::OneLine(Reply::Declined(error)),
+        }
+    }
+
+    fn list_holes(&self) -> Answer<&'a A>
+        ensures { LooksAtAtlas (atlas_in self.now.atlas) ShowsHoles (shown_by result) }
+    {
+        let Some(atlas) = &self.atlas else {
+            return Answer::OneLine(Reply::NoAtlas);
+        };
+        match ordered_holes(atlas) {
+            Ok(found) => Answer::HoleLines(found),
+            Err(error) => Answer::OneLine(Reply::Declined(error)),
+        }
+    }
+
+    fn tell_size(&self) -> Reply
+        ensures { LooksAtAtlas (atlas_in self.now.atlas) (λ state. IsLine (ShowsSize state)) (ToolReply.OneLine result) }
+    {
+        match &self.atlas {
+            Some(atlas) => Reply::Extent(atlas.size()),
+            None => Reply::NoAtlas,
+        }
+    }
+
+    fn tell_empty(&self) -> Reply
+        ensures { LooksAtAtlas (atlas_in self.now.atlas) (λ state. IsLine (ShowsEmpty state)) (ToolReply.OneLine result) }
+    {
+        match &self.atlas {
+            Some(atlas) => Reply::Truth(atlas.is_empty()),
+            None => Reply::NoAtlas,
         }
     }
 }

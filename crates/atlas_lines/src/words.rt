@@ -1,10 +1,11 @@
 //! The words of a line, and the numbers that they spell.
 ghost use Rattle.std.specs.Prelude.{◌≡◌, ◌<◌, ℕ, ℤ, List, Some, IfSome, IsSomeAnd, pos};
 ghost use Rattle.guillotiere.specs.declared.geometry.Size.{Size};
-ghost use Rattle.atlas_lines.specs.Grammar.{SpellsUnsigned, SpellsNumber, SpellsSize};
-ghost use Rattle.atlas_lines.specs.Words.{BeginsWithWord, BeginsWithNumber};
+ghost use Rattle.guillotiere.specs.declared.options.AllocatorOptions.{AllocatorOptions};
+ghost use Rattle.atlas_lines.specs.Grammar.{SpellsUnsigned, SpellsNumber, SpellsSize, SpellsAtlas, SpellsId};
+ghost use Rattle.atlas_lines.specs.Words.{BeginsWithWord, BeginsWithNumber, BeginsWithSize, SpellsOptions};
 
-use guillotiere::{Size, size2};
+use guillotiere::{AllocId, AllocatorOptions, DEFAULT_OPTIONS, Size, size2};
 
 /// The bytes before the first space, and the rest from it on.
 pub fn first_word(text: &[u8]) -> (&[u8], &[u8])
@@ -63,15 +64,59 @@ pub fn number_argument(text: &[u8]) -> Option<(i32, &[u8])>
     Some((number(word)?, rest))
 }
 
+/// The size that two numbers spell, each after one space, and what follows them.
+pub fn size_argument(text: &[u8]) -> Option<(Size, &[u8])>
+    ensures found { IfSome result (λ found. BeginsWithSize text.now found.0 found.1.now) }
+    ensures only { (size : Size) (rest : List ℕ) → BeginsWithSize text.now size rest → IsSomeAnd result (λ found. (found.0 ≡ size) × (found.1.now ≡ rest)) }
+{
+    let (width, rest) = number_argument(text)?;
+    let (height, rest) = number_argument(rest)?;
+    Some((size2(width, height), rest))
+}
+
 /// The size that two numbers spell, each after one space.
 pub fn size_arguments(text: &[u8]) -> Option<Size>
     ensures found { IfSome result (λ size. SpellsSize size text.now) }
     ensures only { (size : Size) → SpellsSize size text.now → result ≡ Some size }
 {
-    let (width, rest) = number_argument(text)?;
-    let (height, rest) = number_argument(rest)?;
-    if !rest.is_empty() {
+    let (size, rest) = size_argument(text)?;
+    if rest.is_empty() { Some(size) } else { None }
+}
+
+/// The size and the options that two or six numbers spell, each after one space.
+pub fn atlas_arguments(text: &[u8]) -> Option<(Size, AllocatorOptions)>
+    ensures found { IfSome result (λ found. SpellsAtlas found.0 found.1 text.now) }
+    ensures only { (size : Size) (options : AllocatorOptions) → SpellsAtlas size options text.now → IsSomeAnd result (λ found. (found.0 ≡ size) × (found.1 ≡ options)) }
+{
+    let (size, rest) = size_argument(text)?;
+    if rest.is_empty() {
+        return Some((size, DEFAULT_OPTIONS));
+    }
+    Some((size, options_arguments(rest)?))
+}
+
+// The options that four numbers spell, each after one space.
+fn options_arguments(text: &[u8]) -> Option<AllocatorOptions>
+    ensures found { IfSome result (λ options. SpellsOptions options text.now) }
+    ensures only { (options : AllocatorOptions) → SpellsOptions options text.now → result ≡ Some options }
+{
+    let (alignment, rest) = size_argument(text)?;
+    let thresholds = size_arguments(rest)?;
+    Some(AllocatorOptions {
+        alignment,
+        small_size_threshold: thresholds.width,
+        large_size_threshold: thresholds.height,
+    })
+}
+
+/// The id that a space and decimal digits spell.
+pub fn id_argument(text: &[u8]) -> Option<AllocId>
+    ensures found { IfSome result (λ id. SpellsId id text.now) }
+    ensures only { (id : ℕ) → SpellsId id text.now → result ≡ Some id }
+{
+    let (space, word) = text.split_first()?;
+    if *space != b' ' {
         return None;
     }
-    Some(size2(width, height))
+    Some(AllocId::deserialize(unsigned(word)?))
 }

@@ -3,6 +3,20 @@
 #![tactic(auto)]
 
 #[cfg(test)]
+mod atlas_calls;
+#[cfg(test)]
+mod atlas_churn;
+#[cfg(test)]
+mod atlas_freeing;
+#[cfg(test)]
+mod atlas_grants;
+#[cfg(test)]
+mod atlas_recorded;
+#[cfg(test)]
+mod atlas_sessions;
+#[cfg(test)]
+mod atlas_walks;
+#[cfg(test)]
 mod geometry;
 #[cfg(test)]
 mod simple_recorded;
@@ -12,6 +26,8 @@ mod simple_rows;
 mod simple_sessions;
 #[cfg(test)]
 mod tables;
+#[cfg(test)]
+mod tool_atlas;
 #[cfg(test)]
 mod tool_devices;
 #[cfg(test)]

@@ -66,7 +66,7 @@ const ROWS: [(&[u8], &[u8], ToolEnd); 13] = [
 ];
 
 // Each of these alone spells no command.
-const BAD_LINES: [&[u8]; 23] = [
+const BAD_LINES: [&[u8]; 32] = [
     b" take 1 1",
     b"take 1 1 ",
     b"take +1 1",
@@ -79,7 +79,16 @@ const BAD_LINES: [&[u8]; 23] = [
     b"take 1 1\xff",
     b"\0",
     b"\xff",
-    b"atlas 1 1",
+    b"atlas 1",
+    b"atlas 1 1 1",
+    b"atlas 1 1 1 1 1",
+    b"alloc 1",
+    b"live 1",
+    b"size ",
+    b"free -1",
+    b"free 4294967296",
+    b"free x",
+    b"free",
     b"take 1 1 1",
     b"simple",
     b"simple 1",

@@ -1,0 +1,132 @@
+-- The lists of the live and of the free boxes, as the code gathers them.
+use Rattle.std.proofs.Common.{◌≡◌, ℕ, ◌+◌, ◌<◌, ◌≤◌, ◌⊎◌, inl, inr, ℤ, pos, ◌<ℤ◌, ◌≤ℤ◌, List, [], ◌∷◌, length, map, get_or, cond, Option, Some, false, refl, sym, ap, ◌∙◌, subst, arith}
+use Rattle.std.specs.List.{All}
+use Rattle.std.specs.List.Sorted.{IsPermutation, IsSortedByKey}
+use Rattle.std.specs.Ordering.{is_lt, ordering_then, int_cmp, MatchOrdering}
+use Rattle.std.specs.Cmp.{int_ranks}
+use Rattle.std.proofs.lemmas.Int.{ints}
+use Rattle.std.specs.declared.cmp.Ordering.{Ordering}
+use Rattle.std.specs.declared.cmp.Ordering.TheVariants.{Less, Equal, Greater}
+use Rattle.std.proofs.lemmas.List.{get_or-map, length-map}
+use Rattle.std.proofs.lemmas.List.Elements.{All-tail}
+use Rattle.std.proofs.lemmas.List.Sorted.{IsPermutation-map, All-permutation, sum_by-IsPermutation}
+use Rattle.guillotiere.specs.declared.allocation.Allocation.{Allocation}
+use Rattle.guillotiere.specs.declared.geometry.Rectangle.{Rectangle}
+use Rattle.guillotiere.specs.Boxes.{Box}
+use Rattle.guillotiere.specs.Choice.{ComesFirst}
+use Rattle.guillotiere.specs.Pixels.{box_of, rectangle_of}
+use Rattle.guillotiere.specs.States.{State}
+use Rattle.guillotiere.specs.Replies.{grant_of, IsExact}
+use Rattle.guillotiere.specs.Stored.{AtlasValue, state_of}
+use Rattle.guillotiere.specs.Visits.{AreGrants, AreFreeAreas}
+use Rattle.guillotiere.specs.Simple.{SimpleState}
+use Rattle.atlas_lines.specs.declared.replies.Reply.{Reply}
+use Rattle.atlas_lines.specs.Machine.{state_of as tool_state_of}
+use Rattle.atlas_lines.specs.Machine.{ToolReply, Held, with_atlas, with_simple, LooksAtAtlas, IsLine, ShowsSize, ShowsEmpty, atlas_in, ShowsLive, HoldsHoles, AreInOrder, allocation_of}
+
+same_allocation : (a : Allocation) → IsExact a.rectangle → a ≡ allocation_of (grant_of a)
+same_allocation a e = λ i. record { id = a.id; rectangle = e i }
+
+granted_back : (found : List Allocation) → All (λ (a : Allocation). IsExact a.rectangle) found → found ≡ map allocation_of (map grant_of found)
+granted_back [] exact = refl
+granted_back (a ∷ found) exact =
+    let first = same_allocation a (exact 0 a (omega arith)) in
+    let others = granted_back found (All-tail (λ (b : Allocation). IsExact b.rectangle) a found exact) in
+    ap (λ (b : Allocation). b ∷ found) first ∙ ap (λ (bs : List Allocation). allocation_of (grant_of a) ∷ bs) others
+
+-- the gathered live list is one that may be shown
+live_shown : (state : State) (found : List Allocation) → AreGrants state found → ShowsLive state (ToolReply.LiveLines found)
+live_shown state found grants = (map grant_of found, grants.list, granted_back found grants.exact)
+
+pub live_looked : (held inside : Option AtlasValue) (value : AtlasValue) (found : List Allocation) → inside ≡ held → inside ≡ Some value → AreGrants (state_of value) found
+    → LooksAtAtlas (atlas_in held) ShowsLive (ToolReply.LiveLines found)
+live_looked held inside value found e f grants =
+    let P : Option AtlasValue → Type 0 = λ atlas. LooksAtAtlas (atlas_in atlas) ShowsLive (ToolReply.LiveLines found) in
+    subst P (sym f ∙ e) (live_shown (state_of value) found grants)
+
+areas_back : (found : List Rectangle) → All IsExact found → found ≡ map rectangle_of (map box_of found)
+areas_back [] exact = refl
+areas_back (r ∷ found) exact =
+    let first : r ≡ rectangle_of (box_of r) = exact 0 r (omega arith) in
+    let others = areas_back found (All-tail IsExact r found exact) in
+    ap (λ (s : Rectangle). s ∷ found) first ∙ ap (λ (rs : List Rectangle). rectangle_of (box_of r) ∷ rs) others
+
+-- ---- the order of the holes
+
+-- whether the lower left corner of the first comes before that of the second
+by_corner : (o p : Ordering) (a b x y : ℤ) → MatchOrdering o (a <ℤ b) (a ≡ b) (b <ℤ a) → MatchOrdering p (x <ℤ y) (x ≡ y) (y <ℤ x) → is_lt (ordering_then o p) ≡ false
+    → (b <ℤ a) ⊎ ((b ≡ a) × (y ≤ℤ x))
+by_corner Less p a b x y m n e = absurd (cc)
+by_corner Equal Less a b x y m n e = absurd (cc)
+by_corner Equal Equal a b x y m n e = inr (sym m, omega (arith, ints, n))
+by_corner Equal Greater a b x y m n e = inr (sym m, omega (arith, ints, n))
+by_corner Greater p a b x y m n e = inl m
+
+natural_corner : (a b x y : ℕ) → (pos b <ℤ pos a) ⊎ ((pos b ≡ pos a) × (pos y ≤ℤ pos x)) → (b < a) ⊎ ((b ≡ a) × (y ≤ x))
+natural_corner a b x y (inl above) = inl (omega (arith, ints, above))
+natural_corner a b x y (inr beside) = inr (omega (arith, ints, beside.0), omega (arith, ints, beside.1))
+
+abbrev pub corner_key : Rectangle → ℤ × ℤ
+corner_key r = (r.min.y, r.min.x)
+
+abbrev pub corner_cmp : ℤ × ℤ → ℤ × ℤ → Ordering
+corner_cmp a b = ordering_then (int_cmp a.0 b.0) (int_cmp a.1 b.1)
+
+first_by_key : (b c : Box) → is_lt (corner_cmp (corner_key (rectangle_of c)) (corner_key (rectangle_of b))) ≡ false → ComesFirst b c
+first_by_key b c e =
+    natural_corner c.min.y b.min.y c.min.x b.min.x
+    (by_corner (int_cmp (pos c.min.y) (pos b.min.y)) (int_cmp (pos c.min.x) (pos b.min.x)) (pos c.min.y) (pos b.min.y) (pos c.min.x) (pos b.min.x)
+    (int_ranks (pos c.min.y) (pos b.min.y)) (int_ranks (pos c.min.x) (pos b.min.x)) e)
+
+exact_order : (r s : Rectangle) → IsExact r → IsExact s → is_lt (corner_cmp (corner_key s) (corner_key r)) ≡ false → ComesFirst (box_of r) (box_of s)
+exact_order r s e f h =
+    let P : Rectangle → Rectangle → Type 0 = λ x y. is_lt (corner_cmp (corner_key y) (corner_key x)) ≡ false in
+    first_by_key (box_of r) (box_of s) (subst (λ y. P (rectangle_of (box_of r)) y) f (subst (λ x. P x s) e h))
+
+in_order : (sorted : List Rectangle) → All IsExact sorted → IsSortedByKey corner_key corner_cmp sorted → AreInOrder (map box_of sorted)
+in_order sorted exact order k b h =
+    let n : length (map box_of sorted) ≡ length sorted = length-map sorted box_of in
+    let d = rectangle_of b in
+    let low : k < length sorted = omega arith in
+    let high : k + 1 < length sorted = omega arith in
+    let first = get_or-map box_of sorted k d b low in
+    let next = get_or-map box_of sorted (k + 1) d b high in
+    let P : Box → Box → Type 0 = ComesFirst in
+    subst (λ y. P (get_or (map box_of sorted) k b) y) (sym next)
+    (subst (λ x. P x (box_of (get_or sorted (k + 1) d))) (sym first)
+    (exact_order (get_or sorted k d) (get_or sorted (k + 1) d) (exact k d low) (exact (k + 1) d high) (order k d (omega arith) high)))
+
+pub holes_listed : (state : State) (found sorted : List Rectangle) → AreFreeAreas state found → IsPermutation found sorted → IsSortedByKey corner_key corner_cmp sorted → HoldsHoles state sorted
+holes_listed state found sorted areas moved order =
+    let exact = All-permutation IsExact found sorted moved areas.exact in (
+      map box_of sorted,
+      record {
+        free = λ p. sum_by-IsPermutation (λ b. cond (p b) 1 0) (map box_of found) (map box_of sorted) (IsPermutation-map box_of found sorted moved) ∙ areas.list p;
+        ordered = in_order sorted exact order;
+      },
+      areas_back sorted exact,
+    )
+
+-- ---- looks at an atlas that stands in the tool
+
+pub looked_size : (held inside : Option AtlasValue) (value : AtlasValue) (reply : Reply) → inside ≡ held → inside ≡ Some value → ShowsSize (state_of value) reply
+    → LooksAtAtlas (atlas_in held) (λ state. IsLine (ShowsSize state)) (ToolReply.OneLine reply)
+looked_size held inside value reply e f shown =
+    let P : Option AtlasValue → Type 0 = λ atlas. LooksAtAtlas (atlas_in atlas) (λ state. IsLine (ShowsSize state)) (ToolReply.OneLine reply) in
+    subst P (sym f ∙ e) shown
+
+pub looked_empty : (held inside : Option AtlasValue) (value : AtlasValue) (reply : Reply) → inside ≡ held → inside ≡ Some value → ShowsEmpty (state_of value) reply
+    → LooksAtAtlas (atlas_in held) (λ state. IsLine (ShowsEmpty state)) (ToolReply.OneLine reply)
+looked_empty held inside value reply e f shown =
+    let P : Option AtlasValue → Type 0 = λ atlas. LooksAtAtlas (atlas_in atlas) (λ state. IsLine (ShowsEmpty state)) (ToolReply.OneLine reply) in
+    subst P (sym f ∙ e) shown
+
+-- a new atlas in the tool
+pub made_atlas : (held : Held) (simple : Option SimpleState) (value : AtlasValue) (made : State) → simple ≡ held.simple → state_of value ≡ made
+    → tool_state_of (record { atlas = Some value; simple = simple }) ≡ with_atlas (tool_state_of held) made
+made_atlas held simple value made e f = λ i. record { atlas = Some (f i); simple = e i }
+
+-- a new simple allocator in the tool
+pub made_simple : (held : Held) (atlas : Option AtlasValue) (value made : SimpleState) → atlas ≡ held.atlas → value ≡ made
+    → tool_state_of (record { atlas = atlas; simple = Some value }) ≡ with_simple (tool_state_of held) made
+made_simple held atlas value made e f = λ i. record { atlas = atlas_in (e i); simple = Some (f i) }

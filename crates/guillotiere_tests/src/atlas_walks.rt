@@ -1,0 +1,84 @@
+//! The walks over an atlas, by callbacks that count, keep, wrap and look back at the atlas.
+
+use crate::tables::rectangle;
+use guillotiere::{AllocId, AtlasAllocator, AtlasError, Rectangle, size2};
+use std::alloc::Global;
+use std::test::Fail;
+
+// A shelf, two squares below it and room for a third.
+fn filled(alloc: Global) -> Result<AtlasAllocator, AtlasError> {
+    let mut atlas = AtlasAllocator::new(alloc, size2(300, 200))?;
+    let _shelf = atlas.allocate(size2(300, 100))?;
+    for _ in 0..2 {
+        let _square = atlas.allocate(size2(100, 100))?;
+    }
+    Ok(atlas)
+}
+
+#[test]
+fn callbacks_count_and_keep_the_last(rt: HostRuntime) -> Result<(), Fail> {
+    let atlas = filled(rt.alloc())?;
+    let mut live = 0u32;
+    let mut last = None;
+    atlas.for_each_allocated_rectangle(|id: AllocId, area: &Rectangle| {
+        live = live.wrapping_add(1);
+        last = Some((id.serialize(), *area));
+    });
+    assert_eq!(rt; live, 3);
+    assert_eq!(rt; last, Some((3, rectangle((0, 100, 100, 200)))));
+    let mut free = 0u32;
+    let mut hole = None;
+    atlas.for_each_free_rectangle(|area: &Rectangle| {
+        free = free.wrapping_add(1);
+        hole = Some(*area);
+    });
+    assert_eq!(rt; free, 1);
+    assert_eq!(rt; hole, Some(rectangle((200, 100, 300, 200))));
+    Ok(())
+}
+
+#[test]
+fn a_callback_may_wrap_a_sum(rt: HostRuntime) -> Result<(), Fail> {
+    let atlas = filled(rt.alloc())?;
+    let mut sum = 0u8;
+    atlas.for_each_allocated_rectangle(|id: AllocId, area: &Rectangle| {
+        let [low, _, _, _] = area.max.x.to_le_bytes();
+        sum = sum
+            .wrapping_add(low)
+            .wrapping_add(id.serialize().to_le_bytes()[0]);
+    });
+    // 300 + 200 + 100 and the ids 0, 2 and 3, modulo 256
+    assert_eq!(rt; sum, 93);
+    Ok(())
+}
+
+#[test]
+fn a_callback_may_look_at_the_atlas(rt: HostRuntime) -> Result<(), Fail> {
+    let atlas = filled(rt.alloc())?;
+    let mut agree = 0u32;
+    let mut inner = 0u32;
+    atlas.for_each_allocated_rectangle(|id: AllocId, area: &Rectangle| {
+        if atlas.get(id) == Some(*area) {
+            agree = agree.wrapping_add(1);
+        }
+        atlas.for_each_free_rectangle(|_: &Rectangle| inner = inner.wrapping_add(1));
+    });
+    assert_eq!(rt; (agree, inner), (3, 3));
+    let live = atlas.allocations()?;
+    assert_eq!(rt; live.len(), 3);
+    let slots = atlas.slots();
+    assert_eq!(rt; (slots.used, slots.kept, slots.limit), (5, 5, 16777216));
+    Ok(())
+}
+
+#[test]
+fn an_id_is_an_index(rt: HostRuntime) -> Result<(), Fail> {
+    let mut atlas = AtlasAllocator::new(rt.alloc(), size2(100, 100))?;
+    let Some(allocation) = atlas.allocate(size2(20, 60))? else {
+        panic!(rt; "no room in an empty atlas");
+    };
+    assert!(rt; atlas.get(allocation.id).is_some());
+    assert_eq!(rt; atlas[allocation.id], rectangle((0, 0, 20, 60)));
+    assert_eq!(rt; allocation.rectangle, rectangle((0, 0, 20, 60)));
+    Ok(())
+}

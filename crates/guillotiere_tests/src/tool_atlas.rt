@@ -1,0 +1,43 @@
+//! Runs of the tool's lines on an atlas.
+
+use crate::tool_devices::{Sink, Source};
+use atlas_lines::{ToolEnd, run_lines};
+use std::test::Fail;
+
+// What is read, what is written, and how the run ends.
+const ROWS: [(&[u8], &[u8], ToolEnd); 4] = [
+    (
+        b"atlas 100 100\nalloc 20 60\nlive\nholes\nsize\n",
+        b"ok\nid 3 at 0 0 20 60\nbox 3 0 0 20 60\nlive 1\nhole 20 0 100 100\nhole 0 60 20 100\nholes 2\nsize 100 100\n",
+        ToolEnd::Done,
+    ),
+    (
+        b"alloc 5 5\natlas 0 5\nsize\natlas 64 64 8 8 32 256\nalloc 9 1\nalloc 2147483647 1\nfrob\n",
+        b"no atlas\nbad call\nno atlas\nok\nid 2 at 0 0 16 8\nnone\nbad line 7\n",
+        ToolEnd::BadLine(7),
+    ),
+    (
+        b"atlas 100 300\nalloc 100 100\nalloc 100 100\nalloc 100 100\nfree 0\nfree 1\nfree 1\nfree 4294967295\nholes\nempty\n",
+        b"ok\nid 0 at 0 0 100 100\nid 1 at 0 100 100 200\nid 2 at 0 200 100 300\nok\nok\nrefused not live\nrefused not live\nhole 0 0 100 200\nholes 1\nfalse\n",
+        ToolEnd::Done,
+    ),
+    (
+        b"empty\nfree 0\nlive\nholes\nalloc 0 0\natlas 9 9 0 1 1 2\natlas 9 9 1 1 33 32\natlas 9 9\nempty\n",
+        b"no atlas\nno atlas\nno atlas\nno atlas\nno atlas\nbad call\nbad call\nok\ntrue\n",
+        ToolEnd::Done,
+    ),
+];
+
+#[test]
+fn rows(rt: HostRuntime) -> Result<(), Fail> {
+    for (text, want, end) in ROWS {
+        for step in [1, 7, 5000] {
+            let mut input = Source::ending(text, step);
+            let mut output = Sink::new(Vec::new(rt.alloc()), 5000, step, true);
+            let got = run_lines(rt.alloc(), &mut input, &mut output);
+            assert_eq!(rt; got, Ok(end), "{text:?} by {step}");
+            assert_eq!(rt; output.held(), want, "{text:?} by {step}");
+        }
+    }
+    Ok(())
+}
