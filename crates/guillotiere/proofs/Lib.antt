@@ -49,7 +49,6 @@ pub mod Banding
 pub mod Filing
 pub mod Taking
 pub mod Choosing
-pub mod Extents
 pub mod Turning
 pub mod SlotSums
 pub mod LeafCounts
@@ -64,19 +63,14 @@ pub mod FreeSlots
 pub mod Listing
 pub mod NumberedCuts
 pub mod StoreSteps
-pub mod SlotLeaves
 pub mod SlotIds
 pub mod SlotBoxes
-pub mod SlotPieces
 pub mod Closing
 pub mod Frames
 pub mod Marking
 pub mod Suffixes
 pub mod LeafSlots
-pub mod Living
-pub mod LeafSums
 pub mod SlotPlans
-pub mod AtlasSlots
 pub mod PlannedTrees
 pub mod PlacingSteps
 pub mod StoreTakes
