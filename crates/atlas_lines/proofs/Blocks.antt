@@ -8,9 +8,6 @@ use Rattle.atlas_lines.specs.Devices.{WritesBeginning}
 use Rattle.atlas_lines.proofs.Known.{Appends_twice, Appends_none}
 use Rattle.atlas_lines.proofs.Joins.{WritesBeginning_after}
 
-pub gathered_none : (out : Option (List ℕ)) → IsGathered out out [] []
-gathered_none out = record { done = []; written = Appends_none out; whole = refl }
-
 -- a beginning of more
 pub begins_more : (old new : Option (List ℕ)) (text rest : List ℕ) → WritesBeginning old new text → WritesBeginning old new (text ++ rest)
 begins_more old None text rest w = tt
@@ -58,14 +55,6 @@ list_stops f xs i last old mid new block g w =
 -- all lines were gathered
 pub list_whole : {X : Type 0} (f : X → List ℕ) (xs : List X) (i : ℕ) → i ≡ length xs → flat_map f (take i xs) ≡ flat_map f xs
 list_whole f xs i e = ap (flat_map f) (take_all i xs (omega arith))
-
--- the whole list went
-pub list_went : (old mid new : Option (List ℕ)) (block text whole last : List ℕ) → text ≡ whole → IsGathered old mid block text → Appends mid new (block ++ last)
-    → Appends old new (whole ++ last)
-list_went old mid new block text whole last e g a =
-    let P : List ℕ → Type 0 = λ t. Appends old new t in
-    let same : g.done ++ (block ++ last) ≡ whole ++ last = sym (append_assoc g.done block last) ∙ ap (λ t. t ++ last) (sym g.whole ∙ e) in
-    subst P same (Appends_twice old mid new g.done (block ++ last) g.written a)
 
 -- the device failed at the end of the list
 pub list_begun : (old mid new : Option (List ℕ)) (block text whole last : List ℕ) → text ≡ whole → IsGathered old mid block text → WritesBeginning mid new (block ++ last)

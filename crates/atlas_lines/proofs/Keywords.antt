@@ -61,10 +61,6 @@ in_parts c line word rest begins spells =
     let same = one_word line word rest (keyword c) spells.0 begins (record { whole = spells.1; no_space = keyword_no_space c; spaced = arguments_spaced c spells.0 spells.2 }) in
     (same.0, subst (SpellsArguments c) (sym same.1) spells.2)
 
--- and a line of these parts spells it
-pub from_parts : (c : Command) (line word rest : List ℕ) → BeginsWithWord line word rest → SpellsInParts c word rest → Spells c line
-from_parts c line word rest begins parts = (rest, begins.whole ∙ ap (λ w. w ++ rest) parts.0, parts.1)
-
 -- each keyword begins one command alone
 pub only_simple : (c : Command) (word rest : List ℕ) → word ≡ codes "simple" → SpellsInParts c word rest → (size : Size) × (c ≡ Simple size) × SpellsSize size rest
 only_simple (Simple size) word rest e parts = (size, refl, parts.1)

@@ -125,8 +125,3 @@ looked_empty held inside value reply e f shown =
 pub made_atlas : (held : Held) (simple : Option SimpleState) (value : AtlasValue) (made : State) → simple ≡ held.simple → state_of value ≡ made
     → tool_state_of (record { atlas = Some value; simple = simple }) ≡ with_atlas (tool_state_of held) made
 made_atlas held simple value made e f = λ i. record { atlas = Some (f i); simple = e i }
-
--- a new simple allocator in the tool
-pub made_simple : (held : Held) (atlas : Option AtlasValue) (value made : SimpleState) → atlas ≡ held.atlas → value ≡ made
-    → tool_state_of (record { atlas = atlas; simple = Some value }) ≡ with_simple (tool_state_of held) made
-made_simple held atlas value made e f = λ i. record { atlas = atlas_in (e i); simple = Some (f i) }

@@ -3,7 +3,7 @@ use Rattle.std.proofs.Common.{ℕ, ℤ, pos, negsuc, ◌<◌, ◌≤◌, ◌≡�
 use Rattle.std.specs.Prelude.{nat_lt, if◌then◌else◌}
 use Rattle.std.proofs.lemmas.Bool.{cond_both, ltb-true, ltb-false}
 use Rattle.std.proofs.lemmas.Int.{ints}
-use Rattle.guillotiere.specs.Boxes.{Sides, Fits}
+use Rattle.guillotiere.specs.Boxes.{Sides}
 use Rattle.guillotiere.specs.Pixels.{natural}
 use Rattle.guillotiere.specs.Choice.{Options, class_of, reaches}
 use Rattle.guillotiere.specs.Lists.{band_of, list_of}
@@ -84,10 +84,6 @@ band_of-most s =
     high-lt 32 4 n _ 8 (omega arith) (
     high-lt 64 5 n _ 8 (omega arith) (
     high-lt 128 6 n 7 8 (omega arith) (omega arith)))))))
-
--- a box that a size fits has no lower band
-pub band_of-fits : (r s : Sides) → Fits r s → band_of r ≤ band_of s
-band_of-fits r s f = band_at-le (min r.width r.height) (min s.width s.height) (omega (arith, f.0, f.1))
 
 pub class_of-most : (o : Options) (s : Sides) → class_of o s < 3
 class_of-most o s =

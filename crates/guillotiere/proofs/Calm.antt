@@ -1,19 +1,17 @@
 -- slots that are calm hold a normal tree, and the steps of a freeing end there
-use Rattle.std.proofs.Common.{ℕ, ◌+◌, ◌<◌, ◌≤◌, ◌≡◌, List, refl, sym, ap, ◌∙◌, ◌⊎◌, inl, inr, arith, length, Bool, true, false}
+use Rattle.std.proofs.Common.{ℕ, ◌+◌, ◌<◌, ◌≡◌, List, refl, sym, ap, ◌∙◌, ◌⊎◌, inl, inr, arith, Bool, true, false}
 use Rattle.std.proofs.lemmas.Bool.{cases_eq, true≢false}
 use Rattle.guillotiere.specs.declared.slots.Node.{Node}
 use Rattle.guillotiere.specs.declared.slots.NodeKind.TheVariants as kind
 use Rattle.guillotiere.specs.Slots.{node_at, use_count, no_slot}
 use Rattle.guillotiere.specs.Trees as tree
 use Rattle.guillotiere.specs.Trees.{Members, begins_free, is_idle, IsNormal}
-use Rattle.guillotiere.specs.Changes.{free_before, seq_before, nf}
-use Rattle.guillotiere.specs.Numbered.{Numbered, tally, first_slot, same, erase, End, Free, Alloc, Seq}
-use Rattle.guillotiere.specs.Standing.{Sequence, Standing, Stands, IsPlaced, inside}
+use Rattle.guillotiere.specs.Numbered.{Numbered, tally, first_slot, erase, End, Free, Alloc, Seq}
+use Rattle.guillotiere.specs.Standing.{Sequence, Standing, Stands, inside}
 use Rattle.guillotiere.specs.Calm.{IsCalmAt, IsCalmBut, NoneEmpty}
-use Rattle.guillotiere.proofs.Frames.{same-self, same-ne}
-use Rattle.guillotiere.proofs.Closing.{IsNone}
-use Rattle.guillotiere.proofs.Suffixes.{Suffix, suffix-at}
-use Rattle.guillotiere.proofs.Joining.{IsJoined, used-le, ne-from_same}
+use Rattle.guillotiere.proofs.Frames.{same-self}
+use Rattle.guillotiere.proofs.Suffixes.{suffix-at}
+use Rattle.guillotiere.proofs.Joining.{IsJoined, ne-from_same}
 use Rattle.guillotiere.proofs.Lifting.{IsLifted}
 
 begins-kind : (ns : List Node) (s : Sequence) (b p : ℕ) (n : Numbered) → Standing ns s b p n → begins_free (erase n) ≡ true → (node_at ns (first_slot n)).kind ≡ kind.Free

@@ -2,7 +2,7 @@
 use Rattle.std.proofs.Common.{ℕ, ◌<◌, ◌≤◌, ◌≡◌, List, ◌∷◌, refl, sym, ap, ◌∙◌, inl, inr, arith, length, set, get_or-set_same, get_or-set_other, Bool, true, false, eqb, ◌&&◌, subst}
 use Rattle.std.specs.Prelude.{if◌then◌else◌, slice_index_or}
 use Rattle.std.proofs.lemmas.Bool.{cases_eq, cases_lt, cond_both, cond-true, cond-false, eq-eqb, ne_eqb, and_parts, and_from, and_right}
-use Rattle.std.proofs.lemmas.List.{get_or_past, get_or_default, length-map}
+use Rattle.std.proofs.lemmas.List.{get_or_default, length-map}
 use Rattle.guillotiere.specs.declared.slots.Slot.{Slot}
 use Rattle.guillotiere.specs.declared.geometry.Size.{Size}
 use Rattle.guillotiere.specs.declared.slots.Link.{Link}
@@ -14,13 +14,14 @@ use Rattle.guillotiere.specs.declared.lists.FreeList.{FreeList}
 use Rattle.guillotiere.specs.Boxes.{Sides, Fits, box_sides}
 use Rattle.guillotiere.specs.Pixels.{sides_of, box_of}
 use Rattle.guillotiere.specs.Choice.{Options}
-use Rattle.guillotiere.specs.Slots.{nodes, rings, node_at, ring_at, use_count, no_slot, blank_node}
+use Rattle.guillotiere.specs.Slots.{nodes, rings, node_at, ring_at, use_count, no_slot}
 use Rattle.guillotiere.specs.Numbered.{same}
 use Rattle.guillotiere.specs.Lists.{IsList, IsFiled, AreFiled, occurs, without, filed, list_of, list_at, blank_list, node_sides, is_free, bounds}
 use Rattle.guillotiere.specs.Links.{IsKept, IsLoose, IsListed, IsUnlisted, with_mark, with_count, held_without, held_with}
 use Rattle.guillotiere.proofs.Occurrences.{same-self, same-ne, ne-from_occurs, without-none, occurs-without, length-occurs}
 use Rattle.guillotiere.proofs.Banding.{list_of-most}
 use Rattle.guillotiere.proofs.Unlinking.{IsList-kept, Line-kept, Line-inside, Chain-inside}
+pub use Rattle.guillotiere.proofs.Frames.{past-unused, used-inside}
 
 -- the list that a node belongs in if it is free
 abbrev pub list_for : Options → Node → ℕ
@@ -70,16 +71,6 @@ with_count-same hand i n = cond-true _ n (hand i) (eq-eqb i i refl)
 
 pub with_count-other : (hand : ℕ → ℕ) (i n k : ℕ) → (k ≡ i → ⊥) → with_count hand i n k ≡ hand k
 with_count-other hand i n k ne = cond-false _ n (hand k) (ne_eqb k i ne)
-
--- a slot past the end is unused
-pub past-unused : (ns : List Node) (i : ℕ) → length ns ≤ i → use_count (node_at ns i).kind ≡ 0
-past-unused ns i l = ap (λ (n : Node). use_count n.kind) (get_or_past ns i blank_node l)
-
-pub used-inside : (ns : List Node) (i : ℕ) → 0 < use_count (node_at ns i).kind → i < length ns
-used-inside ns i u = elim (cases_lt i (length ns)) [ inl l ↦ l | inr l ↦ absurd (omega (arith, past-unused ns i l)) ]
-
-pub free-inside : (ns : List Node) (i : ℕ) → (node_at ns i).kind ≡ kind.Free → i < length ns
-free-inside ns i e = used-inside ns i (omega (arith, ap use_count e))
 
 -- 0 where a slot is loose, or else n
 abbrev pub unless_loose : Bool → ℕ → ℕ

@@ -1,8 +1,9 @@
 -- what changes nothing of a tree
-use Rattle.std.proofs.Common.{ℕ, ◌+◌, ◌<◌, ◌≡◌, List, refl, arith, length, set, get_or-set_other, get_or-set_same}
-use Rattle.std.proofs.lemmas.Bool.{eq-eqb, ne_eqb}
+use Rattle.std.proofs.Common.{ℕ, ◌+◌, ◌<◌, ◌≤◌, ◌≡◌, List, refl, ap, arith, inl, inr, length, set, get_or-set_other, get_or-set_same}
+use Rattle.std.proofs.lemmas.Bool.{eq-eqb, ne_eqb, cases_lt}
+use Rattle.std.proofs.lemmas.List.{get_or_past}
 use Rattle.guillotiere.specs.declared.slots.Node.{Node}
-use Rattle.guillotiere.specs.Slots.{no_slot, node_at, blank_node, KeepsUse}
+use Rattle.guillotiere.specs.Slots.{no_slot, node_at, blank_node, use_count, KeepsUse}
 use Rattle.guillotiere.specs.Numbered.{Numbered, tally, same, End, Free, Alloc, Seq}
 use Rattle.guillotiere.specs.Standing.{Sequence, Standing, inside}
 
@@ -11,6 +12,13 @@ same-self i = rw (eq-eqb i i refl)
 
 pub same-ne : (i j : ℕ) → (i ≡ j → ⊥) → same i j ≡ 0
 same-ne i j h = rw (ne_eqb i j h)
+
+-- a slot past the end is unused
+pub past-unused : (ns : List Node) (i : ℕ) → length ns ≤ i → use_count (node_at ns i).kind ≡ 0
+past-unused ns i l = ap (λ (n : Node). use_count n.kind) (get_or_past ns i blank_node l)
+
+pub used-inside : (ns : List Node) (i : ℕ) → 0 < use_count (node_at ns i).kind → i < length ns
+used-inside ns i u = elim (cases_lt i (length ns)) [ inl l ↦ l | inr l ↦ absurd (omega (arith, past-unused ns i l)) ]
 
 -- what a write to one place leaves
 pub record IsWritten (ns ms : List Node) (i : ℕ) (n : Node) : Type 0 where

@@ -22,18 +22,7 @@ use Rattle.guillotiere.specs.Lists.{AreFiled}
 use Rattle.guillotiere.specs.Links.{IsExact}
 use Rattle.guillotiere.specs.Picks.{node_box, IsFreeSlot, AreFreeBoxes, IsSearchable}
 use Rattle.guillotiere.proofs.Occurrences.{same-ne}
-
-moved-spot : (a : Axis) (p q e : ℕ) → moved a (spot a p q) e ≡ spot a (p + e) q
-moved-spot Horizontal p q e = refl
-moved-spot Vertical p q e = refl
-
-spot-other : (a : Axis) (p q : ℕ) → spot (other a) q p ≡ spot a p q
-spot-other Horizontal p q = refl
-spot-other Vertical p q = refl
-
-spot-origin : (a : Axis) → spot a 0 0 ≡ origin
-spot-origin Horizontal = refl
-spot-origin Vertical = refl
+use Rattle.guillotiere.proofs.Spots.{moved-spot, spot-other, spot-origin}
 
 -- the boxes of the free members of a sequence from p on
 abbrev free_from : Sequence → ℕ → Numbered → List Box

@@ -4,7 +4,7 @@ use Rattle.std.proofs.lemmas.Bool.{cond_both, eqb-true, eqb-false, cases_eq}
 use Rattle.guillotiere.specs.declared.slots.Node.{Node}
 use Rattle.guillotiere.specs.declared.slots.NodeKind.TheVariants as kind
 use Rattle.guillotiere.specs.Slots.{node_at, use_count, no_slot}
-use Rattle.guillotiere.specs.Numbered.{Numbered, tally, numbers, first_slot, same, granted_at, End, Free, Alloc, Seq}
+use Rattle.guillotiere.specs.Numbered.{Numbered, tally, first_slot, same, granted_at, End, Free, Alloc, Seq}
 use Rattle.guillotiere.specs.Standing.{Sequence, Standing, Stands, IsPlaced, inside}
 use Rattle.guillotiere.proofs.Frames.{IsWritten, Standing-same, same-self}
 use Rattle.guillotiere.proofs.Joining.{used-le, ne-from_count}
@@ -22,13 +22,6 @@ tally-granted x i g (Free j e rest) =
     cond_both (eqb i j) (Alloc j g e rest) (Free j e (granted_at i g rest)) (λ m. tally x m ≡ same x j + tally x rest) (λ _. refl) (λ _. ap (λ v. same x j + v) (tally-granted x i g rest))
 tally-granted x i g (Alloc j h e rest) = ap (λ v. same x j + v) (tally-granted x i g rest)
 tally-granted x i g (Seq j e inner rest) = omega (arith, tally-granted x i g inner, tally-granted x i g rest)
-
-pub numbers-granted : (i g : ℕ) (n : Numbered) → numbers (granted_at i g n) ≡ numbers n
-numbers-granted i g End = refl
-numbers-granted i g (Free j e rest) =
-    cond_both (eqb i j) (Alloc j g e rest) (Free j e (granted_at i g rest)) (λ m. numbers m ≡ 1 + numbers rest) (λ _. refl) (λ _. ap (λ v. 1 + v) (numbers-granted i g rest))
-numbers-granted i g (Alloc j h e rest) = ap (λ v. 1 + v) (numbers-granted i g rest)
-numbers-granted i g (Seq j e inner rest) = omega (arith, numbers-granted i g inner, numbers-granted i g rest)
 
 module _ (ns ms : List Node) (i : ℕ) (w : IsWritten ns ms i (record (node_at ns i) { kind = kind.Alloc })) (was : (node_at ns i).kind ≡ kind.Free) where
   other_alloc : (s : Sequence) (b a j : ℕ) → IsPlaced (node_at ns j) s b a kind.Alloc → j ≡ i → ⊥

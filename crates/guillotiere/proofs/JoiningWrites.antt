@@ -1,25 +1,17 @@
 -- what the writes of `join_next` make
 use Rattle.std.proofs.Common.{ℕ, ◌<◌, ◌≤◌, ◌≡◌, List, refl, sym, ap, ◌∙◌, inl, inr, arith, length, set, get_or-set_same, get_or-set_other, length-set}
-use Rattle.std.proofs.lemmas.Bool.{cases_lt}
 use Rattle.std.proofs.lemmas.List.{get_or_past}
 use Rattle.guillotiere.specs.declared.slots.Node.{Node}
 use Rattle.guillotiere.specs.declared.slots.Link.{Link}
 use Rattle.guillotiere.specs.declared.slots.NodeKind.TheVariants as kind
-use Rattle.guillotiere.specs.Slots.{node_at, blank_node, use_count, no_slot}
+use Rattle.guillotiere.specs.Slots.{node_at, blank_node, no_slot}
 use Rattle.guillotiere.specs.Numbered.{Numbered, tally, first_slot, same, End, Free, Alloc, Seq}
 use Rattle.guillotiere.specs.Standing.{Sequence, Standing, IsTree, IsSlot, with_previous}
 use Rattle.guillotiere.proofs.Frames.{same-self}
 use Rattle.guillotiere.proofs.Closing.{next-in, first-in}
 use Rattle.guillotiere.proofs.Suffixes.{suffix-at}
 use Rattle.guillotiere.proofs.Joining.{IsJoined, used-le}
-
--- a use_count slot is in range
-pub used-inside : (ns : List Node) (i : ℕ) → 0 < use_count (node_at ns i).kind → i < length ns
-used-inside ns i l =
-    elim (cases_lt i (length ns)) [
-      | inl y ↦ y
-      | inr n ↦ let e = get_or_past ns i blank_node n in let q : 0 < 0 = rw e at l in absurd (omega arith)
-    ]
+pub use Rattle.guillotiere.proofs.Frames.{used-inside}
 
 -- no node is past the end
 pub none-unused : (ns : List Node) → length ns < no_slot → (node_at ns no_slot).kind ≡ kind.Unused

@@ -4,8 +4,7 @@ use Rattle.std.specs.List.{count_by}
 use Rattle.guillotiere.specs.declared.slots.Node.{Node}
 use Rattle.guillotiere.specs.declared.slots.NodeKind.{NodeKind}
 use Rattle.guillotiere.specs.declared.slots.NodeKind.TheVariants as kind
-use Rattle.guillotiere.specs.Boxes.{Axis, Box, other, moved}
-use Rattle.guillotiere.specs.Boxes.Axis.{Horizontal, Vertical}
+use Rattle.guillotiere.specs.Boxes.{Box, other, moved}
 use Rattle.guillotiere.specs.Pixels.{box_of}
 use Rattle.guillotiere.specs.Trees.{Grant, grant}
 use Rattle.guillotiere.specs.Slots.{node_at, use_count, no_slot}
@@ -17,6 +16,7 @@ use Rattle.guillotiere.specs.Visits.{is_alloc, allocation_at, allocated_from, fr
 use Rattle.guillotiere.proofs.TreeBasics.{one_if, live_among, free_among, live_among-seq, free_among-seq}
 use Rattle.guillotiere.proofs.Counting.{count_by-cons, count_by-append}
 use Rattle.guillotiere.proofs.SlotSums.{slot_sum, member_sum, member_sum-Stands}
+use Rattle.guillotiere.proofs.Spots.{moved-spot, spot-other}
 
 -- 1 if a slot is allocated and its grant passes
 abbrev pub alloc_weight : (Grant → Bool) → ℕ → Node → ℕ
@@ -37,14 +37,6 @@ free-light kind.Container v = omega arith
 free-light kind.Alloc v = omega arith
 free-light kind.Free v = omega arith
 free-light kind.Unused v = omega arith
-
-moved-spot : (a : Axis) (p q e : ℕ) → moved a (spot a p q) e ≡ spot a (p + e) q
-moved-spot Horizontal p q e = refl
-moved-spot Vertical p q e = refl
-
-turned-spot : (a : Axis) (p q : ℕ) → spot a p q ≡ spot (other a) q p
-turned-spot Horizontal p q = refl
-turned-spot Vertical p q = refl
 
 -- the list of the allocated slots counts them
 pub count-allocated : (p : Grant → Bool) (i : ℕ) (ns : List Node) → count_by p (map grant_of (allocated_from i ns)) ≡ slot_sum (alloc_weight p) i ns
@@ -106,7 +98,7 @@ live-Standing p ns s b q (Seq j e inner rest) h =
     let at : count_by p (live_among s.axis (moved s.axis (spot s.axis q s.start) e) s.width (erase rest)) ≡ member_sum (λ k. alloc_weight p k (node_at ns k)) rest =
     ap (λ o. count_by p (live_among s.axis o s.width (erase rest))) (moved-spot s.axis q s.start e) ∙ live-Standing p ns s j (q + e) rest h.3 in
     let within : count_by p (live_among (other s.axis) (spot s.axis q s.start) e (erase inner)) ≡ member_sum (λ k. alloc_weight p k (node_at ns k)) inner =
-    ap (λ o. count_by p (live_among (other s.axis) o e (erase inner))) (turned-spot s.axis q s.start) ∙ live-Standing p ns (inside s j q e) no_slot s.start inner h.2 in
+    ap (λ o. count_by p (live_among (other s.axis) o e (erase inner))) (sym (spot-other s.axis q s.start)) ∙ live-Standing p ns (inside s j q e) no_slot s.start inner h.2 in
     let here : alloc_weight p j (node_at ns j) ≡ 0 =
     ap (λ v. cond (is_alloc v) (one_if (p (grant (id_of j (node_at ns j).generation) (box_of (node_at ns j).area)))) 0) h.0.kind in
     ap (count_by p) (live_among-seq s.axis (spot s.axis q s.start) s.width e (erase inner) (erase rest))
@@ -141,7 +133,7 @@ free-Standing p ns s b q (Seq j e inner rest) h =
     let at : count_by p (free_among s.axis (moved s.axis (spot s.axis q s.start) e) s.width (erase rest)) ≡ member_sum (λ k. free_weight p k (node_at ns k)) rest =
     ap (λ o. count_by p (free_among s.axis o s.width (erase rest))) (moved-spot s.axis q s.start e) ∙ free-Standing p ns s j (q + e) rest h.3 in
     let within : count_by p (free_among (other s.axis) (spot s.axis q s.start) e (erase inner)) ≡ member_sum (λ k. free_weight p k (node_at ns k)) inner =
-    ap (λ o. count_by p (free_among (other s.axis) o e (erase inner))) (turned-spot s.axis q s.start) ∙ free-Standing p ns (inside s j q e) no_slot s.start inner h.2 in
+    ap (λ o. count_by p (free_among (other s.axis) o e (erase inner))) (sym (spot-other s.axis q s.start)) ∙ free-Standing p ns (inside s j q e) no_slot s.start inner h.2 in
     let here : free_weight p j (node_at ns j) ≡ 0 = ap (λ v. cond (is_free v) (one_if (p (box_of (node_at ns j).area))) 0) h.0.kind in
     ap (count_by p) (free_among-seq s.axis (spot s.axis q s.start) s.width e (erase inner) (erase rest))
     ∙ count_by-append p (free_among (other s.axis) (spot s.axis q s.start) e (erase inner)) (free_among s.axis (moved s.axis (spot s.axis q s.start) e) s.width (erase rest))

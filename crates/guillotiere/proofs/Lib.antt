@@ -69,7 +69,6 @@ pub mod Closing
 pub mod Frames
 pub mod Marking
 pub mod Suffixes
-pub mod LeafSlots
 pub mod SlotPlans
 pub mod PlannedTrees
 pub mod PlacingSteps
@@ -88,3 +87,5 @@ pub mod SpareCounts
 pub mod ChosenSlots
 pub mod PlannedSlots
 pub mod GrantedAtlas
+pub mod Spots
+pub mod Sizes

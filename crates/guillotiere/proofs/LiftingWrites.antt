@@ -1,16 +1,16 @@
 -- what the writes of `lift` make
-use Rattle.std.proofs.Common.{ℕ, ◌+◌, ◌<◌, ◌≤◌, ◌≡◌, List, refl, sym, ap, ◌∙◌, ◌⊎◌, inl, inr, arith, length, set, get_or-set_same, get_or-set_other, length-set}
+use Rattle.std.proofs.Common.{ℕ, ◌+◌, ◌<◌, ◌≡◌, List, refl, ◌∙◌, ◌⊎◌, inl, inr, arith, length, set, get_or-set_same, get_or-set_other, length-set}
 use Rattle.std.proofs.lemmas.Bool.{cases_eq}
 use Rattle.guillotiere.specs.declared.slots.Node.{Node}
 use Rattle.guillotiere.specs.declared.slots.Link.{Link}
 use Rattle.guillotiere.specs.declared.slots.NodeKind.TheVariants as kind
-use Rattle.guillotiere.specs.Slots.{node_at, blank_node, use_count, no_slot}
-use Rattle.guillotiere.specs.Numbered.{Numbered, tally, first_slot, same, lifted, erase, End, Free, Alloc, Seq}
-use Rattle.guillotiere.specs.Standing.{Sequence, Standing, Stands, IsPlaced, IsWhole, inside}
-use Rattle.guillotiere.proofs.Frames.{same-self, same-ne}
-use Rattle.guillotiere.proofs.Joining.{used-le, split_pos}
+use Rattle.guillotiere.specs.Slots.{node_at, blank_node, no_slot}
+use Rattle.guillotiere.specs.Numbered.{Numbered, tally, first_slot, End, Free, Alloc, Seq}
+use Rattle.guillotiere.specs.Standing.{Sequence, Standing, Stands, IsWhole, inside}
+use Rattle.guillotiere.proofs.Frames.{same-ne}
+use Rattle.guillotiere.proofs.Joining.{split_pos}
 use Rattle.guillotiere.proofs.JoiningWrites.{used-inside, none-unused}
-use Rattle.guillotiere.proofs.Lifting.{IsLifted, Stands-lifted}
+use Rattle.guillotiere.proofs.Lifting.{IsLifted}
 
 -- a member's parent holds the top sequence, or is a container
 pub parent-kind : (ns : List Node) (k : ℕ) (s : Sequence) (b p : ℕ) (n : Numbered) → Standing ns s b p n → 0 < tally k n → ((node_at ns k).parent.number ≡ s.parent) ⊎ ((node_at ns (node_at ns k).parent.number).kind ≡ kind.Container)

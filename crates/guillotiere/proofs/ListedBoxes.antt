@@ -1,10 +1,10 @@
 -- The boxes of the three lists, once one list is changed.
-use Rattle.std.proofs.Common.{◌≡◌, ◌≢◌, ℕ, ◌+◌, ◌<◌, Bool, cond, List, [], ◌∷◌, ◌++◌, map, zero, suc, Vec, Some, None, inl, inr, refl, ap, sym, ◌∙◌, subst, arith}
+use Rattle.std.proofs.Common.{◌≡◌, ◌≢◌, ℕ, ◌+◌, ◌<◌, Bool, cond, List, [], ◌∷◌, ◌++◌, map, zero, suc, Vec, Some, inl, inr, ap, sym, ◌∙◌, subst, arith}
 use Rattle.std.specs.List.{All, count_by, slice_get}
 use Rattle.std.specs.List.Sorted.{IsPermutation}
 use Rattle.std.proofs.lemmas.Bool.{cases_eq}
 use Rattle.std.proofs.lemmas.List.{map_push}
-use Rattle.std.proofs.lemmas.List.Elements.{All-push, All-tail}
+use Rattle.std.proofs.lemmas.List.Elements.{All-tail}
 use Rattle.std.proofs.lemmas.List.Sums.{sum_by-cons, sum_by-append, sum_by_push}
 use Rattle.std.proofs.lemmas.List.Sorted.{IsPermutation-map, sum_by-IsPermutation, All-permutation}
 use Rattle.std.proofs.lemmas.Option.{same_Some}
@@ -12,7 +12,7 @@ use Rattle.guillotiere.specs.declared.geometry.Rectangle.{Rectangle}
 use Rattle.guillotiere.specs.Boxes.{Box, AreSameBoxes}
 use Rattle.guillotiere.specs.Choice.{Options}
 use Rattle.guillotiere.specs.Pixels.{box_of}
-use Rattle.guillotiere.specs.FreeLists.{items_at, listed, kept_of, IsStoredIn, AreInClasses, IsHome}
+use Rattle.guillotiere.specs.FreeLists.{items_at, listed, IsStoredIn, AreInClasses}
 
 -- how many boxes of one list pass a test
 passing : {Z : Type 0} → (Box → Bool) → List (Vec Rectangle Z) → ℕ → ℕ
@@ -58,16 +58,6 @@ added-boxes old new k x h added same p =
     ap (λ l. count_by p (map box_of l)) added ∙ (ap (count_by p) (map_push box_of (items_at old k) x) ∙ sum_by_push f (map box_of (items_at old k)) (box_of x)) in
     omega (arith, count-changed p old new k h same, sum_by-cons f (box_of x) (listed old))
 
-pub added-classes : {Z : Type 0} (o : Options) (old new : List (Vec Rectangle Z)) (k : ℕ) (x : Rectangle) → items_at new k ≡ items_at old k ++ x ∷ []
-    → ((j : ℕ) → j ≢ k → items_at new j ≡ items_at old j) → IsStoredIn o k x → AreInClasses o old → AreInClasses o new
-added-classes o old new k x added same stored classes j h =
-    elim (cases_eq j k) [
-      | inl e ↦
-          let P : ℕ → Type 0 = λ i. All (IsStoredIn o i) (items_at new i) in
-          subst P (sym e) (subst (All (IsStoredIn o k)) (sym added) (All-push (IsStoredIn o k) (items_at old k) x (classes k (omega arith)) stored))
-      | inr ne ↦ subst (All (IsStoredIn o j)) (sym (same j ne)) (classes j h)
-    ]
-
 pub same-classes : {Z : Type 0} (o : Options) (old new : List (Vec Rectangle Z)) → ((j : ℕ) → items_at new j ≡ items_at old j) → AreInClasses o old → AreInClasses o new
 same-classes o old new same classes j h = subst (All (IsStoredIn o j)) (sym (same j)) (classes j h)
 
@@ -94,13 +84,3 @@ taken-classes o old new k x taken same classes j h =
     ]
 
 -- a part goes home
-
-pub kept-boxes : {Z : Type 0} (o : Options) (old new : List (Vec Rectangle Z)) (k : ℕ) (x : Rectangle) → k < 3 → IsHome o x (Some k) → items_at new k ≡ items_at old k ++ x ∷ []
-    → ((j : ℕ) → j ≢ k → items_at new j ≡ items_at old j) → AreSameBoxes (listed new) (kept_of o (box_of x) ++ listed old)
-kept-boxes o old new k x h home added same =
-    subst (λ (b : Bool). AreSameBoxes (listed new) (cond b (box_of x ∷ []) [] ++ listed old)) (sym home.0) (added-boxes old new k x h added same)
-
-pub dropped-boxes : {Z : Type 0} (o : Options) (lists : List (Vec Rectangle Z)) (x : Rectangle) → IsHome o x None
-    → AreSameBoxes (listed lists) (kept_of o (box_of x) ++ listed lists)
-dropped-boxes o lists x home =
-    subst (λ (b : Bool). AreSameBoxes (listed lists) (cond b (box_of x ∷ []) [] ++ listed lists)) (sym home) (λ p. refl)

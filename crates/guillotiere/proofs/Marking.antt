@@ -1,12 +1,12 @@
 -- marking an allocated leaf free
-use Rattle.std.proofs.Common.{ℕ, ◌+◌, ◌<◌, ◌≤◌, ◌≡◌, ◌≢◌, List, refl, sym, ap, ◌∙◌, inl, inr, arith, length, set, Bool, true, false, cond, eqb}
+use Rattle.std.proofs.Common.{ℕ, ◌+◌, ◌≡◌, List, refl, sym, ap, ◌∙◌, inl, inr, arith, eqb}
 use Rattle.std.proofs.lemmas.Bool.{cond_both, eqb-true, eqb-false, cases_eq}
 use Rattle.guillotiere.specs.declared.slots.Node.{Node}
 use Rattle.guillotiere.specs.declared.slots.NodeKind.TheVariants as kind
 use Rattle.guillotiere.specs.Slots.{no_slot, node_at, use_count}
 use Rattle.guillotiere.specs.Numbered.{Numbered, tally, first_slot, same, marked, End, Free, Alloc, Seq}
 use Rattle.guillotiere.specs.Standing.{Sequence, Standing, Stands, IsPlaced, inside}
-use Rattle.guillotiere.proofs.Frames.{IsWritten, same-self, same-ne}
+use Rattle.guillotiere.proofs.Frames.{IsWritten}
 
 pub first-marked : (i : ℕ) (n : Numbered) → first_slot (marked i n) ≡ first_slot n
 first-marked i End = refl

@@ -1,15 +1,10 @@
 -- How often a slot stands in a list.
 use Rattle.std.proofs.Common.{ℕ, ◌+◌, ◌<◌, ◌≡◌, List, [], ◌∷◌, refl, sym, ap, ◌∙◌, ◌⊎◌, inl, inr, arith, eqb, length}
-use Rattle.std.proofs.lemmas.Bool.{cond_both, eqb-true, eqb-false, ne_eqb, eq-eqb, cond-true, cond-false}
+use Rattle.std.proofs.lemmas.Bool.{cond_both, eqb-true, eqb-false, ne_eqb, cond-false}
 use Rattle.guillotiere.specs.Slots.{no_slot}
 use Rattle.guillotiere.specs.Numbered.{same}
-use Rattle.guillotiere.specs.Lists.{occurs, without, front, back}
-
-pub same-self : (i : ℕ) → same i i ≡ 1
-same-self i = rw (eq-eqb i i refl)
-
-pub same-ne : (i j : ℕ) → (i ≡ j → ⊥) → same i j ≡ 0
-same-ne i j h = rw (ne_eqb i j h)
+use Rattle.guillotiere.specs.Lists.{occurs, without, front}
+pub use Rattle.guillotiere.proofs.Frames.{same-self, same-ne}
 
 pub ne-from_occurs : (i j : ℕ) (xs : List ℕ) → occurs i xs ≡ 0 → 0 < occurs j xs → j ≡ i → ⊥
 ne-from_occurs i j xs z l e = absurd (omega (arith, ap (λ x. occurs x xs) e))
@@ -27,16 +22,9 @@ front_of m x xs e = elim (front_in xs) [ inl z ↦ inl (e ∙ z) | inr y ↦ inr
 pub is_first : (m x : ℕ) (xs : List ℕ) → m ≡ x → 0 < occurs m (x ∷ xs)
 is_first m x xs e = omega (arith, same-self x, ap (λ v. same v x) e)
 
-pub back_in : (x : ℕ) (xs : List ℕ) → 0 < occurs (back (x ∷ xs)) (x ∷ xs)
-back_in x [] = omega (arith, same-self x)
-back_in x (y ∷ ys) = omega (arith, back_in y ys)
-
 pub front-without : (i : ℕ) (xs : List ℕ) → (front xs ≡ i → ⊥) → front (without i xs) ≡ front xs
 front-without i [] ne = refl
 front-without i (x ∷ xs) ne = rw (cond-false (eqb i x) xs (x ∷ without i xs) (ne_eqb i x (λ q. ne (sym q)))) refl
-
-pub without-first : (i x : ℕ) (xs : List ℕ) → i ≡ x → without i (x ∷ xs) ≡ xs
-without-first i x xs e = cond-true (eqb i x) xs (x ∷ without i xs) (eq-eqb i x e)
 
 pub without-other : (i x : ℕ) (xs : List ℕ) → (i ≡ x → ⊥) → without i (x ∷ xs) ≡ x ∷ without i xs
 without-other i x xs e = cond-false (eqb i x) xs (x ∷ without i xs) (ne_eqb i x e)

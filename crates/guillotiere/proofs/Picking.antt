@@ -1,5 +1,5 @@
 -- The best of the boxes shown is the pick of all free boxes, where the classes are searched from the request's upwards.
-use Rattle.std.proofs.Common.{◌≡◌, ℕ, ◌+◌, ◌-◌, ◌*◌, ◌/◌, ◌<◌, ◌≤◌, ◌⊎◌, Bool, true, false, cond, List, [], ◌∷◌, length, get_or, ℤ, zero, suc, refl, ap, sym, ◌∙◌, subst, inl, inr, arith}
+use Rattle.std.proofs.Common.{◌≡◌, ℕ, ◌+◌, ◌-◌, ◌*◌, ◌/◌, ◌<◌, ◌≤◌, ◌⊎◌, Bool, true, false, cond, List, [], ◌∷◌, length, get_or, ℤ, zero, suc, ap, sym, ◌∙◌, subst, inl, inr, arith}
 use Rattle.std.specs.Prelude.{◌==◌}
 use Rattle.std.specs.List.{Contains, count_by, All}
 use Rattle.std.proofs.lemmas.Int.{ints}
@@ -8,8 +8,8 @@ use Rattle.std.proofs.lemmas.Nat.{mul-le}
 use Rattle.std.proofs.lemmas.Bool.Decides.{nat_tests}
 use Rattle.std.proofs.lemmas.List.Elements.{All-contains}
 use Rattle.std.proofs.lemmas.List.Sums.{sum_by-cons, get_or-le-sum_by}
-use Rattle.guillotiere.specs.Boxes.{Sides, Box, box_sides, Fits, IsPositive, IsNonempty, IsWithin, AreDisjoint, covers}
-use Rattle.guillotiere.specs.Choice.{Options, up, rounded, reaches, class_of, HasEqualSide, IsFitting, IsCandidate, HasBetterMargin, ComesFirst, IsPick, HasRoom, HasNoRoom}
+use Rattle.guillotiere.specs.Boxes.{Sides, Box, box_sides, Fits, IsNonempty, IsWithin, covers}
+use Rattle.guillotiere.specs.Choice.{Options, up, rounded, reaches, class_of, HasEqualSide, IsFitting, IsCandidate, HasBetterMargin, IsPick, HasNoRoom}
 use Rattle.guillotiere.specs.Requests.{CanBeRounded}
 use Rattle.guillotiere.specs.Searches.{Shown, shown_at, IsAsGood, IsBestShown, FitsNone, FitsOnlyFrom, AreOfClass}
 use Rattle.guillotiere.proofs.Choosing.{margin-equal_side, equal_side-margin, equal_side_cases}
@@ -30,10 +30,6 @@ class_of-fits o a b fits =
 
 pub class_of-below : (o : Options) (a : Sides) → class_of o a < 3
 class_of-below o a = grind arith
-
--- the search begins at the request's class
-pub fits_only_from_own : (free : List Box) (o : Options) (r : Sides) → FitsOnlyFrom (class_of o r) free o r
-fits_only_from_own free o r b fitting = class_of-fits o r (box_sides b) fitting.fits
 
 -- a class without a fitting box is passed
 pub fits_only_from_next : (class : ℕ) (free : List Box) (o : Options) (r : Sides) (shown : List Shown)
@@ -122,10 +118,6 @@ pick_of_class class free o r shown f from of best =
           (as_good-best o r b f.box h.candidate.fitting.fits best.fits (h.equal_side f.box candidate) (h.margin f.box candidate));
     }
 
--- a pick shows that there is room
-pub room_of_pick : (free : List Box) (o : Options) (s : Sides) (f : Box) → IsPositive s → IsPick free o (rounded o s) f → HasRoom free o s
-room_of_pick free o s f positive pick = record { positive = positive; box = f; fitting = pick.best.candidate.fitting }
-
 -- of disjoint boxes that aren't empty there is one pick
 
 same_of_one : (p : Box → Bool) (xs : List Box) (f g : Box) (i j : ℕ) → i < length xs → j < length xs → get_or xs i f ≡ f → get_or xs j g ≡ g
@@ -149,26 +141,7 @@ same_of_one p (x ∷ xs) f g (suc i) (suc j) hi hj ef eg pf pg one =
 covers-min : (b : Box) (x y : ℕ) → IsNonempty b → b.min.x ≡ x → b.min.y ≡ y → covers x y b ≡ true
 covers-min b x y nonempty e f = grind (arith, nat_tests)
 
-pub pick_unique : (free : List Box) (o : Options) (r : Sides) (f g : Box) → AreDisjoint free → All IsNonempty free → IsPick free o r f → IsPick free o r g → f ≡ g
-pick_unique free o r f g disjoint nonempty pf pg =
-    let ff = pf.best.candidate.fitting.is_free in
-    let gf = pg.best.candidate.fitting.is_free in
-    let same = same_corner (pf.first g pg.best) (pg.first f pf.best) in
-    same_of_one (covers f.min.x f.min.y) free f g ff.0 gf.0 ff.1 gf.1 ff.2 gf.2
-    (covers-min f f.min.x f.min.y (All-contains IsNonempty free f nonempty ff) refl refl)
-    (covers-min g f.min.x f.min.y (All-contains IsNonempty free g nonempty gf) same.0 same.1)
-    (disjoint f.min.x f.min.y)
-  where
-    same_corner : ComesFirst f g → ComesFirst g f → (g.min.x ≡ f.min.x) × (g.min.y ≡ f.min.y)
-    same_corner (inl p) (inl q) = absurd (omega arith)
-    same_corner (inl p) (inr q) = absurd (omega arith)
-    same_corner (inr p) (inl q) = absurd (omega arith)
-    same_corner (inr p) (inr q) = (omega arith, omega arith)
-
 -- rounding up gives the least multiple that is no less
-
-pub up-multiple : (n a : ℕ) → (k : ℕ) × (up n a ≡ k * a)
-up-multiple n a = ((n + (a - 1)) / a, refl)
 
 pub up-le : (n a : ℕ) → 0 < a → n ≤ up n a
 up-le n a h = omega arith
@@ -184,7 +157,3 @@ up-least n a k h p =
       | inl l ↦ absurd (omega (arith, mul-le (k + 1) a q a (omega arith) (omega arith)))
       | inr g ↦ mul-le q a k a g (omega arith)
     ]
-
--- a smaller side is rounded to no more
-pub up-mono : (m n a : ℕ) → 0 < a → m ≤ n → up m a ≤ up n a
-up-mono m n a h l = up-least m a ((n + (a - 1)) / a) h (omega (arith, up-le n a h))

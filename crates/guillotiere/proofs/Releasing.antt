@@ -1,5 +1,5 @@
 -- a normal tree is calm, and marking leaves it calm but for the marked leaf
-use Rattle.std.proofs.Common.{ℕ, ◌+◌, ◌*◌, ◌^◌, ◌<◌, ◌≤◌, ◌≡◌, List, refl, sym, ap, ◌∙◌, ◌⊎◌, inl, inr, arith, length, Bool, true, false}
+use Rattle.std.proofs.Common.{ℕ, ◌+◌, ◌<◌, ◌≤◌, ◌≡◌, List, refl, sym, ap, ◌∙◌, ◌⊎◌, inl, inr, arith, length, Bool, true, false}
 use Rattle.std.proofs.lemmas.Bool.{cases_eq, cond_both, true≢false}
 use Rattle.guillotiere.specs.declared.slots.Node.{Node}
 use Rattle.guillotiere.specs.declared.slots.NodeKind.TheVariants as kind
@@ -7,16 +7,13 @@ use Rattle.guillotiere.specs.Slots.{node_at, use_count, no_slot}
 use Rattle.guillotiere.specs.Trees as tree
 use Rattle.guillotiere.specs.Trees.{Members, Tree, begins_free, is_idle, IsNormal}
 use Rattle.guillotiere.specs.Changes.{mark, only}
-use Rattle.guillotiere.specs.Numbered.{Numbered, tally, first_slot, same, erase, id_of, marked, End, Free, Alloc, Seq}
-use Rattle.guillotiere.specs.Standing.{Sequence, Standing, Stands, IsWhole, inside}
+use Rattle.guillotiere.specs.Numbered.{Numbered, tally, first_slot, erase, id_of, marked, End, Free, Alloc, Seq}
+use Rattle.guillotiere.specs.Standing.{Sequence, Standing, Stands, inside}
 use Rattle.guillotiere.specs.Calm.{IsCalmAt, IsCalmBut, NoneEmpty}
-use Rattle.guillotiere.specs.Reading.{tree_of}
-use Rattle.guillotiere.proofs.Frames.{same-self, same-ne, IsWritten}
-use Rattle.guillotiere.proofs.Joining.{split_pos, ne-from_same, used-le}
+use Rattle.guillotiere.proofs.Frames.{same-ne, IsWritten}
+use Rattle.guillotiere.proofs.Joining.{split_pos, ne-from_same}
 use Rattle.guillotiere.proofs.JoiningWrites.{none-unused, used-inside}
-use Rattle.guillotiere.proofs.Reading.{members_of-Stands, axis_of-Stands, nonempty-tally}
 use Rattle.guillotiere.proofs.Normal.{erase-marked}
-use Rattle.guillotiere.proofs.Marking.{Stands-marked, tally-marked}
 
 kind-begins : (ns : List Node) (s : Sequence) (b p : ℕ) (n : Numbered) → (node_at ns no_slot).kind ≡ kind.Unused → Standing ns s b p n → (node_at ns (first_slot n)).kind ≡ kind.Free → begins_free (erase n) ≡ true
 kind-begins ns s b p End u h f = absurd (let x = u in cc)

@@ -4,7 +4,6 @@ use Rattle.std.proofs.lemmas.Bool.{eqb-true}
 use Rattle.guillotiere.specs.declared.slots.Node.{Node}
 use Rattle.guillotiere.specs.declared.slots.NodeKind.TheVariants as kind
 use Rattle.guillotiere.specs.Boxes.{Axis, Position, Sides, Box, other, side, sized, moved, box_at, box_sides, same_box, origin, Fits, IsPositive}
-use Rattle.guillotiere.specs.Boxes.Axis.{Horizontal, Vertical}
 use Rattle.guillotiere.specs.Pixels.{box_of, rectangle_of}
 use Rattle.guillotiere.specs.Cuts.{cut}
 use Rattle.guillotiere.specs.Trees.{Tree, IsWellFormed, free_boxes}
@@ -15,20 +14,7 @@ use Rattle.guillotiere.specs.Standing.{Sequence, Standing, Stands, inside, membe
 use Rattle.guillotiere.proofs.TreeBasics.{one_if, same_box-itself, free_among}
 use Rattle.guillotiere.proofs.TreePlacing.{hits, hits-seq, hits-free, hits_once}
 use Rattle.guillotiere.proofs.Weights.{free_tally, free_once}
-
--- places in the two ways to say them
-
-pub moved-spot : (a : Axis) (p start e : ℕ) → moved a (spot a p start) e ≡ spot a (p + e) start
-moved-spot Horizontal p start e = refl
-moved-spot Vertical p start e = refl
-
-pub spot-other : (a : Axis) (p start : ℕ) → spot (other a) start p ≡ spot a p start
-spot-other Horizontal p start = refl
-spot-other Vertical p start = refl
-
-pub spot-origin : (a : Axis) → spot a 0 0 ≡ origin
-spot-origin Horizontal = refl
-spot-origin Vertical = refl
+use Rattle.guillotiere.proofs.Spots.{moved-spot, spot-other, spot-origin}
 
 -- each free leaf of slot i has the box f, in a sequence along a
 abbrev pub IsStoredAs : (i : ℕ) (f : Box) (a : Axis) → Axis → Position → (across : ℕ) → Numbered → Type 0

@@ -7,16 +7,16 @@ use Rattle.std.proofs.lemmas.List.Sums.{sum_by-cons, sum_by-append}
 use Rattle.std.proofs.Math.Nat.{add-mul-mod_self_left, mod-eq_of_lt}
 use Rattle.guillotiere.specs.declared.slots.Node.{Node}
 use Rattle.guillotiere.specs.declared.slots.NodeKind.TheVariants as kind
-use Rattle.guillotiere.specs.Trees.{ids, slot_count, AreApart}
+use Rattle.guillotiere.specs.Trees.{ids, slot_count}
 use Rattle.guillotiere.specs.Slots.{node_at, no_slot}
 use Rattle.guillotiere.specs.Numbered.{Numbered, tally, same, erase, id_of, End, Free, Alloc, Seq}
 use Rattle.guillotiere.specs.Standing.{Sequence, Standing, Stands, inside}
 use Rattle.guillotiere.proofs.Frames.{same-self, same-ne}
-use Rattle.guillotiere.proofs.Joining.{split_pos, used-le}
+use Rattle.guillotiere.proofs.Joining.{split_pos}
 use Rattle.guillotiere.proofs.JoiningWrites.{used-inside}
 use Rattle.guillotiere.proofs.TreeBasics.{one_if}
 use Rattle.guillotiere.proofs.TreeIds.{Contains-first, Contains-later, Contains-none, Contains-cons_cases}
-use Rattle.guillotiere.proofs.Weights.{alloc_tally, alloc_tally-le}
+use Rattle.guillotiere.proofs.Weights.{alloc_tally}
 
 -- a member that is the allocated leaf of this id
 pub record IsIdAt (ns : List Node) (n : Numbered) (id i : ℕ) : Type 0 where
@@ -107,9 +107,3 @@ small_slots ns s n h short j l = let here : j < length ns = used-inside ns j (rw
 pub slot_count-none : (ns : List Node) (s : Sequence) (n : Numbered) (id : ℕ) → Stands ns s n → length ns ≤ 2 ^ 24 → ((node_at ns (id % 2 ^ 24)).kind ≡ kind.Alloc → ⊥) → slot_count id (ids (erase n)) ≡ 0
 slot_count-none ns s n id h short another =
     slot_count-tally id n (small_slots ns s n h short) ∙ alloc_tally-none ns s no_slot 0 (id % 2 ^ 24) n another h.standing
-
--- no two ids name one slot
-pub ids-apart : (ns : List Node) (s : Sequence) (n : Numbered) → Stands ns s n → length ns ≤ 2 ^ 24 → AreApart (ids (erase n))
-ids-apart ns s n h short = λ id.
-    let once : tally (id % 2 ^ 24) n ≤ 1 = omega (arith, h.numbered (id % 2 ^ 24), used-le (node_at ns (id % 2 ^ 24)).kind) in
-    rw (slot_count-tally id n (small_slots ns s n h short)) (omega (arith, alloc_tally-le (id % 2 ^ 24) n))

@@ -1,10 +1,10 @@
 -- An atlas of one free slot.
-use Rattle.std.proofs.Common.{ℕ, ℤ, pos, negsuc, zero, suc, ◌+◌, ◌<◌, ◌≤◌, ◌≡◌, ◌^◌, true, false, List, [], ◌∷◌, length, replicate, refl, sym, ap, subst, ◌∙◌, inl, inr, arith}
+use Rattle.std.proofs.Common.{ℕ, pos, zero, suc, ◌+◌, ◌<◌, ◌≤◌, ◌≡◌, ◌^◌, true, false, List, [], ◌∷◌, length, replicate, refl, sym, ap, subst, ◌∙◌, inl, inr, arith}
 use Rattle.std.proofs.lemmas.Bool.{cases_eq, eq-eqb, ne_eqb}
 use Rattle.std.proofs.lemmas.List.Elements.{All-nil}
 use Rattle.guillotiere.specs.declared.geometry.Size.{Size}
 use Rattle.guillotiere.specs.Boxes.{IsPositive}
-use Rattle.guillotiere.specs.Pixels.{natural, sides_of, size_of, options_of, rectangle_of}
+use Rattle.guillotiere.specs.Pixels.{natural, sides_of, options_of, rectangle_of}
 use Rattle.guillotiere.specs.Choice.{AreValid}
 use Rattle.guillotiere.specs.Changes.{fresh}
 use Rattle.guillotiere.specs.States.{IsSound, started}
@@ -23,23 +23,13 @@ use Rattle.guillotiere.proofs.Refitting.{HasAlignedBox}
 use Rattle.guillotiere.proofs.StepKeeping.{fresh_well_formed, fresh_normal}
 use Rattle.guillotiere.proofs.Taking.{AreFiled-one}
 use Rattle.guillotiere.proofs.Observing.{nodes-below}
+use Rattle.guillotiere.proofs.Sizes.{side_is, size_is}
 
 pub record IsStart (v : Shelf) (size : Size) : Type 0 where
   pub slots : v.slots ≡ one_free_slot size ∷ []
   pub lists : v.lists ≡ replicate 24 blank_list
   pub unused : v.unused.number ≡ no_slot
   pub valid : AreValid (options_of v.options)
-
--- a side above 0 is the number that it stands for
-pub side_is : (n : ℤ) → 0 < natural n → n ≡ pos (natural n)
-side_is (pos n) h = refl
-side_is (negsuc n) h = absurd (omega arith)
-
-pub size_is : (size : Size) → IsPositive (sides_of size) → size ≡ size_of (sides_of size)
-size_is size h =
-    let w : size.width ≡ pos (natural size.width) = side_is size.width h.0 in
-    let t : size.height ≡ pos (natural size.height) = side_is size.height h.1 in
-    λ i. record { width = w i; height = t i }
 
 -- the rectangle of the whole atlas
 whole_area : (size : Size) → IsPositive (sides_of size)

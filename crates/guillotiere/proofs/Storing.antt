@@ -1,5 +1,5 @@
 -- The state that a simple allocator stores.
-use Rattle.std.proofs.Common.{◌≡◌, ◌≢◌, ℕ, ◌+◌, ◌-◌, ◌<◌, ◌≤◌, Bool, ◌&&◌, List, [], ◌∷◌, ◌++◌, map, get_or, zero, suc, Vec, Result, Option, ℤ, pos, negsuc, FitsSigned, w32, ◌↔◌, inl, inr, refl, ap, sym, ◌∙◌, subst, arith}
+use Rattle.std.proofs.Common.{◌≡◌, ◌≢◌, ℕ, ◌+◌, ◌-◌, ◌<◌, ◌≤◌, Bool, ◌&&◌, List, [], ◌∷◌, ◌++◌, map, get_or, zero, suc, Vec, Result, Option, ℤ, pos, negsuc, FitsSigned, w32, ◌↔◌, inl, inr, ap, sym, ◌∙◌, subst, arith}
 use Rattle.std.specs.Bool.{Decides, IsTrue}
 use Rattle.std.specs.Ordering.{int_eq}
 use Rattle.std.specs.List.{All, Any, Contains, IsAnyAnswer}
@@ -13,12 +13,13 @@ use Rattle.guillotiere.specs.declared.error.AtlasError.{AtlasError}
 use Rattle.guillotiere.specs.declared.options.AllocatorOptions.{AllocatorOptions}
 use Rattle.guillotiere.specs.Boxes.{Box, Sides, box_sides, whole_box, IsPositive, IsNonempty, IsWithin}
 use Rattle.guillotiere.specs.Choice.{Options, AreValid, class_of}
-use Rattle.guillotiere.specs.Pixels.{natural, box_of, rectangle_of, sides_of, size_of, options_of}
+use Rattle.guillotiere.specs.Pixels.{natural, box_of, rectangle_of, sides_of, options_of}
 use Rattle.guillotiere.specs.Rectangles.{IsUnsigned}
 use Rattle.guillotiere.specs.Simple.{IsSimple, SimpleStep, simple_answer, simple_start}
 use Rattle.guillotiere.specs.FreeLists.{items_at, listed, IsStoredIn, AreInClasses, IsStoredState, state_of}
 use Rattle.guillotiere.proofs.SimpleGrants.{start-simple, step-simple}
 use Rattle.guillotiere.proofs.PickingFromLists.{listed-has, listed-from}
+use Rattle.guillotiere.proofs.Sizes.{size_is}
 
 pub natural-fits : (z : ℤ) → FitsSigned w32 z → natural z ≤ 2147483647
 natural-fits (pos n) f = omega (arith, ints)
@@ -54,17 +55,8 @@ only-listed lists (suc (suc (suc k))) r h own others = absurd (omega arith)
 abbrev whole_rectangle : Size → Rectangle
 whole_rectangle size = record { min = record { x = pos 0; y = pos 0 }; max = record { x = size.width; y = size.height } }
 
-size-positive : (size : Size) → IsPositive (sides_of size) → size ≡ size_of (sides_of size)
-size-positive size positive =
-    let F : ℤ → ℤ → Size = λ w h. record { width = w; height = h } in
-    ap (λ w. F w size.height) (positive_is size.width positive.0) ∙ ap (λ h. F (pos (natural size.width)) h) (positive_is size.height positive.1)
-  where
-    positive_is : (z : ℤ) → 0 < natural z → z ≡ pos (natural z)
-    positive_is (pos n) p = refl
-    positive_is (negsuc n) p = absurd (omega arith)
-
 whole-unsigned : (size : Size) → IsPositive (sides_of size) → IsUnsigned (whole_rectangle size)
-whole-unsigned size positive = ap whole_rectangle (size-positive size positive)
+whole-unsigned size positive = ap whole_rectangle (size_is size positive)
 
 whole-sides : (size : Sides) → box_sides (whole_box size) ≡ size
 whole-sides size =

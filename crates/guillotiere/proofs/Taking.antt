@@ -1,5 +1,5 @@
 -- Slots are taken and given back, and the nodes change under the lists.
-use Rattle.std.proofs.Common.{ℕ, ◌+◌, ◌<◌, ◌≡◌, ◌≢◌, List, [], ◌∷◌, ◌++◌, refl, sym, ap, ◌∙◌, ◌⊎◌, inl, inr, arith, length, set, get_or-set_same, get_or-set_other, length-set, Bool, true, false, eqb, ◌&&◌, subst}
+use Rattle.std.proofs.Common.{ℕ, ◌+◌, ◌<◌, ◌≡◌, List, [], ◌∷◌, ◌++◌, refl, sym, ap, ◌∙◌, ◌⊎◌, inl, inr, arith, length, set, get_or-set_same, get_or-set_other, length-set, Bool, true, false, eqb, ◌&&◌, subst}
 use Rattle.std.specs.Prelude.{if◌then◌else◌, replicate}
 use Rattle.std.proofs.lemmas.Bool.{cases_eq, cases_lt, cond-false, and_left}
 use Rattle.std.proofs.lemmas.List.{get_or_past, length-map, get_or_append_left, get_or-replicate, get_or_push, length_push, map-append}
@@ -13,13 +13,13 @@ use Rattle.guillotiere.specs.declared.lists.FreeList.{FreeList}
 use Rattle.guillotiere.specs.Boxes.{Fits, box_sides}
 use Rattle.guillotiere.specs.Choice.{Options}
 use Rattle.guillotiere.specs.Pixels.{box_of}
-use Rattle.guillotiere.specs.Slots.{KeepsUse, nodes, rings, node_at, ring_at, use_count, no_slot, blank_node, blank_ring, blank_slot}
+use Rattle.guillotiere.specs.Slots.{nodes, rings, node_at, ring_at, use_count, no_slot, blank_node, blank_ring, blank_slot}
 use Rattle.guillotiere.specs.Numbered.{same}
 use Rattle.guillotiere.specs.Lists.{AreFiled, IsList, Line, blank_list, occurs, front, filed, list_of, list_at, node_sides, is_free, bounds}
 use Rattle.guillotiere.specs.Links.{with_count, with_mark, rest_of, renewed, IsTaken}
 use Rattle.guillotiere.proofs.Occurrences.{same-self, same-ne, ne-from_occurs}
 use Rattle.guillotiere.proofs.Unlinking.{IsList-kept, Line-kept, Line-inside, Line-given}
-use Rattle.guillotiere.proofs.Filing.{unless-le, filed-use, with_mark-same, with_mark-other, unless_loose, unless-loose, spare-use, unused-nowhere, with_count-same, with_count-other, past-unused}
+use Rattle.guillotiere.proofs.Filing.{unless-le, filed-use, with_mark-same, unless_loose, unless-loose, spare-use, unused-nowhere, with_count-same, with_count-other, past-unused}
 
 -- the lists stay in order where the nodes change: each slot is filed as before, is used or in hand as before, and keeps
 -- its rectangle if it stands in a list
@@ -254,57 +254,3 @@ pub record Changes (ns ms : List Node) (i : ℕ) (loose loose' : Bool) (hand han
   pub out_before : IsOut loose (node_at ns i).kind
   pub out_after : IsOut loose' (node_at ms i).kind
   pub counts : hand' + use_count (node_at ms i).kind ≡ hand + use_count (node_at ns i).kind
-
-pub AreFiled-changed : (o : Options) (ns ms : List Node) (rs : List Ring) (lists : List FreeList) (unused : Link) (spare : List ℕ) (held : ℕ → List ℕ) (hand : ℕ → ℕ) (loose : ℕ → Bool) (i : ℕ) (hand' : ℕ) (loose' : Bool) → Changes ns ms i (loose i) loose' (hand i) hand' → ((k : ℕ) → k ≢ i → KeepsUse (node_at ns k) (node_at ms k)) → AreFiled o ns rs lists unused spare held hand loose → AreFiled o ms rs lists unused spare held (with_count hand i hand') (with_mark loose i loose')
-AreFiled-changed o ns ms rs lists unused spare held hand loose i hand' loose' c keeps f =
-    AreFiled-moved o ns ms rs lists unused spare held hand (with_count hand i hand') loose (with_mark loose i loose') (λ k.
-    elim (cases_eq k i) [
-      | inl e ↦ rw e (inr (c.out_before, subst (λ b. IsOut b (node_at ms i).kind) (sym (with_mark-same loose i loose')) c.out_after))
-      | inr ne ↦ let u = keeps k ne in inl (u.kind, u.area, with_mark-other loose i loose' k ne)
-    ]) (λ k l.
-    elim (cases_eq k i) [
-      | inl e ↦ rw e (ap (λ n. n + use_count (node_at ms i).kind) (with_count-same hand i hand') ∙ c.counts)
-      | inr ne ↦ let u = keeps k ne in omega (arith, with_count-other hand i hand' k ne, ap use_count u.kind)
-    ]) f
-
--- the same for two slots
-pub AreFiled-changed_two : (o : Options) (ns ms : List Node) (rs : List Ring) (lists : List FreeList) (unused : Link) (spare : List ℕ) (held : ℕ → List ℕ) (hand : ℕ → ℕ) (loose : ℕ → Bool) (i j : ℕ) (hand_i hand_j : ℕ) (loose_i loose_j : Bool) → i ≢ j → Changes ns ms i (loose i) loose_i (hand i) hand_i → Changes ns ms j (loose j) loose_j (hand j) hand_j → ((k : ℕ) → k ≢ i → k ≢ j → KeepsUse (node_at ns k) (node_at ms k)) → AreFiled o ns rs lists unused spare held hand loose → AreFiled o ms rs lists unused spare held (with_count (with_count hand i hand_i) j hand_j) (with_mark (with_mark loose i loose_i) j loose_j)
-AreFiled-changed_two o ns ms rs lists unused spare held hand loose i j hand_i hand_j loose_i loose_j ij ci cj keeps f =
-    let marks = with_mark loose i loose_i in
-    let counts = with_count hand i hand_i in
-    let mark_i : with_mark marks j loose_j i ≡ loose_i = with_mark-other marks j loose_j i ij ∙ with_mark-same loose i loose_i in
-    let mark_j : with_mark marks j loose_j j ≡ loose_j = with_mark-same marks j loose_j in
-    let count_i : with_count counts j hand_j i ≡ hand_i = with_count-other counts j hand_j i ij ∙ with_count-same hand i hand_i in
-    let count_j : with_count counts j hand_j j ≡ hand_j = with_count-same counts j hand_j in
-    AreFiled-moved o ns ms rs lists unused spare held hand (with_count counts j hand_j) loose (with_mark marks j loose_j) (λ k.
-    elim (cases_eq k i) [
-      | inl e ↦ rw e (inr (ci.out_before, subst (λ b. IsOut b (node_at ms i).kind) (sym mark_i) ci.out_after))
-      | inr ni ↦ elim (cases_eq k j) [
-        | inl e ↦ rw e (inr (cj.out_before, subst (λ b. IsOut b (node_at ms j).kind) (sym mark_j) cj.out_after))
-        | inr nj ↦ let u = keeps k ni nj in inl (u.kind, u.area, with_mark-other marks j loose_j k nj ∙ with_mark-other loose i loose_i k ni)
-      ]
-    ]) (λ k l.
-    elim (cases_eq k i) [
-      | inl e ↦ rw e (ap (λ n. n + use_count (node_at ms i).kind) count_i ∙ ci.counts)
-      | inr ni ↦ elim (cases_eq k j) [
-        | inl e ↦ rw e (ap (λ n. n + use_count (node_at ms j).kind) count_j ∙ cj.counts)
-        | inr nj ↦ let u = keeps k ni nj in omega (arith, with_count-other counts j hand_j k nj, with_count-other hand i hand_i k ni, ap use_count u.kind)
-      ]
-    ]) f
-
--- a used slot is not in hand
-pub used-hand : (o : Options) (ns : List Node) (rs : List Ring) (lists : List FreeList) (unused : Link) (spare : List ℕ) (held : ℕ → List ℕ) (hand : ℕ → ℕ) (loose : ℕ → Bool) → AreFiled o ns rs lists unused spare held hand loose → (i : ℕ) → i < length rs → 0 < use_count (node_at ns i).kind → hand i ≡ 0
-used-hand o ns rs lists unused spare held hand loose f i l u = omega (arith, f.each i l)
-
--- the marks of slots do not change where a loose one is unmarked after it was marked
-pub with_mark-back : (loose : ℕ → Bool) (i : ℕ) (k : ℕ) → loose i ≡ false → with_mark (with_mark loose i true) i false k ≡ loose k
-with_mark-back loose i k e =
-    elim (cases_eq k i) [
-      | inl q ↦ rw q (with_mark-same (with_mark loose i true) i false ∙ sym e)
-      | inr ne ↦ with_mark-other (with_mark loose i true) i false k ne ∙ with_mark-other loose i true k ne
-    ]
-
--- counts and marks that agree everywhere serve alike
-pub AreFiled-same : (o : Options) (ns : List Node) (rs : List Ring) (lists : List FreeList) (unused : Link) (spare : List ℕ) (held : ℕ → List ℕ) (hand hand' : ℕ → ℕ) (loose loose' : ℕ → Bool) → ((i : ℕ) → hand' i ≡ hand i) → ((i : ℕ) → loose' i ≡ loose i) → AreFiled o ns rs lists unused spare held hand loose → AreFiled o ns rs lists unused spare held hand' loose'
-AreFiled-same o ns rs lists unused spare held hand hand' loose loose' hands marks f =
-    AreFiled-moved o ns ns rs lists unused spare held hand hand' loose loose' (λ i. inl (refl, refl, marks i)) (λ i l. omega (arith, hands i)) f

@@ -1,10 +1,8 @@
-use Rattle.std.proofs.Common.{rules, ◌≡◌, ◌↔◌, [], true, false, IsTrue, sym, ap, ◌∙◌}
+use Rattle.std.proofs.Common.{rules, ◌≡◌, sym, ap, ◌∙◌}
 use Rattle.std.proofs.lemmas.Bool.{eqb-true, eq-eqb, true≢false}
 use denote.Enum.Bare.{sameb}
 use Rattle.guillotiere.specs.contracts.slots.NodeKind.{the_type}
 use Rattle.guillotiere.specs.declared.slots.NodeKind.TheVariants as kind
-use Rattle.guillotiere.specs.States.{live_in}
-use Rattle.guillotiere.specs.Stored.{state_of}
 use Rattle.guillotiere.proofs.Observing.{first-IsAtlas, idle-read, none_live-read}
 use Rattle.guillotiere.proofs.atlas.AtlasAllocator.is_empty.Goals as goal
 

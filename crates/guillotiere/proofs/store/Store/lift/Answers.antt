@@ -1,9 +1,9 @@
-use Rattle.std.proofs.Common.{◌≡◌, ◌∙◌, ap, sym, subst, ℕ, List}
+use Rattle.std.proofs.Common.{◌≡◌, ◌∙◌, sym, subst, List}
 use Rattle.std.proofs.lemmas.List.{with_items_is}
 use Rattle.std.specs.Vec.{with_items}
 use Rattle.guillotiere.specs.declared.slots.Slot.{Slot}
 use Rattle.guillotiere.specs.declared.slots.NodeKind.TheVariants.{Free}
-use Rattle.guillotiere.specs.Slots.{nodes, node_at}
+use Rattle.guillotiere.specs.Slots.{nodes}
 use Rattle.guillotiere.specs.Calm.{IsCalmBut}
 use Rattle.guillotiere.specs.Holdings.{shelf_of}
 use Rattle.guillotiere.proofs.StoreSteps.{GivesBack, lifted-holds, given-nodes, node-before}
