@@ -2,10 +2,9 @@
 use Rattle.std.proofs.Common.{◌≡◌, ℕ, ◌+◌, ◌<◌, List, [], ◌∷◌, ◌++◌, length, take, drop, get_or, flat_map, Option, Some, None, refl, sym, ap, ◌∙◌, subst, arith, append_assoc, append-nil}
 use Rattle.std.proofs.lemmas.Grind.{flat_map-append}
 use Rattle.std.proofs.lemmas.List.{take_more, take_all, take-append-drop}
-use Rattle.std.specs.Io.KnownBytes.{Appends}
 use Rattle.atlas_lines.specs.Blocks.{IsGathered}
 use Rattle.atlas_lines.specs.Devices.{WritesBeginning}
-use Rattle.atlas_lines.proofs.Known.{Appends_twice, Appends_none}
+use Rattle.atlas_lines.proofs.Known.{Appends_twice}
 use Rattle.atlas_lines.proofs.Joins.{WritesBeginning_after}
 
 -- a beginning of more

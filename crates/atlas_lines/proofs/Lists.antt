@@ -22,7 +22,7 @@ use Rattle.guillotiere.specs.Visits.{AreGrants, AreFreeAreas}
 use Rattle.guillotiere.specs.Simple.{SimpleState}
 use Rattle.atlas_lines.specs.declared.replies.Reply.{Reply}
 use Rattle.atlas_lines.specs.Machine.{state_of as tool_state_of}
-use Rattle.atlas_lines.specs.Machine.{ToolReply, Held, with_atlas, with_simple, LooksAtAtlas, IsLine, ShowsSize, ShowsEmpty, atlas_in, ShowsLive, HoldsHoles, AreInOrder, allocation_of}
+use Rattle.atlas_lines.specs.Machine.{ToolReply, Held, with_atlas, LooksAtAtlas, IsLine, ShowsSize, ShowsEmpty, atlas_in, ShowsLive, HoldsHoles, AreInOrder, allocation_of}
 
 same_allocation : (a : Allocation) → IsExact a.rectangle → a ≡ allocation_of (grant_of a)
 same_allocation a e = λ i. record { id = a.id; rectangle = e i }
