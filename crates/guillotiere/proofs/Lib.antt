@@ -89,3 +89,13 @@ pub mod PlannedSlots
 pub mod GrantedAtlas
 pub mod Spots
 pub mod Sizes
+pub mod GrownAtlas
+pub mod ExtendedTrees
+pub mod ExtendingSteps
+pub mod Stretching
+pub mod Following
+pub mod Hanging
+pub mod LastMembers
+pub mod GrownTrees
+pub mod GrownSlots
+pub mod GrownStages

@@ -63,7 +63,7 @@ lone ns s (Free i e rest) short h some free last = (i, e, ends rest (sym h.stand
     ends (Seq j d inner more) f z = absurd (omega (arith, ap (λ k. tally k (Seq j d inner more)) f, same-self j))
 
 -- a tree of one free leaf
-one_leaf : (n : Numbered) (e : ℕ) → erase n ≡ tree.Free e tree.End → (i : ℕ) × (n ≡ Free i e End)
+pub one_leaf : (n : Numbered) (e : ℕ) → erase n ≡ tree.Free e tree.End → (i : ℕ) × (n ≡ Free i e End)
 one_leaf End e h = absurd (cc)
 one_leaf (Alloc i g d rest) e h = absurd (cc)
 one_leaf (Seq i d inner rest) e h = absurd (cc)

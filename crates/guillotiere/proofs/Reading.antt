@@ -313,7 +313,7 @@ nonempty-tally k (Free j e rest) l = omega (arith, same-self j)
 nonempty-tally k (Alloc j g e rest) l = omega (arith, same-self j)
 nonempty-tally k (Seq j e inner rest) l = omega (arith, same-self j)
 
-first-axis : (ns : List Node) (s : Sequence) (b q : ℕ) (n : Numbered) → Standing ns s b q n → IsNonempty n → axis_of (node_at ns (first_slot n)).axis ≡ s.axis
+pub first-axis : (ns : List Node) (s : Sequence) (b q : ℕ) (n : Numbered) → Standing ns s b q n → IsNonempty n → axis_of (node_at ns (first_slot n)).axis ≡ s.axis
 first-axis ns s b q End h l = absurd (omega arith)
 first-axis ns s b q (Free j e rest) h l = h.0.axis
 first-axis ns s b q (Alloc j g e rest) h l = h.0.axis

@@ -47,10 +47,10 @@ held_again hand hand' v old mid new unused h tree spare loose eo en short holds 
     })
 
 -- a slot that keeps its use stays as it was for the lists
-moved-kept : (n m : Node) (loose loose' : Bool) → KeepsUse n m → loose' ≡ loose → IsMoved n m loose loose'
+pub moved-kept : (n m : Node) (loose loose' : Bool) → KeepsUse n m → loose' ≡ loose → IsMoved n m loose loose'
 moved-kept n m loose loose' k e = inl (k.kind, k.area, e)
 
-use-kept : (n m : Node) → KeepsUse n m → use_count m.kind ≡ use_count n.kind
+pub use-kept : (n m : Node) → KeepsUse n m → use_count m.kind ≡ use_count n.kind
 use-kept n m k = ap use_count k.kind
 
 -- one loose slot changes, and stays in use
@@ -107,16 +107,16 @@ pub record AreSlots (own old mid new : List Slot) : Type 0 where
   pub left : new ≡ mid
   pub long : length mid ≡ length old
 
-short-mid : (own old mid new : List Slot) → AreSlots own old mid new → length own ≤ 16777216 → length mid ≤ 16777216
+pub short-mid : (own old mid new : List Slot) → AreSlots own old mid new → length own ≤ 16777216 → length mid ≤ 16777216
 short-mid own old mid new a h = omega (arith, ap (λ s. length s) a.given, a.long, h)
 
-filed-before : (hand : ℕ → ℕ) (v : Shelf) (old : List Slot) (h : Holding) → old ≡ v.slots → HoldsWith hand v h
+pub filed-before : (hand : ℕ → ℕ) (v : Shelf) (old : List Slot) (h : Holding) → old ≡ v.slots → HoldsWith hand v h
     → AreFiled (options_of v.options) (nodes old) (rings old) v.lists v.unused h.spare h.held hand h.loose
 filed-before hand v old h e holds =
     let F : List Slot → Type 0 = λ slots. AreFiled (options_of v.options) (nodes slots) (rings slots) v.lists v.unused h.spare h.held hand h.loose in
     subst F (sym e) holds.filed
 
-stands-before : (hand : ℕ → ℕ) (v : Shelf) (old : List Slot) (h : Holding) → old ≡ v.slots → HoldsWith hand v h → Stands (nodes old) h.sequence h.tree
+pub stands-before : (hand : ℕ → ℕ) (v : Shelf) (old : List Slot) (h : Holding) → old ≡ v.slots → HoldsWith hand v h → Stands (nodes old) h.sequence h.tree
 stands-before hand v old h e holds = let Q : List Slot → Type 0 = λ slots. Stands (nodes slots) h.sequence h.tree in subst Q (sym e) holds.stands
 
 -- a granted leaf becomes free
@@ -380,7 +380,7 @@ taken-holds v new unused at h hand short others taken holds =
 length-rings : (slots : List Slot) → length (rings slots) ≡ length slots
 length-rings slots = simp length-map
 
-length-nodes : (slots : List Slot) → length (nodes slots) ≡ length slots
+pub length-nodes : (slots : List Slot) → length (nodes slots) ≡ length slots
 length-nodes slots = simp length-map
 
 -- there are not too many slots once one is taken for which there was room

@@ -82,7 +82,7 @@ total-mark s (Seq e inner rest) = ap (λ k. e + k) (total-mark s rest)
 
 -- trees that are one free leaf, and others
 
-grown-other : (old new : Sides) (axis : Axis) (m : Members) → is_one_free m ≡ false
+pub grown-other : (old new : Sides) (axis : Axis) (m : Members) → is_one_free m ≡ false
     → grown_members old new axis m
     ≡ widened (side (other axis) old) (side (other axis) new) axis (lengthened_to (side axis old) (side axis new) m)
 grown-other old new axis (Free e End) h = absurd (true≢false h)

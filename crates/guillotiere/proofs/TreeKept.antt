@@ -123,7 +123,7 @@ release_keeps size s t well =
 
 -- growth
 
-total-lengthened : (d : ℕ) (m : Members) → total (lengthened d m) ≡ total m + d
+pub total-lengthened : (d : ℕ) (m : Members) → total (lengthened d m) ≡ total m + d
 total-lengthened d End = omega arith
 total-lengthened d (Free e End) = omega arith
 total-lengthened d (Free e (Free k rest)) = ap (λ j. e + j) (total-lengthened d (Free k rest)) ∙ omega arith

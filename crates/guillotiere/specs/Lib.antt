@@ -35,3 +35,5 @@ pub mod Planning
 pub mod Replies
 pub mod Batches
 pub mod Chosen
+pub mod Growing
+pub mod Growths

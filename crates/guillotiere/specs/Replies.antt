@@ -22,9 +22,10 @@ allocate_reply (Ok (Some a)) = Allocated (grant_of a)
 allocate_reply (Ok None) = NoRoom
 allocate_reply (Err error) = Refused error
 
-abbrev pub deallocate_reply : Result (Unit {0}) AtlasError → AtlasReply
-deallocate_reply (Ok _) = Done
-deallocate_reply (Err error) = Refused error
+-- of a call that gives nothing back
+abbrev pub done_reply : Result (Unit {0}) AtlasError → AtlasReply
+done_reply (Ok _) = Done
+done_reply (Err error) = Refused error
 
 -- the box of a live id
 abbrev pub live_box : State → ℕ → Option Box

@@ -1,6 +1,6 @@
 //! The atlas allocator.
 ghost use Rattle.std.specs.Prelude.{◌≡◌, ◌≤◌, ◌<◌, ◌+◌, ◌-◌, ◌↔◌, ℕ, List, [], IsTrue, IfOk, IfSome, OnErr, IfNone, IsOkUnless, OnOk, length, IsSome, option_map, None, Some, Ok};
-ghost use Rattle.guillotiere.specs.Boxes.{IsPositive};
+ghost use Rattle.guillotiere.specs.Boxes.{Fits, IsPositive};
 ghost use Rattle.guillotiere.specs.Choice.{AreValid};
 ghost use Rattle.guillotiere.specs.Pixels.{sides_of, size_of, options_of, rectangle_of};
 ghost use Rattle.guillotiere.specs.States.{live_in, used_in, started, after_freeing, IsSound, IsLive};
@@ -13,7 +13,8 @@ ghost use Rattle.guillotiere.specs.Changes.{only};
 ghost use Rattle.guillotiere.specs.TreeLaws.{is_among};
 ghost use Rattle.guillotiere.specs.Batches.{AreLiveOnce};
 ghost use Rattle.guillotiere.specs.Steps.{Step};
-ghost use Rattle.guillotiere.specs.Steps.AtlasCall.{Allocate, Deallocate};
+ghost use Rattle.guillotiere.specs.Steps.AtlasCall.{Allocate, Deallocate, Grow};
+ghost use Rattle.guillotiere.specs.Steps.AtlasReply.{Done};
 
 use crate::allocation::{AllocId, Allocation, SlotCount};
 use crate::batch::are_named_once;
@@ -21,6 +22,7 @@ use crate::choice::rounded;
 use crate::cut::granted;
 use crate::error::AtlasError;
 use crate::geometry::{Rectangle, Size};
+use crate::growth::{grow_tree, grow_whole, growth_for, slots_for};
 use crate::lists::empty_lists;
 use crate::options::{AllocatorOptions, DEFAULT_OPTIONS};
 use crate::requests::{choose, grant, make_room};
@@ -66,7 +68,7 @@ impl<A: Allocator + Copy> Model for AtlasAllocator<A> {
 
 impl<A: Allocator + Copy> AtlasAllocator<A> {
     ghost use Rattle.guillotiere.specs.Stored.{state_of};
-    ghost use Rattle.guillotiere.specs.Replies.{allocate_reply, deallocate_reply, live_box, IsExact, IsLiveList};
+    ghost use Rattle.guillotiere.specs.Replies.{allocate_reply, done_reply, live_box, IsExact, IsLiveList};
 
     /// An atlas of this size, in pixels, with the default options: one free rectangle. Asks a size that isn't empty.
     /// `Memory` is the only error.
@@ -193,7 +195,7 @@ impl<A: Allocator + Copy> AtlasAllocator<A> {
     /// Frees the box of an id: it joins the free space beside it. `NotLive` if the id isn't live, and then nothing changes.
     /// Takes no memory, and at most one turn more than there are members fewer.
     pub fn deallocate(&mut self, id: AllocId) -> Result<(), AtlasError>
-        ensures step { Step (state_of self.old) (Deallocate id) (deallocate_reply result) (state_of self.new) }
+        ensures step { Step (state_of self.old) (Deallocate id) (done_reply result) (state_of self.new) }
         ensures refused { OnErr result (self.new ≡ self.old) }
         ensures unless { IsOkUnless result AtlasError.NotLive }
         ensures turns { self.new.turns + used_in (state_of self.new) ≤ self.old.turns + 1 + used_in (state_of self.old) }
@@ -223,6 +225,42 @@ impl<A: Allocator + Copy> AtlasAllocator<A> {
             self.free(*id);
         }
         Ok(())
+    }
+
+    /// Makes the atlas larger; every live id keeps its rectangle. Asks that neither side shrinks. One free rectangle alone
+    /// is enlarged. Else, first along the top sequence, a free last member is enlarged or a free strip is appended, and
+    /// then, across it, a free strip along the whole side (docs/MODEL.md, "Changes of a tree"); each only if that side
+    /// grows. `Slots` if more slots would be used than the limit allows; `Memory` if more would be used than ever since
+    /// the last start, and memory for them is refused; then nothing changes. Takes no turns, and one pass along the top
+    /// sequence for each side that grows.
+    pub fn grow(&mut self, new_size: Size) -> Result<(), AtlasError>
+        requires { Fits (state_of self.old).size (sides_of new_size) }
+        ensures step { Step (state_of self.old) (Grow (sides_of new_size)) (done_reply result) (state_of self.new) }
+        ensures refused { OnErr result (self.new ≡ self.old) }
+        ensures turns { self.new.turns ≡ self.old.turns }
+    {
+        if self.is_empty() {
+            self.grow_box(new_size);
+            return Ok(());
+        }
+        let growth = growth_for(&self.store, self.first, self.size, new_size);
+        let added = slots_for(&self.store, growth);
+        make_room(&mut self.store, self.used, self.limit, added)?;
+        self.first = grow_tree(&mut self.store, self.first, growth);
+        self.used += added;
+        self.size = new_size;
+        Ok(())
+    }
+
+    // Enlarges the one free box of an atlas in which nothing is live.
+    fn grow_box(&mut self, size: Size)
+        requires larger { Fits (state_of self.old).size (sides_of size) }
+        requires idle { live_in (state_of self.old) ≡ [] }
+        ensures step { Step (state_of self.old) (Grow (sides_of size)) Done (state_of self.new) }
+        ensures turns { self.new.turns ≡ self.old.turns }
+    {
+        grow_whole(&mut self.store, self.first, size);
+        self.size = size;
     }
 
     // Whether each of these ids is live, and none stands twice.

@@ -30,7 +30,7 @@ pub fn grant_leaf(slots: &mut [Slot], at: Link)
 }
 
 /// The other axis.
-fn across(axis: Orientation) -> Orientation
+pub fn across(axis: Orientation) -> Orientation
     ensures { result ≡ flipped axis }
 {
     match axis {

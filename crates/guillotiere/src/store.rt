@@ -87,8 +87,8 @@ impl<A: Allocator> Store<A> {
         grant_leaf(&mut self.slots, at);
     }
 
-    // Takes an unused slot, the one given back last, or else a new one at the end. It is in hand.
-    fn take(&mut self) -> Link
+    /// Takes an unused slot, the one given back last, or else a new one at the end. It is in hand.
+    pub fn take(&mut self) -> Link
         requires { (h : Holding) × (hand : ℕ → ℕ) × HoldsWith hand (shelf_of self.old) h × HasSlotsFor 1 (vec_capacity self.old.slots) (shelf_of self.old) h }
         ensures taken { (h : Holding) (hand : ℕ → ℕ) → HoldsWith hand (shelf_of self.old) h → HoldsWith (with_count hand result.number 1) (shelf_of self.new) (after_take h) }
         ensures slots { (h : Holding) (hand : ℕ → ℕ) (n : ℕ) → HoldsWith hand (shelf_of self.old) h → HasSlotsFor (n + 1) (vec_capacity self.old.slots) (shelf_of self.old) h

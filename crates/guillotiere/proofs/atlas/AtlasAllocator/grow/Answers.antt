@@ -1,0 +1,63 @@
+use Rattle.std.proofs.Common.{rules, ◌≡◌, [], sym, subst, ◌∙◌, arith}
+use Rattle.std.specs.Prelude.{vec_capacity, Err}
+use Rattle.std.proofs.lemmas.Bool.{false≢true}
+use Rattle.guillotiere.specs.Boxes.{Fits}
+use Rattle.guillotiere.specs.Pixels.{sides_of}
+use Rattle.guillotiere.specs.States.{live_in}
+use Rattle.guillotiere.specs.Stored.{state_of}
+use Rattle.guillotiere.specs.Holdings.{shelf_of}
+use Rattle.guillotiere.proofs.Observing.{used-IsAtlas}
+use Rattle.guillotiere.proofs.GrownAtlas.{tree-here, some-plan, fits-from, refused-step, some-growable, grow-done}
+use Rattle.guillotiere.proofs.atlas.AtlasAllocator.grow.Goals as goal
+
+pub growth_for-growth-requires-clause-tree : goal.growth_for-growth-requires-clause-tree
+growth_for-growth-requires-clause-tree g c = (_, tree-here _ c.self.invariant)
+
+pub slots_for-added-requires-clause-tree : goal.slots_for-added-requires-clause-tree
+slots_for-added-requires-clause-tree g c =
+    let larger = subst (λ w. Fits (state_of w).size (sides_of c.args.new_size)) (sym c.self.view_is) c.requires in
+    some-plan _ c.self.invariant c.args.new_size larger c.growth_for-growth.result c.growth_for-growth.ensures
+
+pub slots_for-added-requires-clause-fits : goal.slots_for-added-requires-clause-fits
+slots_for-added-requires-clause-fits g c =
+    let larger = subst (λ w. Fits (state_of w).size (sides_of c.args.new_size)) (sym c.self.view_is) c.requires in
+    fits-from _ c.self.invariant c.args.new_size larger c.growth_for-growth.result c.growth_for-growth.ensures
+
+pub make_room-requires-clause-used : goal.make_room-requires-clause-used
+make_room-requires-clause-used g c = omega (arith, used-IsAtlas _ c.self.invariant, c.self.invariant.sound.counted, c.self.invariant.sound.limited)
+
+pub returns-in_err-make_room-clause-step : goal.returns-in_err-make_room-clause-step
+returns-in_err-make_room-clause-step g c =
+    let larger = subst (λ w. Fits (state_of w).size (sides_of c.args.new_size)) (sym c.self.view_is) c.requires in
+    let busy : live_in (state_of c.args.self.now) ≡ [] → ⊥ = λ none. false≢true (sym c.if-is_empty.false ∙ c.is_empty.ensures.1 none) in
+    let some = subst (λ w. live_in (state_of w) ≡ [] → ⊥) (sym c.self.view_is) busy in
+    let same : c.from_residual.result ≡ Err c.in_err-make_room.field-0.0 = search rules in
+    rw (← c.self.view_is)
+    (refused-step _ c.self.invariant c.args.new_size larger c.growth_for-growth.result c.growth_for-growth.ensures some c.slots_for-added.result c.slots_for-added.ensures.need
+    (shelf_of c.make_room.new.store) c.make_room.ensures.same c.from_residual.result c.in_err-make_room.field-0.0 same c.in_err-make_room.ensures.refused c.make_room.new.store.turns.count c.self.inside.store.turns.count)
+
+pub grow_tree-self-inside-requires : goal.grow_tree-self-inside-requires
+grow_tree-self-inside-requires g c =
+    let larger = subst (λ w. Fits (state_of w).size (sides_of c.args.new_size)) (sym c.self.view_is) c.requires in
+    let busy : live_in (state_of c.args.self.now) ≡ [] → ⊥ = λ none. false≢true (sym c.if-is_empty.false ∙ c.is_empty.ensures.1 none) in
+    let some = subst (λ w. live_in (state_of w) ≡ [] → ⊥) (sym c.self.view_is) busy in
+    some-growable _ c.self.invariant c.args.new_size larger c.growth_for-growth.result c.growth_for-growth.ensures some c.slots_for-added.result c.slots_for-added.ensures.need
+    (shelf_of c.make_room.new.store) c.make_room.ensures.same (vec_capacity c.make_room.new.store.slots) c.in_ok-make_room.ensures.ok
+
+pub invariant_of-self-2 : goal.invariant_of-self-2
+invariant_of-self-2 g c =
+    let larger = subst (λ w. Fits (state_of w).size (sides_of c.args.new_size)) (sym c.self.view_is) c.requires in
+    let busy : live_in (state_of c.args.self.now) ≡ [] → ⊥ = λ none. false≢true (sym c.if-is_empty.false ∙ c.is_empty.ensures.1 none) in
+    let some = subst (λ w. live_in (state_of w) ≡ [] → ⊥) (sym c.self.view_is) busy in
+    (grow-done _ c.self.invariant c.args.new_size larger c.growth_for-growth.result c.growth_for-growth.ensures some c.slots_for-added.result c.slots_for-added.ensures.need
+    (shelf_of c.make_room.new.store) c.make_room.ensures.same (vec_capacity c.make_room.new.store.slots) c.in_ok-make_room.ensures.ok
+    (shelf_of c.grow_tree-self-inside.new.store) c.grow_tree-self-inside.result c.grow_tree-self-inside.ensures.grown c.grow_tree-self-inside.ensures.options).atlas
+
+pub returns-clause-step : goal.returns-clause-step
+returns-clause-step g c =
+    let larger = subst (λ w. Fits (state_of w).size (sides_of c.args.new_size)) (sym c.self.view_is) c.requires in
+    let busy : live_in (state_of c.args.self.now) ≡ [] → ⊥ = λ none. false≢true (sym c.if-is_empty.false ∙ c.is_empty.ensures.1 none) in
+    let some = subst (λ w. live_in (state_of w) ≡ [] → ⊥) (sym c.self.view_is) busy in
+    rw (← c.self.view_is) ((grow-done _ c.self.invariant c.args.new_size larger c.growth_for-growth.result c.growth_for-growth.ensures some c.slots_for-added.result c.slots_for-added.ensures.need
+    (shelf_of c.make_room.new.store) c.make_room.ensures.same (vec_capacity c.make_room.new.store.slots) c.in_ok-make_room.ensures.ok
+    (shelf_of c.grow_tree-self-inside.new.store) c.grow_tree-self-inside.result c.grow_tree-self-inside.ensures.grown c.grow_tree-self-inside.ensures.options).step c.grow_tree-self-inside.new.store.turns.count c.self.inside.store.turns.count)

@@ -1,0 +1,25 @@
+use Rattle.std.proofs.Common.{◌≡◌, [], subst, sym}
+use Rattle.guillotiere.specs.Boxes.{Fits}
+use Rattle.guillotiere.specs.Pixels.{sides_of}
+use Rattle.guillotiere.specs.States.{live_in}
+use Rattle.guillotiere.specs.Stored.{state_of}
+use Rattle.guillotiere.specs.Holdings.{shelf_of}
+use Rattle.guillotiere.proofs.GrownAtlas.{tree-here, lone-here, box-done}
+use Rattle.guillotiere.proofs.atlas.AtlasAllocator.grow_box.Goals as goal
+
+pub grow_whole-requires-clause-tree : goal.grow_whole-requires-clause-tree
+grow_whole-requires-clause-tree g c =
+    let none = subst (λ w. live_in (state_of w) ≡ []) (sym c.self.view_is) c.requires.idle in
+    (_, _, tree-here _ c.self.invariant, lone-here _ c.self.invariant none)
+
+pub invariant_of-self : goal.invariant_of-self
+invariant_of-self g c =
+    let larger = subst (λ w. Fits (state_of w).size (sides_of c.args.size)) (sym c.self.view_is) c.requires.larger in
+    let none = subst (λ w. live_in (state_of w) ≡ []) (sym c.self.view_is) c.requires.idle in
+    (box-done _ c.self.invariant c.args.size larger none (shelf_of c.grow_whole.new.store) c.grow_whole.ensures.room.options c.grow_whole.ensures.grown).atlas
+
+pub returns-clause-step : goal.returns-clause-step
+returns-clause-step g c =
+    let larger = subst (λ w. Fits (state_of w).size (sides_of c.args.size)) (sym c.self.view_is) c.requires.larger in
+    let none = subst (λ w. live_in (state_of w) ≡ []) (sym c.self.view_is) c.requires.idle in
+    rw (← c.self.view_is) ((box-done _ c.self.invariant c.args.size larger none (shelf_of c.grow_whole.new.store) c.grow_whole.ensures.room.options c.grow_whole.ensures.grown).step c.grow_whole.new.store.turns.count c.self.inside.store.turns.count)

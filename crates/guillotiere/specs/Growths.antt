@@ -1,0 +1,81 @@
+-- How an atlas that isn't one free box grows. No public clause cites this module.
+use Rattle.std.specs.Prelude.{ℕ, ◌+◌, ◌-◌, ◌<◌, ◌≡◌, Bool, true, false, [], length}
+use Rattle.guillotiere.specs.declared.growth.Growth.{Growth}
+use Rattle.guillotiere.specs.Boxes.{Axis, Sides, Fits, other, side, sized}
+use Rattle.guillotiere.specs.Pixels.{size_of}
+use Rattle.guillotiere.specs.Trees.{Tree, is_one_free, nodes}
+use Rattle.guillotiere.specs.Trees as tree
+use Rattle.guillotiere.specs.Changes.{grown_members, lengthened}
+use Rattle.guillotiere.specs.Lists.{is_free}
+use Rattle.guillotiere.specs.Numbered.{erase, first_slot, numbers}
+use Rattle.guillotiere.specs.Stored.{Shelf, Holding, Holds, IsLooseOnly}
+use Rattle.guillotiere.specs.Holdings.{node_in, HasSlotsFor}
+use Rattle.guillotiere.specs.Growing.{IsSpanning, last_slot, top_along}
+
+-- the slots stand for a tree of an atlas of this size, which begins at slot `first`, and each free slot stands in its list
+pub record IsTreeOf (v : Shelf) (size : Sides) (first : ℕ) (h : Holding) : Type 0 where
+  pub holds : Holds v h
+  pub listed : IsLooseOnly [] h
+  pub spans : IsSpanning size first h
+
+-- the size that has grown along an axis alone
+abbrev pub middle_of : Axis → (old new : Sides) → Sides
+middle_of axis old new = sized axis (side axis new) (side (other axis) old)
+
+-- the growth goes from one size to another by way of the middle one; where that is longer, `last` is the last member
+pub record IsGrowthOf (old new : Sides) (h : Holding) (p : Growth) : Type 0 where
+  pub from : p.from ≡ size_of old
+  pub middle : p.middle ≡ size_of (middle_of h.sequence.axis old new)
+  pub to : p.to ≡ size_of new
+  pub last : side h.sequence.axis old < side h.sequence.axis new → last_slot h.tree ≡ p.last.number
+
+-- how many slots a strip takes after a last member: none if that is free
+abbrev pub strip_after : Bool → ℕ
+strip_after true = 0
+strip_after false = 1
+
+abbrev pub strip_need : Shelf → (last : ℕ) → ℕ
+strip_need v last = strip_after (is_free (node_in v last).kind)
+
+-- the top sequence is d longer, by a slots
+pub record IsLengthened (new : Shelf) (capacity n d a : ℕ) (h h' : Holding) : Type 0 where
+  pub holds : Holds new h'
+  pub listed : IsLooseOnly [] h'
+  pub members : erase h'.tree ≡ lengthened d (erase h.tree)
+  pub sequence : h'.sequence ≡ h.sequence
+  pub first : first_slot h'.tree ≡ first_slot h.tree
+  pub spare : length h'.spare ≡ length h.spare - a
+  -- so many slots can still be taken without memory
+  pub slots : HasSlotsFor n capacity new h'
+
+-- the top sequence is the first of two members of a new one, whose first slot is `top`, and a strip of extent d the other
+pub record IsWidened (new : Shelf) (top d : ℕ) (h h' : Holding) : Type 0 where
+  pub holds : Holds new h'
+  pub listed : IsLooseOnly [] h'
+  pub members : erase h'.tree ≡ tree.Seq h.sequence.width (erase h.tree) (tree.Free d tree.End)
+  pub sequence : h'.sequence ≡ top_along (other h.sequence.axis) (tree.total (erase h.tree))
+  pub first : first_slot h'.tree ≡ top
+  pub spare : length h'.spare ≡ length h.spare - 2
+
+-- a growth adds n members
+abbrev pub IsNeedOf : (old new : Sides) → Holding → (n : ℕ) → Type 0
+IsNeedOf old new h n = numbers h.tree + n ≡ nodes (grown_members old new h.sequence.axis (erase h.tree)).members
+
+-- the tree isn't one free box, and there are the n slots that the growth takes
+pub record IsGrowable (v : Shelf) (capacity : ℕ) (old new : Sides) (first n : ℕ) (p : Growth) (h : Holding) : Type 0 where
+  pub tree : IsTreeOf v old first h
+  pub growth : IsGrowthOf old new h p
+  pub fits : Fits old new
+  pub busy : is_one_free (erase h.tree) ≡ false
+  pub need : IsNeedOf old new h n
+  pub slots : HasSlotsFor n capacity v h
+
+-- the tree of a holding
+abbrev pub tree_held : Holding → Tree
+tree_held h = record { axis = h.sequence.axis; members = erase h.tree }
+
+-- the tree has grown to a new size by n slots, and begins at slot `first`
+pub record IsGrown (v : Shelf) (old new : Sides) (first n : ℕ) (h h' : Holding) : Type 0 where
+  pub tree : IsTreeOf v new first h'
+  pub grown : tree_held h' ≡ grown_members old new h.sequence.axis (erase h.tree)
+  pub spare : length h'.spare ≡ length h.spare - n
