@@ -23,6 +23,10 @@ pub enum Call {
     DeallocateAll(&'static [u32]),
     /// `deallocate_all` of ids that are not all live, or not distinct.
     DeallocateAllDead(&'static [u32]),
+    /// `grow` to a size.
+    Grow(Sides),
+    /// `grow` that would need more slots than the limit allows.
+    GrowBeyondLimit(Sides),
     Get(u32, Option<Corners>),
     IsEmpty(bool),
     /// What `free_rectangles` lists, in any order.
@@ -126,6 +130,35 @@ fn allocate(
     }
     let allocation = answer?;
     Ok(allocation.map(|a: Allocation| (a.id.serialize(), a.rectangle)))
+}
+
+// `grow`. Where memory is refused, nothing that can be seen has changed, and the call is made again.
+fn grow(
+    rt: &impl Abort,
+    heap: &Refusing<Global>,
+    atlas: &mut Atlas<'_>,
+    sides: Sides,
+) -> Result<(), AtlasError> {
+    let before = look_at(atlas);
+    let mut answer = grow_once(rt, atlas, sides);
+    if answer == Err(AtlasError::Memory) {
+        assert!(rt; heap.is_done(), "{sides:?} met a second refusal");
+        assert_eq!(rt; look_at(atlas), before, "{sides:?}");
+        answer = grow_once(rt, atlas, sides);
+    }
+    if answer.is_err() {
+        assert_eq!(rt; look_at(atlas), before, "{sides:?}");
+    } else {
+        assert_eq!(rt; atlas.size(), size(sides));
+    }
+    answer
+}
+
+fn grow_once(rt: &impl Abort, atlas: &mut Atlas<'_>, sides: Sides) -> Result<(), AtlasError> {
+    let new_size = size(sides);
+    assert!(rt; atlas.size().width <= new_size.width);
+    assert!(rt; atlas.size().height <= new_size.height);
+    atlas.grow(new_size)
 }
 
 // The ids of a list.
@@ -232,6 +265,11 @@ fn make(
             let answer = allocate(rt, heap, atlas, *request);
             assert_eq!(rt; answer, Err(AtlasError::Slots), "{request:?}");
         }
+        Call::Grow(sides) => assert_eq!(rt; grow(rt, heap, atlas, *sides), Ok(()), "{sides:?}"),
+        Call::GrowBeyondLimit(sides) => {
+            let answer = grow(rt, heap, atlas, *sides);
+            assert_eq!(rt; answer, Err(AtlasError::Slots), "{sides:?}");
+        }
         Call::Get(id, want) => {
             let area = atlas.get(AllocId::deserialize(*id));
             assert_eq!(rt; area, want.map(rectangle), "{id}");
@@ -248,6 +286,17 @@ fn make(
         _ => freed(rt, alloc, atlas, call)?,
     }
     Ok(())
+}
+
+// The size that an atlas has after calls.
+fn size_after(size: Sides, calls: &[Call]) -> Sides {
+    let mut last = size;
+    for call in calls {
+        if let Call::Grow(sides) = call {
+            last = *sides;
+        }
+    }
+    last
 }
 
 /// Makes the calls of a row; one that is refused memory once is made again.
@@ -269,7 +318,8 @@ pub fn play(
     for call in row.calls {
         make(rt, alloc, heap, &mut atlas, call)?;
     }
-    assert_eq!(rt; atlas.size(), size(row.size));
+    let last = size_after(size_after(row.size, row.start), row.calls);
+    assert_eq!(rt; atlas.size(), size(last));
     Ok(())
 }
 

@@ -11,6 +11,10 @@ mod atlas_freeing;
 #[cfg(test)]
 mod atlas_grants;
 #[cfg(test)]
+mod atlas_growth;
+#[cfg(test)]
+mod atlas_growth_recorded;
+#[cfg(test)]
 mod atlas_recorded;
 #[cfg(test)]
 mod atlas_sessions;
