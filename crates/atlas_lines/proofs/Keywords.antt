@@ -6,7 +6,7 @@ use Rattle.std.specs.Str.{bytes_eq}
 use Rattle.guillotiere.specs.declared.geometry.Size.{Size}
 use Rattle.guillotiere.specs.declared.options.AllocatorOptions.{AllocatorOptions}
 use Rattle.atlas_lines.specs.declared.commands.Command.{Command}
-use Rattle.atlas_lines.specs.declared.commands.Command.TheVariants.{Simple, Take, Atlas, Alloc, Live, Holes, AskSize, Free, Empty}
+use Rattle.atlas_lines.specs.declared.commands.Command.TheVariants.{Simple, Take, Atlas, Alloc, Live, Holes, AskSize, Free, Grow, Empty}
 use Rattle.atlas_lines.specs.Grammar.{SpellsSize, SpellsAtlas, SpellsId, SpellsArguments, Spells, keyword}
 use Rattle.atlas_lines.specs.Words.{HasNoSpace, IsEmptyOrSpaced, BeginsWithWord, SpellsInParts}
 use Rattle.atlas_lines.proofs.Parting.{one_word, numbers_spaced}
@@ -33,6 +33,7 @@ keyword_test (Take size) = refl
 keyword_test (Atlas size options) = refl
 keyword_test (Alloc size) = refl
 keyword_test (Free id) = refl
+keyword_test (Grow size) = refl
 keyword_test Live = refl
 keyword_test Holes = refl
 keyword_test AskSize = refl
@@ -50,6 +51,7 @@ arguments_spaced (Take size) text spells = size_spaced size text spells
 arguments_spaced (Atlas size options) text spells = elim spells [ inl two ↦ size_spaced size text two.0 | inr six ↦ numbers_spaced (size.width ∷ size.height ∷ options.alignment.width ∷ options.alignment.height ∷ options.small_size_threshold ∷ options.large_size_threshold ∷ []) text six ]
 arguments_spaced (Alloc size) text spells = size_spaced size text spells
 arguments_spaced (Free id) text spells = subst IsEmptyOrSpaced (sym spells.1) refl
+arguments_spaced (Grow size) text spells = size_spaced size text spells
 arguments_spaced Live text spells = subst IsEmptyOrSpaced (sym spells) tt
 arguments_spaced Holes text spells = subst IsEmptyOrSpaced (sym spells) tt
 arguments_spaced AskSize text spells = subst IsEmptyOrSpaced (sym spells) tt
@@ -83,6 +85,10 @@ pub only_free : (c : Command) (word rest : List ℕ) → word ≡ codes "free" �
 only_free (Free id) word rest e parts = (id, refl, parts.1)
 only_free c word rest e parts = absurd (differ (codes "free") (keyword c) refl (sym e ∙ parts.0))
 
+pub only_grow : (c : Command) (word rest : List ℕ) → word ≡ codes "grow" → SpellsInParts c word rest → (size : Size) × (c ≡ Grow size) × SpellsSize size rest
+only_grow (Grow size) word rest e parts = (size, refl, parts.1)
+only_grow c word rest e parts = absurd (differ (codes "grow") (keyword c) refl (sym e ∙ parts.0))
+
 pub only_live : (c : Command) (word rest : List ℕ) → word ≡ codes "live" → SpellsInParts c word rest → (c ≡ Live) × (rest ≡ [])
 only_live Live word rest e parts = (refl, parts.1)
 only_live c word rest e parts = absurd (differ (codes "live") (keyword c) refl (sym e ∙ parts.0))
@@ -101,13 +107,14 @@ only_empty c word rest e parts = absurd (differ (codes "empty") (keyword c) refl
 
 -- no other word begins a command
 pub no_keyword : (c : Command) (word rest : List ℕ) → word ≢ codes "simple" → word ≢ codes "take" → word ≢ codes "atlas" → word ≢ codes "alloc" → word ≢ codes "free"
-    → word ≢ codes "live" → word ≢ codes "holes" → word ≢ codes "size" → word ≢ codes "empty" → SpellsInParts c word rest → ⊥
-no_keyword (Simple size) word rest simple take atlas alloc free live holes ask empty parts = simple parts.0
-no_keyword (Take size) word rest simple take atlas alloc free live holes ask empty parts = take parts.0
-no_keyword (Atlas size options) word rest simple take atlas alloc free live holes ask empty parts = atlas parts.0
-no_keyword (Alloc size) word rest simple take atlas alloc free live holes ask empty parts = alloc parts.0
-no_keyword (Free id) word rest simple take atlas alloc free live holes ask empty parts = free parts.0
-no_keyword Live word rest simple take atlas alloc free live holes ask empty parts = live parts.0
-no_keyword Holes word rest simple take atlas alloc free live holes ask empty parts = holes parts.0
-no_keyword AskSize word rest simple take atlas alloc free live holes ask empty parts = ask parts.0
-no_keyword Empty word rest simple take atlas alloc free live holes ask empty parts = empty parts.0
+    → word ≢ codes "grow" → word ≢ codes "live" → word ≢ codes "holes" → word ≢ codes "size" → word ≢ codes "empty" → SpellsInParts c word rest → ⊥
+no_keyword (Simple size) word rest simple take atlas alloc free grow live holes ask empty parts = simple parts.0
+no_keyword (Take size) word rest simple take atlas alloc free grow live holes ask empty parts = take parts.0
+no_keyword (Atlas size options) word rest simple take atlas alloc free grow live holes ask empty parts = atlas parts.0
+no_keyword (Alloc size) word rest simple take atlas alloc free grow live holes ask empty parts = alloc parts.0
+no_keyword (Free id) word rest simple take atlas alloc free grow live holes ask empty parts = free parts.0
+no_keyword (Grow size) word rest simple take atlas alloc free grow live holes ask empty parts = grow parts.0
+no_keyword Live word rest simple take atlas alloc free grow live holes ask empty parts = live parts.0
+no_keyword Holes word rest simple take atlas alloc free grow live holes ask empty parts = holes parts.0
+no_keyword AskSize word rest simple take atlas alloc free grow live holes ask empty parts = ask parts.0
+no_keyword Empty word rest simple take atlas alloc free grow live holes ask empty parts = empty parts.0

@@ -6,12 +6,12 @@ use Rattle.std.specs.Str.Parse.{IsNumeral, digits_value}
 use Rattle.guillotiere.specs.declared.geometry.Size.{Size}
 use Rattle.guillotiere.specs.declared.options.AllocatorOptions.{AllocatorOptions}
 use Rattle.atlas_lines.specs.declared.commands.Command.{Command}
-use Rattle.atlas_lines.specs.declared.commands.Command.TheVariants.{Simple, Take, Atlas, Alloc, Live, Holes, AskSize, Free, Empty}
+use Rattle.atlas_lines.specs.declared.commands.Command.TheVariants.{Simple, Take, Atlas, Alloc, Live, Holes, AskSize, Free, Grow, Empty}
 use Rattle.atlas_lines.specs.Grammar.{SpellsNumber, SpellsNumbers, SpellsSize, SpellsAtlas, SpellsId, Spells, keyword}
 use Rattle.atlas_lines.specs.Lines.{HasNoEnd, ended, all_ended, AreLines, last_line}
 use Rattle.atlas_lines.specs.Words.{BeginsWithWord, BeginsWithNumber, SpellsInParts}
 use Rattle.atlas_lines.proofs.Parting.{one_word, number_no_space, number_begins, same_size, same_options}
-use Rattle.atlas_lines.proofs.Keywords.{only_simple, only_take, only_atlas, only_alloc, only_free, only_live, only_holes, only_size, only_empty, keyword_no_space, arguments_spaced, in_parts}
+use Rattle.atlas_lines.proofs.Keywords.{only_simple, only_take, only_atlas, only_alloc, only_free, only_grow, only_live, only_holes, only_size, only_empty, keyword_no_space, arguments_spaced, in_parts}
 use Rattle.atlas_lines.proofs.Outcomes.{parted}
 
 -- ---- lines
@@ -142,6 +142,7 @@ same_parts word rest (Take size) d spells other = let is = only_take d word rest
 same_parts word rest (Atlas size options) d spells other = let is = only_atlas d word rest spells.0 other in one_atlas size is.0 options is.1 rest spells.1 is.3 ∙ sym is.2
 same_parts word rest (Alloc size) d spells other = let is = only_alloc d word rest spells.0 other in ap (λ s. Alloc s) (one_size size is.0 rest spells.1 is.2) ∙ sym is.1
 same_parts word rest (Free id) d spells other = let is = only_free d word rest spells.0 other in ap (λ s. Free s) (one_id id is.0 rest spells.1 is.2) ∙ sym is.1
+same_parts word rest (Grow size) d spells other = let is = only_grow d word rest spells.0 other in ap (λ s. Grow s) (one_size size is.0 rest spells.1 is.2) ∙ sym is.1
 same_parts word rest Live d spells other = sym (only_live d word rest spells.0 other).0
 same_parts word rest Holes d spells other = sym (only_holes d word rest spells.0 other).0
 same_parts word rest AskSize d spells other = sym (only_size d word rest spells.0 other).0

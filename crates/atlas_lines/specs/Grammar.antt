@@ -6,7 +6,7 @@ use Rattle.guillotiere.specs.declared.geometry.Size.{Size}
 use Rattle.guillotiere.specs.declared.options.AllocatorOptions.{AllocatorOptions}
 use Rattle.guillotiere.specs.declared.options.TheConstants.{DEFAULT_OPTIONS}
 use Rattle.atlas_lines.specs.declared.commands.Command.{Command}
-use Rattle.atlas_lines.specs.declared.commands.Command.TheVariants.{Simple, Take, Atlas, Alloc, Live, Holes, AskSize, Free, Empty}
+use Rattle.atlas_lines.specs.declared.commands.Command.TheVariants.{Simple, Take, Atlas, Alloc, Live, Holes, AskSize, Free, Grow, Empty}
 
 -- one or more decimal digits, with a value that fits a `u32`
 abbrev pub SpellsUnsigned : ℕ → List ℕ → Type 0
@@ -51,6 +51,7 @@ keyword Live = codes "live"
 keyword Holes = codes "holes"
 keyword AskSize = codes "size"
 keyword (Free id) = codes "free"
+keyword (Grow size) = codes "grow"
 keyword Empty = codes "empty"
 
 -- what follows that word
@@ -63,6 +64,7 @@ SpellsArguments Live text = text ≡ []
 SpellsArguments Holes text = text ≡ []
 SpellsArguments AskSize text = text ≡ []
 SpellsArguments (Free id) text = SpellsId id text
+SpellsArguments (Grow size) text = SpellsSize size text
 SpellsArguments Empty text = text ≡ []
 
 -- the bytes of a line, without its LF, spell this command

@@ -16,7 +16,7 @@ use Rattle.guillotiere.specs.Stored.{AtlasValue}
 use Rattle.guillotiere.specs.Stored as stored
 use Rattle.guillotiere.specs.Simple.{SimpleState, SimpleAnswer, SimpleStep, simple_start}
 use Rattle.atlas_lines.specs.declared.commands.Command.{Command}
-use Rattle.atlas_lines.specs.declared.commands.Command.TheVariants.{Simple, Take, Atlas, Alloc, Live, Holes, AskSize, Free, Empty}
+use Rattle.atlas_lines.specs.declared.commands.Command.TheVariants.{Simple, Take, Atlas, Alloc, Live, Holes, AskSize, Free, Grow, Empty}
 use Rattle.atlas_lines.specs.declared.replies.Reply.{Reply}
 use Rattle.atlas_lines.specs.declared.replies.Reply.TheVariants.{Completed, Placed, NotPlaced, Allocated, Extent, Truth, NoAtlas, NoSimple, Invalid, Declined}
 
@@ -153,6 +153,8 @@ ToolStep old (Atlas size options) reply new = IsLine (λ line. CreatesAtlas old 
 ToolStep old (Alloc size) reply new =
     IsLine (λ line. CallsAtlas old.atlas (Allocate (sides_of size)) line new.atlas) reply × (new.simple ≡ old.simple)
 ToolStep old (Free id) reply new = IsLine (λ line. CallsAtlas old.atlas (Deallocate id) line new.atlas) reply × (new.simple ≡ old.simple)
+ToolStep old (Grow size) reply new =
+    IsLine (λ line. CallsAtlas old.atlas (AtlasCall.Grow (sides_of size)) line new.atlas) reply × (new.simple ≡ old.simple)
 ToolStep old Live reply new = LooksAtAtlas old.atlas ShowsLive reply × (new ≡ old)
 ToolStep old Holes reply new = LooksAtAtlas old.atlas ShowsHoles reply × (new ≡ old)
 ToolStep old AskSize reply new = LooksAtAtlas old.atlas (λ state. IsLine (ShowsSize state)) reply × (new ≡ old)

@@ -27,6 +27,8 @@ pub enum Command {
     AskSize,
     /// `free ID`: give the rectangle with this id back.
     Free(AllocId),
+    /// `grow W H`: make the atlas larger, to this size.
+    Grow(Size),
     /// `empty`: tell whether no rectangle is allocated.
     Empty,
 }
@@ -59,6 +61,9 @@ fn parse_words(word: &[u8], rest: &[u8]) -> Option<Command>
     }
     if word == b"free".as_slice() {
         return Some(Command::Free(id_argument(rest)?));
+    }
+    if word == b"grow".as_slice() {
+        return Some(Command::Grow(size_arguments(rest)?));
     }
     if word == b"live".as_slice() {
         return alone(Command::Live, rest);

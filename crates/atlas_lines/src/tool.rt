@@ -1,9 +1,9 @@
 //! The tool between its lines: what it holds, and how it carries out a command.
 ghost use Rattle.std.specs.Prelude.{◌≡◌, ◌↔◌, None, true, false, not, IsTrue, IfOk, IsOkUnless, map};
 ghost use Rattle.guillotiere.specs.declared.error.AtlasError.TheVariants as error;
-ghost use Rattle.guillotiere.specs.Boxes.{IsPositive};
+ghost use Rattle.guillotiere.specs.Boxes.{Fits, IsPositive};
 ghost use Rattle.guillotiere.specs.Pixels.{sides_of, options_of, rectangle_of};
-ghost use Rattle.guillotiere.specs.Steps.AtlasCall.{Allocate, Deallocate};
+ghost use Rattle.guillotiere.specs.Steps.AtlasCall.{Allocate, Deallocate, Grow};
 ghost use Rattle.guillotiere.specs.Stored as stored;
 ghost use Rattle.atlas_lines.specs.Answers.{shown_by, Replies, BeginsToReply};
 ghost use Rattle.atlas_lines.specs.Machine.{ToolReply, ToolStep, CreatesSimple, RequestsSimple, CreatesAtlas, CallsAtlas, LooksAtAtlas, IsLine, ShowsLive, ShowsHoles, ShowsSize, ShowsEmpty, HoldsHoles, atlas_in, state_of};
@@ -42,6 +42,14 @@ fn is_positive(size: Size) -> bool
     size.width > 0 && size.height > 0
 }
 
+// Whether neither side of the atlas is greater than that of a size.
+fn shrinks_no_side<A: Allocator + Copy>(atlas: &AtlasAllocator<A>, new_size: Size) -> bool
+    ensures { IsTrue result ↔ Fits (stored.state_of atlas.now).size (sides_of new_size) }
+{
+    let size = atlas.size();
+    size.width <= new_size.width && size.height <= new_size.height
+}
+
 // The free rectangles from above to below and from left to right.
 fn ordered_holes<A: Allocator + Copy>(
     atlas: &AtlasAllocator<A>,
@@ -76,6 +84,7 @@ impl<'a, A: Allocator> Tool<'a, A> {
             Command::Atlas(size, options) => Answer::OneLine(self.create_atlas(size, &options)),
             Command::Alloc(size) => Answer::OneLine(self.request(size)),
             Command::Free(id) => Answer::OneLine(self.give_back(id)),
+            Command::Grow(size) => Answer::OneLine(self.grow(size)),
             Command::Live => self.list_live(),
             Command::Holes => self.list_holes(),
             Command::AskSize => Answer::OneLine(self.tell_size()),
@@ -163,6 +172,22 @@ impl<'a, A: Allocator> Tool<'a, A> {
             return Reply::NoAtlas;
         };
         match atlas.deallocate(id) {
+            Ok(()) => Reply::Completed,
+            Err(error) => Reply::Declined(error),
+        }
+    }
+
+    fn grow(&mut self, new_size: Size) -> Reply
+        ensures step { CallsAtlas (atlas_in self.old.atlas) (Grow (sides_of new_size)) result (atlas_in self.new.atlas) }
+        ensures simple { self.new.simple ≡ self.old.simple }
+    {
+        let Some(atlas) = &mut self.atlas else {
+            return Reply::NoAtlas;
+        };
+        if !shrinks_no_side(atlas, new_size) {
+            return Reply::Invalid;
+        }
+        match atlas.grow(new_size) {
             Ok(()) => Reply::Completed,
             Err(error) => Reply::Declined(error),
         }

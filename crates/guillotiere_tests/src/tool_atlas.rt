@@ -2,10 +2,11 @@
 
 use crate::tool_devices::{Sink, Source};
 use atlas_lines::{ToolEnd, run_lines};
+use refusing::Refusing;
 use std::test::Fail;
 
 // What is read, what is written, and how the run ends.
-const ROWS: [(&[u8], &[u8], ToolEnd); 4] = [
+const ROWS: [(&[u8], &[u8], ToolEnd); 6] = [
     (
         b"atlas 100 100\nalloc 20 60\nlive\nholes\nsize\n",
         b"ok\nid 3 at 0 0 20 60\nbox 3 0 0 20 60\nlive 1\nhole 20 0 100 100\nhole 0 60 20 100\nholes 2\nsize 100 100\n",
@@ -26,6 +27,28 @@ const ROWS: [(&[u8], &[u8], ToolEnd); 4] = [
         b"no atlas\nno atlas\nno atlas\nno atlas\nno atlas\nbad call\nbad call\nok\ntrue\n",
         ToolEnd::Done,
     ),
+    (
+        b"atlas 100 100\nalloc 100 100\ngrow 99 150\ngrow 150 150\nholes\nsize\nfree 0\nempty\n",
+        b"ok\nid 0 at 0 0 100 100\nbad call\nok\nhole 100 0 150 150\nhole 0 100 100 150\nholes 2\nsize 150 150\nok\ntrue\n",
+        ToolEnd::Done,
+    ),
+    (
+        b"grow 5 5\natlas 5 5\ngrow 6 4\ngrow -2147483648 6\nsize\ngrow 5\n",
+        b"no atlas\nok\nbad call\nbad call\nsize 5 5\nbad line 6\n",
+        ToolEnd::BadLine(6),
+    ),
+];
+
+const GROWTH: &[u8] = b"atlas 100 100\nalloc 100 100\ngrow 150 150\nsize\n";
+
+// Which request for memory is refused, and what these lines are answered then; the third one isn't made.
+const GROWTH_REFUSED: [(u32, &[u8]); 3] = [
+    (1, b"refused memory\nno atlas\nno atlas\nno atlas\n"),
+    (
+        2,
+        b"ok\nid 0 at 0 0 100 100\nrefused memory\nsize 100 100\n",
+    ),
+    (3, b"ok\nid 0 at 0 0 100 100\nok\nsize 150 150\n"),
 ];
 
 #[test]
@@ -40,4 +63,17 @@ fn rows(rt: HostRuntime) -> Result<(), Fail> {
         }
     }
     Ok(())
+}
+
+#[test]
+fn a_growth_with_each_request_for_memory_refused_in_turn(rt: HostRuntime) {
+    let heap = Refusing::new(rt.alloc());
+    for (number, want) in GROWTH_REFUSED {
+        heap.refuse_nth(number);
+        let mut input = Source::ending(GROWTH, 1000);
+        let mut output = Sink::new(Vec::new(rt.alloc()), 1000, 1000, true);
+        let got = run_lines(&heap, &mut input, &mut output);
+        assert_eq!(rt; got, Ok(ToolEnd::Done), "{number}");
+        assert_eq!(rt; output.held(), want, "{number}");
+    }
 }

@@ -66,7 +66,7 @@ const ROWS: [(&[u8], &[u8], ToolEnd); 13] = [
 ];
 
 // Each of these alone spells no command.
-const BAD_LINES: [&[u8]; 32] = [
+const BAD_LINES: [&[u8]; 34] = [
     b" take 1 1",
     b"take 1 1 ",
     b"take +1 1",
@@ -88,6 +88,8 @@ const BAD_LINES: [&[u8]; 32] = [
     b"free -1",
     b"free 4294967296",
     b"free x",
+    b"grow",
+    b"grow 1 1 1",
     b"free",
     b"take 1 1 1",
     b"simple",
@@ -146,7 +148,7 @@ fn bad_lines(rt: HostRuntime) {
 
 #[test]
 fn lines_spell_commands(rt: HostRuntime) {
-    let table: [(&[u8], Command); 4] = [
+    let table: [(&[u8], Command); 5] = [
         (b"simple 100 300", Command::Simple(size2(100, 300))),
         (
             b"take -0005 2147483647",
@@ -154,6 +156,7 @@ fn lines_spell_commands(rt: HostRuntime) {
         ),
         (b"take -2147483648 -0", Command::Take(size2(-2147483648, 0))),
         (b"simple 0 007", Command::Simple(size2(0, 7))),
+        (b"grow 150 -1", Command::Grow(size2(150, -1))),
     ];
     for (line, want) in table {
         assert_eq!(rt; parse_line(line), Some(want), "{line:?}");
