@@ -33,9 +33,9 @@ const ROWS: [(&[u8], &[u8], ToolEnd); 6] = [
         ToolEnd::Done,
     ),
     (
-        b"grow 5 5\natlas 5 5\ngrow 6 4\ngrow -2147483648 6\nsize\ngrow 5\n",
-        b"no atlas\nok\nbad call\nbad call\nsize 5 5\nbad line 6\n",
-        ToolEnd::BadLine(6),
+        b"grow 5 5\natlas 5 5\ngrow 6 4\ngrow -2147483648 6\nsize\ngrow 6 8\nsize\ngrow 5\n",
+        b"no atlas\nok\nbad call\nbad call\nsize 5 5\nok\nsize 6 8\nbad line 8\n",
+        ToolEnd::BadLine(8),
     ),
 ];
 
