@@ -41,7 +41,8 @@ pub const MOST_SLOTS: u32 = 16777216;
 /// Hands out rectangles inside one large rectangle, the atlas, takes them back and joins free space at once.
 ///
 /// The atlas is a tree of cuts (docs/MODEL.md, "Trees of cuts"): its allocated and free rectangles are the leaves, and
-/// tile it. Freeing takes no memory; allocating and growing only where more slots are used than ever since the last start.
+/// tile it. Freeing takes no memory; allocating and growing take it only where more slots are used than ever since the
+/// last start.
 #[derive(Drop)]
 pub struct AtlasAllocator<A: Allocator + Copy = Global> {
     store: Store<A>,
