@@ -74,6 +74,12 @@ module _ (o : Options) (slots : List Slot) (lists : List FreeList) (s : IsSearch
         ];
       }
 
+  pub none-in_empty : (list_at lists (8 * class + part)).count ≡ 0 → (i : ℕ) → IsFreeSlot (nodes slots) i → class_of o (node_sides (node_at (nodes slots) i)) ≡ class → band_of (node_sides (node_at (nodes slots) i)) ≡ part → ⊥
+  none-in_empty e i free ec eb =
+      let one = in_list i free ec eb in
+      let links = (s.filed.free (8 * class + part) below).links in
+      absurd (omega (arith, e, links.counted, length-occurs i (s.held (8 * class + part)) (omega arith)))
+
   pub looked-listed : (d : FreeList) → length lists ≡ 24 → (r : Sides) (now next : Search) → HasLooked o (nodes slots) class part r now → ((xs : List ℕ) → IsList (rings slots) (slice_index_or lists (8 * class + part) d) xs → (is_large : Bool) (r : Sides) (shown : List Shown) → HasSeen now is_large r shown → HasSeen next is_large r (shown ++ shown_of (nodes slots) xs)) → HasLooked o (nodes slots) class (part + 1) r next
   looked-listed d el r now next h look =
       let links = (s.filed.free (8 * class + part) below).links in
@@ -88,6 +94,25 @@ module _ (o : Options) (slots : List Slot) (lists : List FreeList) (s : IsSearch
   looked-skipped d el r now h none =
       let at_list : (0 < (list_at lists (8 * class + part)).count) × Fits r (bounds (list_at lists (8 * class + part))) → ⊥ = subst (λ (list : FreeList). (0 < list.count) × Fits r (bounds list) → ⊥) (get_or_default lists (8 * class + part) d blank_list (omega (arith, below))) none in
       record { shown = h.shown; are_shown = shown-skipped r h.shown at_list h.are_shown; seen = h.seen }
+
+-- a search that saw the bands below `part` of a class saw all of it where the other lists are empty
+pub looked-rest : (o : Options) (slots : List Slot) (lists : List FreeList) → IsSearchable o slots lists → (class part : ℕ) → class < 3 → ((k : ℕ) → part ≤ k → k < 8 → (list_at lists (8 * class + k)).count ≡ 0)
+    → (r : Sides) (search : Search) → HasLooked o (nodes slots) class part r search → HasLooked o (nodes slots) class 8 r search
+looked-rest o slots lists s class part lc empty r search h =
+    record {
+      shown = h.shown;
+      are_shown = record {
+        slots = h.are_shown.slots;
+        of_class = h.are_shown.of_class;
+        each = λ i free ec lb fits.
+            let k = band_of (node_sides (node_at (nodes slots) i)) in
+            elim (cases_lt k part) [
+              | inl l ↦ h.are_shown.each i free ec l fits
+              | inr l ↦ absurd (none-in_empty o slots lists s class k lc lb (empty k (omega arith) lb) i free ec refl)
+            ];
+      };
+      seen = h.seen;
+    }
 
 -- the best free slot of the lowest class with a fitting one is the pick
 pub pick-of_slots : (o : Options) (ms : List Node) (class : ℕ) (r : Sides) (found : Found) → FitsSlotsFrom o ms class r → IsBestOfClass o ms class r found → (free : List Box) → AreFreeBoxes ms free → IsPick free o r (box_of found.rectangle)

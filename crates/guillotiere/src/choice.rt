@@ -45,7 +45,7 @@ fn reaches(size: Size, threshold: i32) -> bool
     requires { IsPositive (sides_of size) }
     ensures { result ≡ reaches threshold (sides_of size) }
 {
-    size.width >= threshold || size.height >= threshold
+    size.width.max(size.height) >= threshold
 }
 
 /// 2 for a large size, 1 for a medium one, 0 for a small one.

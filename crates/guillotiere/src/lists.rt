@@ -92,34 +92,29 @@ pub fn set_ring_previous(slots: &mut [Slot], at: Link, previous: Link)
     }
 }
 
-// The list once a slot with these neighbours has left it; the bounds of an empty list are 0.
-fn list_without(list: FreeList, ring: Ring) -> FreeList
-    requires { 0 < list.count }
-    ensures new_head { ring.previous.number ≡ NO_SLOT → result.head ≡ ring.next }
-    ensures same_head { (ring.previous.number ≡ NO_SLOT → ⊥) → result.head ≡ list.head }
-    ensures new_tail { ring.next.number ≡ NO_SLOT → result.tail ≡ ring.previous }
-    ensures same_tail { (ring.next.number ≡ NO_SLOT → ⊥) → result.tail ≡ list.tail }
-    ensures counted { result.count + 1 ≡ list.count }
-    ensures same_width { 0 < result.count → result.most_width ≡ list.most_width }
-    ensures same_height { 0 < result.count → result.most_height ≡ list.most_height }
-    ensures no_width { result.count ≡ 0 → result.most_width ≡ pos 0 }
-    ensures no_height { result.count ≡ 0 → result.most_height ≡ pos 0 }
+// A slot with these neighbours leaves the list; the bounds of an empty list are 0.
+fn shorten(list: &mut FreeList, ring: Ring)
+    requires { 0 < list.old.count }
+    ensures new_head { ring.previous.number ≡ NO_SLOT → list.new.head ≡ ring.next }
+    ensures same_head { (ring.previous.number ≡ NO_SLOT → ⊥) → list.new.head ≡ list.old.head }
+    ensures new_tail { ring.next.number ≡ NO_SLOT → list.new.tail ≡ ring.previous }
+    ensures same_tail { (ring.next.number ≡ NO_SLOT → ⊥) → list.new.tail ≡ list.old.tail }
+    ensures counted { list.new.count + 1 ≡ list.old.count }
+    ensures same_width { 0 < list.new.count → list.new.most_width ≡ list.old.most_width }
+    ensures same_height { 0 < list.new.count → list.new.most_height ≡ list.old.most_height }
+    ensures no_width { list.new.count ≡ 0 → list.new.most_width ≡ pos 0 }
+    ensures no_height { list.new.count ≡ 0 → list.new.most_height ≡ pos 0 }
 {
-    let is_last = list.count == 1;
-    FreeList {
-        head: if ring.previous.number == NO_SLOT {
-            ring.next
-        } else {
-            list.head
-        },
-        tail: if ring.next.number == NO_SLOT {
-            ring.previous
-        } else {
-            list.tail
-        },
-        count: list.count - 1,
-        most_width: if is_last { 0 } else { list.most_width },
-        most_height: if is_last { 0 } else { list.most_height },
+    if ring.previous.number == NO_SLOT {
+        list.head = ring.next;
+    }
+    if ring.next.number == NO_SLOT {
+        list.tail = ring.previous;
+    }
+    list.count -= 1;
+    if list.count == 0 {
+        list.most_width = 0;
+        list.most_height = 0;
     }
 }
 
@@ -135,7 +130,7 @@ pub fn unlink(slots: &mut [Slot], list: &mut FreeList, at: Link)
     ensures empty_height { list.new.count ≡ 0 → list.new.most_height ≡ pos 0 }
 {
     let ring = read_ring(slots, at);
-    *list = list_without(*list, ring);
+    shorten(list, ring);
     set_ring_next(slots, ring.previous, ring.next);
     set_ring_previous(slots, ring.next, ring.previous);
 }

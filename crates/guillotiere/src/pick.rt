@@ -1,10 +1,10 @@
 //! The search for a free slot through the lists, class by class and band by band.
-ghost use Rattle.std.specs.Prelude.{◌≡◌, ◌+◌, ◌*◌, ◌<◌, ◌==◌, ◌++◌, ◌∷◌, [], ◌↔◌, ℕ, Bool, List, None, IfSome, IsTrue, length};
+ghost use Rattle.std.specs.Prelude.{◌≡◌, ◌+◌, ◌*◌, ◌<◌, ◌≤◌, ◌==◌, ◌++◌, ◌∷◌, [], ◌↔◌, ℕ, Bool, List, None, IfSome, IsTrue, length};
 ghost use Rattle.guillotiere.specs.Boxes.{Box, Fits, IsPositive, Sides, box_sides};
 ghost use Rattle.guillotiere.specs.Choice.{IsFitting, IsPick};
 ghost use Rattle.guillotiere.specs.Links.{IsExact};
-ghost use Rattle.guillotiere.specs.Lists.{IsList, bounds};
-ghost use Rattle.guillotiere.specs.Picks.{AreFreeBoxes, FitsNoneOfClass, IsBestOfClass, IsFreeSlot, IsSearchable, IsShowable, shown_of, shown_slot};
+ghost use Rattle.guillotiere.specs.Lists.{IsList, bounds, list_at};
+ghost use Rattle.guillotiere.specs.Picks.{AreFreeBoxes, FitsNoneOfClass, HasLooked, IsBestOfClass, IsFreeSlot, IsSearchable, IsShowable, shown_of, shown_slot};
 ghost use Rattle.guillotiere.specs.Pixels.{box_of, options_of, sides_of};
 ghost use Rattle.guillotiere.specs.Searches.{HasSeen, Shown};
 ghost use Rattle.guillotiere.specs.Slots.{nodes, rings, node_at};
@@ -53,7 +53,61 @@ fn may_hold(list: FreeList, size: Size) -> bool
     list.count > 0 && size.width <= list.most_width && size.height <= list.most_height
 }
 
-// The best free slot of a class. Lists that can't hold the size are passed over.
+// One more than the greatest band of a class with a slot in its list; 0 where there is none.
+fn bands_used(lists: &[FreeList], number: usize) -> usize
+    requires class { number < 3 }
+    requires count { length lists.now ≡ LISTS }
+    ensures most { result ≤ 8 }
+    ensures empty { (part : ℕ) → result ≤ part → part < 8 → (list_at lists.now (8 * number + part)).count ≡ 0 }
+{
+    let first = 8 * number;
+    if lists[first + 7].count > 0 {
+        8
+    } else if lists[first + 6].count > 0 {
+        7
+    } else if lists[first + 5].count > 0 {
+        6
+    } else if lists[first + 4].count > 0 {
+        5
+    } else if lists[first + 3].count > 0 {
+        4
+    } else if lists[first + 2].count > 0 {
+        3
+    } else if lists[first + 1].count > 0 {
+        2
+    } else if lists[first].count > 0 {
+        1
+    } else {
+        0
+    }
+}
+
+// A search that was shown the slots of a class. Lists that can't hold the size are passed over.
+fn search_class(
+    slots: &[Slot],
+    lists: &[FreeList],
+    options: &AllocatorOptions,
+    size: Size,
+    number: usize,
+) -> Search
+    requires positive { IsPositive (sides_of size) }
+    requires class { number < 3 }
+    requires count { length lists.now ≡ LISTS }
+    requires searchable { IsSearchable (options_of options.now) slots.now lists.now }
+    ensures { HasLooked (options_of options.now) (nodes slots.now) number 8 (sides_of size) result }
+{
+    let mut search = Search::new(size, class(size, options) == 2);
+    let end = bands_used(lists, number);
+    for part in band(size)..end {
+        let list = lists[8 * number + part];
+        if may_hold(list, size) {
+            show_list(slots, list, &mut search);
+        }
+    }
+    search
+}
+
+// The best free slot of a class.
 fn best_of_class(
     slots: &[Slot],
     lists: &[FreeList],
@@ -68,14 +122,7 @@ fn best_of_class(
     ensures none { result ≡ None → FitsNoneOfClass (options_of options.now) (nodes slots.now) number (sides_of size) }
     ensures some { IfSome result (IsBestOfClass (options_of options.now) (nodes slots.now) number (sides_of size)) }
 {
-    let mut search = Search::new(size, class(size, options) == 2);
-    for part in band(size)..8 {
-        let list = lists[8 * number + part];
-        if may_hold(list, size) {
-            show_list(slots, list, &mut search);
-        }
-    }
-    search.best()
+    search_class(slots, lists, options, size, number).best()
 }
 
 /// The free slot that a request of this rounded size takes.

@@ -10,8 +10,8 @@ read_ring-ring-requires c =
     let short : length (rings c.args.slots.now) < 4294967295 = simp length-map c.requires.short in
     simp length-map at ((can-unlink _ _ _ c.requires.listed short).inside)
 
-pub list_without-requires : goal.list_without-requires
-list_without-requires c =
+pub shorten-requires : goal.shorten-requires
+shorten-requires c =
     let t = c.requires.listed in
     omega (arith, t.1.counted, length-occurs _ t.0 t.2)
 
@@ -29,9 +29,9 @@ pub returns-clause-list : goal.returns-clause-list
 returns-clause-list c =
     let short : length (rings c.args.slots.now) < 4294967295 = simp length-map c.requires.short in
     let er = c.read_ring-ring.ensures in
-    let d = c.list_without.ensures in
+    let d = c.shorten.ensures in
     let w = unlinked-by (rings c.args.slots.now) _ (rings c.set_ring_previous.new.slots) c.args.at.number c.read_ring-ring.result (can-unlink _ _ _ c.requires.listed short) er c.set_ring_next.ensures.written c.set_ring_previous.ensures.written in
-    IsList-unlinked _ _ c.args.list.now c.list_without.result c.args.at.number c.read_ring-ring.result short w er (record { new_head = d.new_head; same_head = d.same_head; new_tail = d.new_tail; same_tail = d.same_tail; counted = d.counted })
+    IsList-unlinked _ _ c.args.list.now c.shorten.new.list c.args.at.number c.read_ring-ring.result short w er (record { new_head = d.new_head; same_head = d.same_head; new_tail = d.new_tail; same_tail = d.same_tail; counted = d.counted })
 
 pub returns-clause-others : goal.returns-clause-others
 returns-clause-others c =
