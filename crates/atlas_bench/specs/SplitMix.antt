@@ -1,5 +1,6 @@
 -- The generator splitmix64 (Steele, Lea and Flood). Its state is one number.
-use Rattle.std.specs.Prelude.{ℕ, ◌+◌, ◌*◌, ◌/◌, ◌%◌, ◌^◌, bit_xor}
+use Rattle.std.specs.Prelude.{ℕ, ◌+◌, ◌-◌, ◌*◌, ◌/◌, ◌%◌, ◌^◌, bit_xor, pos}
+use Rattle.guillotiere.specs.declared.geometry.Size.{Size}
 
 -- the state after a step
 abbrev pub next_state : ℕ → ℕ
@@ -18,3 +19,12 @@ mixed state =
 -- the number below a bound that a step from this state gives
 abbrev pub number_below : (state bound : ℕ) → ℕ
 number_below state bound = mixed (next_state state) / 2 ^ 33 % bound
+
+-- the number from low to high, both included, that a step from this state gives
+abbrev pub number_between : (state low high : ℕ) → ℕ
+number_between state low high = low + number_below state (high - low + 1)
+
+-- the size that two steps from this state give, the width first
+abbrev pub size_between : (state low high : ℕ) → Size
+size_between state low high =
+    record { width = pos (number_between state low high); height = pos (number_between (next_state state) low high) }

@@ -1,7 +1,6 @@
 //! What a workload was answered.
-ghost use Rattle.std.specs.Prelude.{◌≡◌, ◌<◌, ◌+◌, ◌-◌, ◌^◌};
-ghost use Rattle.std.specs.Int.{w32, cast_unsigned};
-ghost use Rattle.atlas_bench.specs.Checksums.{with_word};
+ghost use Rattle.std.specs.Prelude.{◌≡◌, ◌<◌, ◌+◌, ◌^◌};
+ghost use Rattle.atlas_bench.specs.Checksums.{with_word, with_grant, point_word};
 
 use guillotiere::{Allocation, Point};
 use std::marker::Model;
@@ -20,8 +19,10 @@ pub struct Answers {
 }
 
 // A point as a word: x above y.
-fn word_of(point: Point) -> u64 {
-    (u64::from(point.x.cast_unsigned()) << 32) | u64::from(point.y.cast_unsigned())
+fn word_of(point: Point) -> u64
+    ensures { result ≡ point_word point }
+{
+    u64::from(point.x.cast_unsigned()) * 0x1_0000_0000 + u64::from(point.y.cast_unsigned())
 }
 
 impl Answers {
@@ -45,7 +46,7 @@ impl Answers {
     /// Takes in that a request was granted.
     pub fn granted(&mut self, allocation: Allocation)
         requires { self.old.calls + 1 < 2 ^ 64 }
-        ensures { self.new.calls ≡ self.old.calls + 1 }
+        ensures { self.new ≡ record { calls = self.old.calls + 1; checksum = with_grant self.old.checksum allocation } }
     {
         self.calls += 1;
         self.add(u64::from(allocation.id.serialize()));
@@ -56,7 +57,7 @@ impl Answers {
     /// Takes in that a request had no room.
     pub fn refused(&mut self)
         requires { self.old.calls + 1 < 2 ^ 64 }
-        ensures { self.new.calls ≡ self.old.calls + 1 }
+        ensures { self.new ≡ record { calls = self.old.calls + 1; checksum = with_word self.old.checksum NO_ROOM } }
     {
         self.calls += 1;
         self.add(NO_ROOM);
@@ -65,7 +66,7 @@ impl Answers {
     /// Takes in that a box was freed.
     pub fn freed(&mut self)
         requires { self.old.calls + 1 < 2 ^ 64 }
-        ensures { self.new.calls ≡ self.old.calls + 1 }
+        ensures { self.new ≡ record { calls = self.old.calls + 1; checksum = with_word self.old.checksum FREED } }
     {
         self.calls += 1;
         self.add(FREED);

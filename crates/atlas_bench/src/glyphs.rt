@@ -28,15 +28,6 @@ impl GlyphCache {
         })
     }
 
-    // The size of the next glyph: sides of 8 to 64 pixels.
-    fn next_size(&mut self) -> Size
-        ensures { self.new.answers ≡ self.old.answers }
-    {
-        let width = self.random.between(8, 64);
-        let height = self.random.between(8, 64);
-        size2(i32::from(width), i32::from(height))
-    }
-
     // Requests a box. Whether it was granted.
     fn request(&mut self, size: Size) -> Result<bool, BenchError>
         requires { self.old.answers.calls + 1 < 2 ^ 64 }
@@ -68,19 +59,19 @@ impl GlyphCache {
     }
 }
 
-/// Requests glyph after glyph. Where one has no room a random glyph goes, and it is requested again.
+/// Requests glyphs with sides of 8 to 64 pixels, one after another. Where one has no room a random glyph goes, and it is requested again.
 pub fn glyph(alloc: Global, calls: u32) -> Result<Answers, BenchError>
     ensures { IfOk result (λ it. it.calls ≡ calls) }
 {
     let mut cache = GlyphCache::new(alloc)?;
-    let mut size = cache.next_size();
+    let mut size = cache.random.size_between(8, 64);
     let mut is_full = false;
     for _ in 0..calls {
         if is_full {
             cache.evict()?;
             is_full = false;
         } else if cache.request(size)? {
-            size = cache.next_size();
+            size = cache.random.size_between(8, 64);
         } else {
             is_full = true;
         }

@@ -1,12 +1,12 @@
 //! The jobs that lines of input spell.
-ghost use Rattle.std.specs.Prelude.{◌≡◌, IfSome, IfOk, IsSomeAnd};
+ghost use Rattle.std.specs.Prelude.{◌≡◌, ℕ, List, Err, IfSome, IfOk, IsSomeAnd};
 ghost use Rattle.atlas_bench.specs.declared.workload.Job.{Job};
 ghost use Rattle.atlas_bench.specs.Grammar.{Spells, BeginsWithLine, SpellsAll};
 
 use crate::error::BenchError;
 use crate::workload::{Job, Workload};
 use atlas_lines::{first_word, unsigned};
-use std::alloc::Global;
+use std::alloc::{AllocError, Global};
 
 // The job that the bytes of a line, without its LF, spell.
 fn parse_line(line: &[u8]) -> Option<Job>
@@ -38,6 +38,7 @@ fn first_line(text: &[u8]) -> (&[u8], &[u8])
 /// The jobs that the lines of a text spell. `BadLine` at the first line that spells none.
 pub fn jobs(alloc: Global, text: &[u8]) -> Result<Vec<Job>, BenchError>
     ensures found { IfOk result (λ jobs. SpellsAll jobs.items text.now) }
+    ensures bad { (n : ℕ) (all : List Job) → result ≡ Err (BenchError.BadLine n) → SpellsAll all text.now → ⊥ }
 {
     let mut jobs = Vec::new(alloc);
     let mut rest = text;
@@ -46,7 +47,9 @@ pub fn jobs(alloc: Global, text: &[u8]) -> Result<Vec<Job>, BenchError>
         let Some(job) = parse_line(line) else {
             return Err(BenchError::BadLine(jobs.len() as u64 + 1));
         };
-        jobs.push(job)?;
+        if jobs.push(job).is_err() {
+            return Err(BenchError::Memory(AllocError));
+        }
         rest = after;
     }
     Ok(jobs)

@@ -1,7 +1,8 @@
 //! The generator of the workloads.
 ghost use Rattle.std.specs.Prelude.{◌≡◌, ◌<◌, ◌≤◌, ◌+◌, ◌-◌};
-ghost use Rattle.atlas_bench.specs.SplitMix.{mixed, next_state, number_below};
+ghost use Rattle.atlas_bench.specs.SplitMix.{mixed, next_state, number_below, number_between, size_between};
 
+use guillotiere::{Size, size2};
 use std::marker::Model;
 
 /// The generator splitmix64.
@@ -38,7 +39,7 @@ impl Random {
         z ^ (z >> 31)
     }
 
-    /// A number below the bound.
+    /// A number from 0 on that is below the bound.
     pub fn below(&mut self, bound: u64) -> u64
         requires { 0 < bound }
         ensures number { result ≡ number_below self.old bound }
@@ -48,13 +49,23 @@ impl Random {
         (self.next() >> 33) % bound
     }
 
-    /// A number from `low` to `high`, both included.
-    pub fn between(&mut self, low: u16, high: u16) -> u16
+    // A number from `low` to `high`, both included.
+    fn between(&mut self, low: u16, high: u16) -> u16
         requires { low ≤ high }
-        ensures number { result ≡ low + number_below self.old (high - low + 1) }
-        ensures most { result ≤ high }
+        ensures number { result ≡ number_between self.old low high }
         ensures state { self.new ≡ next_state self.old }
     {
         low + self.below(u64::from(high - low) + 1) as u16
+    }
+
+    /// A size whose sides are from `low` to `high` pixels, both included.
+    pub fn size_between(&mut self, low: u16, high: u16) -> Size
+        requires { low ≤ high }
+        ensures size { result ≡ size_between self.old low high }
+        ensures state { self.new ≡ next_state (next_state self.old) }
+    {
+        let width = self.between(low, high);
+        let height = self.between(low, high);
+        size2(i32::from(width), i32::from(height))
     }
 }

@@ -14,9 +14,7 @@ fn next_size(random: &mut Random) -> Size {
         6..=8 => (32, 96),
         _ => (64, 160),
     };
-    let width = random.between(low, high);
-    let height = random.between(low, high);
-    size2(i32::from(width), i32::from(height))
+    random.size_between(low, high)
 }
 
 // The sizes of so many sprites.
