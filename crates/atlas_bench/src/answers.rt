@@ -11,6 +11,9 @@ const NO_ROOM: u64 = 0xffff_ffff_ffff_ffff;
 // The word of an answer that a box was freed.
 const FREED: u64 = 0xffff_ffff_ffff_fffe;
 
+// The word of an answer that the atlas grew.
+const GROWN: u64 = 0xffff_ffff_ffff_fffd;
+
 /// How many calls of an atlas were answered, and a checksum of their answers in order.
 #[derive(Clone, Copy)]
 pub struct Answers {
@@ -70,5 +73,14 @@ impl Answers {
     {
         self.calls += 1;
         self.add(FREED);
+    }
+
+    /// Takes in that the atlas grew.
+    pub fn grown(&mut self)
+        requires { self.old.calls + 1 < 2 ^ 64 }
+        ensures { self.new ≡ record { calls = self.old.calls + 1; checksum = with_word self.old.checksum GROWN } }
+    {
+        self.calls += 1;
+        self.add(GROWN);
     }
 }

@@ -5,6 +5,7 @@ mod answers;
 mod boards;
 mod error;
 mod glyphs;
+mod growth;
 mod jobs;
 mod random;
 mod run;

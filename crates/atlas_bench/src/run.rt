@@ -7,6 +7,7 @@ use crate::answers::Answers;
 use crate::boards::{checker, search};
 use crate::error::BenchError;
 use crate::glyphs::glyph;
+use crate::growth::growth;
 use crate::jobs::jobs;
 use crate::sprites::{sorted_sprite, sprite};
 use crate::workload::{Job, Workload};
@@ -23,6 +24,7 @@ fn run_job(alloc: Global, job: Job) -> Result<Answers, BenchError>
         Workload::SortedSprite => sorted_sprite(alloc, job.size),
         Workload::Checker => checker(alloc, job.size),
         Workload::Search => search(alloc, job.size),
+        Workload::Growth => growth(alloc, job.size),
     }
 }
 

@@ -15,6 +15,8 @@ pub enum Workload {
     Checker,
     /// `search`: searches in vain over a board; the size is their number.
     Search,
+    /// `growth`: an atlas that grows; the size is the side, in pixels, up to which both of its sides grow.
+    Growth,
 }
 
 /// A workload and its size, which is in range.
@@ -38,6 +40,7 @@ impl Workload {
             b"sprite-sorted" => Some(Workload::SortedSprite),
             b"checker" => Some(Workload::Checker),
             b"search" => Some(Workload::Search),
+            b"growth" => Some(Workload::Growth),
             _ => None,
         }
     }
@@ -52,6 +55,7 @@ impl Workload {
             Workload::SortedSprite => "sprite-sorted",
             Workload::Checker => "checker",
             Workload::Search => "search",
+            Workload::Growth => "growth",
         }
     }
 
@@ -63,6 +67,7 @@ impl Workload {
             Workload::Glyph | Workload::Search => 1_000_000_000,
             Workload::Sprite | Workload::SortedSprite => 1_000_000,
             Workload::Checker => 8_000_000,
+            Workload::Growth => 32_768,
         }
     }
 }
