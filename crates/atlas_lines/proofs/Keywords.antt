@@ -15,11 +15,11 @@ use Rattle.atlas_lines.proofs.Parting.{one_word, numbers_spaced}
 pub differ : (a b : List ℕ) → bytes_eq a b ≡ false → a ≡ b → ⊥
 differ a b e same = both_ways (bytes_eq a b) e ((bytes_eq-Decides a b).1 same)
 
-has_no_space : List ℕ → Bool
+unfoldable pub has_no_space : List ℕ → Bool
 has_no_space [] = true
 has_no_space (b ∷ bs) = not (eqb b 32) && has_no_space bs
 
-no_space_by_test : (text : List ℕ) → has_no_space text ≡ true → HasNoSpace text
+pub no_space_by_test : (text : List ℕ) → has_no_space text ≡ true → HasNoSpace text
 unfolding has_no_space
 no_space_by_test [] e = tt
 no_space_by_test (b ∷ bs) e =

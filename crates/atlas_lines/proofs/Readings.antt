@@ -17,7 +17,7 @@ use Rattle.atlas_lines.proofs.Outcomes.{parted}
 -- ---- lines
 
 -- a line with its LF stands at the front in one way
-same_first : (l m x y : List ℕ) → HasNoEnd l → HasNoEnd m → l ++ 10 ∷ x ≡ m ++ 10 ∷ y → (l ≡ m) × (x ≡ y)
+pub same_first : (l m x y : List ℕ) → HasNoEnd l → HasNoEnd m → l ++ 10 ∷ x ≡ m ++ 10 ∷ y → (l ≡ m) × (x ≡ y)
 same_first [] [] x y hl hm e = (refl, cc)
 same_first [] (b ∷ m) x y hl hm e = absurd (hm.0 (let h : 10 ≡ b = cc in sym h))
 same_first (a ∷ l) [] x y hl hm e = absurd (hl.0 cc)
@@ -28,7 +28,7 @@ same_first (a ∷ l) (b ∷ m) x y hl hm e =
     (let first = more.0 in cc, more.1)
 
 -- bytes without an LF are no line with its LF
-no_first : (l x rest : List ℕ) → HasNoEnd rest → rest ≡ l ++ 10 ∷ x → ⊥
+pub no_first : (l x rest : List ℕ) → HasNoEnd rest → rest ≡ l ++ 10 ∷ x → ⊥
 no_first [] x [] h e = absurd (cc)
 no_first [] x (r ∷ rest) h e = h.0 cc
 no_first (a ∷ l) x [] h e = absurd (cc)

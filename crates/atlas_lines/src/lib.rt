@@ -17,3 +17,4 @@ pub use commands::{Command, parse_line};
 pub use devices::{ToolInput, ToolOutput};
 pub use run::{ToolEnd, ToolFault, run_lines};
 pub use standard::{StdInput, StdOutput};
+pub use words::{first_word, unsigned};

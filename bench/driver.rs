@@ -1,0 +1,220 @@
+//! The workloads of `atlas_bench` over the Rust crate's own code, for `bench/run`.
+//!
+//! It is compiled beside the crate's allocator.rs (which isn't in this repository) and a stand-in for `euclid`. It reads
+//! the same lines and writes the same report lines; the checksums differ where the answers do.
+#![allow(dead_code)]
+extern crate alloc;
+
+mod allocator;
+
+use allocator::{AllocId, Allocation, AtlasAllocator};
+use euclid::size2;
+use std::io::Read;
+
+// What the crate's own root gives allocator.rs.
+pub type Point = euclid::Point2D;
+pub type Size = euclid::Size2D;
+pub type Rectangle = euclid::Box2D;
+
+struct Random(u64);
+
+impl Random {
+    /// splitmix64
+    fn next(&mut self) -> u64 {
+        self.0 = self.0.wrapping_add(0x9e37_79b9_7f4a_7c15);
+        let mut z = self.0;
+        z = (z ^ (z >> 30)).wrapping_mul(0xbf58_476d_1ce4_e5b9);
+        z = (z ^ (z >> 27)).wrapping_mul(0x94d0_49bb_1331_11eb);
+        z ^ (z >> 31)
+    }
+
+    fn below(&mut self, bound: u64) -> u64 {
+        (self.next() >> 33) % bound
+    }
+
+    fn between(&mut self, low: i32, high: i32) -> i32 {
+        low + self.below((high - low + 1) as u64) as i32
+    }
+}
+
+struct Answers {
+    calls: u64,
+    checksum: u64,
+}
+
+impl Answers {
+    fn new() -> Answers {
+        Answers { calls: 0, checksum: 0xcbf2_9ce4_8422_2325 }
+    }
+
+    fn add(&mut self, word: u64) {
+        self.checksum = (self.checksum ^ word).wrapping_mul(0x100_0000_01b3);
+    }
+
+    fn request(&mut self, answer: Option<Allocation>) {
+        self.calls += 1;
+        match answer {
+            Some(allocation) => {
+                let r = allocation.rectangle;
+                self.add(u64::from(allocation.id.serialize()));
+                self.add((u64::from(r.min.x as u32) << 32) | u64::from(r.min.y as u32));
+                self.add((u64::from(r.max.x as u32) << 32) | u64::from(r.max.y as u32));
+            }
+            None => self.add(u64::MAX),
+        }
+    }
+
+    fn freed(&mut self) {
+        self.calls += 1;
+        self.add(u64::MAX - 1);
+    }
+
+    fn grown(&mut self) {
+        self.calls += 1;
+        self.add(u64::MAX - 2);
+    }
+}
+
+fn glyph(calls: u32) -> Answers {
+    let mut random = Random(1);
+    let mut atlas = AtlasAllocator::new(size2(2048, 2048));
+    let mut live = Vec::new();
+    let mut answers = Answers::new();
+    let mut size = size2(random.between(8, 64), random.between(8, 64));
+    let mut is_full = false;
+    for _ in 0..calls {
+        if is_full {
+            let id: AllocId = live.swap_remove(random.below(live.len() as u64) as usize);
+            atlas.deallocate(id);
+            answers.freed();
+            is_full = false;
+            continue;
+        }
+        let answer = atlas.allocate(size);
+        answers.request(answer);
+        match answer {
+            Some(allocation) => {
+                live.push(allocation.id);
+                size = size2(random.between(8, 64), random.between(8, 64));
+            }
+            None => is_full = true,
+        }
+    }
+    answers
+}
+
+fn sprite(count: u32, is_sorted: bool) -> Answers {
+    let mut random = Random(2);
+    let mut sizes = Vec::with_capacity(count as usize);
+    for _ in 0..count {
+        let (low, high) = match random.below(10) {
+            0..=5 => (16, 64),
+            6..=8 => (32, 96),
+            _ => (64, 160),
+        };
+        let width = random.between(low, high);
+        sizes.push(size2(width, random.between(low, high)));
+    }
+    if is_sorted {
+        sizes.sort_by(|a, b| (b.height, b.width).cmp(&(a.height, a.width)));
+    }
+    let mut atlas = AtlasAllocator::new(size2(4096, 4096));
+    let mut answers = Answers::new();
+    for size in sizes {
+        answers.request(atlas.allocate(size));
+    }
+    answers
+}
+
+struct Board {
+    atlas: AtlasAllocator,
+    ids: Vec<AllocId>,
+    answers: Answers,
+}
+
+impl Board {
+    fn filled(rows: u32) -> Board {
+        let mut board =
+            Board { atlas: AtlasAllocator::new(size2(1, rows as i32)), ids: Vec::new(), answers: Answers::new() };
+        for _ in 0..rows {
+            let answer = board.atlas.allocate(size2(1, 1));
+            board.answers.request(answer);
+            board.ids.push(answer.expect("room").id);
+        }
+        board
+    }
+
+    fn free_others(&mut self, first: usize) {
+        for (place, id) in self.ids.iter().enumerate() {
+            if place % 2 == first {
+                self.atlas.deallocate(*id);
+                self.answers.freed();
+            }
+        }
+    }
+}
+
+fn checker(rows: u32) -> Answers {
+    let mut board = Board::filled(rows);
+    board.free_others(0);
+    board.free_others(1);
+    assert!(board.atlas.is_empty());
+    board.answers
+}
+
+fn search(searches: u32) -> Answers {
+    let mut board = Board::filled(400_000);
+    board.free_others(0);
+    for _ in 0..searches {
+        let answer = board.atlas.allocate(size2(1, 2));
+        assert!(answer.is_none());
+        board.answers.request(answer);
+    }
+    board.answers
+}
+
+fn growth(limit: u32) -> Answers {
+    let limit = limit as i32;
+    let mut random = Random(4);
+    let (mut width, mut height) = (64, 64);
+    let mut atlas = AtlasAllocator::new(size2(width, height));
+    let mut answers = Answers::new();
+    let mut size = size2(random.between(4, 100), random.between(4, 100));
+    loop {
+        let answer = atlas.allocate(size);
+        answers.request(answer);
+        if answer.is_some() {
+            size = size2(random.between(4, 100), random.between(4, 100));
+            continue;
+        }
+        if width >= limit && height >= limit {
+            return answers;
+        }
+        if width <= height {
+            width *= 2;
+        } else {
+            height *= 2;
+        }
+        atlas.grow(size2(width, height));
+        answers.grown();
+    }
+}
+
+fn main() {
+    let mut text = String::new();
+    std::io::stdin().read_to_string(&mut text).expect("input");
+    for line in text.lines() {
+        let (name, size) = line.split_once(' ').expect("a name and a size");
+        let size = size.parse().expect("a size");
+        let answers = match name {
+            "glyph" => glyph(size),
+            "sprite" => sprite(size, false),
+            "sprite-sorted" => sprite(size, true),
+            "checker" => checker(size),
+            "search" => search(size),
+            "growth" => growth(size),
+            _ => panic!("no workload {name}"),
+        };
+        println!("{name} {} {}", answers.calls, answers.checksum);
+    }
+}

@@ -1,0 +1,18 @@
+-- The checksum of answers.
+use Rattle.std.specs.Prelude.{ℕ, ◌+◌, ◌*◌, ◌%◌, ◌^◌, bit_xor}
+use Rattle.std.specs.Int.{w32, cast_unsigned}
+use Rattle.guillotiere.specs.declared.allocation.Allocation.{Allocation}
+use Rattle.guillotiere.specs.declared.geometry.Point.{Point}
+
+-- a checksum after one more word: FNV-1a, by words of 64 bits
+abbrev pub with_word : (checksum word : ℕ) → ℕ
+with_word checksum word = bit_xor checksum word * 0x100000001b3 % 2 ^ 64
+
+-- a point as a word
+abbrev pub point_word : Point → ℕ
+point_word p = cast_unsigned w32 p.x * 2 ^ 32 + cast_unsigned w32 p.y
+
+-- a checksum after a granted box
+abbrev pub with_grant : (checksum : ℕ) → Allocation → ℕ
+with_grant checksum a =
+    with_word (with_word (with_word checksum a.id) (point_word a.rectangle.min)) (point_word a.rectangle.max)

@@ -1,0 +1,5 @@
+pub mod SplitMix
+pub mod Checksums
+pub mod Workloads
+pub mod Grammar
+pub mod Reports

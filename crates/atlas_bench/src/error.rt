@@ -1,0 +1,25 @@
+//! Why the program ends before its last line.
+use guillotiere::AtlasError;
+use std::alloc::AllocError;
+use std::io;
+use thiserror::Error;
+
+/// Why the program ends before its last line.
+#[derive(Debug, Drop, Error)]
+pub enum BenchError {
+    /// The line with this number, counted from 1, names no workload with a size.
+    #[error("bad line {0}")]
+    BadLine(u64),
+    /// The atlas refused a call.
+    #[error("refused: {0}")]
+    Refused(#[from] AtlasError),
+    /// The atlas gave an answer that the workload rules out.
+    #[error("wrong answer")]
+    WrongAnswer,
+    /// A request for memory was refused.
+    #[error("no memory")]
+    Memory(#[from(alloc)] AllocError),
+    /// A device failed.
+    #[error("{0}")]
+    Device(#[from] io::Error),
+}

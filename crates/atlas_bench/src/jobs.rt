@@ -1,0 +1,78 @@
+//! The jobs that lines of input spell.
+ghost use Rattle.std.specs.Prelude.{◌≡◌, ℕ, List, Err, IfSome, IfOk, IsSomeAnd};
+ghost use Rattle.atlas_bench.specs.declared.workload.Job.{Job};
+ghost use Rattle.atlas_bench.specs.Grammar.{Spells, BeginsWithLine, SpellsAll};
+
+use crate::error::BenchError;
+use crate::workload::{Job, Workload};
+use atlas_lines::{first_word, unsigned};
+use std::alloc::{AllocError, Global};
+
+// The job that the bytes of a line, without its LF, spell.
+fn parse_line(line: &[u8]) -> Option<Job>
+    ensures found { IfSome result (λ job. Spells job line.now) }
+    ensures only { (job : Job) → Spells job line.now → IsSomeAnd result (λ it. (it.workload ≡ job.workload) × (it.size ≡ job.size)) }
+{
+    let (word, rest) = first_word(line);
+    let workload = Workload::named(word)?;
+    let (_, digits) = rest.split_first()?;
+    let size = unsigned(digits)?;
+    if size < 1 || size > workload.most_size() {
+        return None;
+    }
+    Some(Job { workload, size })
+}
+
+// The bytes before the first LF, and those after it.
+fn first_line(text: &[u8]) -> (&[u8], &[u8])
+    ensures { BeginsWithLine text.now result.0.now result.1.now }
+{
+    for (i, byte) in text.iter().enumerate() {
+        if *byte == b'\n' {
+            return (&text[..i], &text[i + 1..]);
+        }
+    }
+    (text, &[])
+}
+
+/// The jobs that the lines of a text spell. `BadLine` at the first line that spells none.
+pub fn jobs(alloc: Global, text: &[u8]) -> Result<Vec<Job>, BenchError>
+    ensures found { IfOk result (λ jobs. SpellsAll jobs.items text.now) }
+    ensures bad { (n : ℕ) (all : List Job) → result ≡ Err (BenchError.BadLine n) → SpellsAll all text.now → ⊥ }
+{
+    let mut jobs = Vec::new(alloc);
+    let mut rest = text;
+    while !rest.is_empty() {
+        let (line, after) = first_line(rest);
+        let Some(job) = parse_line(line) else {
+            return Err(BenchError::BadLine(jobs.len() as u64 + 1));
+        };
+        if jobs.push(job).is_err() {
+            return Err(BenchError::Memory(AllocError));
+        }
+        rest = after;
+    }
+    Ok(jobs)
+}
+
+#[cfg(test)]
+mod tests {
+    use super::*;
+
+    // The number of the bad line, or 0.
+    fn bad_line(alloc: Global, text: &[u8]) -> u64 {
+        match jobs(alloc, text) {
+            Err(BenchError::BadLine(number)) => number,
+            _ => 0,
+        }
+    }
+
+    #[test]
+    fn names_the_bad_line(rt: HostRuntime) {
+        assert_eq!(rt; bad_line(rt.alloc(), b"glyph 1\nchecker 8000000"), 0);
+        assert_eq!(rt; bad_line(rt.alloc(), b"glyph 1\nglyph 0\n"), 2);
+        assert_eq!(rt; bad_line(rt.alloc(), b"glyph 1\n\nglyph 1\n"), 2);
+        assert_eq!(rt; bad_line(rt.alloc(), b"checker 8000001\n"), 1);
+        assert_eq!(rt; bad_line(rt.alloc(), b"sprite 1\nsearch 1\ngrowth  1\n"), 3);
+    }
+}

@@ -1,0 +1,58 @@
+//! A run of the program, from the bytes of a reader to the bytes of a writer.
+ghost use Rattle.std.specs.Prelude.{◌≡◌, IfOk, OnOk, string_bytes};
+ghost use Rattle.atlas_bench.specs.Reports.{report_text, RunsAll};
+ghost use Rattle.atlas_bench.specs.Workloads.{Makes};
+
+use crate::answers::Answers;
+use crate::boards::{checker, search};
+use crate::error::BenchError;
+use crate::glyphs::glyph;
+use crate::growth::growth;
+use crate::jobs::jobs;
+use crate::sprites::{sorted_sprite, sprite};
+use crate::workload::{Job, Workload};
+use std::alloc::Global;
+use std::io::{Read, Write};
+
+// Runs a job.
+fn run_job(alloc: Global, job: Job) -> Result<Answers, BenchError>
+    ensures { IfOk result (λ it. Makes job.workload job.size it.calls) }
+{
+    match job.workload {
+        Workload::Glyph => glyph(alloc, job.size),
+        Workload::Sprite => sprite(alloc, job.size),
+        Workload::SortedSprite => sorted_sprite(alloc, job.size),
+        Workload::Checker => checker(alloc, job.size),
+        Workload::Search => search(alloc, job.size),
+        Workload::Growth => growth(alloc, job.size),
+    }
+}
+
+// The line that reports a job.
+fn report(alloc: Global, workload: Workload, answers: Answers) -> Result<String, BenchError>
+    ensures { IfOk result (λ line. string_bytes line ≡ report_text workload answers) }
+{
+    let name = workload.name();
+    let calls = answers.calls;
+    let checksum = answers.checksum;
+    Ok(format!(in alloc; "{name} {calls} {checksum}\n")?)
+}
+
+/// Runs the jobs that the lines of the reader spell, and writes a line for each. Nothing is run where a line is bad.
+pub fn run<R: Read, W: Write>(
+    alloc: Global,
+    input: &mut R,
+    output: &mut W,
+) -> Result<(), BenchError>
+    ensures { OnOk result (RunsAll (R.remaining input.old) (W.contents output.old) (W.contents output.new)) }
+{
+    let mut text = Vec::new(alloc);
+    input.read_to_end(&mut text)?;
+    let jobs = jobs(alloc, &text)?;
+    for job in &jobs {
+        let answers = run_job(alloc, *job)?;
+        let line = report(alloc, job.workload, answers)?;
+        output.write_all(line.as_bytes())?;
+    }
+    Ok(())
+}
