@@ -1,5 +1,5 @@
 //! Replies, written to a device.
-ghost use Rattle.std.specs.Prelude.{◌≡◌, ◌≤◌, ◌+◌, ◌++◌, ℕ, List, true, false, not, length, flat_map};
+ghost use Rattle.std.specs.Prelude.{◌≡◌, ◌≤◌, ◌+◌, ◌++◌, true, false, not, length};
 ghost use Rattle.std.specs.Io.KnownBytes.{Appends};
 ghost use Rattle.guillotiere.specs.declared.allocation.Allocation.{Allocation};
 ghost use Rattle.guillotiere.specs.declared.geometry.Rectangle.{Rectangle};

@@ -1,5 +1,5 @@
 //! A run of the tool, from the bytes of a reader to the bytes of a writer.
-ghost use Rattle.std.specs.Prelude.{◌≡◌, ◌≤◌, ◌<◌, ◌+◌, ◌-◌, ◌^◌, [], ◌∷◌, length, Some, None, Ok, Err, true, false, IsNone, OnSome};
+ghost use Rattle.std.specs.Prelude.{◌≡◌, ◌≤◌, ◌<◌, ◌+◌, ◌-◌, ◌^◌, [], ◌∷◌, length, Some, None, Ok, Err, false, IsNone};
 ghost use Rattle.atlas_lines.specs.Lines.{HasNoEnd};
 ghost use Rattle.atlas_lines.specs.Ends.{Ends, is_read_fault, is_write_fault};
 ghost use Rattle.atlas_lines.specs.Progress.{EndsBadly, LineEnds, Continues, place_at_start, is_write_end};

@@ -1,8 +1,8 @@
 //! The tool between its lines: what it holds, and how it carries out a command.
-ghost use Rattle.std.specs.Prelude.{◌≡◌, ◌↔◌, None, true, false, not, IsTrue, IfOk, IsOkUnless, map};
+ghost use Rattle.std.specs.Prelude.{◌≡◌, ◌↔◌, None, true, false, not, IsTrue, IfOk, IsOkUnless};
 ghost use Rattle.guillotiere.specs.declared.error.AtlasError.TheVariants as error;
 ghost use Rattle.guillotiere.specs.Boxes.{Fits, IsPositive};
-ghost use Rattle.guillotiere.specs.Pixels.{sides_of, options_of, rectangle_of};
+ghost use Rattle.guillotiere.specs.Pixels.{sides_of, options_of};
 ghost use Rattle.guillotiere.specs.Steps.AtlasCall.{Allocate, Deallocate, Grow};
 ghost use Rattle.guillotiere.specs.Stored as stored;
 ghost use Rattle.atlas_lines.specs.Answers.{shown_by, Replies, BeginsToReply};

@@ -1,5 +1,5 @@
 //! The words of a line, and the numbers that they spell.
-ghost use Rattle.std.specs.Prelude.{◌≡◌, ◌<◌, ℕ, ℤ, List, Some, IfSome, IsSomeAnd, pos};
+ghost use Rattle.std.specs.Prelude.{◌≡◌, ◌<◌, ℕ, ℤ, List, Some, IfSome, IsSomeAnd};
 ghost use Rattle.guillotiere.specs.declared.geometry.Size.{Size};
 ghost use Rattle.guillotiere.specs.declared.options.AllocatorOptions.{AllocatorOptions};
 ghost use Rattle.atlas_lines.specs.Grammar.{SpellsUnsigned, SpellsNumber, SpellsSize, SpellsAtlas, SpellsId};

@@ -1,5 +1,5 @@
 //! The atlas allocator.
-ghost use Rattle.std.specs.Prelude.{◌≡◌, ◌≤◌, ◌<◌, ◌+◌, ◌-◌, ◌↔◌, ℕ, List, [], IsTrue, IfOk, IfSome, OnErr, IfNone, IsOkUnless, OnOk, length, IsSome, option_map, None, Some, Ok};
+ghost use Rattle.std.specs.Prelude.{◌≡◌, ◌≤◌, ◌<◌, ◌+◌, ◌-◌, ◌↔◌, List, [], IsTrue, IfOk, IfSome, OnErr, IsOkUnless, OnOk, length, IsSome, option_map, None, Some, Ok};
 ghost use Rattle.guillotiere.specs.Boxes.{Fits, IsPositive};
 ghost use Rattle.guillotiere.specs.Choice.{AreValid};
 ghost use Rattle.guillotiere.specs.Pixels.{sides_of, size_of, options_of, rectangle_of};
@@ -53,7 +53,6 @@ pub struct AtlasAllocator<A: Allocator + Copy = Global> {
 }
 
 impl<A: Allocator + Copy> Model for AtlasAllocator<A> {
-    ghost use Rattle.std.specs.Prelude.{ℕ};
     ghost use Rattle.guillotiere.specs.Stored.{AtlasValue, IsAtlas};
     ghost use Rattle.guillotiere.specs.Holdings.{shelf_of};
 
@@ -69,7 +68,7 @@ impl<A: Allocator + Copy> Model for AtlasAllocator<A> {
 
 impl<A: Allocator + Copy> AtlasAllocator<A> {
     ghost use Rattle.guillotiere.specs.Stored.{state_of};
-    ghost use Rattle.guillotiere.specs.Replies.{allocate_reply, done_reply, live_box, IsExact, IsLiveList};
+    ghost use Rattle.guillotiere.specs.Replies.{allocate_reply, done_reply, live_box, IsExact};
 
     /// An atlas of this size, in pixels, with the default options: one free rectangle. Asks a size that isn't empty.
     /// `Memory` is the only error.

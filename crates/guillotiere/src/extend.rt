@@ -1,5 +1,5 @@
 //! The calls of a store by which the top sequence of an atlas is extended.
-ghost use Rattle.std.specs.Prelude.{◌≡◌, ◌≢◌, ◌+◌, ◌-◌, ◌<◌, ◌≤◌, ℕ, List, vec_capacity, length};
+ghost use Rattle.std.specs.Prelude.{◌≡◌, ◌≢◌, ◌+◌, ◌-◌, ◌<◌, ℕ, List, vec_capacity, length};
 ghost use Rattle.guillotiere.specs.declared.slots.NodeKind.TheVariants.{Free, Unused};
 ghost use Rattle.guillotiere.specs.Boxes.{IsPositive};
 ghost use Rattle.guillotiere.specs.Pixels.{sides_of, size_of};

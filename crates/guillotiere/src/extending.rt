@@ -7,9 +7,9 @@ ghost use Rattle.guillotiere.specs.Boxes.{side, other};
 ghost use Rattle.guillotiere.specs.Pixels.{sides_of, size_of};
 ghost use Rattle.guillotiere.specs.Trees.{total};
 ghost use Rattle.guillotiere.specs.Slots.{nodes, rings, node_at, KeepsUse};
-ghost use Rattle.guillotiere.specs.Numbered.{Numbered, erase, first_slot, tally};
+ghost use Rattle.guillotiere.specs.Numbered.{Numbered, erase, first_slot};
 ghost use Rattle.guillotiere.specs.Numbered as numbered;
-ghost use Rattle.guillotiere.specs.Standing.{Sequence, Standing, Stands, IsTree};
+ghost use Rattle.guillotiere.specs.Standing.{Sequence, Standing, Stands};
 ghost use Rattle.guillotiere.specs.Growing.{last_slot, stretched, appended, Reaches, stretched_area, held_by, top_along, whole_sequence};
 
 use crate::cut::Orientation;

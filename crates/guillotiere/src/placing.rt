@@ -1,6 +1,6 @@
 //! The three calls by which a request is placed in the tree of slots: a leaf is cut in two, is put in a container of its
 //! own, or is granted. They leave the lists alone.
-ghost use Rattle.std.specs.Prelude.{◌≡◌, ◌≢◌, ◌<◌, ◌+◌, ◌⊎◌, ℕ, length};
+ghost use Rattle.std.specs.Prelude.{◌≡◌, ◌≢◌, ◌<◌, ◌+◌, ℕ, length};
 ghost use Rattle.guillotiere.specs.declared.slots.NodeKind.TheVariants.{Alloc, Free, Container, Unused};
 ghost use Rattle.guillotiere.specs.Boxes.{side, box_sides};
 ghost use Rattle.guillotiere.specs.Pixels.{natural, box_of, rectangle_of};

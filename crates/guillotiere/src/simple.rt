@@ -1,8 +1,8 @@
 //! An allocator that hands out boxes and never takes one back.
-ghost use Rattle.std.specs.Prelude.{◌≡◌, ◌↔◌, Any, Contains, IsTrue, ◌≢◌, ℕ, ◌+◌, ◌<◌, ◌≤◌, ◌++◌, [], ◌∷◌, List, All, length, slice_get, Some, MatchOption, ⊤, IsPermutation, OnOk, OnErr, IfOk, IfSome, IsOkUnless, Bool};
+ghost use Rattle.std.specs.Prelude.{◌≡◌, ◌↔◌, Any, Contains, IsTrue, ◌≢◌, ℕ, ◌+◌, ◌<◌, ◌≤◌, ◌++◌, [], ◌∷◌, List, All, length, slice_get, Some, MatchOption, ⊤, IsPermutation, OnOk, OnErr, IfOk, IfSome, IsOkUnless};
 ghost use Rattle.guillotiere.specs.Boxes.{AreSameBoxes, Box, IsNonempty, IsPositive, Sides, box_sides};
 ghost use Rattle.guillotiere.specs.Choice.{AreValid, Options};
-ghost use Rattle.guillotiere.specs.FreeLists.{AreInClasses, IsHome, IsPicked, IsStoredIn, items_at, kept_of, listed, shown_from, spare_at, state_of};
+ghost use Rattle.guillotiere.specs.FreeLists.{AreInClasses, IsHome, IsPicked, items_at, kept_of, listed, shown_from, spare_at, state_of};
 ghost use Rattle.guillotiere.specs.Pixels.{box_of, options_of, rectangle_of, sides_of, size_of};
 ghost use Rattle.guillotiere.specs.Rectangles.{IsUnsigned};
 ghost use Rattle.guillotiere.specs.Searches.{FitsNone, FitsOnlyFrom, IsFound};

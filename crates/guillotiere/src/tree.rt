@@ -1,7 +1,6 @@
 //! Placing a request in the tree of slots, and freeing it, by the calls of `store`.
-ghost use Rattle.std.specs.Prelude.{◌≡◌, ◌+◌, ◌<◌, ◌≤◌, [], IfSome, None, true, false, vec_capacity, length};
+ghost use Rattle.std.specs.Prelude.{◌≡◌, ◌+◌, ◌<◌, ◌≤◌, IfSome, None, true, false, vec_capacity};
 ghost use Rattle.guillotiere.specs.declared.slots.Node.{Node};
-ghost use Rattle.guillotiere.specs.declared.slots.NodeKind.TheVariants.{Free};
 ghost use Rattle.guillotiere.specs.Boxes.{IsPositive, Fits, box_sides, side, other};
 ghost use Rattle.guillotiere.specs.Cuts.{cut, cut_axis};
 ghost use Rattle.guillotiere.specs.Cuts.Cut.{Whole, Strip, Corner};
@@ -10,8 +9,8 @@ ghost use Rattle.guillotiere.specs.Pixels.{box_of, rectangle_of, sides_of, natur
 ghost use Rattle.guillotiere.specs.Trees.{IsNormal};
 ghost use Rattle.guillotiere.specs.Numbered.{erase};
 ghost use Rattle.guillotiere.specs.Reading.{extent_of};
-ghost use Rattle.guillotiere.specs.Stored.{Holding, IsLooseOnly};
-ghost use Rattle.guillotiere.specs.Holdings.{shelf_of, node_in, across_of, KeepsRoom, HasSlotsFor};
+ghost use Rattle.guillotiere.specs.Stored.{Holding};
+ghost use Rattle.guillotiere.specs.Holdings.{shelf_of, across_of, KeepsRoom};
 ghost use Rattle.guillotiere.specs.Freeing.{IsSettlingAt, IsTurned, IsFreeable, IsFreed};
 ghost use Rattle.guillotiere.specs.Planning.{slots_of, IsPlanFor, IsFeasible, IsPlaceableAt, IsPlanned};
 
