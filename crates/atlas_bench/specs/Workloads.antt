@@ -1,5 +1,7 @@
 -- The workloads: their names, their greatest sizes and how many calls they make.
-use Rattle.std.specs.Prelude.{◌≡◌, ℕ, ◌+◌, ◌*◌, ◌^◌, ◌<◌, List, codes}
+use Rattle.std.specs.Prelude.{◌≡◌, ℕ, ◌+◌, ◌*◌, ◌^◌, ◌<◌, List, codes, nat_lt, if◌then◌else◌}
+use Rattle.guillotiere.specs.declared.geometry.Size.{Size}
+use Rattle.atlas_bench.specs.SplitMix.{next_state, number_below, size_between}
 use Rattle.atlas_bench.specs.declared.workload.Workload.{Workload}
 use Rattle.atlas_bench.specs.declared.workload.Workload.TheVariants.{Glyph, Sprite, SortedSprite, Checker, Search, Growth}
 
@@ -29,3 +31,12 @@ Makes SortedSprite size calls = calls ≡ size
 Makes Checker size calls = calls ≡ 2 * size
 Makes Search size calls = calls ≡ 600000 + size
 Makes Growth size calls = calls < 2 ^ 32
+
+-- the size of the next sprite: of ten six have sides of 16 to 64, three of 32 to 96, one of 64 to 160
+abbrev pub sprite_size : (state : ℕ) → Size
+sprite_size state =
+    let kind = number_below state 10 in
+    let after = next_state state in
+    if nat_lt kind 6 then size_between after 16 64
+    else if nat_lt kind 9 then size_between after 32 96
+    else size_between after 64 160

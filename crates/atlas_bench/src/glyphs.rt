@@ -59,7 +59,8 @@ impl GlyphCache {
     }
 }
 
-/// Requests glyphs with sides of 8 to 64 pixels, one after another. Where one has no room a random glyph goes, and it is requested again.
+/// Requests glyphs with sides of 8 to 64 pixels, one after another. Where one has no room a random glyph goes, and it is
+/// requested again.
 pub fn glyph(alloc: Global, calls: u32) -> Result<Answers, BenchError>
     ensures { IfOk result (λ it. it.calls ≡ calls) }
 {

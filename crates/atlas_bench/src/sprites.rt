@@ -1,5 +1,7 @@
 //! A sheet of sprites.
 ghost use Rattle.std.specs.Prelude.{◌≡◌, ◌<◌, ◌^◌, IfOk, length, vec_len};
+ghost use Rattle.atlas_bench.specs.SplitMix.{next_state};
+ghost use Rattle.atlas_bench.specs.Workloads.{sprite_size};
 
 use crate::answers::Answers;
 use crate::error::BenchError;
@@ -8,7 +10,10 @@ use guillotiere::{AtlasAllocator, Size, size2};
 use std::alloc::Global;
 
 // The size of the next sprite, in pixels: of ten six have sides of 16 to 64, three of 32 to 96, one of 64 to 160.
-fn next_size(random: &mut Random) -> Size {
+fn next_size(random: &mut Random) -> Size
+    ensures size { result ≡ sprite_size random.old }
+    ensures state { random.new ≡ next_state (next_state (next_state random.old)) }
+{
     let (low, high) = match random.below(10) {
         0..=5 => (16, 64),
         6..=8 => (32, 96),
