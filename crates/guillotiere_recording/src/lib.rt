@@ -1,0 +1,8 @@
+//! Records every session of an atlas as a list of events, by names that are never given twice.
+#![tactic(auto)]
+
+mod error;
+mod event;
+
+pub use error::RecordingError;
+pub use event::Event;
