@@ -1,6 +1,7 @@
 pub mod Picking
 pub mod PickExistence
 pub mod RunKeeping
+pub mod Renaming
 pub mod Traces
 pub mod DueAnswers
 pub mod StepEffects

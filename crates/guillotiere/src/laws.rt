@@ -8,6 +8,7 @@ ghost use Rattle.guillotiere.specs.Examples.{Shows, sides, box, both, one_corner
 ghost use Rattle.guillotiere.specs.TreeLaws.{LeavesTile, AreasAddUp, ReleasesInAnyOrder, GrantsAreUndone, GrowthAndReleaseSwap, NothingLiveIsOneFree, PlacingsKeepTrees, ReleasesKeepTrees, GrowthsKeepTrees, FreedHasRoom, MembersAreCounted};
 ghost use Rattle.guillotiere.specs.StepLaws.{StepsKeep, PicksAreOne, PicksExist, SmallerFits, GrantsLieInside, FreeingsRemoveOne, GrowthsKeepBoxes, RearrangingsLoseNothing, RefusalsChangeNothing, StepsAnswerAsDue};
 ghost use Rattle.guillotiere.specs.RunLaws.{RunsKeepOrder, RunsLeaveNoTrace};
+ghost use Rattle.guillotiere.specs.Renaming.{RenamingChangesNothing};
 
 /// In a well formed tree of cuts each unit square of the atlas lies in exactly one leaf's box, and no
 /// such box is empty or passes the sides of the atlas.
@@ -159,4 +160,9 @@ pub fn runs_leave_no_trace()
 /// From one state, if a request fits, each positive request no wider and no higher fits.
 pub fn smaller_fits()
     ensures { SmallerFits }
+{}
+
+/// Names in place of ids change nothing that a tree shows; placing, freeing and growing are the same under them.
+pub fn renaming()
+    ensures { RenamingChangesNothing }
 {}
