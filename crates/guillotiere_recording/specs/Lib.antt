@@ -1,2 +1,6 @@
 pub mod Errors
 pub mod Events
+pub mod Sessions
+pub mod Books
+pub mod Names
+pub mod Recordings

@@ -3,6 +3,9 @@
 
 mod error;
 mod event;
+mod names;
+mod recording;
 
 pub use error::RecordingError;
 pub use event::Event;
+pub use recording::Recording;
