@@ -1,5 +1,6 @@
 pub mod Errors
 pub mod Events
+pub mod Logs
 pub mod Sessions
 pub mod Books
 pub mod Names

@@ -8,15 +8,10 @@ use Rattle.guillotiere.specs.Replies.{grant_of, IsExact}
 use Rattle.guillotiere.specs.Stored.{AtlasValue, state_of}
 use Rattle.guillotiere_recording.specs.declared.names.LiveName.{LiveName}
 use Rattle.guillotiere_recording.specs.Events.{EventValue, given_names}
+use Rattle.guillotiere_recording.specs.Logs.{RecordingValue}
 use Rattle.guillotiere_recording.specs.Sessions.{Named, Recorded}
 use Rattle.guillotiere_recording.specs.Books.{AreSameGrants, book}
 use Rattle.guillotiere_recording.specs.Names.{AreRising, AreLiveIds, name_among}
-
--- the size and the options of the recorded atlas when it was new, and what happened since
-pub record RecordingValue : Type 0 where
-  pub size : Size
-  pub options : AllocatorOptions
-  pub events : List EventValue
 
 -- the atlas, the names of its live ids, how many names were given, and what was recorded
 pub record SessionValue : Type 0 where

@@ -3,9 +3,10 @@
 
 mod error;
 mod event;
+mod log;
 mod names;
 mod recording;
 
 pub use error::RecordingError;
 pub use event::Event;
-pub use recording::Recording;
+pub use recording::{Recorder, Recording};
