@@ -5,6 +5,7 @@ use Rattle.guillotiere.specs.declared.geometry.Size.{Size}
 use Rattle.guillotiere.specs.declared.options.AllocatorOptions.{AllocatorOptions}
 use Rattle.guillotiere.specs.Pixels.{sides_of, options_of}
 use Rattle.guillotiere.specs.Replies.{grant_of, IsExact}
+use Rattle.guillotiere.specs.States.{started}
 use Rattle.guillotiere.specs.Stored.{AtlasValue, state_of}
 use Rattle.guillotiere_recording.specs.declared.names.LiveName.{LiveName}
 use Rattle.guillotiere_recording.specs.Events.{EventValue, given_names}
@@ -37,6 +38,12 @@ LeadsTo r last = Recorded (sides_of r.size) (options_of r.options) r.events last
 pub record IsFaithful (v : SessionValue) : Type 0 where
   pub leads : LeadsTo v.recording (session_of v)
   pub given : given_names v.recording.events ≡ first_names v.given
+
+-- a session that is new: an atlas of this size with these options, and nothing recorded
+pub record IsNew (size : Size) (options : AllocatorOptions) (v : SessionValue) : Type 0 where
+  pub state : state_of v.atlas ≡ started (sides_of size) (options_of options) 16777216
+  pub recording : v.recording ≡ record { size = size; options = options; events = [] }
+  pub given : v.given ≡ 0
 
 -- the live names with their boxes by rising name, as exact rectangles: the book of the events
 pub record AreBooked (events : List EventValue) (found : List Allocation) : Type 0 where
