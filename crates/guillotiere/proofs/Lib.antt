@@ -99,3 +99,4 @@ pub mod LastMembers
 pub mod GrownTrees
 pub mod GrownSlots
 pub mod GrownStages
+pub mod TurnCounting
