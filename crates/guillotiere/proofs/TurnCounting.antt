@@ -55,7 +55,7 @@ moved_most old new n list sound h =
 
 -- what one call adds to the members
 
-abbrev adds_of : AtlasCall → AtlasReply → ℕ
+abbrev pub adds_of : AtlasCall → AtlasReply → ℕ
 adds_of call reply = 4 * grants_of call reply + 3 * growths_of call reply + 4 * moves_of call reply
 
 granted_most : (old new : State) (r : Sides) (f : Box) (g : Grant) → IsSound old → Grants old r f g new
