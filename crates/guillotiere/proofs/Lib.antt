@@ -100,3 +100,4 @@ pub mod GrownTrees
 pub mod GrownSlots
 pub mod GrownStages
 pub mod TurnCounting
+pub mod Playing

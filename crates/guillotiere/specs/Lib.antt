@@ -40,3 +40,4 @@ pub mod Chosen
 pub mod Growing
 pub mod Growths
 pub mod Rearranging
+pub mod Sessions

@@ -197,12 +197,12 @@ impl<A: Allocator + Copy> AtlasAllocator<A> {
     }
 
     /// Frees the box of an id: it joins the free space beside it. `NotLive` if the id isn't live, and then nothing changes.
-    /// Takes no memory, and at most one turn more than there are members fewer.
+    /// Takes no memory, and one turn more than there are members fewer.
     pub fn deallocate(&mut self, id: AllocId) -> Result<(), AtlasError>
         ensures step { Step (state_of self.old) (Deallocate id) (done_reply result) (state_of self.new) }
         ensures refused { OnErr result (self.new ≡ self.old) }
         ensures unless { IsOkUnless result AtlasError.NotLive }
-        ensures turns { self.new.turns + used_in (state_of self.new) ≤ self.old.turns + 1 + used_in (state_of self.old) }
+        ensures turns { OnOk result (self.new.turns + used_in (state_of self.new) ≡ self.old.turns + 1 + used_in (state_of self.old)) }
     {
         if !self.is_live(id) {
             return Err(AtlasError::NotLive);
