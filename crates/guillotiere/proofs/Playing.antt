@@ -1,6 +1,9 @@
 -- Calls made of an atlas in turn.
 use Rattle.std.proofs.Common.{◌≡◌, ℕ, suc, ◌+◌, ◌≤◌, ◌<◌, ◌⊎◌, true, List, [], ◌∷◌, ◌++◌, length, map, take, drop, get_or, refl, ap, subst, sym, ◌∙◌, arith, inl, inr, All}
-use Rattle.std.proofs.lemmas.List.{take_more, map-append, drop-append-le, take-append-le}
+use Rattle.std.proofs.lemmas.List.Elements.{All-map}
+use Rattle.std.proofs.lemmas.List.{take_more, map-append, length-map, drop-append-le, take-append-le}
+use Rattle.guillotiere.specs.declared.session.Call.{Call}
+use Rattle.guillotiere.specs.declared.session.Reply.{Reply}
 use Rattle.guillotiere.specs.States.{State, used_in, IsSound}
 use Rattle.guillotiere.specs.Steps.{AtlasCall, AtlasReply, Step}
 use Rattle.guillotiere.specs.Steps.AtlasCall.{Allocate, Deallocate, Grow, Clear, Reset, Rearrange, ResizeAndRearrange}
@@ -8,7 +11,7 @@ use Rattle.guillotiere.specs.Steps.AtlasReply.{Allocated, NoRoom, Done, Changed,
 use Rattle.guillotiere.specs.Runs.{Run, is_plain}
 use Rattle.guillotiere.specs.RunTurns.{freeings_of, turns_within}
 use Rattle.guillotiere.specs.Stored.{AtlasValue, state_of}
-use Rattle.guillotiere.specs.Sessions.{TakesTurns, IsSession}
+use Rattle.guillotiere.specs.Sessions.{call_of, reply_of, calls_of, replies_of, TakesTurns, IsSession}
 use Rattle.guillotiere.proofs.RunKeeping.{runs_keep_order}
 use Rattle.guillotiere.proofs.Traces.{runs_leave_no_trace}
 use Rattle.guillotiere.proofs.StepKeeping.{nodes_positive}
@@ -97,17 +100,25 @@ played_more old mid new calls replies call reply sound h step takes =
       );
     }
 
-pub session_played : (old new : AtlasValue) (calls : List AtlasCall) (replies : List AtlasReply) → IsSound (state_of old)
-    → IsPlayed old calls replies new → IsSession old calls replies new
+plain_mapped : (calls : List Call) → All (λ c. is_plain (call_of c) ≡ true) calls
+    → All (λ c. is_plain c ≡ true) (calls_of calls)
+plain_mapped calls plain = All-map (λ c. is_plain c ≡ true) call_of calls plain
+
+pub session_played : {A : Type 0} (old new : AtlasValue) (calls : List Call) (replies : List (Reply A)) → IsSound (state_of old)
+    → IsPlayed old (calls_of calls) (replies_of replies) new → IsSession old calls replies new
 session_played old new calls replies sound h =
-    let order = runs_keep_order (state_of old) (state_of new) calls replies sound h.run in
+    let order = runs_keep_order (state_of old) (state_of new) (calls_of calls) (replies_of replies) sound h.run in
     let some : 1 ≤ used_in (state_of new) =
     nodes_positive (state_of new).size (state_of new).tree order.1.sound.well_formed in
     record {
+      count = sym (length-map replies reply_of)
+          ∙ sym (run-length (calls_of calls) (replies_of replies) (state_of old) (state_of new) h.run)
+          ∙ length-map calls call_of;
       run = h.run;
       along = order.0;
       end = order.1;
-      trace = λ plain. runs_leave_no_trace (state_of old) (state_of new) calls replies sound plain h.run;
+      trace = λ plain. runs_leave_no_trace (state_of old) (state_of new) (calls_of calls) (replies_of replies) sound
+          (plain_mapped calls plain) h.run;
       turns = h.turns;
-      turns_from_new = λ new_tree. omega (arith, h.turns);
+      turns_from_one = λ one. omega (arith, h.turns);
     }

@@ -1,18 +1,15 @@
 -- How many turns a run takes.
-use Rattle.std.proofs.Common.{◌≡◌, ℕ, ◌+◌, ◌*◌, ◌≤◌, true, false, List, [], ◌∷◌, ◌++◌, length, refl, ap, subst, sym, arith, inl, inr, All}
-use Rattle.std.proofs.lemmas.Bool.{false≢true}
+use Rattle.std.proofs.Common.{◌≡◌, ℕ, ◌+◌, ◌*◌, ◌≤◌, List, [], ◌∷◌, ◌++◌, length, subst, sym, arith, inl, inr, All}
 use Rattle.std.proofs.lemmas.List.Sorted.{All-permutation}
 use Rattle.std.proofs.lemmas.List.Elements.{All-head, All-tail}
 use Rattle.guillotiere.specs.Boxes.{Sides, Box, box_sides, IsPositive}
 use Rattle.guillotiere.specs.Choice.{Options, AreValid, rounded}
-use Rattle.guillotiere.specs.Trees.{Tree, Grant, grant, nodes, IsWellFormed}
+use Rattle.guillotiere.specs.Trees.{Tree, Grant, nodes, IsWellFormed}
 use Rattle.guillotiere.specs.Changes.{only, release, grown, place, fresh, place_need, grow_need}
 use Rattle.guillotiere.specs.States.{State, live_in, used_in, IsSound}
 use Rattle.guillotiere.specs.Refits.{Rearrangement, refit_sides, Refits}
 use Rattle.guillotiere.specs.Steps.{AtlasCall, AtlasReply, Step, Grants, Rearranges}
-use Rattle.guillotiere.specs.Steps.AtlasCall.{Allocate, Deallocate, Grow, Clear, Reset, Rearrange, ResizeAndRearrange}
-use Rattle.guillotiere.specs.Steps.AtlasReply.{Allocated, NoRoom, Done, Changed, Refused, BadCall}
-use Rattle.guillotiere.specs.StepLaws.{is_refusal}
+use Rattle.guillotiere.specs.Steps.AtlasReply.{Changed}
 use Rattle.guillotiere.specs.RunTurns.{grants_of, freeings_of, growths_of, moves_of, in_all, turns_within}
 use Rattle.guillotiere.proofs.Outcomes.{by_outcome}
 use Rattle.guillotiere.proofs.Rounding.{rounded_positive}

@@ -1,6 +1,5 @@
 -- How many turns a run may take, counted from its calls and its replies alone.
-use Rattle.std.specs.Prelude.{ℕ, ◌+◌, ◌*◌, List, [], ◌∷◌, length}
-use Rattle.guillotiere.specs.Refits.{Rearrangement}
+use Rattle.std.specs.Prelude.{ℕ, ◌+◌, ◌*◌, List, ◌∷◌, length}
 use Rattle.guillotiere.specs.Steps.{AtlasCall, AtlasReply}
 use Rattle.guillotiere.specs.Steps.AtlasCall.{Allocate, Deallocate, Grow}
 use Rattle.guillotiere.specs.Steps.AtlasReply.{Allocated, Done, Changed}

@@ -1,11 +1,11 @@
--- Sessions: the calls that a list of code asks for, the replies, and what a session of an atlas keeps to.
-use Rattle.std.specs.Prelude.{◌≡◌, ℕ, ◌+◌, ◌≤◌, true, List, All}
+-- Sessions: calls of an atlas as data, their replies, and what a list of calls made in turn keeps to.
+use Rattle.std.specs.Prelude.{◌≡◌, ◌+◌, ◌≤◌, true, List, length, map, All}
 use Rattle.guillotiere.specs.declared.session.Call.{Call}
 use Rattle.guillotiere.specs.declared.session.Call.TheVariants as call
 use Rattle.guillotiere.specs.declared.session.Reply.{Reply}
 use Rattle.guillotiere.specs.declared.session.Reply.TheVariants as reply
 use Rattle.guillotiere.specs.Pixels.{sides_of, options_of}
-use Rattle.guillotiere.specs.States.{State, used_in}
+use Rattle.guillotiere.specs.States.{used_in}
 use Rattle.guillotiere.specs.Steps.{AtlasCall, AtlasReply, Step}
 use Rattle.guillotiere.specs.Steps.AtlasCall.{Allocate, Deallocate, Grow, Clear, Reset, Rearrange, ResizeAndRearrange}
 use Rattle.guillotiere.specs.Steps.AtlasReply.{Allocated, NoRoom, Done, Changed, Refused, BadCall}
@@ -34,33 +34,48 @@ reply_of (reply.Changed list) = Changed (rearrangement_of list)
 reply_of (reply.Refused error) = Refused error
 reply_of reply.BadCall = BadCall
 
--- every rectangle of a reply has the coordinates of its box
+-- each rectangle of a reply has the coordinates of its box
 abbrev pub IsExactReply : {A : Type 0} → Reply A → Type 0
 IsExactReply (reply.Allocated allocation) = IsExact allocation.rectangle
 IsExactReply (reply.Changed list) = AreExactChanges list
 IsExactReply _ = Unit {0}
 
--- What a call of an atlas and its reply say of turns: a freeing takes one, and one for each member fewer; no other call
--- takes any.
+-- What a call of an atlas and its reply say of turns: a freeing takes one, and one for each member fewer; no other
+-- call takes any.
 abbrev pub TakesTurns : AtlasValue → AtlasCall → AtlasReply → AtlasValue → Type 0
-TakesTurns old (Deallocate id) Done new = new.turns + used_in (state_of new) ≡ old.turns + 1 + used_in (state_of old)
+TakesTurns old (Deallocate id) Done new =
+    new.turns + used_in (state_of new) ≡ old.turns + 1 + used_in (state_of old)
 TakesTurns old call reply new = new.turns ≡ old.turns
 
--- The call has this reply and leads to new: it is a step of the model, and its rectangles are exact; where it refuses, all
--- is as before.
-pub record IsAnswered {A : Type 0} (old : AtlasValue) (call : AtlasCall) (reply : Reply A) (new : AtlasValue) : Type 0 where
+-- A call has this reply and leads to new: it is a step of the model, and its rectangles are exact; where nothing was
+-- done, all is as before.
+pub record IsAnswered {A : Type 0} (old : AtlasValue) (call : AtlasCall) (reply : Reply A) (new : AtlasValue)
+    : Type 0 where
   pub step : Step (state_of old) call (reply_of reply) (state_of new)
   pub exact : IsExactReply reply
   pub unchanged : is_refusal (reply_of reply) ≡ true → new ≡ old
   pub turns : TakesTurns old call (reply_of reply) new
 
--- Calls made of an atlas in turn, and their replies. They are a run of the model; along it everything is in order and
--- each reply owed, and everything is in order at its end; grants, freeings and growths leave no trace; and the turns
--- are few, of which those of a new atlas are the second bound.
-pub record IsSession (old : AtlasValue) (calls : List AtlasCall) (replies : List AtlasReply) (new : AtlasValue) : Type 0 where
-  pub run : Run (state_of old) calls replies (state_of new)
-  pub along : IsRunInOrder (state_of old) calls replies (state_of new)
+abbrev pub calls_of : List Call → List AtlasCall
+calls_of calls = map call_of calls
+
+abbrev pub replies_of : {A : Type 0} → List (Reply A) → List AtlasReply
+replies_of replies = map reply_of replies
+
+-- Calls made of an atlas in turn, and their replies, one for each. They are a run of the model. Along it everything is
+-- in order and each reply owed, and at its end everything is in order. Where all calls are grants, freeings and
+-- growths, they leave no trace. The turns are few; the second bound is for an atlas with one member, as a new one has.
+pub record IsSession {A : Type 0} (old : AtlasValue) (calls : List Call) (replies : List (Reply A)) (new : AtlasValue)
+    : Type 0 where
+  pub count : length replies ≡ length calls
+  pub run : Run (state_of old) (calls_of calls) (replies_of replies) (state_of new)
+  pub along : IsRunInOrder (state_of old) (calls_of calls) (replies_of replies) (state_of new)
   pub end : IsInOrder (state_of new)
-  pub trace : All (λ c. is_plain c ≡ true) calls → LeavesNoTrace (state_of old) calls replies (state_of new)
-  pub turns : new.turns + used_in (state_of new) ≤ old.turns + used_in (state_of old) + turns_within calls replies
-  pub turns_from_new : used_in (state_of old) ≡ 1 → new.turns ≤ old.turns + turns_within calls replies
+  pub trace :
+      All (λ c. is_plain (call_of c) ≡ true) calls
+      → LeavesNoTrace (state_of old) (calls_of calls) (replies_of replies) (state_of new)
+  pub turns :
+      new.turns + used_in (state_of new)
+      ≤ old.turns + used_in (state_of old) + turns_within (calls_of calls) (replies_of replies)
+  pub turns_from_one :
+      used_in (state_of old) ≡ 1 → new.turns ≤ old.turns + turns_within (calls_of calls) (replies_of replies)

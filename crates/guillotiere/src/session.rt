@@ -1,5 +1,5 @@
 //! Sessions: lists of calls of an atlas, and their replies.
-ghost use Rattle.std.specs.Prelude.{◌≡◌, ◌↔◌, true, All, map, take, drop, vec_len, IsTrue, IfOk, OnOk, OnErr, IsOkUnless};
+ghost use Rattle.std.specs.Prelude.{◌≡◌, ◌↔◌, true, All, take, drop, vec_len, IsTrue, IfOk, OnOk, OnErr, IsOkUnless};
 ghost use Rattle.guillotiere.specs.Boxes.{Fits, IsPositive};
 ghost use Rattle.guillotiere.specs.Pixels.{sides_of, options_of};
 ghost use Rattle.guillotiere.specs.Steps.{Step};
@@ -140,8 +140,8 @@ fn resize<A: Allocator + Copy>(atlas: &mut AtlasAllocator<A>, size: Size) -> Rep
     changed(atlas.resize_and_rearrange(size))
 }
 
-/// Makes a call of an atlas. Where the condition of the call doesn't hold it answers `BadCall`. Unless the reply says that
-/// something was done, nothing changes.
+/// Makes a call of an atlas. Where the condition of the call doesn't hold it answers `BadCall`. Unless the reply says
+/// that something was done, nothing changes.
 pub fn step<A: Allocator + Copy>(atlas: &mut AtlasAllocator<A>, call: &Call) -> Reply<A>
     ensures step { Step (state_of atlas.old) (call_of call.now) (reply_of result) (state_of atlas.new) }
     ensures exact { IsExactReply result }
@@ -159,19 +159,21 @@ pub fn step<A: Allocator + Copy>(atlas: &mut AtlasAllocator<A>, call: &Call) -> 
     }
 }
 
-/// Makes calls of an atlas in turn, and appends a reply for each. Room for all replies comes first: `Memory` is the only
-/// error, and after it atlas and replies are as before.
+/// Makes calls of an atlas in turn, and appends a reply for each. Room for all replies comes first: `Memory` is the
+/// only error, and after it atlas and replies are as before. So after any list of calls the boxes tile the atlas as
+/// leaves of one normal tree of cuts, and each reply is owed (docs/MODEL.md, "Sessions").
 pub fn run<A: Allocator + Copy>(
     atlas: &mut AtlasAllocator<A>,
     calls: &[Call],
     replies: &mut Vec<Reply<A>, A>,
 ) -> Result<(), AtlasError>
     ensures unless { IsOkUnless result AtlasError.Memory }
-    ensures session { OnOk result (IsSession atlas.old (map call_of calls.now) (map reply_of (drop (vec_len replies.old) replies.new.items)) atlas.new) }
+    ensures session { OnOk result
+        (IsSession atlas.old calls.now (drop (vec_len replies.old) replies.new.items) atlas.new) }
     ensures exact { OnOk result (All IsExactReply (drop (vec_len replies.old) replies.new.items)) }
     ensures kept { take (vec_len replies.old) replies.new.items ≡ replies.old.items }
     ensures refused { OnErr result (atlas.new ≡ atlas.old) }
-    ensures replies { OnErr result (replies.new.items ≡ replies.old.items) }
+    ensures no_reply { OnErr result (replies.new.items ≡ replies.old.items) }
 {
     replies.reserve(calls.len())?;
     // its contract says that the atlas is sound

@@ -1,7 +1,7 @@
-use Rattle.std.proofs.Common.{◌≡◌, ◌+◌, ◌≤◌, length, map, take, drop, vec_len, vec_capacity, All}
+use Rattle.std.proofs.Common.{◌≡◌, ◌+◌, ◌≤◌, length, take, drop, vec_len, vec_capacity, All}
 use Rattle.guillotiere.specs.States.{IsSound}
 use Rattle.guillotiere.specs.Stored.{state_of}
-use Rattle.guillotiere.specs.Sessions.{call_of, reply_of, IsExactReply}
+use Rattle.guillotiere.specs.Sessions.{calls_of, replies_of, IsExactReply}
 use Rattle.guillotiere.proofs.Playing.{IsPlayed}
 use Rattle.guillotiere.proofs.session.run.Given as goal
 
@@ -13,5 +13,5 @@ invariant-loop-call g l =
       longer : vec_len l.fn.replies ≤ length l.replies.items;
       kept : take (vec_len l.fn.replies) l.replies.items ≡ l.fn.replies.items;
       exact : All IsExactReply (drop (vec_len l.fn.replies) l.replies.items);
-      played : IsPlayed l.fn.atlas (map call_of (take l.call-index l.calls)) (map reply_of (drop (vec_len l.fn.replies) l.replies.items)) l.atlas;
+      played : IsPlayed l.fn.atlas (calls_of (take l.call-index l.calls)) (replies_of (drop (vec_len l.fn.replies) l.replies.items)) l.atlas;
     }
