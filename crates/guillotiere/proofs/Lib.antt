@@ -99,3 +99,5 @@ pub mod LastMembers
 pub mod GrownTrees
 pub mod GrownSlots
 pub mod GrownStages
+pub mod TurnCounting
+pub mod Playing

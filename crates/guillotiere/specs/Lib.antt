@@ -17,6 +17,7 @@ pub mod Steps
 pub mod Runs
 pub mod StepLaws
 pub mod RunLaws
+pub mod RunTurns
 pub mod Slots
 pub mod Numbered
 pub mod Standing
@@ -38,3 +39,5 @@ pub mod Batches
 pub mod Chosen
 pub mod Growing
 pub mod Growths
+pub mod Rearranging
+pub mod Sessions
