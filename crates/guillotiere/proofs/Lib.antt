@@ -2,6 +2,7 @@ pub mod Picking
 pub mod PickExistence
 pub mod RunKeeping
 pub mod Renaming
+pub mod Alike
 pub mod Traces
 pub mod DueAnswers
 pub mod StepEffects

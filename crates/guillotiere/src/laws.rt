@@ -8,7 +8,7 @@ ghost use Rattle.guillotiere.specs.Examples.{Shows, sides, box, both, one_corner
 ghost use Rattle.guillotiere.specs.TreeLaws.{LeavesTile, AreasAddUp, ReleasesInAnyOrder, GrantsAreUndone, GrowthAndReleaseSwap, NothingLiveIsOneFree, PlacingsKeepTrees, ReleasesKeepTrees, GrowthsKeepTrees, FreedHasRoom, MembersAreCounted};
 ghost use Rattle.guillotiere.specs.StepLaws.{StepsKeep, PicksAreOne, PicksExist, SmallerFits, GrantsLieInside, FreeingsRemoveOne, GrowthsKeepBoxes, RearrangingsLoseNothing, RefusalsChangeNothing, StepsAnswerAsDue};
 ghost use Rattle.guillotiere.specs.RunLaws.{RunsKeepOrder, RunsLeaveNoTrace};
-ghost use Rattle.guillotiere.specs.Renaming.{RenamingChangesNothing};
+ghost use Rattle.guillotiere.specs.Renaming.{RenamingChangesNothing, AnswersWithoutIds};
 
 /// In a well formed tree of cuts each unit square of the atlas lies in exactly one leaf's box, and no
 /// such box is empty or passes the sides of the atlas.
@@ -165,4 +165,10 @@ pub fn smaller_fits()
 /// Names in place of ids change nothing that a tree shows; placing, freeing and growing are the same under them.
 pub fn renaming()
     ensures { RenamingChangesNothing }
+{}
+
+/// Two sound states that are one but for their ids answer each grant, freeing and growth alike, where neither is refused
+/// for memory, and are one but for their ids after it.
+pub fn answers_without_ids()
+    ensures { AnswersWithoutIds }
 {}
