@@ -18,6 +18,7 @@ pub mod Runs
 pub mod StepLaws
 pub mod RunLaws
 pub mod Renaming
+pub mod Existence
 pub mod Slots
 pub mod Numbered
 pub mod Standing

@@ -8,6 +8,7 @@ ghost use Rattle.guillotiere.specs.Examples.{Shows, sides, box, both, one_corner
 ghost use Rattle.guillotiere.specs.TreeLaws.{LeavesTile, AreasAddUp, ReleasesInAnyOrder, GrantsAreUndone, GrowthAndReleaseSwap, NothingLiveIsOneFree, PlacingsKeepTrees, ReleasesKeepTrees, GrowthsKeepTrees, FreedHasRoom, MembersAreCounted};
 ghost use Rattle.guillotiere.specs.StepLaws.{StepsKeep, PicksAreOne, PicksExist, SmallerFits, GrantsLieInside, FreeingsRemoveOne, GrowthsKeepBoxes, RearrangingsLoseNothing, RefusalsChangeNothing, StepsAnswerAsDue};
 ghost use Rattle.guillotiere.specs.RunLaws.{RunsKeepOrder, RunsLeaveNoTrace};
+ghost use Rattle.guillotiere.specs.Existence.{RoundingIsLeast, StartsAreSound, StepsExist};
 ghost use Rattle.guillotiere.specs.Renaming.{RenamingChangesNothing, AnswersWithoutIds};
 
 /// In a well formed tree of cuts each unit square of the atlas lies in exactly one leaf's box, and no
@@ -171,4 +172,20 @@ pub fn renaming()
 /// for memory, and are one but for their ids after it.
 pub fn answers_without_ids()
     ensures { AnswersWithoutIds }
+{}
+
+/// The rounded side is at least the side and a multiple of the alignment, and no such multiple is smaller.
+pub fn rounding()
+    ensures { RoundingIsLeast }
+{}
+
+/// An atlas of a positive size, with valid options and a limit of at least 1, starts in a sound state.
+pub fn starts_are_sound()
+    ensures { StartsAreSound }
+{}
+
+/// From each sound state whose limit is at most 16777216 each call has a reply other than a refusal for memory, and a
+/// state that it leads to.
+pub fn steps_exist()
+    ensures { StepsExist }
 {}
