@@ -1,6 +1,10 @@
 pub mod Picking
 pub mod PickExistence
 pub mod RunKeeping
+pub mod Renaming
+pub mod Alike
+pub mod RefitOrders
+pub mod Existence
 pub mod Traces
 pub mod DueAnswers
 pub mod StepEffects
