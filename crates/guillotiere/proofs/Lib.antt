@@ -99,3 +99,7 @@ pub mod LastMembers
 pub mod GrownTrees
 pub mod GrownSlots
 pub mod GrownStages
+pub mod CallerLemmas
+pub mod LiveBoxes
+pub mod LyingApart
+pub mod Guarding

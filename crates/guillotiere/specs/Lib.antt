@@ -37,3 +37,4 @@ pub mod Batches
 pub mod Chosen
 pub mod Growing
 pub mod Growths
+pub mod Callers

@@ -8,6 +8,7 @@ ghost use Rattle.guillotiere.specs.Examples.{Shows, sides, box, both, one_corner
 ghost use Rattle.guillotiere.specs.TreeLaws.{LeavesTile, AreasAddUp, ReleasesInAnyOrder, GrantsAreUndone, GrowthAndReleaseSwap, NothingLiveIsOneFree, PlacingsKeepTrees, ReleasesKeepTrees, GrowthsKeepTrees, FreedHasRoom, MembersAreCounted};
 ghost use Rattle.guillotiere.specs.StepLaws.{StepsKeep, PicksAreOne, PicksExist, SmallerFits, GrantsLieInside, FreeingsRemoveOne, GrowthsKeepBoxes, RearrangingsLoseNothing, RefusalsChangeNothing, StepsAnswerAsDue};
 ghost use Rattle.guillotiere.specs.RunLaws.{RunsKeepOrder, RunsLeaveNoTrace};
+ghost use Rattle.guillotiere.specs.Callers.{SoundIsTiled, LiveHaveBoxes, LiveShareNothing, LiveLieWithin, LiveAreGuarded};
 
 /// In a well formed tree of cuts each unit square of the atlas lies in exactly one leaf's box, and no
 /// such box is empty or passes the sides of the atlas.
@@ -159,4 +160,29 @@ pub fn runs_leave_no_trace()
 /// From one state, if a request fits, each positive request no wider and no higher fits.
 pub fn smaller_fits()
     ensures { SmallerFits }
+{}
+
+/// In each sound state live and free boxes tile the atlas.
+pub fn sound_is_tiled()
+    ensures { SoundIsTiled }
+{}
+
+/// An id is live exactly if it has a box.
+pub fn live_ids_have_boxes()
+    ensures { LiveHaveBoxes }
+{}
+
+/// The boxes of two live ids share no unit square, and lie apart.
+pub fn live_boxes_lie_apart()
+    ensures { LiveShareNothing }
+{}
+
+/// Each live box is nonempty and lies within the atlas.
+pub fn live_boxes_lie_within()
+    ensures { LiveLieWithin }
+{}
+
+/// The live boxes are guarded: disjoint from each other and from the free boxes.
+pub fn live_boxes_are_guarded()
+    ensures { LiveAreGuarded }
 {}
