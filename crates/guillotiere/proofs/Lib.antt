@@ -105,3 +105,7 @@ pub mod GrownSlots
 pub mod GrownStages
 pub mod TurnCounting
 pub mod Playing
+pub mod CallerLemmas
+pub mod LiveBoxes
+pub mod LyingApart
+pub mod Guarding

@@ -43,3 +43,4 @@ pub mod Growing
 pub mod Growths
 pub mod Rearranging
 pub mod Sessions
+pub mod Callers
