@@ -42,7 +42,8 @@ pub record RenamingChangesNothing : Type 0 where
   pub members : (f : ℕ → ℕ) (t : Tree) → nodes (renamed_tree f t).members ≡ nodes t.members
   pub live : (f : ℕ → ℕ) (size : Sides) (t : Tree) → live size (renamed_tree f t) ≡ map (renamed_grant f) (live size t)
   pub free : (f : ℕ → ℕ) (size : Sides) (t : Tree) → free_boxes size (renamed_tree f t) ≡ free_boxes size t
-  pub grown : (f : ℕ → ℕ) (old new : Sides) (t : Tree) → renamed_tree f (grown old new t) ≡ grown old new (renamed_tree f t)
+  pub grown :
+      (f : ℕ → ℕ) (old new : Sides) (t : Tree) → renamed_tree f (grown old new t) ≡ grown old new (renamed_tree f t)
   pub placed :
       (f : ℕ → ℕ) (size : Sides) (t : Tree) (b : Box) (r : Sides) (id name : ℕ) → (Contains (ids t.members) id → ⊥)
       → renamed_tree (with_name f id name) (place size b r id t) ≡ place size b r name (renamed_tree f t)
@@ -72,7 +73,8 @@ AreSameCalls f g s t _ _ = ⊥
 -- and a name that no id of s had may be the name of both new ids.
 abbrev pub AnswerAlike : (f g : ℕ → ℕ) → (s s' t' : State) → (reply answer : AtlasReply) → Type 0
 AnswerAlike f g s s' t' (Allocated a) (Allocated b) =
-    (b.box ≡ a.box) × ((name : ℕ) → IsNewName f s.tree name → AreAlike (with_name f a.id name) (with_name g b.id name) s' t')
+    (b.box ≡ a.box)
+    × ((name : ℕ) → IsNewName f s.tree name → AreAlike (with_name f a.id name) (with_name g b.id name) s' t')
 AnswerAlike f g s s' t' reply answer = (answer ≡ reply) × AreAlike f g s' t'
 
 -- whether memory was wanting

@@ -18,6 +18,7 @@ mod options;
 mod pick;
 mod placing;
 mod requests;
+pub mod session;
 mod simple;
 mod slots;
 mod start;
