@@ -19,6 +19,7 @@ use Rattle.guillotiere.specs.Steps as atlas
 use Rattle.guillotiere.specs.Steps.{AtlasCall}
 use Rattle.guillotiere.specs.StepLaws.{live_count, IsGrantStep, IsFreeingStep}
 use Rattle.guillotiere.proofs.Counting.{count_by-cons, count_by-append, count_some}
+use Rattle.guillotiere.proofs.Existence.{starts_are_sound}
 use Rattle.guillotiere.proofs.StepEffects.{grants_lie_inside, freeings_remove_one, growths_keep_boxes, rearrangings_lose_nothing}
 use Rattle.guillotiere.proofs.TreeBasics.{one_if}
 use Rattle.guillotiere.proofs.TreeIds.{Contains-none}

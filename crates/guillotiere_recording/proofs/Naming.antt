@@ -1,7 +1,7 @@
 -- Each event leads from a named state to a named state.
-use Rattle.std.proofs.Common.{◌≡◌, ℕ, ◌+◌, ◌<◌, ◌≤◌, ◌==◌, ◌⊎◌, inl, inr, eqb, Bool, true, false, ◌&&◌, not, List, [], ◌∷◌, ◌++◌, map, filter, refl, ap, sym, subst, ◌∙◌, arith, All, Contains, IsPermutation, Option, Some, None}
+use Rattle.std.proofs.Common.{◌≡◌, ℕ, ◌+◌, ◌<◌, ◌≤◌, ◌==◌, ◌⊎◌, inl, inr, eqb, Bool, true, false, ◌&&◌, not, List, [], ◌∷◌, ◌++◌, map, filter, zero-add, refl, ap, sym, subst, ◌∙◌, arith, All, Contains, IsPermutation, Option, Some, None}
 use Rattle.std.specs.List.{count_by}
-use Rattle.std.proofs.lemmas.Bool.{eqb-true, eq-eqb}
+use Rattle.std.proofs.lemmas.Bool.{eqb-true, eq-eqb, false≢true}
 use Rattle.std.proofs.lemmas.List.Elements.{All-contains, Contains-append_right}
 use Rattle.guillotiere.specs.Boxes.{Sides}
 use Rattle.guillotiere.specs.Choice.{Options}
@@ -23,7 +23,7 @@ use Rattle.guillotiere_recording.specs.Events.{EventValue, ListValue}
 use Rattle.guillotiere_recording.specs.Events.EventValue.{Allocate, Deallocate, Grow, Rearrange, ResizeAndRearrange}
 use Rattle.guillotiere_recording.specs.Sessions.{Named, IsLiveName, IsNamed, KeepsNames, GrantsUnder, FreesUnder, RearrangesUnder, Leads}
 use Rattle.guillotiere_recording.specs.Books.{EventsKeepNames}
-use Rattle.guillotiere_recording.proofs.Counts.{count_map, count_filter, count_permuted}
+use Rattle.guillotiere_recording.proofs.Counts.{count_map, count_filter, count_permuted, count_alike}
 use Rattle.guillotiere_recording.proofs.Entries.{live_is_counted, counted_is_live}
 
 -- a live id is counted once
@@ -94,6 +94,36 @@ freeing_less old new freed h id =
     second : (x y : Bool) → (x && y) ≡ true → y ≡ true
     second true y is = is
     second false y is = cc
+
+-- a freed id is live no more, and every other one as it was
+
+pub freed_is_gone : (old new : State) (freed : ℕ) → IsFreeingStep old freed new → live_count freed new ≡ 0
+freed_is_gone old new freed h =
+    freeing_counts old new freed h freed
+    ∙ count_alike (λ g. not (g.id == freed) && g.id == freed) (λ g. false) (live_in old) (λ g at. never (g.id == freed))
+    ∙ count_none (live_in old)
+  where
+    never : (b : Bool) → (not b && b) ≡ false
+    never true = refl
+    never false = refl
+
+    count_none : (gs : List Grant) → count_by (λ g. false) gs ≡ 0
+    count_none [] = refl
+    count_none (g ∷ gs) = count_by-cons (λ k. false) g gs ∙ zero-add _ ∙ count_none gs
+
+pub others_stay : (old new : State) (freed : ℕ) → IsFreeingStep old freed new → (id : ℕ) → eqb freed id ≡ false
+    → live_count id new ≡ live_count id old
+others_stay old new freed h id other =
+    freeing_counts old new freed h id
+    ∙ count_alike (λ g. not (g.id == freed) && g.id == id) (λ g. g.id == id) (live_in old)
+    (λ g at. by_tests g.id (eqb g.id freed) refl (eqb g.id id) refl)
+  where
+    by_tests : (k : ℕ) (b : Bool) → eqb k freed ≡ b → (c : Bool) → eqb k id ≡ c → (not b && c) ≡ c
+    by_tests k true is true says =
+        let one : freed ≡ id = sym (eqb-true k freed is) ∙ eqb-true k id says in
+        absurd (false≢true (sym other ∙ eq-eqb freed id one))
+    by_tests k true is false says = refl
+    by_tests k false is c says = refl
 
 pub growth_counts : (old new : State) → IsGrowthStep old new → (id : ℕ) → live_count id new ≡ live_count id old
 growth_counts old new h id = ap (count_by (λ g. g.id == id)) h.live

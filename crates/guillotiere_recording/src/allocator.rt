@@ -19,7 +19,7 @@ ghost use Rattle.guillotiere_recording.specs.Logs.{with_event};
 use crate::error::RecordingError;
 use crate::event::Event;
 use crate::log::Log;
-use crate::names::{LiveName, append, place_of};
+use crate::names::{LiveName, append, find};
 use crate::recording::Recording;
 use guillotiere::{
     AllocId, Allocation, AllocatorOptions, AtlasAllocator, DEFAULT_OPTIONS, Rectangle, Size,
@@ -138,13 +138,12 @@ impl<A: Allocator + Copy> RecordingAllocator<A> {
         ensures not_live { (result ≡ Err RecordingError.NotLive) ↔ (IsLiveName (session_of self.old) id → ⊥) }
         ensures refused { OnErr result (self.new ≡ self.old) }
     {
-        let Some(at) = place_of(&self.names, id.serialize()) else {
+        let Some(found) = find(&self.names, id.serialize()) else {
             return Err(RecordingError::NotLive);
         };
         self.log.make_room()?;
-        let entry = self.names[at];
-        self.atlas.deallocate(entry.id)?;
-        self.names.remove(at);
+        self.atlas.deallocate(found.id)?;
+        self.names.remove(found.at);
         self.log.note(Event::Deallocate(id));
         Ok(())
     }

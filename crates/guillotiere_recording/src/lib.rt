@@ -4,6 +4,7 @@
 mod allocator;
 mod error;
 mod event;
+pub mod laws;
 mod log;
 mod names;
 mod recording;

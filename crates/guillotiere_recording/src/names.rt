@@ -29,6 +29,27 @@ pub fn place_of(names: &[LiveName], name: u32) -> Option<usize>
     }
 }
 
+/// A live id, and where its name stands.
+#[derive(Clone, Copy)]
+pub struct Found {
+    pub at: usize,
+    pub id: AllocId,
+}
+
+/// The live id that a name stands for, among names that rise.
+pub fn find<A: Allocator>(names: &Vec<LiveName, A>, name: u32) -> Option<Found>
+    requires { AreRising names.now.items }
+    ensures inside { IfSome result (λ found. found.at < length names.now.items) }
+    ensures found { IfSome result (λ found. HoldsAt (λ (n : Entry). n ≡ record { name = name; id = found.id }) names.now.items found.at) }
+    ensures none { IfNone result (All (λ (n : Entry). n.name ≡ name → ⊥) names.now.items) }
+{
+    let at = place_of(names, name)?;
+    Some(Found {
+        at,
+        id: names[at].id,
+    })
+}
+
 /// Appends to a vector that has room.
 pub fn append<T: Drop, A: Allocator>(items: &mut Vec<T, A>, item: T)
     requires { vec_len items.old < vec_capacity items.old }
