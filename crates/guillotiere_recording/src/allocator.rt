@@ -21,6 +21,7 @@ use crate::event::Event;
 use crate::log::Log;
 use crate::names::{LiveName, append, find};
 use crate::recording::Recording;
+use crate::walks::{gather_names, visit_names};
 use guillotiere::{
     AllocId, Allocation, AllocatorOptions, AtlasAllocator, DEFAULT_OPTIONS, Rectangle, Size,
 };
@@ -161,6 +162,40 @@ impl<A: Allocator + Copy> RecordingAllocator<A> {
         self.atlas.grow(new_size)?;
         self.log.note(Event::Grow(new_size));
         Ok(())
+    }
+
+    /// Calls `visit` on each free rectangle once, in an order that is left open. Asks that `visit` may be called. Takes no
+    /// memory.
+    pub fn for_each_free_rectangle<F: FnMut(&Rectangle)>(&self, visit: F)
+        requires { F.IsAlwaysCallable visit }
+        ensures { (areas : List Area) × AreFreeAreas (state_of self.now.atlas) areas × ((last : F) × FoldsTo (λ p x q. CalledAt F.FnMut p x tt q) visit areas last) }
+    {
+        self.atlas.for_each_free_rectangle(visit);
+    }
+
+    /// Calls `visit` on each live name and its rectangle once, by rising name. Asks that `visit` may be called. Takes no
+    /// memory.
+    pub fn for_each_allocated_rectangle<F: FnMut(AllocId, &Rectangle)>(&self, visit: F)
+        requires { F.IsAlwaysCallable visit }
+        ensures { (grants : List Grant) × AreBooked self.now.recording.events grants × ((last : F) × FoldsTo (CalledAtGrant F.FnMut) visit grants last) }
+    {
+        visit_names(&self.atlas, &self.names, visit);
+    }
+
+    /// The free rectangles, in an order that is left open. `Memory` is the only error.
+    pub fn free_rectangles(&self) -> Result<Vec<Rectangle, A>, RecordingError>
+        ensures unless { IsOkUnless result RecordingError.Memory }
+        ensures list { IfOk result (λ found. AreFreeAreas (state_of self.now.atlas) found.items) }
+    {
+        Ok(self.atlas.free_rectangles()?)
+    }
+
+    /// The live names with their rectangles, by rising name. `Memory` is the only error.
+    pub fn allocations(&self) -> Result<Vec<Allocation, A>, RecordingError>
+        ensures unless { IsOkUnless result RecordingError.Memory }
+        ensures list { IfOk result (λ found. AreBooked self.now.recording.events found.items) }
+    {
+        gather_names(*self.names.allocator(), &self.atlas, &self.names)
     }
 
     /// Ends the session. The answer is what was recorded. Takes no memory.

@@ -8,6 +8,7 @@ pub mod laws;
 mod log;
 mod names;
 mod recording;
+mod walks;
 
 pub use allocator::RecordingAllocator;
 pub use error::RecordingError;
