@@ -3,6 +3,8 @@ pub mod PickExistence
 pub mod RunKeeping
 pub mod Renaming
 pub mod Alike
+pub mod WorkedPicks
+pub mod WorkedRefits
 pub mod RefitOrders
 pub mod Existence
 pub mod Traces

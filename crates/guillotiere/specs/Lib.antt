@@ -18,6 +18,8 @@ pub mod Runs
 pub mod StepLaws
 pub mod RunLaws
 pub mod Renaming
+pub mod ChoiceExamples
+pub mod RefitExamples
 pub mod Existence
 pub mod Slots
 pub mod Numbered
