@@ -52,6 +52,7 @@ pub mod Cutting
 pub mod Occurrences
 pub mod Unlinking
 pub mod Banding
+pub mod ClassLists
 pub mod Filing
 pub mod Taking
 pub mod Choosing
