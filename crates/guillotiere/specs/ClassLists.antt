@@ -21,9 +21,10 @@ class_list held class = lists_from held (8 * class) 8
 abbrev pub of_class : Options → (class : ℕ) → Node → ℕ
 of_class o class n = if is_free n.kind && class_of o (node_sides n) == class then 1 else 0
 
--- The lists of a class in a row hold each free slot of the class once, and no other slot. The free slots of the slots that
--- stand for a tree are its free leaves, so each free leaf stands once in the list of its class.
+-- The lists of a class in a row hold each free slot of the class once, and no other slot. The free slots are those of
+-- the tree's free leaves, so each free leaf stands once in the list of its class.
 abbrev pub ClassListsHoldClasses : Type 0
 ClassListsHoldClasses =
     (v : Stored) (a : IsAtlas v) (class : ℕ) → class < 3 → (i : ℕ)
-    → occurs i (class_list a.holding.held class) ≡ of_class (options_of v.shelf.options) class (node_at (nodes v.shelf.slots) i)
+    → occurs i (class_list a.holding.held class)
+    ≡ of_class (options_of v.shelf.options) class (node_at (nodes v.shelf.slots) i)

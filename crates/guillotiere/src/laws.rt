@@ -19,7 +19,7 @@ ghost use Rattle.guillotiere.specs.TreeLaws.{LeavesTile, AreasAddUp, ReleasesInA
 ghost use Rattle.guillotiere.specs.StepLaws.{StepsKeep, PicksAreOne, PicksExist, SmallerFits, GrantsLieInside, FreeingsRemoveOne, GrowthsKeepBoxes, RearrangingsLoseNothing, RefusalsChangeNothing, StepsAnswerAsDue};
 ghost use Rattle.guillotiere.specs.RunLaws.{RunsKeepOrder, RunsLeaveNoTrace};
 ghost use Rattle.guillotiere.specs.Existence.{RoundingIsLeast, StartsAreSound, StepsExist};
-ghost use Rattle.guillotiere.specs.Renaming.{RenamingChangesNothing, AnswersWithoutIds};
+ghost use Rattle.guillotiere.specs.Renaming.{RenamingChangesNothing, AnswersWithoutIds, LiveNamesCount};
 
 /// In a well formed tree of cuts each unit square of the atlas lies in exactly one leaf's box, and no
 /// such box is empty or passes the sides of the atlas.
@@ -232,10 +232,12 @@ pub fn renaming()
     ensures { RenamingChangesNothing }
 {}
 
-/// Two sound states that are one but for their ids answer each grant, freeing and growth alike, where neither is refused
-/// for memory, and are one but for their ids after it.
+/// Two sound states that are one but for their ids answer each grant, freeing and growth alike, where neither is
+/// refused for memory, and are one but for their ids after it.
 pub fn answers_without_ids()
-    ensures { AnswersWithoutIds }
+    ensures alike { AnswersWithoutIds }
+    // the names of ids that aren't live don't count
+    ensures live_names { LiveNamesCount }
 {}
 
 /// The rounded side is at least the side and a multiple of the alignment, and no such multiple is smaller.
