@@ -104,3 +104,5 @@ pub mod RefitSizes
 pub mod RefitParts
 pub mod RefitLoops
 pub mod RearrangedAtlas
+pub mod TurnCounting
+pub mod Playing

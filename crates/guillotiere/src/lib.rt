@@ -19,6 +19,7 @@ mod pick;
 mod placing;
 mod refit;
 mod requests;
+pub mod session;
 mod simple;
 mod slots;
 mod start;
