@@ -18,6 +18,8 @@ pub mod Runs
 pub mod StepLaws
 pub mod RunLaws
 pub mod RunTurns
+pub mod Renaming
+pub mod Existence
 pub mod Slots
 pub mod Numbered
 pub mod Standing
@@ -41,3 +43,4 @@ pub mod Growing
 pub mod Growths
 pub mod Rearranging
 pub mod Sessions
+pub mod Callers

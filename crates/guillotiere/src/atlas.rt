@@ -197,7 +197,8 @@ impl<A: Allocator + Copy> AtlasAllocator<A> {
     }
 
     /// Frees the box of an id: it joins the free space beside it. `NotLive` if the id isn't live, and then nothing changes.
-    /// Takes no memory, and one turn more than there are members fewer.
+    /// Takes no memory, and one turn more than there are members fewer. A turn marks a leaf as free, joins it with the
+    /// next one or lifts it into its container's place; links of lists are written beside the turns.
     pub fn deallocate(&mut self, id: AllocId) -> Result<(), AtlasError>
         ensures step { Step (state_of self.old) (Deallocate id) (done_reply result) (state_of self.new) }
         ensures refused { OnErr result (self.new ≡ self.old) }
@@ -212,15 +213,15 @@ impl<A: Allocator + Copy> AtlasAllocator<A> {
     }
 
     /// Frees the boxes of the ids of a list, in an order that can't be told. `NotLive` if one of them isn't live or stands
-    /// twice, and then nothing changes. Takes no memory, time in proportion to the list, and at most one turn an id more
-    /// than there are members fewer.
+    /// twice, and then nothing changes. Takes no memory, time in proportion to the list, and one turn an id more than there
+    /// are members fewer.
     pub fn deallocate_all(&mut self, ids: &[AllocId]) -> Result<(), AtlasError>
         ensures freed { OnOk result (state_of self.new ≡ after_freeing (state_of self.old) (is_among ids.now)) }
         ensures ok { (result ≡ Ok tt) ↔ AreLiveOnce (state_of self.old) ids.now }
         ensures unless { IsOkUnless result AtlasError.NotLive }
         ensures refused { OnErr result (self.new ≡ self.old) }
         ensures none { ids.now ≡ [] → self.new ≡ self.old }
-        ensures turns { self.new.turns + used_in (state_of self.new) ≤ self.old.turns + length ids.now + used_in (state_of self.old) }
+        ensures turns { OnOk result (self.new.turns + used_in (state_of self.new) ≡ self.old.turns + length ids.now + used_in (state_of self.old)) }
     {
         if !self.are_live_once(ids) {
             return Err(AtlasError::NotLive);
