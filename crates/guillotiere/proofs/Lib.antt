@@ -106,3 +106,14 @@ pub mod LastMembers
 pub mod GrownTrees
 pub mod GrownSlots
 pub mod GrownStages
+pub mod RefitRanks
+pub mod RefitSizes
+pub mod RefitParts
+pub mod RefitLoops
+pub mod RearrangedAtlas
+pub mod TurnCounting
+pub mod Playing
+pub mod CallerLemmas
+pub mod LiveBoxes
+pub mod LyingApart
+pub mod Guarding

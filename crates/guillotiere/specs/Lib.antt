@@ -17,6 +17,7 @@ pub mod Steps
 pub mod Runs
 pub mod StepLaws
 pub mod RunLaws
+pub mod RunTurns
 pub mod Renaming
 pub mod ChoiceExamples
 pub mod RefitExamples
@@ -38,7 +39,12 @@ pub mod Starts
 pub mod Freeing
 pub mod Planning
 pub mod Replies
+pub mod Generations
 pub mod Batches
 pub mod Chosen
 pub mod Growing
 pub mod Growths
+pub mod Rearranging
+pub mod Refitted
+pub mod Sessions
+pub mod Callers

@@ -20,6 +20,7 @@ ghost use Rattle.guillotiere.specs.StepLaws.{StepsKeep, PicksAreOne, PicksExist,
 ghost use Rattle.guillotiere.specs.RunLaws.{RunsKeepOrder, RunsLeaveNoTrace};
 ghost use Rattle.guillotiere.specs.Existence.{RoundingIsLeast, StartsAreSound, StepsExist};
 ghost use Rattle.guillotiere.specs.Renaming.{RenamingChangesNothing, AnswersWithoutIds, LiveNamesCount};
+ghost use Rattle.guillotiere.specs.Callers.{SoundIsTiled, LiveHaveBoxes, LiveShareNothing, LiveLieWithin, LiveAreGuarded};
 
 /// In a well formed tree of cuts each unit square of the atlas lies in exactly one leaf's box, and no
 /// such box is empty or passes the sides of the atlas.
@@ -254,4 +255,29 @@ pub fn starts_are_sound()
 /// state that it leads to.
 pub fn steps_exist()
     ensures { StepsExist }
+{}
+
+/// In each sound state live and free boxes tile the atlas.
+pub fn sound_is_tiled()
+    ensures { SoundIsTiled }
+{}
+
+/// An id is live exactly if it has a box.
+pub fn live_ids_have_boxes()
+    ensures { LiveHaveBoxes }
+{}
+
+/// The boxes of two live ids share no unit square, and lie apart.
+pub fn live_boxes_lie_apart()
+    ensures { LiveShareNothing }
+{}
+
+/// Each live box is nonempty and lies within the atlas.
+pub fn live_boxes_lie_within()
+    ensures { LiveLieWithin }
+{}
+
+/// The live boxes are guarded: disjoint from each other and from the free boxes.
+pub fn live_boxes_are_guarded()
+    ensures { LiveAreGuarded }
 {}
