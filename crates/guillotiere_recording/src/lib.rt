@@ -1,0 +1,15 @@
+//! Records every session of an atlas as a list of events, by names that are never given twice.
+#![tactic(auto)]
+
+mod allocator;
+mod error;
+mod event;
+pub mod laws;
+mod log;
+mod names;
+mod recording;
+
+pub use allocator::RecordingAllocator;
+pub use error::RecordingError;
+pub use event::Event;
+pub use recording::{Recorder, Recording};
