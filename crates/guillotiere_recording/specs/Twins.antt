@@ -48,8 +48,8 @@ NamesGrant _ reply t = Unit {0}
 -- answered as the event says. With names kept the event leads the other on too, and they are twins again.
 abbrev pub TwinsAnswerAlike : Type 0
 TwinsAnswerAlike =
-    (s s' t t' : Named) (event : EventValue) (call : AtlasCall) (reply : AtlasReply) → IsNamed s → IsNamed t → AreTwins s t
-    → is_plain event ≡ true → Leads s event s' → Asks t event call → Step t.state call reply t'.state
+    (s s' t t' : Named) (event : EventValue) (call : AtlasCall) (reply : AtlasReply) → IsNamed s → IsNamed t
+    → AreTwins s t → is_plain event ≡ true → Leads s event s' → Asks t event call → Step t.state call reply t'.state
     → is_out_of_memory reply ≡ false
     → Says event reply × (KeepsNames t t' → NamesGrant event reply t' → Leads t event t' × AreTwins s' t')
 
@@ -60,7 +60,8 @@ TwinsShareNames = (s t : Named) (name : ℕ) → AreTwins s t → IsLiveName s n
 -- new sessions of one size with the same options are twins
 abbrev pub NewSessionsAreTwins : Type 0
 NewSessionsAreTwins =
-    (size : Sides) (options : Options) (f g : ℕ → ℕ) → AreTwins (fresh_session size options f) (fresh_session size options g)
+    (size : Sides) (options : Options) (f g : ℕ → ℕ)
+    → AreTwins (fresh_session size options f) (fresh_session size options g)
 
 -- twins that the same plain events lead on are twins again
 abbrev pub EventsKeepTwins : Type 0
