@@ -39,7 +39,7 @@ Says (Deallocate name) reply = reply ≡ Done
 Says (Grow size) reply = reply ≡ Done
 Says _ reply = ⊥
 
--- after the reply live ids keep their names, and a granted id has the name that the event gives
+-- a granted id has the name that the event gives
 abbrev pub NamesGrant : EventValue → AtlasReply → Named → Type 0
 NamesGrant (Allocate size (Some a)) (Allocated g) t = t.name g.id ≡ a.id
 NamesGrant _ reply t = Unit {0}
