@@ -19,6 +19,8 @@ pub mod StepLaws
 pub mod RunLaws
 pub mod RunTurns
 pub mod Renaming
+pub mod ChoiceExamples
+pub mod RefitExamples
 pub mod Existence
 pub mod Slots
 pub mod Numbered
@@ -28,6 +30,7 @@ pub mod Reading
 pub mod Parts
 pub mod Calm
 pub mod Stored
+pub mod ClassLists
 pub mod Links
 pub mod Picks
 pub mod Holdings
@@ -42,5 +45,6 @@ pub mod Chosen
 pub mod Growing
 pub mod Growths
 pub mod Rearranging
+pub mod Refitted
 pub mod Sessions
 pub mod Callers

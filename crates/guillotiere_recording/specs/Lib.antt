@@ -2,6 +2,7 @@ pub mod Errors
 pub mod Events
 pub mod Logs
 pub mod Sessions
+pub mod Twins
 pub mod Books
 pub mod Names
 pub mod Recordings
