@@ -1,5 +1,5 @@
 -- The book of recorded events is what is live by name.
-use Rattle.std.proofs.Common.{◌≡◌, ℕ, ◌+◌, ◌<◌, ◌≤◌, ◌==◌, eqb, Bool, true, false, ◌&&◌, not, List, [], ◌∷◌, ◌++◌, map, filter, refl, ap, ap₂, sym, subst, ◌∙◌, arith, All, Contains, IsPermutation, Option, Some, None}
+use Rattle.std.proofs.Common.{◌≡◌, ℕ, ◌≤◌, ◌==◌, eqb, Bool, true, false, ◌&&◌, not, List, [], ◌∷◌, ◌++◌, map, filter, refl, ap, sym, subst, ◌∙◌, arith, Contains, Some, None}
 use Rattle.std.specs.List.{count_by}
 use Rattle.std.proofs.lemmas.Bool.{eqb-true, eq-eqb, false≢true}
 use Rattle.std.proofs.lemmas.List.Elements.{All-contains}
@@ -9,8 +9,8 @@ use Rattle.guillotiere.specs.Pixels.{sides_of, box_of}
 use Rattle.guillotiere.specs.declared.geometry.Size.{Size}
 use Rattle.guillotiere.specs.declared.allocation.Allocation.{Allocation}
 use Rattle.guillotiere.specs.declared.change.Change.{Change}
-use Rattle.guillotiere.specs.Trees.{Grant, grant, ids}
-use Rattle.guillotiere.specs.States.{State, IsLive, live_in, started}
+use Rattle.guillotiere.specs.Trees.{Grant, grant}
+use Rattle.guillotiere.specs.States.{State, IsLive, live_in}
 use Rattle.guillotiere.specs.Refits.{Transfer}
 use Rattle.guillotiere.specs.Replies.{grant_of}
 use Rattle.guillotiere.specs.Rearranging.{transfer_of}
@@ -25,8 +25,8 @@ use Rattle.guillotiere.proofs.TreeBasics.{one_if}
 use Rattle.guillotiere.proofs.TreeIds.{Contains-none}
 use Rattle.guillotiere_recording.specs.Events.{EventValue, ListValue}
 use Rattle.guillotiere_recording.specs.Events.EventValue.{Allocate, Deallocate, Grow, Rearrange, ResizeAndRearrange}
-use Rattle.guillotiere_recording.specs.Sessions.{Named, IsNamed, KeepsNames, named_boxes, renamed_transfer, GrantsUnder, FreesUnder, RearrangesUnder, Leads, LeadOn, Recorded, fresh_session}
-use Rattle.guillotiere_recording.specs.Books.{AreSameGrants, moved_boxes, booked, book_from, book, SessionsAreNamed, BooksAreTrue}
+use Rattle.guillotiere_recording.specs.Sessions.{Named, IsNamed, KeepsNames, named_boxes, renamed_transfer, GrantsUnder, FreesUnder, RearrangesUnder, Leads, LeadOn, fresh_session}
+use Rattle.guillotiere_recording.specs.Books.{AreSameGrants, moved_boxes, booked, book_from, SessionsAreNamed, BooksAreTrue}
 use Rattle.guillotiere_recording.proofs.Counts.{count_map, count_filter, count_permuted, count_alike, map_alike}
 use Rattle.guillotiere_recording.proofs.Entries.{live_is_counted, counted_is_live}
 use Rattle.guillotiere_recording.proofs.Naming.{events_keep_names, grant_counts, freeing_less}

@@ -1,5 +1,5 @@
 -- The entries of live ids: what is counted, and the names that they give.
-use Rattle.std.proofs.Common.{◌≡◌, ℕ, ◌+◌, ◌<◌, ◌≤◌, ◌==◌, ◌⊎◌, inl, inr, eqb, Bool, true, false, cond, get_or, List, [], ◌∷◌, ◌++◌, length, take, drop, suc, refl, ap, sym, subst, ◌∙◌, arith, All, Contains}
+use Rattle.std.proofs.Common.{◌≡◌, ℕ, ◌+◌, ◌<◌, ◌≤◌, ◌==◌, eqb, Bool, true, false, cond, get_or, List, [], ◌∷◌, ◌++◌, length, take, drop, suc, refl, ap, sym, subst, ◌∙◌, arith, All, Contains}
 use Rattle.std.specs.List.{count_by, remove}
 use Rattle.std.proofs.lemmas.Bool.{eqb-true, eq-eqb}
 use Rattle.std.proofs.lemmas.List.Elements.{All-contains, All-contains_itself, All-append, All-take, All-drop, Contains-append_left, Contains-append_right, Contains-push}

@@ -1,7 +1,7 @@
 -- What each call of a recording allocator keeps: its session stays one.
-use Rattle.std.proofs.Common.{◌≡◌, ℕ, zero, suc, add-one, append-nil, ◌+◌, ◌<◌, ◌≤◌, ◌==◌, ◌^◌, ◌⊎◌, inl, inr, eqb, Bool, true, false, get_or, List, [], ◌∷◌, ◌++◌, length, refl, ap, ap₂, sym, subst, ◌∙◌, arith, All, AllPairs, Contains, Option, Some, None}
-use Rattle.std.specs.List.{count_by, remove}
-use Rattle.std.proofs.lemmas.Bool.{eqb-true, eq-eqb, cases_lt}
+use Rattle.std.proofs.Common.{◌≡◌, ℕ, add-one, append-nil, ◌+◌, ◌<◌, ◌≤◌, ◌==◌, ◌^◌, eqb, Bool, true, false, get_or, List, [], ◌∷◌, ◌++◌, length, refl, ap, sym, subst, ◌∙◌, arith, All, Contains, Some, None}
+use Rattle.std.specs.List.{remove}
+use Rattle.std.proofs.lemmas.Bool.{eqb-true, eq-eqb}
 use Rattle.std.proofs.lemmas.List.{get_or_default}
 use Rattle.std.proofs.lemmas.List.Elements.{All-contains, All-push}
 use Rattle.std.proofs.lemmas.List.Quantifiers.{all_pairs_push, all_pairs_remove}
@@ -11,7 +11,6 @@ use Rattle.guillotiere.specs.declared.options.AllocatorOptions.{AllocatorOptions
 use Rattle.guillotiere.specs.Boxes.{IsPositive}
 use Rattle.guillotiere.specs.Choice.{AreValid}
 use Rattle.guillotiere.specs.Pixels.{sides_of, options_of}
-use Rattle.guillotiere.specs.Trees.{Grant, ids}
 use Rattle.guillotiere.specs.States.{State, IsLive, started}
 use Rattle.guillotiere.specs.Steps as atlas
 use Rattle.guillotiere.specs.Steps.{Step}
@@ -26,9 +25,9 @@ use Rattle.guillotiere_recording.specs.declared.names.LiveName.{LiveName as Entr
 use Rattle.guillotiere_recording.specs.Events.{EventValue, given_names}
 use Rattle.guillotiere_recording.specs.Events.EventValue.{Allocate, Deallocate, Grow, Rearrange, ResizeAndRearrange}
 use Rattle.guillotiere_recording.specs.Logs.{RecordingValue, with_event}
-use Rattle.guillotiere_recording.specs.Sessions.{Named, IsLiveName, IsNamed, KeepsNames, GrantsUnder, FreesUnder, Leads, LeadOn, Recorded, fresh_session}
-use Rattle.guillotiere_recording.specs.Names.{AreRising, AreLiveIds, entries_of, name_among}
-use Rattle.guillotiere_recording.specs.Recordings.{SessionValue, session_of, first_names, LeadsTo, IsFaithful, IsSession}
+use Rattle.guillotiere_recording.specs.Sessions.{Named, IsLiveName, IsNamed, GrantsUnder, FreesUnder, Leads, LeadOn, fresh_session}
+use Rattle.guillotiere_recording.specs.Names.{entries_of, name_among}
+use Rattle.guillotiere_recording.specs.Recordings.{SessionValue, session_of, first_names, LeadsTo, IsSession}
 use Rattle.guillotiere_recording.proofs.Entries.{live_is_counted, counted_is_live, entry_of, name_of, entries_pushed, name_pushed, names_pushed, All-removed, names_removed, entries_removed}
 use Rattle.guillotiere_recording.proofs.Naming.{live_at_most_once, grant_counts, growth_counts, freed_is_gone, others_stay}
 use Rattle.guillotiere_recording.proofs.Booking.{sessions_are_named}

@@ -1,5 +1,5 @@
 -- One entry more in a walk over entries.
-use Rattle.std.proofs.Common.{ℕ, ◌+◌, ◌<◌, ◌≤◌, ◌≡◌, List, [], ◌∷◌, get_or, drop, length, map, Option, Some, None, option_map, refl, sym, ap, subst, ◌∙◌}
+use Rattle.std.proofs.Common.{ℕ, ◌+◌, ◌<◌, ◌≡◌, List, [], get_or, drop, length, map, Option, Some, None, option_map, refl, sym, subst}
 use Rattle.std.proofs.lemmas.List.{at_drop_more}
 use Rattle.std.specs.Borrow.{Bor}
 use Rattle.std.specs.Fn.{Mut, Called}

@@ -1,13 +1,12 @@
 -- Each event leads from a named state to a named state.
-use Rattle.std.proofs.Common.{◌≡◌, ℕ, ◌+◌, ◌<◌, ◌≤◌, ◌==◌, ◌⊎◌, inl, inr, eqb, Bool, true, false, ◌&&◌, not, List, [], ◌∷◌, ◌++◌, map, filter, zero-add, refl, ap, sym, subst, ◌∙◌, arith, All, Contains, IsPermutation, Option, Some, None}
+use Rattle.std.proofs.Common.{◌≡◌, ℕ, ◌+◌, ◌≤◌, ◌==◌, ◌⊎◌, inl, inr, eqb, Bool, true, false, ◌&&◌, not, List, [], ◌∷◌, ◌++◌, map, zero-add, refl, ap, sym, subst, ◌∙◌, arith, Contains, Some, None}
 use Rattle.std.specs.List.{count_by}
 use Rattle.std.proofs.lemmas.Bool.{eqb-true, eq-eqb, false≢true}
 use Rattle.std.proofs.lemmas.List.Elements.{All-contains, Contains-append_right}
 use Rattle.guillotiere.specs.Boxes.{Sides}
-use Rattle.guillotiere.specs.Choice.{Options}
 use Rattle.guillotiere.specs.Pixels.{sides_of, box_of}
 use Rattle.guillotiere.specs.Trees.{Grant, grant, ids, slot_count}
-use Rattle.guillotiere.specs.States.{State, IsLive, IsSound, live_in, started}
+use Rattle.guillotiere.specs.States.{State, IsLive, IsSound, live_in}
 use Rattle.guillotiere.specs.Steps as atlas
 use Rattle.guillotiere.specs.Steps.{AtlasCall, Step}
 use Rattle.guillotiere.specs.StepLaws.{live_count, IsGrantStep, IsFreeingStep, IsGrowthStep, IsRearrangingStep}
@@ -19,9 +18,9 @@ use Rattle.guillotiere.proofs.StepEffects.{grants_lie_inside, freeings_remove_on
 use Rattle.guillotiere.proofs.StepKeeping.{steps_keep}
 use Rattle.guillotiere.proofs.TreeBasics.{one_if}
 use Rattle.guillotiere.proofs.TreeIds.{Contains-first}
-use Rattle.guillotiere_recording.specs.Events.{EventValue, ListValue}
+use Rattle.guillotiere_recording.specs.Events.{ListValue}
 use Rattle.guillotiere_recording.specs.Events.EventValue.{Allocate, Deallocate, Grow, Rearrange, ResizeAndRearrange}
-use Rattle.guillotiere_recording.specs.Sessions.{Named, IsLiveName, IsNamed, KeepsNames, GrantsUnder, FreesUnder, RearrangesUnder, Leads}
+use Rattle.guillotiere_recording.specs.Sessions.{Named, IsLiveName, IsNamed, KeepsNames, RearrangesUnder}
 use Rattle.guillotiere_recording.specs.Books.{EventsKeepNames}
 use Rattle.guillotiere_recording.proofs.Counts.{count_map, count_filter, count_permuted, count_alike}
 use Rattle.guillotiere_recording.proofs.Entries.{live_is_counted, counted_is_live}

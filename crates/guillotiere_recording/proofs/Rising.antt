@@ -1,5 +1,5 @@
 -- Entries by rising name.
-use Rattle.std.proofs.Common.{◌≡◌, ℕ, ◌+◌, ◌<◌, ◌≤◌, ◌⊎◌, inl, inr, get_or, ltb, ltb-true, ltb-false, true, false, List, [], ◌∷◌, ◌++◌, length, All, AllPairs, refl, ap, sym, subst, ◌∙◌, arith}
+use Rattle.std.proofs.Common.{◌≡◌, ℕ, ◌<◌, ◌≤◌, ◌⊎◌, inl, inr, get_or, ltb, ltb-true, ltb-false, true, false, List, length, subst, arith}
 use Rattle.std.specs.List.Sorted.{IsNonDecreasingBy, IsPartitionPoint}
 use Rattle.std.proofs.lemmas.Bool.{cases_lt, cases_order}
 use Rattle.guillotiere_recording.specs.declared.names.LiveName.{LiveName as Entry}

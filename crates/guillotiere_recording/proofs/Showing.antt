@@ -1,29 +1,25 @@
 -- What a recording allocator shows is the book of its events.
-use Rattle.std.proofs.Common.{◌≡◌, ℕ, zero, suc, ◌+◌, ◌<◌, ◌≤◌, ◌==◌, ◌⊎◌, inl, inr, eqb, Bool, true, false, cond, get_or, List, [], ◌∷◌, ◌++◌, length, map, find, refl, ap, ap₂, sym, subst, ◌∙◌, arith, All, AllPairs, Contains, Option, Some, None, IsSome, option_map}
+use Rattle.std.proofs.Common.{◌≡◌, ℕ, ◌+◌, ◌<◌, ◌≤◌, ◌==◌, Bool, get_or, List, [], ◌∷◌, ◌++◌, length, map, find, refl, ap, sym, subst, ◌∙◌, arith, All, AllPairs, Contains, Option, Some, IsSome, option_map}
 use Rattle.std.specs.List.{count_by}
 use Rattle.std.proofs.lemmas.Bool.{eqb-true, eq-eqb}
 use Rattle.std.proofs.lemmas.List.{get_or-map, get_or_default, length-map}
-use Rattle.std.proofs.lemmas.List.Elements.{All-contains, All-map}
+use Rattle.std.proofs.lemmas.List.Elements.{All-map}
 use Rattle.guillotiere.specs.declared.allocation.Allocation.{Allocation}
-use Rattle.guillotiere.specs.declared.geometry.Rectangle.{Rectangle}
-use Rattle.guillotiere.specs.Boxes.{Box}
-use Rattle.guillotiere.specs.Pixels.{sides_of, options_of, rectangle_of}
+use Rattle.guillotiere.specs.Pixels.{sides_of, options_of}
 use Rattle.guillotiere.specs.Trees.{Grant, grant}
-use Rattle.guillotiere.specs.States.{State, IsLive, IsSound, live_in}
-use Rattle.guillotiere.specs.StepLaws.{live_count}
+use Rattle.guillotiere.specs.States.{State, IsSound, live_in}
 use Rattle.guillotiere.specs.Renaming.{renamed_grant}
 use Rattle.guillotiere.specs.Replies.{grant_of, IsExact, live_box}
-use Rattle.guillotiere.specs.Stored.{AtlasValue, state_of}
+use Rattle.guillotiere.specs.Stored.{state_of}
 use Rattle.guillotiere.proofs.CallerLemmas.{find-counted, find-counted_once}
 use Rattle.guillotiere.proofs.Counting.{count_by-cons, count_by-append, count_some, split_at, IsSplitAt}
 use Rattle.guillotiere.proofs.TreeBasics.{one_if}
 use Rattle.guillotiere_recording.specs.declared.names.LiveName.{LiveName as Entry}
-use Rattle.guillotiere_recording.specs.Sessions.{Named, IsNamed, named_boxes}
 use Rattle.guillotiere_recording.specs.Books.{AreSameGrants, book}
-use Rattle.guillotiere_recording.specs.Names.{AreRising, AreLiveIds, entries_of, name_among, box_or_none, shown}
+use Rattle.guillotiere_recording.specs.Names.{entries_of, name_among, box_or_none, shown}
 use Rattle.guillotiere_recording.specs.Recordings.{SessionValue, session_of, AreBooked, IsSession}
 use Rattle.guillotiere_recording.proofs.Counts.{count_map, count_alike}
-use Rattle.guillotiere_recording.proofs.Entries.{entry_of, name_of}
+use Rattle.guillotiere_recording.proofs.Entries.{name_of}
 use Rattle.guillotiere_recording.proofs.Naming.{live_at_most_once}
 use Rattle.guillotiere_recording.proofs.Booking.{books_are_true}
 use Rattle.guillotiere_recording.proofs.Keeping.{session_named}

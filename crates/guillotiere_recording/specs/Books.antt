@@ -1,5 +1,5 @@
 -- Books: what is live after events, folded from the events alone.
-use Rattle.std.specs.Prelude.{◌≡◌, ℕ, ◌==◌, Bool, not, List, [], ◌∷◌, ◌++◌, map, filter, count_by, Option, Some, None}
+use Rattle.std.specs.Prelude.{◌≡◌, ◌==◌, Bool, not, List, [], ◌∷◌, ◌++◌, map, filter, count_by, Some, None}
 use Rattle.guillotiere.specs.Boxes.{Sides}
 use Rattle.guillotiere.specs.Choice.{Options}
 use Rattle.guillotiere.specs.Trees.{Grant}

@@ -1,5 +1,5 @@
 -- The live ids with their names, by rising name. No public clause cites this module.
-use Rattle.std.specs.Prelude.{◌≡◌, ℕ, ◌<◌, ◌==◌, if◌then◌else◌, List, [], ◌∷◌, All, AllPairs, map, count_by, Option, Some, None}
+use Rattle.std.specs.Prelude.{◌≡◌, ℕ, ◌<◌, ◌==◌, if◌then◌else◌, List, [], ◌∷◌, AllPairs, count_by, Option, Some, None}
 use Rattle.guillotiere.specs.declared.allocation.Allocation.{Allocation}
 use Rattle.guillotiere.specs.Boxes.{Box, origin}
 use Rattle.guillotiere.specs.Pixels.{rectangle_of}

@@ -99,10 +99,7 @@ impl<A: Allocator + Copy> RecordingAllocator<A> {
     /// Grants a request as the atlas does, under a new name. `Names` for every request once all 4294967296 names were
     /// given; None as the atlas's, and recorded; `Memory` if memory for the event, for the name or for slots is refused,
     /// also where the answer would be `Slots` or None; `Slots` as the atlas's.
-    pub fn allocate(
-        &mut self,
-        requested_size: Size,
-    ) -> Result<Option<Allocation>, RecordingError>
+    pub fn allocate(&mut self, requested_size: Size) -> Result<Option<Allocation>, RecordingError>
         ensures recorded { IfOk result (λ answer. self.new.recording ≡ with_event (Allocate requested_size answer) self.old.recording) }
         ensures led { IfOk result (λ answer. Leads (session_of self.old) (Allocate requested_size answer) (session_of self.new)) }
         ensures given { IfOk result (λ answer. IfSome answer (λ granted. granted.id ≡ self.old.given)) }
@@ -118,11 +115,16 @@ impl<A: Allocator + Copy> RecordingAllocator<A> {
         match self.atlas.allocate(requested_size)? {
             Some(granted) => {
                 let name = self.given as u32;
-                append(&mut self.names, LiveName { name, id: granted.id });
+                append(
+                    &mut self.names,
+                    LiveName {
+                        name,
+                        id: granted.id,
+                    },
+                );
                 self.given += 1;
                 let answer = under_name(name, &granted);
-                self.log
-                    .note(Event::Allocate(requested_size, Some(answer)));
+                self.log.note(Event::Allocate(requested_size, Some(answer)));
                 Ok(Some(under_name(name, &granted)))
             }
             None => {

@@ -1,5 +1,4 @@
-use Rattle.std.proofs.Common.{◌≡◌, ℕ, ◌<◌, ◌≤◌, ◌⊎◌, inl, inr, eqb, ltb, ltb-true, ltb-false, Bool, true, false, get_or, length, arith, rules, sym, ap, subst, ◌∙◌}
-use Rattle.std.proofs.lemmas.Bool.{cases_lt}
+use Rattle.std.proofs.Common.{◌≡◌, ltb, get_or, arith, rules, ap, subst, ◌∙◌}
 use Rattle.std.proofs.lemmas.List.{get_or_default}
 use Rattle.std.proofs.lemmas.List.Sorted.{IsPartitionPoint-from_clause, IsPartitionedBy-ltb}
 use Rattle.guillotiere_recording.specs.declared.names.LiveName.{LiveName as Entry}
@@ -18,6 +17,6 @@ returns-else-at-names-clause-none c =
     let same : k ≡ at = found_at ns at c.args.name c.requires point k d below is in
     let here : (get_or ns at d).name ≡ c.args.name = subst (λ j. (get_or ns j d).name ≡ c.args.name) same is in
     elim c.else-at-names.branch [
-    else-at-names-via-then-at-names+else-names-at w ↦ w.if-names-at.false (ap (λ (n : Entry). n.name) (get_or_default ns at w.index-names-at.result d w.if-at-names.true) ∙ here)
-    | else-at-names-via-else-at-names w ↦ omega (arith, w.if-at-names, below, same)
+      | else-at-names-via-then-at-names+else-names-at w ↦ w.if-names-at.false (ap (λ (n : Entry). n.name) (get_or_default ns at w.index-names-at.result d w.if-at-names.true) ∙ here)
+      | else-at-names-via-else-at-names w ↦ omega (arith, w.if-at-names, below, same)
     ]

@@ -1,4 +1,4 @@
-use Rattle.std.proofs.Common.{◌≡◌, Some, option_map, ap, subst, ◌∙◌, arith, rules, of_calls, refl}
+use Rattle.std.proofs.Common.{◌≡◌, Some, option_map, ap, subst, ◌∙◌, arith, of_calls}
 use Rattle.std.proofs.Math.ListN.{drop_of_length-le}
 use Rattle.guillotiere.specs.Pixels.{rectangle_of}
 use Rattle.guillotiere.specs.Replies.{live_box}
@@ -22,7 +22,8 @@ loop-entry-preserved g c = (
 -- src/walks.rt:16:1
 pub returns : goal.returns
 returns g c =
-    let none = drop_of_length-le c.args.names.now (omega (arith, c.loop-entry-test.false)) in
-    (c.loop-entry.visit,
-    c.loop-entry.invariant.1 c.loop-entry.visit
-    (visits-none g.F.FnMut c.loop-entry.visit (state_of c.args.atlas.now) c.args.names.now c.loop-entry.entry-index none))
+    let none = drop_of_length-le c.args.names.now (omega (arith, c.loop-entry-test.false)) in (
+      c.loop-entry.visit,
+      c.loop-entry.invariant.1 c.loop-entry.visit
+          (visits-none g.F.FnMut c.loop-entry.visit (state_of c.args.atlas.now) c.args.names.now c.loop-entry.entry-index none),
+    )

@@ -1,4 +1,4 @@
-use Rattle.std.proofs.Common.{◌≡◌, Option, Some, None, IfSome, Ok, refl, ap, sym, subst, arith, rules, ◌∙◌, ◌++◌, ◌∷◌, []}
+use Rattle.std.proofs.Common.{Option, Some, None, IfSome, Ok, ap, subst, ◌∙◌, ◌++◌, ◌∷◌, []}
 use Rattle.guillotiere.specs.declared.allocation.Allocation.{Allocation}
 use Rattle.guillotiere.specs.Pixels.{sides_of}
 use Rattle.guillotiere.specs.Replies.{allocate_reply, IsExact}

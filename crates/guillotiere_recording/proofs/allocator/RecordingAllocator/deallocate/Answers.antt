@@ -1,4 +1,4 @@
-use Rattle.std.proofs.Common.{◌≡◌, ℕ, get_or, refl, ap, sym, subst, ◌∙◌, rules, Err}
+use Rattle.std.proofs.Common.{refl, ap, sym, subst, ◌∙◌}
 use Rattle.guillotiere.specs.Stored.{state_of}
 use Rattle.guillotiere_recording.specs.Logs.{with_event, recording_of}
 use Rattle.guillotiere_recording.specs.Events.EventValue.{Deallocate}
@@ -21,9 +21,10 @@ returns-in_err-make_room-clause-not_live g c =
     let e = entry c.serialize.result c.in-Some.found.id in
     let live = found_is_live _ c.in-Some.found.at c.serialize.result c.in-Some.found.id c.self.invariant c.in-Some.ensures.inside (c.in-Some.ensures.found e) in
     let named = subst (λ n. IsLiveName (session_of c.args.self.now) n) c.serialize.ensures
-    (subst (λ (v : SessionValue). IsLiveName (session_of v) c.serialize.result) c.self.view_is live.0) in
-    ((λ is. absurd (memory_only c.from_residual.result c.in_err-make_room.field-0.0 c.in_err-make_room.ensures.unless c.from_residual.ensures.1 is)),
-    λ none. absurd (none named))
+    (subst (λ (v : SessionValue). IsLiveName (session_of v) c.serialize.result) c.self.view_is live.0) in (
+      (λ is. absurd (memory_only c.from_residual.result c.in_err-make_room.field-0.0 c.in_err-make_room.ensures.unless c.from_residual.ensures.1 is)),
+      λ none. absurd (none named),
+    )
 
 -- src/allocator.rt:145:9
 pub returns-in_err-deallocate-clause-not_live : goal.returns-in_err-deallocate-clause-not_live
