@@ -39,7 +39,7 @@ lead_more : (events : List EventValue) (event : EventValue) (old mid new : Named
 lead_more [] event old mid new h more = (new, subst (λ s. Leads s event new) h more, refl)
 lead_more (e ∷ events) event old mid new (next, first, rest) more = (next, first, lead_more events event next mid new rest more)
 
-recorded_more : (r : RecordingValue) (event : EventValue) (mid new : Named) → LeadsTo r mid → Leads mid event new
+pub recorded_more : (r : RecordingValue) (event : EventValue) (mid new : Named) → LeadsTo r mid → Leads mid event new
     → LeadsTo (with_event event r) new
 recorded_more r event mid new h more =
     record {

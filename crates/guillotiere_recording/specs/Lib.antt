@@ -6,3 +6,5 @@ pub mod Twins
 pub mod Books
 pub mod Names
 pub mod Recordings
+pub mod Replays
+pub mod Standing

@@ -8,9 +8,12 @@ pub mod laws;
 mod log;
 mod names;
 mod recording;
+mod replay;
+mod steps;
 mod walks;
 
 pub use allocator::RecordingAllocator;
 pub use error::RecordingError;
 pub use event::Event;
 pub use recording::{Recorder, Recording};
+pub use replay::{ReplayFault, ReplayStats};
