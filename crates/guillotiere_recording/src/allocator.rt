@@ -19,7 +19,7 @@ ghost use Rattle.guillotiere_recording.specs.Logs.{with_event};
 use crate::error::RecordingError;
 use crate::event::Event;
 use crate::log::Log;
-use crate::names::{LiveName, append, find};
+use crate::names::{LiveName, append, find, under_name};
 use crate::recording::Recording;
 use crate::walks::{gather_names, visit_names};
 use guillotiere::{
@@ -205,15 +205,5 @@ impl<A: Allocator + Copy> RecordingAllocator<A> {
         ensures { result ≡ self.recording }
     {
         Recording::from_log(self.log)
-    }
-}
-
-// A grant under a name.
-fn under_name(name: u32, granted: &Allocation) -> Allocation
-    ensures { result ≡ record { id = name; rectangle = granted.now.rectangle } }
-{
-    Allocation {
-        id: AllocId::deserialize(name),
-        rectangle: granted.rectangle,
     }
 }
