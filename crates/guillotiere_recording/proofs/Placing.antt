@@ -5,8 +5,8 @@ use Rattle.std.specs.List.Sorted.{IsNonDecreasingBy, IsPartitionPoint}
 use Rattle.std.proofs.lemmas.Bool.{cases_lt}
 use Rattle.std.proofs.lemmas.List.{get_or_default}
 use Rattle.guillotiere_recording.specs.declared.names.LiveName.{LiveName as Entry}
-use Rattle.guillotiere_recording.specs.Names.{entries_of}
-use Rattle.guillotiere_recording.proofs.Entries.{entry_of}
+use Rattle.guillotiere_recording.specs.Names.{entries_of, name_among}
+use Rattle.guillotiere_recording.proofs.Entries.{entry_of, name_of}
 
 pub placed_id : (ns : List Entry) (at id : ℕ) → IsNonDecreasingBy (λ (n : Entry). n.id) ns → 1 ≤ entries_of id ns
     → IsPartitionPoint (λ (n : Entry). ltb n.id id ≡ true) (λ (n : Entry). ltb n.id id ≡ false) ns at
@@ -24,3 +24,16 @@ placed_id ns at id order some point =
     let down : id ≤ (get_or ns at r.0).id = ltb-false _ _ (point.1 at r.0 (omega arith) inside) in
     let same : (get_or ns at d).id ≡ (get_or ns at r.0).id = ap (λ (n : Entry). n.id) (get_or_default ns at d r.0 inside) in
     omega arith)
+
+abbrev pub entry_with : ℕ → ℕ → Entry
+entry_with name k = record { name = name; id = k }
+
+pub contains_there : (ns : List Entry) (at : ℕ) (w : Entry) (id : ℕ) → at < length ns → (get_or ns at w).id ≡ id
+    → Contains ns (record { name = (get_or ns at w).name; id = id })
+contains_there ns at w id inside is = (at, inside, get_or_default ns at (entry_with (get_or ns at w).name id) w inside ∙ ap (entry_with (get_or ns at w).name) is)
+
+-- the name that a look-up gives is the one among the entries
+pub named_so : (ns : List Entry) (name number id : ℕ) → ((k : ℕ) → entries_of k ns ≤ 1) → number ≡ id → Contains ns (entry_with name number)
+    → name ≡ name_among ns id
+named_so ns name number id once same there =
+    sym (name_of id ns (entry_with name number) (once id) there same)

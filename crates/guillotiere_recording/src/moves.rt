@@ -5,7 +5,7 @@ ghost use Rattle.guillotiere.specs.declared.allocation.Allocation.{Allocation as
 ghost use Rattle.guillotiere.specs.declared.change.Change.{Change as Transfer};
 ghost use Rattle.guillotiere_recording.specs.declared.names.LiveName.{LiveName as Entry};
 ghost use Rattle.guillotiere_recording.specs.Names.{entries_of, name_among};
-ghost use Rattle.guillotiere_recording.specs.Moves.{change_under, failure_under, entry_under};
+ghost use Rattle.guillotiere_recording.specs.Moves.{change_under, failure_under, entry_under, AreEntered, IsMoved};
 
 use crate::error::RecordingError;
 use crate::names::{LiveName, under_name};
@@ -109,4 +109,26 @@ fn name_entries<A: Allocator + Copy>(
         })?;
     }
     Ok(entries)
+}
+
+/// What a rearranging did, under the names of the ids that were live. `Memory` is the only error.
+pub fn under_names<A: Allocator + Copy>(
+    alloc: A,
+    names: &[LiveName],
+    answer: &ChangeList<A>,
+) -> Result<Moved<A>, RecordingError>
+    requires { AreEntered names.now answer.now.changes.items answer.now.failures.items }
+    ensures unless { IsOkUnless result RecordingError.Memory }
+    ensures moved { IfOk result (IsMoved names.now answer.now) }
+{
+    let mut by_id = Vec::from_slice(alloc, names)?;
+    sort_by_id(&mut by_id);
+    let changes = name_changes(alloc, &by_id, &answer.changes)?;
+    let failures = name_failures(alloc, &by_id, &answer.failures)?;
+    let mut entries = name_entries(alloc, &by_id, &answer.changes)?;
+    sort_by_name(&mut entries);
+    Ok(Moved {
+        list: ChangeList { changes, failures },
+        names: entries,
+    })
 }
