@@ -20,17 +20,17 @@ pub struct Moved<A: Allocator + Copy> {
 }
 
 // Puts entries in the order of their ids.
-fn sort_by_id(entries: &mut [LiveName])
-    ensures sorted { IsNonDecreasingBy (λ (n : Entry). n.id) entries.new }
-    ensures same { IsPermutation entries.old entries.new }
+fn sort_by_id<A: Allocator>(entries: &mut Vec<LiveName, A>)
+    ensures sorted { IsNonDecreasingBy (λ (n : Entry). n.id) entries.new.items }
+    ensures same { IsPermutation entries.old.items entries.new.items }
 {
     entries.sort_unstable_by_key(|entry| entry.id.serialize());
 }
 
 // Puts entries in the order of their names.
-fn sort_by_name(entries: &mut [LiveName])
-    ensures sorted { IsNonDecreasingBy (λ (n : Entry). n.name) entries.new }
-    ensures same { IsPermutation entries.old entries.new }
+fn sort_by_name<A: Allocator>(entries: &mut Vec<LiveName, A>)
+    ensures sorted { IsNonDecreasingBy (λ (n : Entry). n.name) entries.new.items }
+    ensures same { IsPermutation entries.old.items entries.new.items }
 {
     entries.sort_unstable_by_key(|entry| entry.name);
 }

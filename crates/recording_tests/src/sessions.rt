@@ -206,9 +206,10 @@ fn play(
     sides: Sides,
     calls: &[Call],
 ) -> Result<(), Fail> {
-    assert!(rt; !size(sides).is_empty());
-    let created = match RecordingAllocator::new(heap, size(sides)) {
-        Err(RecordingError::Memory) => RecordingAllocator::new(heap, size(sides)),
+    let whole = size(sides);
+    assert!(rt; !whole.is_empty());
+    let created = match RecordingAllocator::new(heap, whole) {
+        Err(RecordingError::Memory) => RecordingAllocator::new(heap, whole),
         first => first,
     };
     let mut session = created?;
