@@ -4,7 +4,7 @@ use Rattle.std.specs.List.{count_by}
 use Rattle.std.specs.List.Sorted.{IsNonDecreasingBy}
 use Rattle.std.proofs.lemmas.Bool.{eqb-true, eq-eqb, cases_lt}
 use Rattle.std.proofs.lemmas.List.{get_or-map, get_or_default, length-map}
-use Rattle.std.proofs.lemmas.List.Elements.{All-contains, All-map}
+use Rattle.std.proofs.lemmas.List.Elements.{All-contains, All-map, Contains-append_right}
 use Rattle.std.proofs.lemmas.List.Sorted.{All-permutation, Contains-permutation}
 use Rattle.guillotiere.specs.declared.allocation.Allocation.{Allocation}
 use Rattle.guillotiere.specs.declared.change.Change.{Change}
@@ -20,6 +20,7 @@ use Rattle.guillotiere.specs.Replies.{grant_of, IsExact}
 use Rattle.guillotiere.specs.Rearranging.{transfer_of, rearrangement_of, IsExactChange, AreExactChanges}
 use Rattle.guillotiere.specs.Stored.{AtlasValue, state_of}
 use Rattle.guillotiere.proofs.Counting.{count_by-cons, count_by-append, count_some, split_at}
+use Rattle.guillotiere.proofs.StepKeeping.{steps_keep}
 use Rattle.guillotiere.proofs.StepEffects.{rearrangings_lose_nothing}
 use Rattle.guillotiere.proofs.TreeBasics.{one_if}
 use Rattle.guillotiere.proofs.TreeIds.{Contains-first, Contains-later}
@@ -167,3 +168,75 @@ rearranges_under v a answer m asked h step exact moved few =
         let e = entered_anew v (state_of a) answer m asked h step moved c.new.id in
         let one = few c.new.id in
         name_of c.new.id m.names.items (entry_under (name_among v.names) c) (omega (arith, e, one)) there refl
+
+-- what is live after a rearranging is live once
+pub once_after : {A : Type 0} (v : SessionValue) (new : State) (answer : ChangeList A) (asked : AtlasCall) → IsSession v
+    → Step (state_of v.atlas) asked (atlas.Changed (rearrangement_of answer)) new → (id : ℕ) → live_count id new ≤ 1
+once_after v new answer asked h step id =
+    live_at_most_once new id
+    (steps_keep (state_of v.atlas) new asked (atlas.Changed (rearrangement_of answer)) (session_named v h).sound step)
+
+-- names stay apart
+names_apart : {A : Type 0} (v : SessionValue) (new : State) (answer : ChangeList A) (m : Moved A) (asked : AtlasCall) → IsSession v
+    → Step (state_of v.atlas) asked (atlas.Changed (rearrangement_of answer)) new → IsMoved v.names answer m
+    → (name : ℕ) → count_by (λ (n : Entry). n.name == name) m.names.items ≤ 1
+names_apart v new answer m asked h step moved name =
+    let a = count_permuted (λ (n : Entry). n.name == name) (map (entry_under (name_among v.names)) answer.changes.items) m.names.items moved.entries in
+    let b = count_map (entry_under (name_among v.names)) (λ (n : Entry). n.name == name) answer.changes.items in
+    let few = by_count (cases_lt 0 (count_by (λ (c : Change). name_among v.names c.old.id == name) answer.changes.items)) in
+    omega (arith, a, b, few)
+  where
+    moves : IsRearrangingStep (state_of v.atlas) (rearrangement_of answer) new
+    moves = rearrangings_lose_nothing (state_of v.atlas) new asked (rearrangement_of answer) (session_named v h).sound step
+
+    live : (c : Change) → Contains answer.changes.items c → IsLive (state_of v.atlas) c.old.id
+    live c at =
+        let few = moved_from (state_of v.atlas) new (rearrangement_of answer) moves c.old.id in
+        let all = count_map transfer_of (λ (t : Transfer). t.old.id == c.old.id) answer.changes.items in
+        let some = count_some (λ (x : Change). x.old.id == c.old.id) answer.changes.items c at (eq-eqb _ _ refl) in
+        counted_is_live (state_of v.atlas) c.old.id (omega (arith, few, all, some))
+
+    by_count : (0 < count_by (λ (c : Change). name_among v.names c.old.id == name) answer.changes.items)
+        ⊎ (count_by (λ (c : Change). name_among v.names c.old.id == name) answer.changes.items ≤ 0)
+        → count_by (λ (c : Change). name_among v.names c.old.id == name) answer.changes.items ≤ 1
+    by_count (inr none) = omega (arith, none)
+    by_count (inl some) =
+        let s = split_at (λ (c : Change). name_among v.names c.old.id == name) answer.changes.items (omega (arith, some)) in
+        let there : Contains (s.before ++ s.here ∷ s.after) s.here =
+        Contains-append_right s.before (s.here ∷ s.after) s.here (Contains-first s.here s.after) in
+        let at : Contains answer.changes.items s.here = subst (λ cs. Contains cs s.here) (sym s.is) there in
+        let few = count_weaker_in (λ (c : Change). name_among v.names c.old.id == name) (λ (c : Change). c.old.id == s.here.old.id) answer.changes.items
+        (λ c in_it is. eq-eqb _ _ ((session_named v h).names c.old.id s.here.old.id (live c in_it) (live s.here at) (eqb-true _ _ is ∙ sym (eqb-true _ _ s.passes)))) in
+        let all = count_map transfer_of (λ (t : Transfer). t.old.id == s.here.old.id) answer.changes.items in
+        let from = moved_from (state_of v.atlas) new (rearrangement_of answer) moves s.here.old.id in
+        let one = live_at_most_once (state_of v.atlas) s.here.old.id (session_named v h).sound in
+        omega (arith, few, all, from, one)
+
+pub rearranged_session : {A : Type 0} (v : SessionValue) (a : AtlasValue) (ns : List Entry) (r : RecordingValue) (answer : ChangeList A) (m : Moved A)
+    (asked : AtlasCall) (event : EventValue) → IsSession v
+    → Step (state_of v.atlas) asked (atlas.Changed (rearrangement_of answer)) (state_of a) → IsMoved v.names answer m
+    → ns ≡ m.names.items → r ≡ with_event event v.recording → names_in event ≡ []
+    → Leads (session_of v) event (record { state = state_of a; name = name_among m.names.items })
+    → IsSession (record { atlas = a; names = ns; given = v.given; recording = r })
+rearranged_session v a ns r answer m asked event h step moved names more none leads =
+    subst (λ ms. IsSession (record { atlas = a; names = ms; given = v.given; recording = r })) (sym names)
+    (subst (λ q. IsSession (record { atlas = a; names = m.names.items; given = v.given; recording = q })) (sym more) it)
+  where
+    low : (k : ℕ) (d : Change) → k < length answer.changes.items → name_among v.names (get_or answer.changes.items k d).old.id < v.given
+    low k d below =
+        let e = all_entered v (state_of a) answer asked h step in
+        let n = entry_of (get_or answer.changes.items k d).old.id v.names (e.changed k d below) in
+        subst (λ x. x < v.given) (sym n.3) (All-contains (λ (x : Entry). x.name < v.given) v.names n.0 h.below n.1)
+
+    it : IsSession (record { atlas = a; names = m.names.items; given = v.given; recording = with_event event v.recording })
+    it = record {
+      faithful = record {
+        leads = recorded_more v.recording event (session_of v) (record { state = state_of a; name = name_among m.names.items }) h.faithful.leads leads;
+        given = given_more v.recording.events event ∙ ap (λ xs. given_names v.recording.events ++ xs) none ∙ append-nil _ ∙ h.faithful.given;
+      };
+      ids = entered_anew v (state_of a) answer m asked h step moved;
+      rising = strictly m.names.items moved.sorted (names_apart v (state_of a) answer m asked h step moved);
+      below = All-permutation (λ (x : Entry). x.name < v.given) (map (entry_under (name_among v.names)) answer.changes.items) m.names.items moved.entries
+          (All-map (λ (x : Entry). x.name < v.given) (entry_under (name_among v.names)) answer.changes.items low);
+      most = h.most;
+    }
