@@ -6,6 +6,7 @@ pub mod Requests
 pub mod Searches
 pub mod Choice
 pub mod Simple
+pub mod SimpleRuns
 pub mod FreeLists
 pub mod Trees
 pub mod Changes
