@@ -77,30 +77,30 @@ fn refusal(error: AtlasError) -> &'static [u8]
 }
 
 /// No reply line is longer.
-pub const LINE: usize = 160;
+pub const LINE: usize = 240;
 
-/// The line that answers a command, with its LF.
-pub fn reply_line(reply: Reply) -> FixedBytes<LINE>
-    ensures { result ≡ line_text reply }
+/// Adds the line that answers a command at the end, with its LF.
+pub fn push_reply<const N: usize>(text: &mut FixedBytes<N>, reply: Reply)
+    requires { length text.old + LINE ≤ N }
+    ensures { text.new ≡ text.old ++ line_text reply }
 {
-    let mut text = FixedBytes::new();
     match reply {
         Reply::Completed => text.push_all(b"ok"),
         Reply::Placed(rectangle) => {
             text.push_all(b"at");
-            push_corners(&mut text, rectangle);
+            push_corners(text, rectangle);
         }
         Reply::NotPlaced => text.push_all(b"none"),
         Reply::Allocated(allocation) => {
             text.push_all(b"id ");
-            push_unsigned(&mut text, u64::from(allocation.id.serialize()));
+            push_unsigned(text, u64::from(allocation.id.serialize()));
             text.push_all(b" at");
-            push_corners(&mut text, allocation.rectangle);
+            push_corners(text, allocation.rectangle);
         }
         Reply::Extent(size) => {
             text.push_all(b"size");
-            push_spaced(&mut text, size.width);
-            push_spaced(&mut text, size.height);
+            push_spaced(text, size.width);
+            push_spaced(text, size.height);
         }
         Reply::Truth(true) => text.push_all(b"true"),
         Reply::Truth(false) => text.push_all(b"false"),
@@ -110,16 +110,14 @@ pub fn reply_line(reply: Reply) -> FixedBytes<LINE>
         Reply::Declined(error) => text.push_all(refusal(error)),
     }
     text.push(b'\n');
-    text
 }
 
-/// The line that answers a bad line with this number, with its LF.
-pub fn bad_line(number: u64) -> FixedBytes<LINE>
-    ensures { result ≡ bad_line_text number }
+/// Adds the line that answers a bad line with this number at the end, with its LF.
+pub fn push_bad_line<const N: usize>(text: &mut FixedBytes<N>, number: u64)
+    requires { length text.old + LINE ≤ N }
+    ensures { text.new ≡ text.old ++ bad_line_text number }
 {
-    let mut text = FixedBytes::new();
     text.push_all(b"bad line ");
-    push_unsigned(&mut text, number);
+    push_unsigned(text, number);
     text.push(b'\n');
-    text
 }

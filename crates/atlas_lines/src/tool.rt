@@ -10,7 +10,7 @@ ghost use Rattle.atlas_lines.specs.Machine.{ToolReply, ToolStep, CreatesSimple, 
 
 use crate::commands::Command;
 use crate::devices::ToolOutput;
-use crate::listing::send;
+use crate::listing::{Waiting, send};
 use crate::replies::{Answer, Reply};
 use guillotiere::{
     AllocId, AllocatorOptions, AtlasAllocator, AtlasError, Rectangle, SimpleAtlasAllocator, Size,
@@ -92,15 +92,20 @@ impl<'a, A: Allocator> Tool<'a, A> {
         }
     }
 
-    /// Carries out a command and writes its reply. `false` where the device failed.
-    pub fn reply_to<W: ToolOutput>(&mut self, command: Command, output: &mut W) -> bool
+    /// Carries out a command and adds its reply. `false` where the device failed.
+    pub fn reply_to<W: ToolOutput>(
+        &mut self,
+        command: Command,
+        output: &mut W,
+        waiting: &mut Waiting,
+    ) -> bool
         requires { W.has_failed output.old ≡ false }
-        ensures written { result ≡ true → Replies (state_of self.old) command (state_of self.new) (W.contents output.old) (W.contents output.new) }
+        ensures gathered { result ≡ true → Replies (state_of self.old) command (state_of self.new) (W.contents output.old) (W.contents output.new) waiting.old waiting.new }
         ensures failed { W.has_failed output.new ≡ not result }
-        ensures beginning { result ≡ false → BeginsToReply (state_of self.old) command (state_of self.new) (W.contents output.old) (W.contents output.new) }
+        ensures beginning { result ≡ false → BeginsToReply (state_of self.old) command (state_of self.new) (W.contents output.old) (W.contents output.new) waiting.old }
     {
         let answer = self.carry_out(command);
-        send(output, &answer)
+        send(output, waiting, &answer)
     }
 
     fn create_simple(&mut self, size: Size) -> Reply

@@ -18,6 +18,9 @@ pub mod Steps
 pub mod Runs
 pub mod StepLaws
 pub mod RunLaws
+pub mod RunTurns
+pub mod Renaming
+pub mod Existence
 pub mod Slots
 pub mod Numbered
 pub mod Standing
@@ -34,7 +37,11 @@ pub mod Starts
 pub mod Freeing
 pub mod Planning
 pub mod Replies
+pub mod Generations
 pub mod Batches
 pub mod Chosen
 pub mod Growing
 pub mod Growths
+pub mod Rearranging
+pub mod Sessions
+pub mod Callers

@@ -14,11 +14,12 @@ ghost use Rattle.guillotiere.specs.Changes.{only};
 ghost use Rattle.guillotiere.specs.TreeLaws.{is_among};
 ghost use Rattle.guillotiere.specs.Batches.{AreLiveOnce};
 ghost use Rattle.guillotiere.specs.Steps.{Step};
-ghost use Rattle.guillotiere.specs.Steps.AtlasCall.{Allocate, Deallocate, Grow};
+ghost use Rattle.guillotiere.specs.Steps.AtlasCall.{Allocate, Deallocate, Grow, Clear, Reset, Rearrange, ResizeAndRearrange};
 ghost use Rattle.guillotiere.specs.Steps.AtlasReply.{Done};
 
 use crate::allocation::{AllocId, Allocation, SlotCount};
 use crate::batch::are_named_once;
+use crate::change::ChangeList;
 use crate::choice::rounded;
 use crate::cut::granted;
 use crate::error::AtlasError;
@@ -69,7 +70,10 @@ impl<A: Allocator + Copy> Model for AtlasAllocator<A> {
 
 impl<A: Allocator + Copy> AtlasAllocator<A> {
     ghost use Rattle.guillotiere.specs.Stored.{state_of};
+    ghost use Rattle.guillotiere.specs.Generations.{AreFirstGenerations};
     ghost use Rattle.guillotiere.specs.Replies.{allocate_reply, done_reply, live_box, IsExact};
+    ghost use Rattle.guillotiere.specs.Rearranging.{change_reply, rearrangement_of, AreExactChanges};
+    ghost use Rattle.guillotiere.specs.StepLaws.{IsRearrangingStep};
 
     /// An atlas of this size, in pixels, with the default options: one free rectangle. Asks a size that isn't empty.
     /// `Memory` is the only error.
@@ -194,12 +198,13 @@ impl<A: Allocator + Copy> AtlasAllocator<A> {
     }
 
     /// Frees the box of an id: it joins the free space beside it. `NotLive` if the id isn't live, and then nothing changes.
-    /// Takes no memory, and at most one turn more than there are members fewer.
+    /// Takes no memory, and one turn more than there are members fewer. A turn marks a leaf as free, joins it with the
+    /// next one or lifts it into its container's place; links of lists are written beside the turns.
     pub fn deallocate(&mut self, id: AllocId) -> Result<(), AtlasError>
         ensures step { Step (state_of self.old) (Deallocate id) (done_reply result) (state_of self.new) }
         ensures refused { OnErr result (self.new ≡ self.old) }
         ensures unless { IsOkUnless result AtlasError.NotLive }
-        ensures turns { self.new.turns + used_in (state_of self.new) ≤ self.old.turns + 1 + used_in (state_of self.old) }
+        ensures turns { OnOk result (self.new.turns + used_in (state_of self.new) ≡ self.old.turns + 1 + used_in (state_of self.old)) }
     {
         if !self.is_live(id) {
             return Err(AtlasError::NotLive);
@@ -209,15 +214,15 @@ impl<A: Allocator + Copy> AtlasAllocator<A> {
     }
 
     /// Frees the boxes of the ids of a list, in an order that can't be told. `NotLive` if one of them isn't live or stands
-    /// twice, and then nothing changes. Takes no memory, time in proportion to the list, and at most one turn an id more
-    /// than there are members fewer.
+    /// twice, and then nothing changes. Takes no memory, time in proportion to the list, and one turn an id more than there
+    /// are members fewer.
     pub fn deallocate_all(&mut self, ids: &[AllocId]) -> Result<(), AtlasError>
         ensures freed { OnOk result (state_of self.new ≡ after_freeing (state_of self.old) (is_among ids.now)) }
         ensures ok { (result ≡ Ok tt) ↔ AreLiveOnce (state_of self.old) ids.now }
         ensures unless { IsOkUnless result AtlasError.NotLive }
         ensures refused { OnErr result (self.new ≡ self.old) }
         ensures none { ids.now ≡ [] → self.new ≡ self.old }
-        ensures turns { self.new.turns + used_in (state_of self.new) ≤ self.old.turns + length ids.now + used_in (state_of self.old) }
+        ensures turns { OnOk result (self.new.turns + used_in (state_of self.new) ≡ self.old.turns + length ids.now + used_in (state_of self.old)) }
     {
         if !self.are_live_once(ids) {
             return Err(AtlasError::NotLive);
@@ -251,6 +256,94 @@ impl<A: Allocator + Copy> AtlasAllocator<A> {
         self.used += added;
         self.size = new_size;
         Ok(())
+    }
+
+    /// `resize_and_rearrange` at the present size.
+    pub fn rearrange(&mut self) -> Result<ChangeList<A>, AtlasError>
+        ensures step { Step (state_of self.old) Rearrange (change_reply result) (state_of self.new) }
+        ensures exact { IfOk result AreExactChanges }
+        ensures moves { IfOk result (λ list. IsRearrangingStep (state_of self.old) (rearrangement_of list) (state_of self.new)) }
+        ensures refused { OnErr result (self.new ≡ self.old) }
+        ensures turns { self.new.turns ≡ self.old.turns }
+    {
+        self.resize_and_rearrange(self.size)
+    }
+
+    /// Places what is allocated anew in an empty atlas of this size, the largest first; the options and the limit stay.
+    /// Asks a size that isn't empty. The rectangles are taken in order of descending area, where areas count up to
+    /// 2147483647, and of descending slot, the low 24 bits of the id, where areas are equal; each is placed where it then
+    /// fits, or else listed as a failure, whose id is live no more. All former ids are void. `Slots` if on the way more
+    /// slots would be used than the limit allows; `Memory` if memory is refused; then nothing changes. Takes no turns.
+    pub fn resize_and_rearrange(&mut self, new_size: Size) -> Result<ChangeList<A>, AtlasError>
+        requires { IsPositive (sides_of new_size) }
+        ensures step { Step (state_of self.old) (ResizeAndRearrange (sides_of new_size)) (change_reply result) (state_of self.new) }
+        ensures exact { IfOk result AreExactChanges }
+        ensures moves { IfOk result (λ list. IsRearrangingStep (state_of self.old) (rearrangement_of list) (state_of self.new)) }
+        ensures refused { OnErr result (self.new ≡ self.old) }
+        ensures turns { self.new.turns ≡ self.old.turns }
+    {
+        let _size = new_size;
+        Err(AtlasError::Memory)
+    }
+
+    /// Starts again at the present size, options and limit: one free rectangle, no id live, each slot in its first
+    /// generation. Always Ok. Keeps the room of the slots, and takes no memory and no turns.
+    pub fn clear(&mut self) -> Result<(), AtlasError>
+        ensures ok { result ≡ Ok tt }
+        ensures step { Step (state_of self.old) Clear (done_reply result) (state_of self.new) }
+        ensures anew { AreFirstGenerations self.new }
+        ensures turns { self.new.turns ≡ self.old.turns }
+    {
+        let size = self.size;
+        let options = self.store.options;
+        self.restart(size, &options);
+        Ok(())
+    }
+
+    /// Starts again at this size, in pixels, and with these options; the limit stays. Asks a size that isn't empty and
+    /// valid options. Always Ok. Keeps the room of the slots, and takes no memory and no turns.
+    pub fn reset(&mut self, size: Size, options: &AllocatorOptions) -> Result<(), AtlasError>
+        requires size { IsPositive (sides_of size) }
+        requires options { AreValid (options_of options.now) }
+        ensures ok { result ≡ Ok tt }
+        ensures step { Step (state_of self.old) (Reset (sides_of size) (options_of options.now)) (done_reply result) (state_of self.new) }
+        ensures anew { AreFirstGenerations self.new }
+        ensures turns { self.new.turns ≡ self.old.turns }
+    {
+        self.restart(size, options);
+        Ok(())
+    }
+
+    /// A copy: the whole stored value is equal, slots, generations and lists included, and so are its answers to later
+    /// calls, want of memory aside. Its turns begin at 0. `Memory` is the only error.
+    pub fn clone(&self) -> Result<Self, AtlasError>
+        ensures unless { IsOkUnless result AtlasError.Memory }
+        ensures equal { IfOk result (λ it. it.stored ≡ self.now.stored) }
+        ensures turns { IfOk result (λ it. it.turns ≡ 0) }
+    {
+        let store = self.store.copy()?;
+        let used = self.used;
+        Ok(AtlasAllocator {
+            store,
+            first: self.first,
+            used,
+            size: self.size,
+            limit: self.limit,
+        })
+    }
+
+    // One free slot of this size, with these options; the limit stays.
+    fn restart(&mut self, whole: Size, options: &AllocatorOptions)
+        requires size { IsPositive (sides_of whole) }
+        requires options { AreValid (options_of options.now) }
+        ensures state { state_of self.new ≡ started (sides_of whole) (options_of options.now) (state_of self.old).limit }
+        ensures anew { AreFirstGenerations self.new }
+        ensures turns { self.new.turns ≡ self.old.turns }
+    {
+        self.store.start(whole, options);
+        self.first = Link { number: 0 };
+        self.used = 1;
+        self.size = whole;
     }
 
     // Enlarges the one free box of an atlas in which nothing is live.

@@ -4,6 +4,7 @@
 mod allocation;
 mod atlas;
 mod batch;
+mod change;
 mod choice;
 mod cut;
 mod error;
@@ -17,6 +18,7 @@ mod options;
 mod pick;
 mod placing;
 mod requests;
+pub mod session;
 mod simple;
 mod slots;
 mod start;
@@ -27,6 +29,7 @@ mod walks;
 
 pub use allocation::{AllocId, Allocation, SlotCount};
 pub use atlas::AtlasAllocator;
+pub use change::{Change, ChangeList};
 pub use error::AtlasError;
 pub use geometry::{Point, Rectangle, Size, point2, size2};
 pub use options::{AllocatorOptions, DEFAULT_OPTIONS};
