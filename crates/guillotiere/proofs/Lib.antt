@@ -84,6 +84,7 @@ pub mod Storing
 pub mod SimpleGrants
 pub mod SimpleSteps
 pub mod SimpleRunning
+pub mod SimplePlaying
 pub mod SimpleLists
 pub mod SimpleStarting
 pub mod FreedAtlas
