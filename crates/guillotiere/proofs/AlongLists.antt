@@ -1,10 +1,12 @@
 -- What a callback is told of each item of a list that a walk shows.
 use Rattle.std.proofs.Common.{ℕ, suc, ◌+◌, ◌%◌, ◌^◌, ◌<◌, ◌≡◌, Bool, true, false, cond, List, [], ◌∷◌, length, All, Option, Some, None, option_map, refl, sym, ap, subst, ◌∙◌, arith}
+use Rattle.std.proofs.lemmas.Bool.{false≢true}
 use Rattle.std.proofs.lemmas.List.{length-map}
 use Rattle.std.proofs.lemmas.List.Elements.{All-nil, All-cons, All-head, All-rest}
 use Rattle.std.specs.Iterator.{Yields, CallableAtEachTurn}
 use Rattle.guillotiere.specs.declared.slots.Slot.{Slot}
 use Rattle.guillotiere.specs.declared.slots.Node.{Node}
+use Rattle.guillotiere.specs.declared.slots.NodeKind.{NodeKind}
 use Rattle.guillotiere.specs.declared.slots.NodeKind.TheVariants as kind
 use Rattle.guillotiere.specs.declared.allocation.Allocation.{Allocation}
 use Rattle.guillotiere.specs.declared.geometry.Rectangle.{Rectangle}
@@ -13,10 +15,12 @@ use Rattle.guillotiere.specs.Pixels.{box_of, rectangle_of}
 use Rattle.guillotiere.specs.Slots.{nodes, node_at, use_count}
 use Rattle.guillotiere.specs.Numbered.{id_of}
 use Rattle.guillotiere.specs.Stored.{Stored, IsAtlas, state_of}
-use Rattle.guillotiere.specs.Visits.{is_alloc, allocation_at, allocated_from}
-use Rattle.guillotiere.specs.Walks.{first_of, IsShownGrant}
+use Rattle.guillotiere.specs.Visits.{is_alloc, allocation_at, allocated_from, free_areas}
+use Rattle.guillotiere.specs.Lists.{is_free}
+use Rattle.guillotiere.specs.Walks.{first_of, IsShownArea, IsShownGrant}
 use Rattle.guillotiere.proofs.JoiningWrites.{used-inside}
 use Rattle.guillotiere.proofs.SlotAreas.{Stands-exact}
+use Rattle.guillotiere.proofs.SlotMeasures.{Holds-measurable}
 use Rattle.guillotiere.proofs.NamedSlots.{named-true, named-IsAtlas, is_alloc-true}
 
 -- where each item of a list has P, an item that comes has it
@@ -48,6 +52,30 @@ each-allocated P all k (n ∷ ns) at each = by_test (is_alloc n.kind) refl (each
         (subst (λ m. P (allocation_at k m)) here (each k (ap (λ (m : Node). is_alloc m.kind) here ∙ is))) rest
     by_test false is rest = rest
 
+-- and what holds of the rectangle of each free slot
+each-free : (P : Rectangle → Type 0) (all : List Node) (k : ℕ) (ns : List Node) → ((j : ℕ) → node_at all (k + j) ≡ node_at ns j)
+    → ((i : ℕ) → is_free (node_at all i).kind ≡ true → P (node_at all i).area) → All P (free_areas ns)
+each-free P all k [] at each = All-nil P
+each-free P all k (n ∷ ns) at each = by_test (is_free n.kind) refl (each-free P all (k + 1) ns later each)
+  where
+    here : node_at all k ≡ n
+    here = ap (λ j. node_at all j) (let e : k ≡ k + 0 = omega arith in e) ∙ at 0
+
+    later : (j : ℕ) → node_at all (k + 1 + j) ≡ node_at ns j
+    later j = ap (λ i. node_at all i) (let e : k + 1 + j ≡ k + suc j = omega arith in e) ∙ at (suc j)
+
+    by_test : (b : Bool) → is_free n.kind ≡ b → All P (free_areas ns) → All P (cond b (n.area ∷ free_areas ns) (free_areas ns))
+    by_test true is rest =
+        All-cons P n.area (free_areas ns)
+        (subst (λ (m : Node). P m.area) here (each k (ap (λ (m : Node). is_free m.kind) here ∙ is))) rest
+    by_test false is rest = rest
+
+is_free-used : (k : NodeKind) → is_free k ≡ true → 0 < use_count k
+is_free-used kind.Free h = omega arith
+is_free-used kind.Alloc h = absurd (false≢true h)
+is_free-used kind.Container h = absurd (false≢true h)
+is_free-used kind.Unused h = absurd (false≢true h)
+
 -- a box whose rectangle is r is that of r
 box_is : (o : Option Box) (r : Rectangle) → option_map rectangle_of o ≡ Some r → o ≡ Some (box_of r)
 box_is None r e = absurd (cc)
@@ -67,7 +95,13 @@ module _ (v : Stored) (a : IsAtlas v) (turns : ℕ) where
       named-IsAtlas v a id
       ∙ ap (λ b. cond b (Some (node_at ns (id % 2 ^ 24)).area) None) named.0
       ∙ ap (λ k. Some (node_at ns k).area) named.1 in
-      record { live = box_is _ (node_at ns i).area area; exact = Stands-exact ns i a.holding.sequence a.holding.tree a.holds.stands used }
+      let box = box_is _ (node_at ns i).area area in
+      record {
+        live = rw box refl;
+        box = box;
+        exact = Stands-exact ns i a.holding.sequence a.holding.tree a.holds.stands used;
+        measurable = Holds-measurable v.shelf a.holding i a.holds used;
+      }
 
   -- each allocated slot shows a live id with its rectangle
   pub shown-IsAtlas : (slots : List Slot) → slots ≡ v.shelf.slots
@@ -75,3 +109,18 @@ module _ (v : Stored) (a : IsAtlas v) (turns : ℕ) where
   shown-IsAtlas slots same =
       subst (λ l. All (IsShownGrant (state_of (record { stored = v; turns = turns }))) (allocated_from 0 (nodes l))) (sym same)
       (each-allocated (IsShownGrant (state_of (record { stored = v; turns = turns }))) (nodes v.shelf.slots) 0 (nodes v.shelf.slots) (λ j. ap (λ i. node_at (nodes v.shelf.slots) i) (let e : 0 + j ≡ j = omega arith in e)) shown-slot)
+
+  shown-area : (i : ℕ) → is_free (node_at (nodes v.shelf.slots) i).kind ≡ true → IsShownArea (node_at (nodes v.shelf.slots) i).area
+  shown-area i is =
+      let ns = nodes v.shelf.slots in
+      let used = is_free-used (node_at ns i).kind is in
+      record {
+        exact = Stands-exact ns i a.holding.sequence a.holding.tree a.holds.stands used;
+        measurable = Holds-measurable v.shelf a.holding i a.holds used;
+      }
+
+  -- each free slot shows an exact rectangle that may be measured
+  pub shown_areas-IsAtlas : (slots : List Slot) → slots ≡ v.shelf.slots → All IsShownArea (free_areas (nodes slots))
+  shown_areas-IsAtlas slots same =
+      subst (λ l. All IsShownArea (free_areas (nodes l))) (sym same)
+      (each-free IsShownArea (nodes v.shelf.slots) 0 (nodes v.shelf.slots) (λ j. ap (λ i. node_at (nodes v.shelf.slots) i) (let e : 0 + j ≡ j = omega arith in e)) shown-area)

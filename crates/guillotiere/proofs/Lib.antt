@@ -53,6 +53,7 @@ pub mod Turning
 pub mod SlotSums
 pub mod LeafCounts
 pub mod WalkSteps
+pub mod SlotMeasures
 pub mod AlongLists
 pub mod Observing
 pub mod NamedSlots

@@ -9,7 +9,7 @@ ghost use Rattle.std.specs.Fn.{CalledAt};
 ghost use Rattle.guillotiere.specs.declared.geometry.Rectangle.{Rectangle as Area};
 ghost use Rattle.guillotiere.specs.declared.allocation.Allocation.{Allocation as Grant};
 ghost use Rattle.guillotiere.specs.Visits.{AreFreeAreas, AreGrants, CalledAtGrant};
-ghost use Rattle.guillotiere.specs.Walks.{IsCallableAlong, IsCallableAlongGrants, IsShownGrant};
+ghost use Rattle.guillotiere.specs.Walks.{IsCallableAlong, IsCallableAlongGrants, IsShownArea, IsShownGrant};
 ghost use Rattle.guillotiere.specs.Changes.{only};
 ghost use Rattle.guillotiere.specs.TreeLaws.{is_among};
 ghost use Rattle.guillotiere.specs.Batches.{AreLiveOnce};
@@ -356,7 +356,7 @@ impl<A: Allocator + Copy> AtlasAllocator<A> {
     /// Calls `visit` on each free rectangle once, in an order that is left open. Asks that `visit` may be called along each
     /// list that may be shown, and no more: nothing else is called. No coordinate of these rectangles is negative.
     pub fn for_each_free_rectangle<F: FnMut(&Rectangle)>(&self, visit: F)
-        requires { (areas : List Area) → AreFreeAreas (state_of self.now) areas → IsCallableAlong F.FnMut IsExact visit areas }
+        requires { (areas : List Area) → AreFreeAreas (state_of self.now) areas → IsCallableAlong F.FnMut IsShownArea visit areas }
         ensures { (areas : List Area) × AreFreeAreas (state_of self.now) areas × ((last : F) × FoldsTo (λ p x q. CalledAt F.FnMut p x tt q) visit areas last) }
     {
         visit_free(&self.store.slots, visit);
