@@ -57,6 +57,8 @@ pub mod Turning
 pub mod SlotSums
 pub mod LeafCounts
 pub mod WalkSteps
+pub mod SlotMeasures
+pub mod AlongLists
 pub mod Observing
 pub mod NamedSlots
 pub mod ShownLists

@@ -34,6 +34,7 @@ pub mod Links
 pub mod Picks
 pub mod Holdings
 pub mod Visits
+pub mod Walks
 pub mod Starts
 pub mod Freeing
 pub mod Planning

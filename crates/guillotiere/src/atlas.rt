@@ -10,6 +10,7 @@ ghost use Rattle.guillotiere.specs.declared.geometry.Rectangle.{Rectangle as Are
 ghost use Rattle.guillotiere.specs.declared.allocation.Allocation.{Allocation as Grant};
 ghost use Rattle.guillotiere.specs.Visits.{AreFreeAreas, AreGrants, CalledAtGrant, free_areas};
 ghost use Rattle.guillotiere.specs.Slots.{nodes};
+ghost use Rattle.guillotiere.specs.Walks.{IsCallableAlong, IsCallableAlongGrants, IsShownArea, IsShownGrant};
 ghost use Rattle.guillotiere.specs.Changes.{only};
 ghost use Rattle.guillotiere.specs.TreeLaws.{is_among};
 ghost use Rattle.guillotiere.specs.Batches.{AreLiveOnce};
@@ -432,18 +433,19 @@ impl<A: Allocator + Copy> AtlasAllocator<A> {
         &self.store
     }
 
-    /// Calls `visit` on each free rectangle once, in an order that is left open. Asks that `visit` may be called.
+    /// Calls `visit` on each free rectangle once, in an order that is left open. Asks that `visit` may be called along each
+    /// list that may be shown, and no more: nothing else is called. No coordinate of these rectangles is negative.
     pub fn for_each_free_rectangle<F: FnMut(&Rectangle)>(&self, visit: F)
-        requires { F.IsAlwaysCallable visit }
+        requires { (areas : List Area) → AreFreeAreas (state_of self.now) areas → IsCallableAlong F.FnMut IsShownArea visit areas }
         ensures { (areas : List Area) × AreFreeAreas (state_of self.now) areas × ((last : F) × FoldsTo (λ p x q. CalledAt F.FnMut p x tt q) visit areas last) }
     {
         visit_free(&self.store.slots, visit);
     }
 
     /// Calls `visit` on each live id and its rectangle once, by rising number of the slot, which is the low 24 bits of the
-    /// id. Asks that `visit` may be called.
+    /// id. Asks that `visit` may be called along that list, and no more: nothing else is called.
     pub fn for_each_allocated_rectangle<F: FnMut(AllocId, &Rectangle)>(&self, visit: F)
-        requires { F.IsAlwaysCallable visit }
+        requires { (grants : List Grant) → AreGrants (state_of self.now) grants → IsCallableAlongGrants F.FnMut (IsShownGrant (state_of self.now)) visit grants }
         ensures { (grants : List Grant) × AreGrants (state_of self.now) grants × ((last : F) × FoldsTo (CalledAtGrant F.FnMut) visit grants last) }
     {
         visit_allocated(&self.store.slots, visit);
