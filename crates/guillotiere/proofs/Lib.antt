@@ -103,6 +103,11 @@ pub mod LastMembers
 pub mod GrownTrees
 pub mod GrownSlots
 pub mod GrownStages
+pub mod RefitRanks
+pub mod RefitSizes
+pub mod RefitParts
+pub mod RefitLoops
+pub mod RearrangedAtlas
 pub mod TurnCounting
 pub mod Playing
 pub mod CallerLemmas

@@ -42,5 +42,6 @@ pub mod Chosen
 pub mod Growing
 pub mod Growths
 pub mod Rearranging
+pub mod Refitted
 pub mod Sessions
 pub mod Callers
