@@ -1,6 +1,10 @@
 pub mod Picking
 pub mod PickExistence
 pub mod RunKeeping
+pub mod Renaming
+pub mod Alike
+pub mod RefitOrders
+pub mod Existence
 pub mod Traces
 pub mod DueAnswers
 pub mod StepEffects
@@ -99,3 +103,14 @@ pub mod LastMembers
 pub mod GrownTrees
 pub mod GrownSlots
 pub mod GrownStages
+pub mod RefitRanks
+pub mod RefitSizes
+pub mod RefitParts
+pub mod RefitLoops
+pub mod RearrangedAtlas
+pub mod TurnCounting
+pub mod Playing
+pub mod CallerLemmas
+pub mod LiveBoxes
+pub mod LyingApart
+pub mod Guarding

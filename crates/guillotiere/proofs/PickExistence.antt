@@ -1,10 +1,10 @@
 -- Where a request has room there is a pick: the least fitting box by class, equal side, margin and place.
 use Rattle.std.proofs.Common.{◌≡◌, ℕ, ◌-◌, ◌≤◌, ◌<◌, ◌==◌, Bool, true, false, cond, nat_le, ◌&&◌, ◌||◌, List, [], ◌∷◌, refl, ap, sym, subst, ◌∙◌, arith, inl, inr, ◌⊎◌, Contains}
 use Rattle.std.specs.List.{sum_by}
-use Rattle.std.proofs.lemmas.Bool.{true≢false, cases_order, cases_Bool, eqb-true, eqb-false, eq-eqb, le-leb, leb-true, and_parts, and_from, or_cases, or_left, or_right}
+use Rattle.std.proofs.lemmas.Bool.{true≢false, cases_lt, cases_order, cases_Bool, eqb-true, eqb-false, eq-eqb, le-leb, leb-true, and_parts, and_from, or_cases, or_left, or_right}
 use Rattle.std.proofs.lemmas.List.Sums.{get_or-le-sum_by}
-use Rattle.guillotiere.specs.Boxes.{Sides, Box, box_sides, Fits}
-use Rattle.guillotiere.specs.Choice.{Options, reaches, rounded, class_of, least_margin, HasEqualSide, IsFitting, IsCandidate, HasBetterMargin, IsBest, ComesFirst, IsPick}
+use Rattle.guillotiere.specs.Boxes.{Sides, Box, box_sides, Fits, IsPositive}
+use Rattle.guillotiere.specs.Choice.{Options, reaches, rounded, class_of, least_margin, HasEqualSide, IsFitting, IsCandidate, HasBetterMargin, IsBest, ComesFirst, IsPick, HasRoom, HasNoRoom}
 use Rattle.guillotiere.specs.StepLaws.{PicksExist, SmallerFits}
 use Rattle.guillotiere.proofs.TreeIds.{Contains-first, Contains-later, Contains-none, Contains-cons_cases}
 use Rattle.guillotiere.proofs.Rounding.{rounded_monotone}
@@ -296,3 +296,21 @@ smaller_fits free o r s room pos fit =
         fits = (omega (arith, smaller.0, fitting.fits.0), omega (arith, smaller.1, fitting.fits.1));
       };
     }
+
+-- a request has room or not
+pub room_or_none : (free : List Box) (o : Options) (s : Sides) → HasRoom free o s ⊎ HasNoRoom free o s
+room_or_none free o s = by_side (cases_lt 0 s.width) (cases_lt 0 s.height)
+  where
+    r : Sides
+    r = rounded o s
+
+    found : IsPositive s → IsLeast [] (fits r) free ⊎ ((y : Box) → Contains free y → fits r y ≡ true → ⊥)
+        → HasRoom free o s ⊎ HasNoRoom free o s
+    found pos (inl m) =
+        inl (record { positive = pos; box = m.it; fitting = record { is_free = m.at; fits = fits_is r m.it m.passes } })
+    found pos (inr none) = inr (λ room. none room.box room.fitting.is_free (is_fits r room.box room.fitting.fits))
+
+    by_side : (0 < s.width) ⊎ (s.width ≤ 0) → (0 < s.height) ⊎ (s.height ≤ 0) → HasRoom free o s ⊎ HasNoRoom free o s
+    by_side (inl wide) (inl high) = found (wide, high) (least_or_none [] (fits r) free)
+    by_side (inr flat) high = inr (λ room. let pos : 0 < s.width = room.positive.0 in omega arith)
+    by_side (inl wide) (inr flat) = inr (λ room. let pos : 0 < s.height = room.positive.1 in omega arith)

@@ -17,6 +17,9 @@ pub mod Steps
 pub mod Runs
 pub mod StepLaws
 pub mod RunLaws
+pub mod RunTurns
+pub mod Renaming
+pub mod Existence
 pub mod Slots
 pub mod Numbered
 pub mod Standing
@@ -39,3 +42,6 @@ pub mod Chosen
 pub mod Growing
 pub mod Growths
 pub mod Rearranging
+pub mod Refitted
+pub mod Sessions
+pub mod Callers

@@ -1,5 +1,5 @@
 -- What a rearranging answers, as the model sees it.
-use Rattle.std.specs.Prelude.{List, All, map, Result, Ok, Err}
+use Rattle.std.specs.Prelude.{All, map, Result, Ok, Err}
 use Rattle.guillotiere.specs.declared.allocation.Allocation.{Allocation}
 use Rattle.guillotiere.specs.declared.change.Change.{Change}
 use Rattle.guillotiere.specs.declared.change.ChangeList.{ChangeList}

@@ -1,5 +1,5 @@
 //! The atlas allocator.
-ghost use Rattle.std.specs.Prelude.{◌≡◌, ◌≤◌, ◌<◌, ◌+◌, ◌-◌, ◌↔◌, List, [], IsTrue, IfOk, IfSome, OnErr, IsOkUnless, OnOk, length, IsSome, option_map, None, Some, Ok};
+ghost use Rattle.std.specs.Prelude.{◌≡◌, ◌≤◌, ◌<◌, ◌+◌, ◌-◌, ◌↔◌, List, [], IsTrue, IfOk, IfSome, OnErr, IsOkUnless, OnOk, length, IsSome, option_map, None, Some, Ok, All, map};
 ghost use Rattle.guillotiere.specs.Boxes.{Fits, IsPositive};
 ghost use Rattle.guillotiere.specs.Choice.{AreValid};
 ghost use Rattle.guillotiere.specs.Pixels.{sides_of, size_of, options_of, rectangle_of};
@@ -26,6 +26,7 @@ use crate::geometry::{Rectangle, Size};
 use crate::growth::{grow_tree, grow_whole, growth_for, slots_for};
 use crate::lists::empty_lists;
 use crate::options::{AllocatorOptions, DEFAULT_OPTIONS};
+use crate::refit::{refit, sort_for_refit};
 use crate::requests::{choose, grant, make_room};
 use crate::slots::{Link, NO_SLOT, NodeKind};
 use crate::store::Store;
@@ -70,9 +71,11 @@ impl<A: Allocator + Copy> Model for AtlasAllocator<A> {
 impl<A: Allocator + Copy> AtlasAllocator<A> {
     ghost use Rattle.guillotiere.specs.Stored.{state_of};
     ghost use Rattle.guillotiere.specs.Generations.{AreFirstGenerations};
-    ghost use Rattle.guillotiere.specs.Replies.{allocate_reply, done_reply, live_box, IsExact};
+    ghost use Rattle.guillotiere.specs.Replies.{allocate_reply, done_reply, grant_of, live_box, IsExact};
     ghost use Rattle.guillotiere.specs.Rearranging.{change_reply, rearrangement_of, AreExactChanges};
     ghost use Rattle.guillotiere.specs.StepLaws.{IsRearrangingStep};
+    ghost use Rattle.guillotiere.specs.Refits.{IsRefitOrder};
+    ghost use Rattle.guillotiere.specs.Refitted.{HasExactRectangle};
 
     /// An atlas of this size, in pixels, with the default options: one free rectangle. Asks a size that isn't empty.
     /// `Memory` is the only error.
@@ -197,12 +200,13 @@ impl<A: Allocator + Copy> AtlasAllocator<A> {
     }
 
     /// Frees the box of an id: it joins the free space beside it. `NotLive` if the id isn't live, and then nothing changes.
-    /// Takes no memory, and at most one turn more than there are members fewer.
+    /// Takes no memory, and one turn more than there are members fewer. A turn marks a leaf as free, joins it with the
+    /// next one or lifts it into its container's place; links of lists are written beside the turns.
     pub fn deallocate(&mut self, id: AllocId) -> Result<(), AtlasError>
         ensures step { Step (state_of self.old) (Deallocate id) (done_reply result) (state_of self.new) }
         ensures refused { OnErr result (self.new ≡ self.old) }
         ensures unless { IsOkUnless result AtlasError.NotLive }
-        ensures turns { self.new.turns + used_in (state_of self.new) ≤ self.old.turns + 1 + used_in (state_of self.old) }
+        ensures turns { OnOk result (self.new.turns + used_in (state_of self.new) ≡ self.old.turns + 1 + used_in (state_of self.old)) }
     {
         if !self.is_live(id) {
             return Err(AtlasError::NotLive);
@@ -212,15 +216,15 @@ impl<A: Allocator + Copy> AtlasAllocator<A> {
     }
 
     /// Frees the boxes of the ids of a list, in an order that can't be told. `NotLive` if one of them isn't live or stands
-    /// twice, and then nothing changes. Takes no memory, time in proportion to the list, and at most one turn an id more
-    /// than there are members fewer.
+    /// twice, and then nothing changes. Takes no memory, time in proportion to the list, and one turn an id more than there
+    /// are members fewer.
     pub fn deallocate_all(&mut self, ids: &[AllocId]) -> Result<(), AtlasError>
         ensures freed { OnOk result (state_of self.new ≡ after_freeing (state_of self.old) (is_among ids.now)) }
         ensures ok { (result ≡ Ok tt) ↔ AreLiveOnce (state_of self.old) ids.now }
         ensures unless { IsOkUnless result AtlasError.NotLive }
         ensures refused { OnErr result (self.new ≡ self.old) }
         ensures none { ids.now ≡ [] → self.new ≡ self.old }
-        ensures turns { self.new.turns + used_in (state_of self.new) ≤ self.old.turns + length ids.now + used_in (state_of self.old) }
+        ensures turns { OnOk result (self.new.turns + used_in (state_of self.new) ≡ self.old.turns + length ids.now + used_in (state_of self.old)) }
     {
         if !self.are_live_once(ids) {
             return Err(AtlasError::NotLive);
@@ -254,6 +258,71 @@ impl<A: Allocator + Copy> AtlasAllocator<A> {
         self.used += added;
         self.size = new_size;
         Ok(())
+    }
+
+    /// `resize_and_rearrange` at the present size.
+    pub fn rearrange(&mut self) -> Result<ChangeList<A>, AtlasError>
+        ensures step { Step (state_of self.old) Rearrange (change_reply result) (state_of self.new) }
+        ensures exact { IfOk result AreExactChanges }
+        ensures moves { IfOk result (λ list. IsRearrangingStep (state_of self.old) (rearrangement_of list) (state_of self.new)) }
+        ensures refused { OnErr result (self.new ≡ self.old) }
+        ensures turns { self.new.turns ≡ self.old.turns }
+    {
+        self.resize_and_rearrange(self.size)
+    }
+
+    /// Places what is allocated anew in an empty atlas of this size, the largest first; the options and the limit stay.
+    /// Asks a size that isn't empty. The rectangles are taken in order of descending area, where areas count up to
+    /// 2147483647, and of descending slot, the low 24 bits of the id, where areas are equal; each is placed where it
+    /// then fits, or else listed as a failure, whose id is live no more. All former ids are void. `Slots` if on the way
+    /// more slots would be used than the limit allows; `Memory` if memory is refused; then nothing changes. Takes no
+    /// turns.
+    pub fn resize_and_rearrange(&mut self, new_size: Size) -> Result<ChangeList<A>, AtlasError>
+        requires { IsPositive (sides_of new_size) }
+        ensures step { Step (state_of self.old) (ResizeAndRearrange (sides_of new_size)) (change_reply result) (state_of self.new) }
+        ensures exact { IfOk result AreExactChanges }
+        ensures moves { IfOk result (λ list. IsRearrangingStep (state_of self.old) (rearrangement_of list) (state_of self.new)) }
+        ensures refused { OnErr result (self.new ≡ self.old) }
+        ensures turns { self.new.turns ≡ self.old.turns }
+    {
+        let order = self.refit_order()?;
+        let alloc = *self.store.slots.allocator();
+        let options = self.store.options;
+        let mut placed = AtlasAllocator::with_slot_limit(alloc, new_size, &options, self.limit)?;
+        let list = refit(&mut placed, order)?;
+        self.become_like(placed);
+        Ok(list)
+    }
+
+    // What is allocated, in the order in which it is placed anew.
+    fn refit_order(&self) -> Result<Vec<Allocation, A>, AtlasError>
+        ensures unless { IsOkUnless result AtlasError.Memory }
+        ensures order { IfOk result (λ boxes. IsRefitOrder (live_in (state_of self.now)) (map grant_of boxes.items)) }
+        ensures exact { IfOk result (λ boxes. All HasExactRectangle boxes.items) }
+    {
+        let mut boxes = self.allocations()?;
+        sort_for_refit(&mut boxes);
+        Ok(boxes)
+    }
+
+    // Stores what another atlas stores. The turns stay.
+    fn become_like(&mut self, other: AtlasAllocator<A>)
+        ensures stored { self.new.stored ≡ other.stored }
+        ensures turns { self.new.turns ≡ self.old.turns }
+    {
+        let AtlasAllocator {
+            store,
+            first,
+            used,
+            size,
+            limit,
+        } = other;
+        self.store.slots = store.slots;
+        self.store.lists = store.lists;
+        self.store.unused = store.unused;
+        self.store.options = store.options;
+        (self.first, self.used) = (first, used);
+        (self.size, self.limit) = (size, limit);
     }
 
     /// Starts again at the present size, options and limit: one free rectangle, no id live, each slot in its first
@@ -314,34 +383,6 @@ impl<A: Allocator + Copy> AtlasAllocator<A> {
         self.first = Link { number: 0 };
         self.used = 1;
         self.size = whole;
-    }
-
-    /// `resize_and_rearrange` at the present size.
-    pub fn rearrange(&mut self) -> Result<ChangeList<A>, AtlasError>
-        ensures step { Step (state_of self.old) Rearrange (change_reply result) (state_of self.new) }
-        ensures exact { IfOk result AreExactChanges }
-        ensures moves { IfOk result (λ list. IsRearrangingStep (state_of self.old) (rearrangement_of list) (state_of self.new)) }
-        ensures refused { OnErr result (self.new ≡ self.old) }
-        ensures turns { self.new.turns ≡ self.old.turns }
-    {
-        self.resize_and_rearrange(self.size)
-    }
-
-    /// Places what is allocated anew in an empty atlas of this size, the largest first; the options and the limit stay.
-    /// Asks a size that isn't empty. The rectangles are taken in order of descending area, where areas count up to
-    /// 2147483647, and of descending slot, the low 24 bits of the id, where areas are equal; each is placed where it then
-    /// fits, or else listed as a failure, whose id is live no more. All former ids are void. `Slots` if on the way more
-    /// slots would be used than the limit allows; `Memory` if memory is refused; then nothing changes. Takes no turns.
-    pub fn resize_and_rearrange(&mut self, new_size: Size) -> Result<ChangeList<A>, AtlasError>
-        requires { IsPositive (sides_of new_size) }
-        ensures step { Step (state_of self.old) (ResizeAndRearrange (sides_of new_size)) (change_reply result) (state_of self.new) }
-        ensures exact { IfOk result AreExactChanges }
-        ensures moves { IfOk result (λ list. IsRearrangingStep (state_of self.old) (rearrangement_of list) (state_of self.new)) }
-        ensures refused { OnErr result (self.new ≡ self.old) }
-        ensures turns { self.new.turns ≡ self.old.turns }
-    {
-        let _size = new_size;
-        Err(AtlasError::Memory)
     }
 
     // Enlarges the one free box of an atlas in which nothing is live.

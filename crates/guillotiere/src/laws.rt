@@ -8,6 +8,9 @@ ghost use Rattle.guillotiere.specs.Examples.{Shows, sides, box, both, one_corner
 ghost use Rattle.guillotiere.specs.TreeLaws.{LeavesTile, AreasAddUp, ReleasesInAnyOrder, GrantsAreUndone, GrowthAndReleaseSwap, NothingLiveIsOneFree, PlacingsKeepTrees, ReleasesKeepTrees, GrowthsKeepTrees, FreedHasRoom, MembersAreCounted};
 ghost use Rattle.guillotiere.specs.StepLaws.{StepsKeep, PicksAreOne, PicksExist, SmallerFits, GrantsLieInside, FreeingsRemoveOne, GrowthsKeepBoxes, RearrangingsLoseNothing, RefusalsChangeNothing, StepsAnswerAsDue};
 ghost use Rattle.guillotiere.specs.RunLaws.{RunsKeepOrder, RunsLeaveNoTrace};
+ghost use Rattle.guillotiere.specs.Existence.{RoundingIsLeast, StartsAreSound, StepsExist};
+ghost use Rattle.guillotiere.specs.Renaming.{RenamingChangesNothing, AnswersWithoutIds};
+ghost use Rattle.guillotiere.specs.Callers.{SoundIsTiled, LiveHaveBoxes, LiveShareNothing, LiveLieWithin, LiveAreGuarded};
 
 /// In a well formed tree of cuts each unit square of the atlas lies in exactly one leaf's box, and no
 /// such box is empty or passes the sides of the atlas.
@@ -159,4 +162,56 @@ pub fn runs_leave_no_trace()
 /// From one state, if a request fits, each positive request no wider and no higher fits.
 pub fn smaller_fits()
     ensures { SmallerFits }
+{}
+
+/// Names in place of ids change nothing that a tree shows; placing, freeing and growing are the same under them.
+pub fn renaming()
+    ensures { RenamingChangesNothing }
+{}
+
+/// Two sound states that are one but for their ids answer each grant, freeing and growth alike, where neither is refused
+/// for memory, and are one but for their ids after it.
+pub fn answers_without_ids()
+    ensures { AnswersWithoutIds }
+{}
+
+/// The rounded side is at least the side and a multiple of the alignment, and no such multiple is smaller.
+pub fn rounding()
+    ensures { RoundingIsLeast }
+{}
+
+/// An atlas of a positive size, with valid options and a limit of at least 1, starts in a sound state.
+pub fn starts_are_sound()
+    ensures { StartsAreSound }
+{}
+
+/// From each sound state whose limit is at most 16777216 each call has a reply other than a refusal for memory, and a
+/// state that it leads to.
+pub fn steps_exist()
+    ensures { StepsExist }
+{}
+
+/// In each sound state live and free boxes tile the atlas.
+pub fn sound_is_tiled()
+    ensures { SoundIsTiled }
+{}
+
+/// An id is live exactly if it has a box.
+pub fn live_ids_have_boxes()
+    ensures { LiveHaveBoxes }
+{}
+
+/// The boxes of two live ids share no unit square, and lie apart.
+pub fn live_boxes_lie_apart()
+    ensures { LiveShareNothing }
+{}
+
+/// Each live box is nonempty and lies within the atlas.
+pub fn live_boxes_lie_within()
+    ensures { LiveLieWithin }
+{}
+
+/// The live boxes are guarded: disjoint from each other and from the free boxes.
+pub fn live_boxes_are_guarded()
+    ensures { LiveAreGuarded }
 {}

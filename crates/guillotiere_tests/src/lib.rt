@@ -7,6 +7,8 @@ mod atlas_calls;
 #[cfg(test)]
 mod atlas_churn;
 #[cfg(test)]
+mod atlas_extremes;
+#[cfg(test)]
 mod atlas_freeing;
 #[cfg(test)]
 mod atlas_grants;
@@ -24,6 +26,10 @@ mod atlas_starts;
 mod atlas_walks;
 #[cfg(test)]
 mod geometry;
+#[cfg(test)]
+mod session_long;
+#[cfg(test)]
+mod session_rows;
 #[cfg(test)]
 mod simple_recorded;
 #[cfg(test)]

@@ -1,0 +1,125 @@
+-- Live boxes of different ids share no unit square, and lie apart.
+use Rattle.std.proofs.Common.{◌≡◌, ℕ, zero, suc, ◌+◌, ◌≤◌, ◌<◌, ◌&&◌, ◌⊎◌, Bool, true, false, List, ◌++◌, map, refl, ap, subst, sym, ◌∙◌, arith, Contains, inl, inr, Option, Some, None, option_map, nat_le, nat_lt}
+use Rattle.std.specs.List.{count_by, find}
+use Rattle.std.proofs.lemmas.Bool.{eqb-true, false≢true, ltb-true, leb-true, lt-ltb, le-leb, and_parts, and_from, cases_lt}
+use Rattle.std.proofs.lemmas.List.Elements.{All-contains, Contains-append_left}
+use Rattle.guillotiere.specs.Boxes.{Sides, Box, covers, IsNonempty, IsWithin}
+use Rattle.guillotiere.specs.Trees.{Grant}
+use Rattle.guillotiere.specs.States.{State, live_in, free_in, IsSound}
+use Rattle.guillotiere.specs.Replies.{live_box}
+use Rattle.guillotiere.specs.RunLaws.{boxes_in}
+use Rattle.guillotiere.specs.Callers.{ShareNothing, LieApart, LiveShareNothing, LiveLieWithin}
+use Rattle.guillotiere.proofs.Counting.{count_by-append, counted_once, count_some}
+use Rattle.guillotiere.proofs.LiveBoxes.{sound_is_tiled, is_for}
+use Rattle.guillotiere.proofs.CallerLemmas.{Contains-find, Contains-map, count_by-map, find-counted}
+
+-- a unit square of a box that lies within sides lies within them
+pub covered_within : (s : Sides) (b : Box) (x y : ℕ) → IsWithin s b → covers x y b ≡ true → (x < s.width) × (y < s.height)
+covered_within s b x y within is =
+    let parts = and_parts (nat_le b.min.x x && nat_lt x b.max.x) (nat_le b.min.y y && nat_lt y b.max.y) is in
+    let wide : x < b.max.x = ltb-true x b.max.x (and_parts (nat_le b.min.x x) (nat_lt x b.max.x) parts.0).1 in
+    let high : y < b.max.y = ltb-true y b.max.y (and_parts (nat_le b.min.y y) (nat_lt y b.max.y) parts.1).1 in
+    (omega (arith, within.0), omega (arith, within.1))
+
+-- a covered square lies in the atlas
+pub covered_inside : (s : State) → IsSound s → (x y : ℕ) → 1 ≤ count_by (covers x y) (boxes_in s) → (x < s.size.width) × (y < s.size.height)
+covered_inside s sound x y some =
+    let found = find-counted (covers x y) (boxes_in s) some in
+    let place = All-contains (λ b. IsNonempty b × IsWithin s.size b) (boxes_in s) found.0 (sound_is_tiled s sound).boxes found.2 in
+    covered_within s.size found.0 x y place.1 found.3
+
+-- a square of the atlas lies in one box
+pub covered_once : (s : State) → IsSound s → (x y : ℕ) → (x < s.size.width) × (y < s.size.height) → count_by (covers x y) (boxes_in s) ≡ 1
+covered_once s sound x y inside = (sound_is_tiled s sound).squares x y inside.0 inside.1
+
+-- no unit square lies in more than one box
+pub covered_few : (s : State) → IsSound s → (x y : ℕ) → count_by (covers x y) (boxes_in s) ≤ 1
+covered_few s sound x y = by_count (count_by (covers x y) (boxes_in s)) refl
+  where
+    by_count : (n : ℕ) → count_by (covers x y) (boxes_in s) ≡ n → count_by (covers x y) (boxes_in s) ≤ 1
+    by_count zero e = omega (arith, e)
+    by_count (suc n) e = omega (arith, covered_once s sound x y (covered_inside s sound x y (omega (arith, e))))
+
+-- live boxes and free ones are counted apart
+pub count_boxes : (s : State) (p : Box → Bool)
+    → count_by p (boxes_in s) ≡ count_by (λ (g : Grant). p g.box) (live_in s) + count_by p (free_in s)
+count_boxes s p =
+    count_by-append p (map (λ (g : Grant). g.box) (live_in s)) (free_in s)
+    ∙ ap (λ n. n + count_by p (free_in s)) (count_by-map (λ (g : Grant). g.box) p (live_in s))
+
+-- the grant of a live box
+pub box_owner : (s : State) (id : ℕ) (b : Box) → live_box s id ≡ Some b
+    → (g : Grant) × Contains (live_in s) g × (g.id ≡ id) × (g.box ≡ b) × (find (is_for id) (live_in s) ≡ Some g)
+box_owner s id b is = by_found (find (is_for id) (live_in s)) refl is
+  where
+    by_found : (o : Option Grant) → find (is_for id) (live_in s) ≡ o → option_map (λ (g : Grant). g.box) o ≡ Some b
+        → (g : Grant) × Contains (live_in s) g × (g.id ≡ id) × (g.box ≡ b) × (find (is_for id) (live_in s) ≡ Some g)
+    by_found None e none = cc
+    by_found (Some g) e some =
+        let at = Contains-find (is_for id) (live_in s) g e in (g, at.0, eqb-true g.id id at.1, cc, e)
+
+pub live_lie_within : LiveLieWithin
+live_lie_within s id b sound is =
+    let at = box_owner s id b is in
+    let place : IsNonempty at.0.box × IsWithin s.size at.0.box =
+    All-contains (λ k. IsNonempty k × IsWithin s.size k) (boxes_in s) at.0.box (sound_is_tiled s sound).boxes
+    (Contains-append_left (map (λ (k : Grant). k.box) (live_in s)) (free_in s) at.0.box (Contains-map (λ (k : Grant). k.box) (live_in s) at.0 at.1)) in
+    subst (λ k. IsNonempty k × IsWithin s.size k) at.3 place
+
+pub share_nothing : (s : State) (i j : ℕ) (b c : Box) → IsSound s → (i ≡ j → ⊥) → live_box s i ≡ Some b → live_box s j ≡ Some c → ShareNothing b c
+share_nothing s i j b c sound differ is is' x y = by_tests (covers x y b) (covers x y c) refl refl
+  where
+    by_tests : (p q : Bool) → covers x y b ≡ p → covers x y c ≡ q → (p && q) ≡ false
+    by_tests false q here there = refl
+    by_tests true false here there = refl
+    by_tests true true here there =
+        let g = box_owner s i b is in
+        let h = box_owner s j c is' in
+        let few : count_by (λ (k : Grant). covers x y k.box) (live_in s) ≤ 1 = omega (arith, covered_few s sound x y, count_boxes s (covers x y)) in
+        let same : g.0 ≡ h.0 = counted_once (λ (k : Grant). covers x y k.box) (live_in s) g.0 h.0 few g.1 h.1
+        (ap (covers x y) g.3 ∙ here) (ap (covers x y) h.3 ∙ there) in
+        absurd (differ (sym g.2 ∙ ap (λ (k : Grant). k.id) same ∙ h.2))
+
+-- nonempty boxes that share no unit square lie apart
+pub lie_apart : (b c : Box) → IsNonempty b → IsNonempty c → ShareNothing b c → LieApart b c
+lie_apart b c some_b some_c nothing =
+    elim (cases_lt c.min.x b.max.x) [
+      | inr left ↦ inl left
+      | inl x ↦ elim (cases_lt b.min.x c.max.x) [
+        | inr right ↦ inr (inl right)
+        | inl x' ↦ elim (cases_lt c.min.y b.max.y) [
+          | inr above ↦ inr (inr (inl above))
+          | inl y ↦ elim (cases_lt b.min.y c.max.y) [
+            | inr below ↦ inr (inr (inr below))
+            | inl y' ↦ absurd (meeting x x' y y')
+          ]
+        ]
+      ]
+    ]
+  where
+    greater : (m n : ℕ) → (k : ℕ) × (m ≤ k) × (n ≤ k) × ((k ≡ m) ⊎ (k ≡ n))
+    greater m n = elim (cases_lt m n) [
+      | inl less ↦ (n, omega (arith, less), omega arith, inr refl)
+      | inr more ↦ (m, omega arith, omega (arith, more), inl refl)
+    ]
+
+    below : (k m n limit : ℕ) → ((k ≡ m) ⊎ (k ≡ n)) → m < limit → n < limit → k < limit
+    below k m n limit (inl e) h h' = omega (arith, e, h)
+    below k m n limit (inr e) h h' = omega (arith, e, h')
+
+    meeting : c.min.x < b.max.x → b.min.x < c.max.x → c.min.y < b.max.y → b.min.y < c.max.y → ⊥
+    meeting x x' y y' =
+        let u = greater b.min.x c.min.x in
+        let v = greater b.min.y c.min.y in
+        let in_b : covers u.0 v.0 b ≡ true = and_from _ _
+        (and_from _ _ (le-leb b.min.x u.0 u.1) (lt-ltb u.0 b.max.x (below u.0 b.min.x c.min.x b.max.x u.3 some_b.0 x)))
+        (and_from _ _ (le-leb b.min.y v.0 v.1) (lt-ltb v.0 b.max.y (below v.0 b.min.y c.min.y b.max.y v.3 some_b.1 y))) in
+        let in_c : covers u.0 v.0 c ≡ true = and_from _ _
+        (and_from _ _ (le-leb c.min.x u.0 u.2) (lt-ltb u.0 c.max.x (below u.0 b.min.x c.min.x c.max.x u.3 x' some_c.0)))
+        (and_from _ _ (le-leb c.min.y v.0 v.2) (lt-ltb v.0 c.max.y (below v.0 b.min.y c.min.y c.max.y v.3 y' some_c.1))) in
+        false≢true (sym (nothing u.0 v.0) ∙ and_from _ _ in_b in_c)
+
+pub live_share_nothing : LiveShareNothing
+live_share_nothing s i j b c sound differ is is' =
+    let nothing = share_nothing s i j b c sound differ is is' in
+    (nothing, lie_apart b c (live_lie_within s i b sound is).0 (live_lie_within s j c sound is').0 nothing)

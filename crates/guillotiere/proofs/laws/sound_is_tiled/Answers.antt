@@ -1,0 +1,5 @@
+use Rattle.guillotiere.proofs.LiveBoxes.{sound_is_tiled}
+use Rattle.guillotiere.proofs.laws.sound_is_tiled.Goals as goal
+
+pub returns : goal.returns
+returns c = sound_is_tiled
