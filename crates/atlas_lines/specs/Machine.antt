@@ -16,7 +16,7 @@ use Rattle.guillotiere.specs.Steps.AtlasCall.{Allocate, Deallocate, ResizeAndRea
 use Rattle.guillotiere.specs.Replies.{IsLiveList}
 use Rattle.guillotiere.specs.Stored.{AtlasValue}
 use Rattle.guillotiere.specs.Stored as stored
-use Rattle.guillotiere.specs.Simple.{SimpleState, SimpleAnswer, SimpleStep, simple_start}
+use Rattle.guillotiere.specs.Simple.{SimpleState, SimpleAtlasCall, SimpleAnswer, SimpleStep, simple_start}
 use Rattle.atlas_lines.specs.declared.commands.Command.{Command}
 use Rattle.atlas_lines.specs.declared.commands.Command.TheVariants.{Simple, Take, Atlas, Alloc, Live, Holes, AskSize, Free, Grow, Empty, Clear, Rearrange, Resize}
 use Rattle.atlas_lines.specs.declared.replies.Reply.{Reply}
@@ -66,14 +66,16 @@ CreatesSimple old size _ new = ⊥
 abbrev pub simple_reply : SimpleAnswer → Reply
 simple_reply (SimpleAnswer.Granted box) = Placed (rectangle_of box)
 simple_reply SimpleAnswer.NoRoom = NotPlaced
+simple_reply SimpleAnswer.Done = Completed
 simple_reply (SimpleAnswer.Refused error) = Declined error
+simple_reply SimpleAnswer.BadCall = Invalid
 
 -- a request to the simple allocator, if there is one
 abbrev pub RequestsSimple : Option SimpleState → Sides → Reply → Option SimpleState → Type 0
 RequestsSimple None size reply new = (reply ≡ NoSimple) × (new ≡ None)
 RequestsSimple (Some state) size reply new =
     (answer : SimpleAnswer) × (later : SimpleState)
-    × SimpleStep state size answer later × (reply ≡ simple_reply answer) × (new ≡ Some later)
+    × SimpleStep state (SimpleAtlasCall.Allocate size) answer later × (reply ≡ simple_reply answer) × (new ≡ Some later)
 
 -- the creation of an atlas, which takes the place of an earlier one
 abbrev pub CreatesAtlas : ToolState → Sides → Options → Reply → ToolState → Type 0

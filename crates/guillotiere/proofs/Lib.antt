@@ -82,6 +82,11 @@ pub mod ListedBoxes
 pub mod CuttingFromLists
 pub mod Storing
 pub mod SimpleGrants
+pub mod SimpleSteps
+pub mod SimpleRunning
+pub mod SimplePlaying
+pub mod SimpleLists
+pub mod SimpleStarting
 pub mod FreedAtlas
 pub mod Hiding
 pub mod FreedLists

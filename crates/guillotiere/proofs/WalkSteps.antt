@@ -30,7 +30,7 @@ not_alloc kind.Container b e f = refl
 not_alloc kind.Free b e f = refl
 not_alloc kind.Unused b e f = refl
 
-not_free : (k : NodeKind) (b : Bool) → b ≡ sameb the_type k kind.Free → b ≡ false → is_free k ≡ false
+pub not_free : (k : NodeKind) (b : Bool) → b ≡ sameb the_type k kind.Free → b ≡ false → is_free k ≡ false
 not_free kind.Free b e f = absurd (true≢false (sym e ∙ f))
 not_free kind.Container b e f = refl
 not_free kind.Alloc b e f = refl

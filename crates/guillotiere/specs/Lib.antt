@@ -6,6 +6,8 @@ pub mod Requests
 pub mod Searches
 pub mod Choice
 pub mod Simple
+pub mod SimpleRuns
+pub mod SimpleSessions
 pub mod FreeLists
 pub mod Trees
 pub mod Changes

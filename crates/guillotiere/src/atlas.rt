@@ -8,7 +8,8 @@ ghost use Rattle.std.specs.List.{FoldsTo};
 ghost use Rattle.std.specs.Fn.{CalledAt};
 ghost use Rattle.guillotiere.specs.declared.geometry.Rectangle.{Rectangle as Area};
 ghost use Rattle.guillotiere.specs.declared.allocation.Allocation.{Allocation as Grant};
-ghost use Rattle.guillotiere.specs.Visits.{AreFreeAreas, AreGrants, CalledAtGrant};
+ghost use Rattle.guillotiere.specs.Visits.{AreFreeAreas, AreGrants, CalledAtGrant, free_areas};
+ghost use Rattle.guillotiere.specs.Slots.{nodes};
 ghost use Rattle.guillotiere.specs.Changes.{only};
 ghost use Rattle.guillotiere.specs.TreeLaws.{is_among};
 ghost use Rattle.guillotiere.specs.Batches.{AreLiveOnce};
@@ -421,6 +422,14 @@ impl<A: Allocator + Copy> AtlasAllocator<A> {
         let number = id.serialize() % MOST_SLOTS;
         let given = free_leaf(&mut self.store, Link { number });
         self.used -= given;
+    }
+
+    /// The slots and the options, for a simple allocator that takes over the free rectangles.
+    pub(crate) fn store(&self) -> &Store<A>
+        ensures options { options_of result.now.options ≡ (state_of self.now).options }
+        ensures areas { AreFreeAreas (state_of self.now) (free_areas (nodes result.now.slots.items)) }
+    {
+        &self.store
     }
 
     /// Calls `visit` on each free rectangle once, in an order that is left open. Asks that `visit` may be called.

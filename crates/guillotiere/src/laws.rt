@@ -7,6 +7,7 @@ ghost use Rattle.guillotiere.specs.Changes.{fresh, only, release, grown};
 ghost use Rattle.guillotiere.specs.Examples.{Shows, sides, box, both, one_corner, other_corner, capped_corner, grown_full, grown_below, quarters, row_of_three, half_between};
 ghost use Rattle.guillotiere.specs.TreeLaws.{LeavesTile, AreasAddUp, ReleasesInAnyOrder, GrantsAreUndone, GrowthAndReleaseSwap, NothingLiveIsOneFree, PlacingsKeepTrees, ReleasesKeepTrees, GrowthsKeepTrees, FreedHasRoom, MembersAreCounted};
 ghost use Rattle.guillotiere.specs.StepLaws.{StepsKeep, PicksAreOne, PicksExist, SmallerFits, GrantsLieInside, FreeingsRemoveOne, GrowthsKeepBoxes, RearrangingsLoseNothing, RefusalsChangeNothing, StepsAnswerAsDue};
+ghost use Rattle.guillotiere.specs.SimpleRuns.{SimpleRunsKeepGuard, SimpleStartsGuard};
 ghost use Rattle.guillotiere.specs.RunLaws.{RunsKeepOrder, RunsLeaveNoTrace};
 ghost use Rattle.guillotiere.specs.Existence.{RoundingIsLeast, StartsAreSound, StepsExist};
 ghost use Rattle.guillotiere.specs.Renaming.{RenamingChangesNothing, AnswersWithoutIds};
@@ -214,4 +215,16 @@ pub fn live_boxes_lie_within()
 /// The live boxes are guarded: disjoint from each other and from the free boxes.
 pub fn live_boxes_are_guarded()
     ensures { LiveAreGuarded }
+{}
+
+/// Along each run of a simple allocator, boxes that are held stay within it and disjoint from each other and from the
+/// free boxes, with those granted since.
+pub fn simple_runs_keep_guard()
+    ensures { SimpleRunsKeepGuard }
+{}
+
+/// After a creation, a clearing and a reset of a simple allocator no box is held, and after a start from an atlas the
+/// boxes that are live there are.
+pub fn simple_starts_guard()
+    ensures { SimpleStartsGuard }
 {}

@@ -10,6 +10,10 @@ ghost use Rattle.guillotiere.specs.Replies.{done_reply};
 ghost use Rattle.guillotiere.specs.Rearranging.{change_reply, AreExactChanges};
 ghost use Rattle.guillotiere.specs.Sessions.{call_of, reply_of, IsExactReply, TakesTurns, IsAnswered, IsSession};
 
+mod simple;
+
+pub use simple::{SimpleCall, SimpleReply, run_simple};
+
 use crate::allocation::{AllocId, Allocation};
 use crate::atlas::AtlasAllocator;
 use crate::change::ChangeList;

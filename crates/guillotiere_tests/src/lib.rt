@@ -37,6 +37,8 @@ mod simple_rows;
 #[cfg(test)]
 mod simple_sessions;
 #[cfg(test)]
+mod simple_whole;
+#[cfg(test)]
 mod tables;
 #[cfg(test)]
 mod tool_atlas;
