@@ -43,8 +43,12 @@ mod tables;
 #[cfg(test)]
 mod tool_atlas;
 #[cfg(test)]
+mod tool_conversation;
+#[cfg(test)]
 mod tool_devices;
 #[cfg(test)]
 mod tool_faults;
 #[cfg(test)]
 mod tool_rows;
+#[cfg(test)]
+mod tool_whole;
