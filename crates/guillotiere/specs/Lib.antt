@@ -21,6 +21,8 @@ pub mod StepLaws
 pub mod RunLaws
 pub mod RunTurns
 pub mod Renaming
+pub mod ChoiceExamples
+pub mod RefitExamples
 pub mod Existence
 pub mod Slots
 pub mod Numbered
@@ -30,6 +32,7 @@ pub mod Reading
 pub mod Parts
 pub mod Calm
 pub mod Stored
+pub mod ClassLists
 pub mod Links
 pub mod Picks
 pub mod Holdings
