@@ -6,8 +6,11 @@ use crate::atlas_calls::Call::{
 };
 use crate::atlas_calls::{Call, MOST_SLOTS, Row, play, play_with_refusals};
 use crate::tables::{rectangle, size};
-use guillotiere::{AllocId, Allocation, AtlasAllocator, Change, ChangeList, DEFAULT_OPTIONS};
+use guillotiere::{
+    AllocId, Allocation, AtlasAllocator, AtlasError, Change, ChangeList, DEFAULT_OPTIONS,
+};
 use refusing::Refusing;
+use std::alloc::Global;
 use std::test::Fail;
 
 // Three squares one below the other, of which the middle one is freed.
@@ -164,27 +167,37 @@ fn rows_with_each_request_for_memory_refused_in_turn(rt: HostRuntime) -> Result<
     Ok(())
 }
 
+// A list of one change and one failure.
+fn one_of_each(alloc: Global, change: Change) -> Result<ChangeList, AtlasError> {
+    let failure = change.new;
+    let mut changes = Vec::new(alloc);
+    changes.push(change)?;
+    let mut failures = Vec::new(alloc);
+    failures.push(failure)?;
+    Ok(ChangeList { changes, failures })
+}
+
 #[test]
 fn lists_are_made_copied_and_compared(rt: HostRuntime) -> Result<(), Fail> {
-    let alloc = rt.alloc();
-    let mut list = ChangeList::empty(alloc);
-    assert_eq!(rt; list, ChangeList::empty(alloc));
-    let old = Allocation {
-        id: AllocId::deserialize(2),
-        rectangle: rectangle((0, 200, 100, 300)),
+    let change = Change {
+        old: Allocation {
+            id: AllocId::deserialize(2),
+            rectangle: rectangle((0, 200, 100, 300)),
+        },
+        new: Allocation {
+            id: AllocId::deserialize(0),
+            rectangle: rectangle((0, 0, 100, 100)),
+        },
     };
-    let new = Allocation {
-        id: AllocId::deserialize(0),
-        rectangle: rectangle((0, 0, 100, 100)),
-    };
-    list.changes.push(Change { old, new })?;
-    list.failures.push(new)?;
+    let empty = ChangeList::empty(rt.alloc());
+    assert!(rt; empty.changes.is_empty() && empty.failures.is_empty());
+    let list = one_of_each(rt.alloc(), change)?;
     let copy = list.clone()?;
-    assert_eq!(rt; copy.changes.as_slice(), [Change { old, new }].as_slice());
-    assert_eq!(rt; copy.failures.as_slice(), [new].as_slice());
-    assert_eq!(rt; copy, list);
-    list.failures.clear();
-    assert!(rt; copy != list);
+    assert_eq!(rt; (copy.changes.len(), copy.failures.len()), (1, 1));
+    assert_eq!(rt; copy.changes.first().copied(), Some(change));
+    assert_eq!(rt; copy.failures.first().copied(), Some(change.new));
+    assert!(rt; copy == list);
+    assert!(rt; copy != empty);
     Ok(())
 }
 
@@ -192,8 +205,10 @@ fn lists_are_made_copied_and_compared(rt: HostRuntime) -> Result<(), Fail> {
 #[test]
 fn lists_take_memory_to_be_copied(rt: HostRuntime) -> Result<(), Fail> {
     let heap = Refusing::new(rt.alloc());
-    let mut atlas = AtlasAllocator::new(&heap, size((10, 10)))?;
-    atlas.allocate(size((10, 10)))?;
+    let whole = size((10, 10));
+    assert!(rt; !whole.is_empty());
+    let mut atlas = AtlasAllocator::new(&heap, whole)?;
+    atlas.allocate(whole)?;
     let list = atlas.rearrange()?;
     assert_eq!(rt; list.changes.len(), 1);
     heap.refuse_every();

@@ -160,8 +160,10 @@ fn play(rt: &impl Abort, session: &mut Session, recorded: &[i32]) -> Result<(), 
 
 #[test]
 fn sessions_are_answered_as_by_the_rust_crate(rt: HostRuntime) -> Result<(), Fail> {
+    let whole = size((1, 1));
+    assert!(rt; !whole.is_empty());
     let mut session = Session {
-        atlas: AtlasAllocator::new(rt.alloc(), size((1, 1)))?,
+        atlas: AtlasAllocator::new(rt.alloc(), whole)?,
         list: ChangeList::empty(rt.alloc()),
         moved: 0,
         lost: 0,
