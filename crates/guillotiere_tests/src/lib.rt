@@ -17,6 +17,12 @@ mod atlas_growth;
 #[cfg(test)]
 mod atlas_growth_recorded;
 #[cfg(test)]
+mod atlas_rearranging;
+#[cfg(test)]
+mod atlas_rearranging_recorded;
+#[cfg(test)]
+mod atlas_rearranging_sessions;
+#[cfg(test)]
 mod atlas_recorded;
 #[cfg(test)]
 mod atlas_sessions;
