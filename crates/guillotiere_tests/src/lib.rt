@@ -23,6 +23,8 @@ mod atlas_starts;
 #[cfg(test)]
 mod atlas_walks;
 #[cfg(test)]
+mod errors;
+#[cfg(test)]
 mod geometry;
 #[cfg(test)]
 mod simple_recorded;
