@@ -20,7 +20,7 @@ use Rattle.guillotiere.specs.Lists.{is_free}
 use Rattle.guillotiere.specs.Walks.{first_of, IsShownArea, IsShownGrant}
 use Rattle.guillotiere.proofs.JoiningWrites.{used-inside}
 use Rattle.guillotiere.proofs.SlotAreas.{Stands-exact}
-use Rattle.guillotiere.proofs.SlotMeasures.{Holds-measurable}
+use Rattle.guillotiere.proofs.SlotMeasures.{Holds-span}
 use Rattle.guillotiere.proofs.NamedSlots.{named-true, named-IsAtlas, is_alloc-true}
 
 -- where each item of a list has P, an item that comes has it
@@ -96,11 +96,13 @@ module _ (v : Stored) (a : IsAtlas v) (turns : ℕ) where
       ∙ ap (λ b. cond b (Some (node_at ns (id % 2 ^ 24)).area) None) named.0
       ∙ ap (λ k. Some (node_at ns k).area) named.1 in
       let box = box_is _ (node_at ns i).area area in
+      let span = Holds-span v.shelf a.holding i a.holds used in
       record {
         live = rw box refl;
         box = box;
         exact = Stands-exact ns i a.holding.sequence a.holding.tree a.holds.stands used;
-        measurable = Holds-measurable v.shelf a.holding i a.holds used;
+        measurable = span.measurable;
+        nonempty = span.nonempty;
       }
 
   -- each allocated slot shows a live id with its rectangle
@@ -114,9 +116,11 @@ module _ (v : Stored) (a : IsAtlas v) (turns : ℕ) where
   shown-area i is =
       let ns = nodes v.shelf.slots in
       let used = is_free-used (node_at ns i).kind is in
+      let span = Holds-span v.shelf a.holding i a.holds used in
       record {
         exact = Stands-exact ns i a.holding.sequence a.holding.tree a.holds.stands used;
-        measurable = Holds-measurable v.shelf a.holding i a.holds used;
+        measurable = span.measurable;
+        nonempty = span.nonempty;
       }
 
   -- each free slot shows an exact rectangle that may be measured

@@ -61,6 +61,7 @@ pub mod SlotSums
 pub mod LeafCounts
 pub mod WalkSteps
 pub mod SlotMeasures
+mod CountSums
 pub mod AlongLists
 pub mod Observing
 pub mod NamedSlots

@@ -380,7 +380,35 @@ fn freed(
     Ok(())
 }
 
+// Whether a call asks for no memory, whatever was used before.
+fn is_free_of_requests(call: &Call) -> bool {
+    match call {
+        Call::Allocate(_, want) => want.is_none(),
+        Call::Grow(_) | Call::Free(_) | Call::Live(_) => false,
+        _ => true,
+    }
+}
+
 fn make(
+    rt: &impl Abort,
+    alloc: Global,
+    heap: &Refusing<Global>,
+    atlas: &mut Atlas<'_>,
+    call: &Call,
+) -> Result<(), AtlasError> {
+    let made = heap.requests();
+    make_once(rt, alloc, heap, atlas, call)?;
+    if is_free_of_requests(call) {
+        assert_eq!(rt;
+            heap.requests(),
+            made,
+            "a call that takes no memory asked for some"
+        );
+    }
+    Ok(())
+}
+
+fn make_once(
     rt: &impl Abort,
     alloc: Global,
     heap: &Refusing<Global>,

@@ -31,6 +31,8 @@ mod atlas_starts;
 #[cfg(test)]
 mod atlas_walks;
 #[cfg(test)]
+mod errors;
+#[cfg(test)]
 mod geometry;
 #[cfg(test)]
 mod session_long;
