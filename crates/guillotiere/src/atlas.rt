@@ -217,9 +217,9 @@ impl<A: Allocator + Copy> AtlasAllocator<A> {
         Ok(())
     }
 
-    /// Frees the boxes of the ids of a list, in an order that can't be told. `NotLive` if one of them isn't live or stands
-    /// twice, and then nothing changes. Takes no memory, time in proportion to the list, and one turn an id more than there
-    /// are members fewer.
+    /// Frees the boxes of the ids of a list. The tree that is left doesn't tell in which order; the numbers of later ids
+    /// may. `NotLive` if one of them isn't live or stands twice, and then nothing changes. Takes no memory, time in
+    /// proportion to the list, and one turn an id more than there are members fewer.
     pub fn deallocate_all(&mut self, ids: &[AllocId]) -> Result<(), AtlasError>
         ensures freed { OnOk result (state_of self.new ≡ after_freeing (state_of self.old) (is_among ids.now)) }
         ensures ok { (result ≡ Ok tt) ↔ AreLiveOnce (state_of self.old) ids.now }
