@@ -45,6 +45,10 @@ mod simple_rows;
 #[cfg(test)]
 mod simple_sessions;
 #[cfg(test)]
+mod simple_starts;
+#[cfg(test)]
+mod simple_starts_recorded;
+#[cfg(test)]
 mod simple_whole;
 #[cfg(test)]
 mod tables;
