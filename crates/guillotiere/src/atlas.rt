@@ -76,7 +76,7 @@ impl<A: Allocator + Copy> AtlasAllocator<A> {
     ghost use Rattle.guillotiere.specs.Stored.{state_of};
     ghost use Rattle.guillotiere.specs.Generations.{AreFirstGenerations};
     ghost use Rattle.guillotiere.specs.Replies.{allocate_reply, done_reply, grant_of, live_box, IsExact};
-    ghost use Rattle.guillotiere.specs.Rearranging.{change_reply, rearrangement_of, AreExactChanges};
+    ghost use Rattle.guillotiere.specs.Rearranging.{change_reply, rearrangement_of, AreExactChanges, KeepsSides};
     ghost use Rattle.guillotiere.specs.StepLaws.{IsRearrangingStep};
     ghost use Rattle.guillotiere.specs.Refits.{IsRefitOrder};
     ghost use Rattle.guillotiere.specs.Refitted.{HasExactRectangle};
@@ -268,6 +268,7 @@ impl<A: Allocator + Copy> AtlasAllocator<A> {
     pub fn rearrange(&mut self) -> Result<ChangeList<A>, AtlasError>
         ensures step { Step (state_of self.old) Rearrange (change_reply result) (state_of self.new) }
         ensures exact { IfOk result AreExactChanges }
+        ensures sides { IfOk result (λ list. All KeepsSides list.changes.items) }
         ensures moves { IfOk result (λ list. IsRearrangingStep (state_of self.old) (rearrangement_of list) (state_of self.new)) }
         ensures refused { OnErr result (self.new ≡ self.old) }
         ensures turns { self.new.turns ≡ self.old.turns }
@@ -285,6 +286,7 @@ impl<A: Allocator + Copy> AtlasAllocator<A> {
         requires { IsPositive (sides_of new_size) }
         ensures step { Step (state_of self.old) (ResizeAndRearrange (sides_of new_size)) (change_reply result) (state_of self.new) }
         ensures exact { IfOk result AreExactChanges }
+        ensures sides { IfOk result (λ list. All KeepsSides list.changes.items) }
         ensures moves { IfOk result (λ list. IsRearrangingStep (state_of self.old) (rearrangement_of list) (state_of self.new)) }
         ensures refused { OnErr result (self.new ≡ self.old) }
         ensures turns { self.new.turns ≡ self.old.turns }
