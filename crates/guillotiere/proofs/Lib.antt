@@ -3,6 +3,8 @@ pub mod PickExistence
 pub mod RunKeeping
 pub mod Renaming
 pub mod Alike
+pub mod WorkedPicks
+pub mod WorkedRefits
 pub mod RefitOrders
 pub mod Existence
 pub mod Traces
@@ -50,6 +52,7 @@ pub mod Cutting
 pub mod Occurrences
 pub mod Unlinking
 pub mod Banding
+pub mod ClassLists
 pub mod Filing
 pub mod Taking
 pub mod Choosing
@@ -57,6 +60,10 @@ pub mod Turning
 pub mod SlotSums
 pub mod LeafCounts
 pub mod WalkSteps
+pub mod SlotMeasures
+mod CountSums
+mod AreaSums
+pub mod AlongLists
 pub mod Observing
 pub mod NamedSlots
 pub mod ShownLists

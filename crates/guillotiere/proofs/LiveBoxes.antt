@@ -1,6 +1,6 @@
 -- The boxes of live ids, and what grants, freeings and growths make of them.
-use Rattle.std.proofs.Common.{◌≡◌, ℕ, zero, suc, ◌+◌, ◌-◌, ◌≤◌, ◌<◌, ◌==◌, Bool, true, false, not, cond, List, [], ◌∷◌, ◌++◌, length, refl, ap, subst, sym, ◌∙◌, arith, Contains, IsPermutation, inl, inr, Option, Some, None, IsSome, option_map}
-use Rattle.std.specs.List.{count_by, filter, find}
+use Rattle.std.proofs.Common.{◌≡◌, ℕ, zero, suc, ◌+◌, ◌≤◌, ◌==◌, Bool, true, false, not, cond, [], ◌∷◌, ◌++◌, length, refl, ap, subst, sym, ◌∙◌, arith, Contains, inl, inr, Option, Some, None, IsSome, option_map}
+use Rattle.std.specs.List.{filter, find}
 use Rattle.std.proofs.lemmas.Bool.{eq-eqb, eqb-true, false≢true}
 use Rattle.std.proofs.lemmas.Bool.Decides.{eqb_tells}
 use Rattle.std.proofs.lemmas.List.Sorted.{Contains-permutation}
@@ -12,13 +12,12 @@ use Rattle.guillotiere.specs.Trees.{Grant, ids}
 use Rattle.guillotiere.specs.States.{State, live_in, IsLive, IsSound}
 use Rattle.guillotiere.specs.Replies.{live_box}
 use Rattle.guillotiere.specs.StepLaws.{live_count, IsGrantStep, IsFreeingStep}
-use Rattle.guillotiere.specs.RunLaws.{IsTiled}
 use Rattle.guillotiere.specs.Callers.{KeepsOthers, AddsBox, SoundIsTiled, LiveHaveBoxes}
 use Rattle.guillotiere.proofs.TreeIds.{Contains-first}
-use Rattle.guillotiere.proofs.Counting.{count_by-cons, count_some, split_at, IsSplitAt}
+use Rattle.guillotiere.proofs.Counting.{count_some, split_at, IsSplitAt}
 use Rattle.guillotiere.proofs.BoxLists.{count_live}
 use Rattle.guillotiere.proofs.RunKeeping.{runs_keep_order}
-use Rattle.guillotiere.proofs.CallerLemmas.{length-permutation, find-counted, find-counted_once, find-uncounted, uncounted-find, find-permutation, find-filter_kept, find-filter_gone, count_by-permutation}
+use Rattle.guillotiere.proofs.CallerLemmas.{length-permutation, find-counted, find-counted_once, find-uncounted, find-permutation, find-filter_kept, find-filter_gone, count_by-permutation}
 
 pub sound_is_tiled : SoundIsTiled
 sound_is_tiled s sound = (runs_keep_order s s [] [] sound refl).1.tiled
@@ -71,9 +70,9 @@ adds_box old new r g sound_old sound_new step = record {
   live = counted_live new g.id (count_some (is_for g.id) (live_in new) g at (eq-eqb g.id g.id refl));
   box_now = ap (option_map (λ (k : Grant). k.box)) (find-counted_once (is_for g.id) (live_in new) g (few_live new g.id sound_new) at (eq-eqb g.id g.id refl));
   others = λ k differ. ap (option_map (λ (h : Grant). h.box)) (
-    find-permutation (is_for k) (g ∷ live_in old) (live_in new) step.live (omega (arith, few_live new k sound_new, count_by-permutation (is_for k) (g ∷ live_in old) (live_in new) step.live))
-    ∙ passed k differ
-  );
+      find-permutation (is_for k) (g ∷ live_in old) (live_in new) step.live (omega (arith, few_live new k sound_new, count_by-permutation (is_for k) (g ∷ live_in old) (live_in new) step.live))
+      ∙ passed k differ
+      );
   count = length-permutation (g ∷ live_in old) (live_in new) step.live ∙ omega arith;
 }
   where

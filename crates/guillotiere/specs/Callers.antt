@@ -1,7 +1,6 @@
 -- What a caller holds of an atlas: live boxes, which stay where they are and apart from one another.
-use Rattle.std.specs.Prelude.{◌≡◌, ◌≢◌, ℕ, ◌+◌, ◌≤◌, ◌&&◌, ◌⊎◌, ◌↔◌, false, List, [], ◌∷◌, ◌++◌, map, length, All, Option, Some, None, IsSome}
-use Rattle.guillotiere.specs.Boxes.{Sides, Box, covers, IsNonempty, IsWithin, AreDisjoint}
-use Rattle.guillotiere.specs.Trees.{Grant}
+use Rattle.std.specs.Prelude.{◌≡◌, ◌≢◌, ℕ, ◌+◌, ◌≤◌, ◌&&◌, ◌⊎◌, ◌↔◌, false, List, [], ◌++◌, map, length, All, Some, None, IsSome}
+use Rattle.guillotiere.specs.Boxes.{Box, covers, IsNonempty, IsWithin, AreDisjoint}
 use Rattle.guillotiere.specs.States.{State, live_in, free_in, IsLive, IsSound}
 use Rattle.guillotiere.specs.Replies.{live_box}
 use Rattle.guillotiere.specs.RunLaws.{IsTiled}

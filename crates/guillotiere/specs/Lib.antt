@@ -21,6 +21,8 @@ pub mod StepLaws
 pub mod RunLaws
 pub mod RunTurns
 pub mod Renaming
+pub mod ChoiceExamples
+pub mod RefitExamples
 pub mod Existence
 pub mod Slots
 pub mod Numbered
@@ -30,10 +32,13 @@ pub mod Reading
 pub mod Parts
 pub mod Calm
 pub mod Stored
+pub mod ClassLists
 pub mod Links
 pub mod Picks
 pub mod Holdings
 pub mod Visits
+pub mod Walks
+pub mod Areas
 pub mod Starts
 pub mod Freeing
 pub mod Planning

@@ -1,15 +1,16 @@
 //! The atlas allocator.
-ghost use Rattle.std.specs.Prelude.{◌≡◌, ◌≤◌, ◌<◌, ◌+◌, ◌-◌, ◌↔◌, List, [], IsTrue, IfOk, IfSome, OnErr, IsOkUnless, OnOk, length, IsSome, option_map, None, Some, Ok, All, map};
-ghost use Rattle.guillotiere.specs.Boxes.{Fits, IsPositive};
+ghost use Rattle.std.specs.Prelude.{◌≡◌, ◌≤◌, ◌<◌, ◌+◌, ◌-◌, ◌*◌, ◌↔◌, List, [], sum_by, IsTrue, IfOk, IfSome, OnErr, IsOkUnless, OnOk, length, IsSome, option_map, None, Some, Ok, All, map};
+ghost use Rattle.guillotiere.specs.Boxes.{area, Fits, IsPositive};
 ghost use Rattle.guillotiere.specs.Choice.{AreValid};
 ghost use Rattle.guillotiere.specs.Pixels.{sides_of, size_of, options_of, rectangle_of};
-ghost use Rattle.guillotiere.specs.States.{live_in, used_in, started, after_freeing, IsSound, IsLive};
+ghost use Rattle.guillotiere.specs.States.{live_in, free_in, used_in, started, after_freeing, IsSound, IsLive};
 ghost use Rattle.std.specs.List.{FoldsTo};
 ghost use Rattle.std.specs.Fn.{CalledAt};
 ghost use Rattle.guillotiere.specs.declared.geometry.Rectangle.{Rectangle as Area};
 ghost use Rattle.guillotiere.specs.declared.allocation.Allocation.{Allocation as Grant};
 ghost use Rattle.guillotiere.specs.Visits.{AreFreeAreas, AreGrants, CalledAtGrant, free_areas};
 ghost use Rattle.guillotiere.specs.Slots.{nodes};
+ghost use Rattle.guillotiere.specs.Walks.{IsCallableAlong, IsCallableAlongGrants, IsShownArea, IsShownGrant};
 ghost use Rattle.guillotiere.specs.Changes.{only};
 ghost use Rattle.guillotiere.specs.TreeLaws.{is_among};
 ghost use Rattle.guillotiere.specs.Batches.{AreLiveOnce};
@@ -33,7 +34,9 @@ use crate::slots::{Link, NO_SLOT, NodeKind};
 use crate::store::Store;
 use crate::tree::{free_leaf, slots_needed};
 use crate::turns::Turns;
-use crate::walks::{gather_allocated, gather_free, named_slot, visit_allocated, visit_free};
+use crate::walks::{
+    free_sum, gather_allocated, gather_free, live_sum, named_slot, visit_allocated, visit_free,
+};
 use std::alloc::{Allocator, Global};
 use std::marker::Model;
 use std::ops::Index;
@@ -216,9 +219,9 @@ impl<A: Allocator + Copy> AtlasAllocator<A> {
         Ok(())
     }
 
-    /// Frees the boxes of the ids of a list, in an order that can't be told. `NotLive` if one of them isn't live or stands
-    /// twice, and then nothing changes. Takes no memory, time in proportion to the list, and one turn an id more than there
-    /// are members fewer.
+    /// Frees the boxes of the ids of a list. The tree that is left doesn't tell in which order; the numbers of later ids
+    /// may. `NotLive` if one of them isn't live or stands twice, and then nothing changes. Takes no memory, time in
+    /// proportion to the list, and one turn an id more than there are members fewer.
     pub fn deallocate_all(&mut self, ids: &[AllocId]) -> Result<(), AtlasError>
         ensures freed { OnOk result (state_of self.new ≡ after_freeing (state_of self.old) (is_among ids.now)) }
         ensures ok { (result ≡ Ok tt) ↔ AreLiveOnce (state_of self.old) ids.now }
@@ -432,18 +435,36 @@ impl<A: Allocator + Copy> AtlasAllocator<A> {
         &self.store
     }
 
-    /// Calls `visit` on each free rectangle once, in an order that is left open. Asks that `visit` may be called.
+    /// The area of all live rectangles together, in unit squares: with `free_area` it is the width times the height of the
+    /// atlas. One pass over the slots, and no memory.
+    pub fn allocated_area(&self) -> u64
+        ensures area { result ≡ sum_by (λ g. area g.box) (live_in (state_of self.now)) }
+        ensures whole { result + sum_by area (free_in (state_of self.now)) ≡ (state_of self.now).size.width * (state_of self.now).size.height }
+    {
+        live_sum(&self.store.slots)
+    }
+
+    /// The area of all free rectangles together, in unit squares. One pass over the slots, and no memory.
+    pub fn free_area(&self) -> u64
+        ensures area { result ≡ sum_by area (free_in (state_of self.now)) }
+        ensures whole { sum_by (λ g. area g.box) (live_in (state_of self.now)) + result ≡ (state_of self.now).size.width * (state_of self.now).size.height }
+    {
+        free_sum(&self.store.slots)
+    }
+
+    /// Calls `visit` on each free rectangle once, in an order that is left open. Asks that `visit` may be called along each
+    /// list that may be shown, and no more: nothing else is called. No coordinate of these rectangles is negative.
     pub fn for_each_free_rectangle<F: FnMut(&Rectangle)>(&self, visit: F)
-        requires { F.IsAlwaysCallable visit }
+        requires { (areas : List Area) → AreFreeAreas (state_of self.now) areas → IsCallableAlong F.FnMut IsShownArea visit areas }
         ensures { (areas : List Area) × AreFreeAreas (state_of self.now) areas × ((last : F) × FoldsTo (λ p x q. CalledAt F.FnMut p x tt q) visit areas last) }
     {
         visit_free(&self.store.slots, visit);
     }
 
     /// Calls `visit` on each live id and its rectangle once, by rising number of the slot, which is the low 24 bits of the
-    /// id. Asks that `visit` may be called.
+    /// id. Asks that `visit` may be called along that list, and no more: nothing else is called.
     pub fn for_each_allocated_rectangle<F: FnMut(AllocId, &Rectangle)>(&self, visit: F)
-        requires { F.IsAlwaysCallable visit }
+        requires { (grants : List Grant) → AreGrants (state_of self.now) grants → IsCallableAlongGrants F.FnMut (IsShownGrant (state_of self.now)) visit grants }
         ensures { (grants : List Grant) × AreGrants (state_of self.now) grants × ((last : F) × FoldsTo (CalledAtGrant F.FnMut) visit grants last) }
     {
         visit_allocated(&self.store.slots, visit);

@@ -17,6 +17,12 @@ mod atlas_growth;
 #[cfg(test)]
 mod atlas_growth_recorded;
 #[cfg(test)]
+mod atlas_rearranging;
+#[cfg(test)]
+mod atlas_rearranging_recorded;
+#[cfg(test)]
+mod atlas_rearranging_sessions;
+#[cfg(test)]
 mod atlas_recorded;
 #[cfg(test)]
 mod atlas_sessions;
@@ -24,6 +30,8 @@ mod atlas_sessions;
 mod atlas_starts;
 #[cfg(test)]
 mod atlas_walks;
+#[cfg(test)]
+mod errors;
 #[cfg(test)]
 mod geometry;
 #[cfg(test)]
@@ -47,8 +55,12 @@ mod tables;
 #[cfg(test)]
 mod tool_atlas;
 #[cfg(test)]
+mod tool_conversation;
+#[cfg(test)]
 mod tool_devices;
 #[cfg(test)]
 mod tool_faults;
 #[cfg(test)]
 mod tool_rows;
+#[cfg(test)]
+mod tool_whole;
