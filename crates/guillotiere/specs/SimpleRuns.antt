@@ -1,6 +1,6 @@
 -- Runs of the simple allocator, the boxes that are held along them, and their laws.
 use Rattle.std.specs.Prelude.{◌≡◌, Bool, true, false, ◌||◌, List, [], ◌∷◌, ◌++◌}
-use Rattle.guillotiere.specs.Boxes.{Sides, Box, IsPositive}
+use Rattle.guillotiere.specs.Boxes.{Sides, Box, IsPositive, AreDisjoint}
 use Rattle.guillotiere.specs.Choice.{Options, AreValid}
 use Rattle.guillotiere.specs.States.{State}
 use Rattle.guillotiere.specs.Simple.{SimpleState, SimpleAtlasCall, SimpleAnswer, SimpleStep}
@@ -72,3 +72,7 @@ pub record SimpleStartsGuard : Type 0 where
   pub started :
       (old new : SimpleState) (source : State) → SimpleStep old (Start source) Done new
       → IsGuarded new (live_boxes source)
+
+-- boxes that are guarded are disjoint from each other
+abbrev pub GuardedAreDisjoint : Type 0
+GuardedAreDisjoint = (s : SimpleState) (held : List Box) → IsGuarded s held → AreDisjoint held
