@@ -15,6 +15,8 @@ mod atlas_growth;
 #[cfg(test)]
 mod atlas_growth_recorded;
 #[cfg(test)]
+mod atlas_memory;
+#[cfg(test)]
 mod atlas_recorded;
 #[cfg(test)]
 mod atlas_sessions;
