@@ -22,6 +22,7 @@ mod atlas_rearranging;
 mod atlas_rearranging_recorded;
 #[cfg(test)]
 mod atlas_rearranging_sessions;
+mod atlas_memory;
 #[cfg(test)]
 mod atlas_recorded;
 #[cfg(test)]
