@@ -2,7 +2,7 @@
 use Rattle.std.proofs.Common.{ℕ, suc, ◌+◌, ◌%◌, ◌^◌, ◌<◌, ◌≡◌, Bool, true, false, cond, List, [], ◌∷◌, length, All, Option, Some, None, option_map, refl, sym, ap, subst, ◌∙◌, arith}
 use Rattle.std.proofs.lemmas.Bool.{false≢true}
 use Rattle.std.proofs.lemmas.List.{length-map}
-use Rattle.std.proofs.lemmas.List.Elements.{All-nil, All-cons, All-head, All-rest}
+use Rattle.std.proofs.lemmas.List.Elements.{All-nil, All-cons, All-head, All-rest, All-weaker}
 use Rattle.std.specs.Iterator.{Yields, CallableAtEachTurn}
 use Rattle.guillotiere.specs.declared.slots.Slot.{Slot}
 use Rattle.guillotiere.specs.declared.slots.Node.{Node}
@@ -18,6 +18,8 @@ use Rattle.guillotiere.specs.Stored.{Stored, IsAtlas, state_of}
 use Rattle.guillotiere.specs.Visits.{is_alloc, allocation_at, allocated_from, free_areas}
 use Rattle.guillotiere.specs.Lists.{is_free}
 use Rattle.guillotiere.specs.Walks.{first_of, IsShownArea, IsShownGrant}
+use Rattle.guillotiere.specs.Areas.{live_areas}
+use Rattle.guillotiere.proofs.AreaSums.{live_areas-shown}
 use Rattle.guillotiere.proofs.JoiningWrites.{used-inside}
 use Rattle.guillotiere.proofs.SlotAreas.{Stands-exact}
 use Rattle.guillotiere.proofs.SlotMeasures.{Holds-span}
@@ -128,3 +130,14 @@ module _ (v : Stored) (a : IsAtlas v) (turns : ℕ) where
   shown_areas-IsAtlas slots same =
       subst (λ l. All IsShownArea (free_areas (nodes l))) (sym same)
       (each-free IsShownArea (nodes v.shelf.slots) 0 (nodes v.shelf.slots) (λ j. ap (λ i. node_at (nodes v.shelf.slots) i) (let e : 0 + j ≡ j = omega arith in e)) shown-area)
+
+  -- each allocated slot too
+  pub shown_live-IsAtlas : (slots : List Slot) → slots ≡ v.shelf.slots → All IsShownArea (live_areas (nodes slots))
+  shown_live-IsAtlas slots same =
+      live_areas-shown IsShownArea 0 (nodes slots)
+      (All-weaker (IsShownGrant (state_of (record { stored = v; turns = 0 }))) (λ (x : Allocation). IsShownArea x.rectangle)
+      (λ x w. record { exact = w.exact; measurable = w.measurable; nonempty = w.nonempty }) (allocated_from 0 (nodes slots))
+      (shown-zero slots same))
+    where
+      shown-zero : (slots : List Slot) → slots ≡ v.shelf.slots → All (IsShownGrant (state_of (record { stored = v; turns = 0 }))) (allocated_from 0 (nodes slots))
+      shown-zero slots same = shown-IsAtlas slots same

@@ -62,6 +62,7 @@ pub mod LeafCounts
 pub mod WalkSteps
 pub mod SlotMeasures
 mod CountSums
+mod AreaSums
 pub mod AlongLists
 pub mod Observing
 pub mod NamedSlots

@@ -1,9 +1,9 @@
 //! The atlas allocator.
-ghost use Rattle.std.specs.Prelude.{◌≡◌, ◌≤◌, ◌<◌, ◌+◌, ◌-◌, ◌↔◌, List, [], IsTrue, IfOk, IfSome, OnErr, IsOkUnless, OnOk, length, IsSome, option_map, None, Some, Ok, All, map};
-ghost use Rattle.guillotiere.specs.Boxes.{Fits, IsPositive};
+ghost use Rattle.std.specs.Prelude.{◌≡◌, ◌≤◌, ◌<◌, ◌+◌, ◌-◌, ◌*◌, ◌↔◌, List, [], sum_by, IsTrue, IfOk, IfSome, OnErr, IsOkUnless, OnOk, length, IsSome, option_map, None, Some, Ok, All, map};
+ghost use Rattle.guillotiere.specs.Boxes.{area, Fits, IsPositive};
 ghost use Rattle.guillotiere.specs.Choice.{AreValid};
 ghost use Rattle.guillotiere.specs.Pixels.{sides_of, size_of, options_of, rectangle_of};
-ghost use Rattle.guillotiere.specs.States.{live_in, used_in, started, after_freeing, IsSound, IsLive};
+ghost use Rattle.guillotiere.specs.States.{live_in, free_in, used_in, started, after_freeing, IsSound, IsLive};
 ghost use Rattle.std.specs.List.{FoldsTo};
 ghost use Rattle.std.specs.Fn.{CalledAt};
 ghost use Rattle.guillotiere.specs.declared.geometry.Rectangle.{Rectangle as Area};
@@ -34,7 +34,9 @@ use crate::slots::{Link, NO_SLOT, NodeKind};
 use crate::store::Store;
 use crate::tree::{free_leaf, slots_needed};
 use crate::turns::Turns;
-use crate::walks::{gather_allocated, gather_free, named_slot, visit_allocated, visit_free};
+use crate::walks::{
+    free_sum, gather_allocated, gather_free, live_sum, named_slot, visit_allocated, visit_free,
+};
 use std::alloc::{Allocator, Global};
 use std::marker::Model;
 use std::ops::Index;
@@ -74,7 +76,7 @@ impl<A: Allocator + Copy> AtlasAllocator<A> {
     ghost use Rattle.guillotiere.specs.Stored.{state_of};
     ghost use Rattle.guillotiere.specs.Generations.{AreFirstGenerations};
     ghost use Rattle.guillotiere.specs.Replies.{allocate_reply, done_reply, grant_of, live_box, IsExact};
-    ghost use Rattle.guillotiere.specs.Rearranging.{change_reply, rearrangement_of, AreExactChanges};
+    ghost use Rattle.guillotiere.specs.Rearranging.{change_reply, rearrangement_of, AreExactChanges, KeepsSides};
     ghost use Rattle.guillotiere.specs.StepLaws.{IsRearrangingStep};
     ghost use Rattle.guillotiere.specs.Refits.{IsRefitOrder};
     ghost use Rattle.guillotiere.specs.Refitted.{HasExactRectangle};
@@ -266,6 +268,7 @@ impl<A: Allocator + Copy> AtlasAllocator<A> {
     pub fn rearrange(&mut self) -> Result<ChangeList<A>, AtlasError>
         ensures step { Step (state_of self.old) Rearrange (change_reply result) (state_of self.new) }
         ensures exact { IfOk result AreExactChanges }
+        ensures sides { IfOk result (λ list. All KeepsSides list.changes.items) }
         ensures moves { IfOk result (λ list. IsRearrangingStep (state_of self.old) (rearrangement_of list) (state_of self.new)) }
         ensures refused { OnErr result (self.new ≡ self.old) }
         ensures turns { self.new.turns ≡ self.old.turns }
@@ -283,6 +286,7 @@ impl<A: Allocator + Copy> AtlasAllocator<A> {
         requires { IsPositive (sides_of new_size) }
         ensures step { Step (state_of self.old) (ResizeAndRearrange (sides_of new_size)) (change_reply result) (state_of self.new) }
         ensures exact { IfOk result AreExactChanges }
+        ensures sides { IfOk result (λ list. All KeepsSides list.changes.items) }
         ensures moves { IfOk result (λ list. IsRearrangingStep (state_of self.old) (rearrangement_of list) (state_of self.new)) }
         ensures refused { OnErr result (self.new ≡ self.old) }
         ensures turns { self.new.turns ≡ self.old.turns }
@@ -431,6 +435,23 @@ impl<A: Allocator + Copy> AtlasAllocator<A> {
         ensures areas { AreFreeAreas (state_of self.now) (free_areas (nodes result.now.slots.items)) }
     {
         &self.store
+    }
+
+    /// The area of all live rectangles together, in unit squares: with `free_area` it is the width times the height of the
+    /// atlas. One pass over the slots, and no memory.
+    pub fn allocated_area(&self) -> u64
+        ensures area { result ≡ sum_by (λ g. area g.box) (live_in (state_of self.now)) }
+        ensures whole { result + sum_by area (free_in (state_of self.now)) ≡ (state_of self.now).size.width * (state_of self.now).size.height }
+    {
+        live_sum(&self.store.slots)
+    }
+
+    /// The area of all free rectangles together, in unit squares. One pass over the slots, and no memory.
+    pub fn free_area(&self) -> u64
+        ensures area { result ≡ sum_by area (free_in (state_of self.now)) }
+        ensures whole { sum_by (λ g. area g.box) (live_in (state_of self.now)) + result ≡ (state_of self.now).size.width * (state_of self.now).size.height }
+    {
+        free_sum(&self.store.slots)
     }
 
     /// Calls `visit` on each free rectangle once, in an order that is left open. Asks that `visit` may be called along each

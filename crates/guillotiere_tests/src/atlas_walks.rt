@@ -89,6 +89,24 @@ fn a_callback_may_keep_what_it_is_shown(rt: HostRuntime) -> Result<(), Fail> {
 }
 
 #[test]
+fn areas_are_exact(rt: HostRuntime) -> Result<(), Fail> {
+    let atlas = filled(rt.alloc())?;
+    assert_eq!(rt; (atlas.allocated_area(), atlas.free_area()), (50000, 10000));
+    let most = size2(2147483647, 2147483647);
+    let mut largest = AtlasAllocator::new(rt.alloc(), most)?;
+    assert_eq!(rt;
+        (largest.allocated_area(), largest.free_area()),
+        (0, 4611686014132420609)
+    );
+    let _all = largest.allocate(most)?;
+    assert_eq!(rt;
+        (largest.allocated_area(), largest.free_area()),
+        (4611686014132420609, 0)
+    );
+    Ok(())
+}
+
+#[test]
 fn a_callback_may_look_at_the_atlas(rt: HostRuntime) -> Result<(), Fail> {
     let atlas = filled(rt.alloc())?;
     let mut agree = 0u32;

@@ -22,6 +22,7 @@ mod atlas_rearranging;
 mod atlas_rearranging_recorded;
 #[cfg(test)]
 mod atlas_rearranging_sessions;
+mod atlas_memory;
 #[cfg(test)]
 mod atlas_recorded;
 #[cfg(test)]
@@ -44,6 +45,10 @@ mod simple_recorded;
 mod simple_rows;
 #[cfg(test)]
 mod simple_sessions;
+#[cfg(test)]
+mod simple_starts;
+#[cfg(test)]
+mod simple_starts_recorded;
 #[cfg(test)]
 mod simple_whole;
 #[cfg(test)]
