@@ -103,3 +103,4 @@ pub mod CallerLemmas
 pub mod LiveBoxes
 pub mod LyingApart
 pub mod Guarding
+pub mod CallerSteps

@@ -1,0 +1,124 @@
+-- What each call does to the boxes that callers hold.
+use Rattle.std.proofs.Common.{◌≡◌, ℕ, ◌+◌, ◌≤◌, List, [], ◌∷◌, length, refl, ap, subst, sym, ◌∙◌, arith, Contains, Option, Some, None, IsSome}
+use Rattle.std.proofs.lemmas.Bool.{false≢true}
+use Rattle.guillotiere.specs.declared.error.AtlasError.{AtlasError}
+use Rattle.guillotiere.specs.declared.error.AtlasError.TheVariants.{Memory, Slots, NotLive}
+use Rattle.guillotiere.specs.Boxes.{Box, Sides, Fits}
+use Rattle.guillotiere.specs.Trees.{Grant}
+use Rattle.guillotiere.specs.Changes.{only}
+use Rattle.guillotiere.specs.States.{State, live_in, IsLive, IsSound, after_freeing}
+use Rattle.guillotiere.specs.Steps.{AtlasReply, Step}
+use Rattle.guillotiere.specs.Steps.AtlasCall.{Allocate, Deallocate, Grow}
+use Rattle.guillotiere.specs.Steps.AtlasReply.{Allocated, NoRoom, Done, Changed, Refused, BadCall}
+use Rattle.guillotiere.specs.Replies.{live_box}
+use Rattle.guillotiere.specs.StepLaws.{is_refusal}
+use Rattle.guillotiere.specs.Callers.{AreGuarded, KeepsLive, AddsBox, LeavesNoBox, KeepsAll}
+use Rattle.guillotiere.proofs.StepEffects.{grants_lie_inside, freeings_remove_one, growths_keep_boxes, refusals_change_nothing}
+use Rattle.guillotiere.proofs.StepKeeping.{steps_keep}
+use Rattle.guillotiere.proofs.LiveBoxes.{live_have_boxes, unlive_box, granted_unused, granted_live, granted_here, granted_others, granted_count, freed_box, freed_others, freed_count}
+use Rattle.guillotiere.proofs.Guarding.{guarded_grant, guarded_freeing, guarded_growth}
+
+-- an unchanged state keeps what is live
+same_keeps : (old new : State) → IsSound old → new ≡ old → KeepsLive old new
+same_keeps old new sound same =
+    record { sound = subst IsSound (sym same) sound; kept = λ id live. ap (λ s. live_box s id) same }
+
+module _ (old new : State) (sound : IsSound old) where
+  module _ (r : Sides) (g : Grant) (step : Step old (Allocate r) (Allocated g) new) where
+    sound_new : IsSound new
+    sound_new = steps_keep old new (Allocate r) (Allocated g) sound step
+
+    pub grant_adds : AddsBox old new g.id g.box
+    grant_adds =
+        let its = grants_lie_inside old new r g sound step in
+        record {
+          unused = granted_unused old new r g sound_new its;
+          live = granted_live old new r g sound_new its;
+          here = granted_here old new r g sound_new its;
+          others = granted_others old new r g sound_new its;
+          count = granted_count old new r g sound_new its;
+          guarded = λ held guarded. guarded_grant old new sound sound_new (ap (λ s. s.size) step.1.state) r g its held guarded;
+        }
+
+    grant_keeps : KeepsLive old new
+    grant_keeps = record {
+      sound = sound_new;
+      kept = λ id live. grant_adds.others id (λ same. absurd (dead id same live));
+    }
+      where
+        dead : (id : ℕ) → id ≡ g.id → IsLive old id → ⊥
+        dead id same live =
+            let some : IsSome (live_box old g.id) = (live_have_boxes old g.id).0 (subst (IsLive old) same live) in
+            false≢true (subst (λ o. IsSome o) grant_adds.unused some)
+
+  -- a request keeps what is live, whatever is answered
+  pub request_keeps : (r : Sides) (reply : AtlasReply) → Step old (Allocate r) reply new → KeepsLive old new
+  request_keeps r (Allocated g) step = grant_keeps r g step
+  request_keeps r NoRoom step = same_keeps old new sound step.1
+  request_keeps r (Refused error) step = same_keeps old new sound (refusals_change_nothing old new (Allocate r) (Refused error) step refl)
+  request_keeps r Done step = absurd step
+  request_keeps r (Changed list) step = absurd step
+  request_keeps r BadCall step = absurd step
+
+  -- after a freeing, refused or not, an id has no box
+  pub freeing_leaves : (id : ℕ) (reply : AtlasReply) → Step old (Deallocate id) reply new → LeavesNoBox old new id
+  freeing_leaves id Done step =
+      let its = freeings_remove_one old new id sound step in
+      let sound_new = steps_keep old new (Deallocate id) Done sound step in
+      record {
+        sound = sound_new;
+        gone = freed_box old new id its;
+        others = freed_others old new id its;
+        guarded = λ box held is guarded. guarded_freeing old new sound sound_new (ap (λ s. s.size) step.1) id box its is held guarded;
+      }
+  freeing_leaves id (Refused error) step =
+      let same : new ≡ old = refusals_change_nothing old new (Deallocate id) (Refused error) step refl in
+      let none : live_box old id ≡ None = unlive_box old id (dead error step) in
+      record {
+        sound = subst IsSound (sym same) sound;
+        gone = ap (λ s. live_box s id) same ∙ none;
+        others = λ k differ. ap (λ s. live_box s k) same;
+        guarded = λ box held is guarded. absurd (is_none box (sym none ∙ is));
+      }
+    where
+      dead : (error : AtlasError) → Step old (Deallocate id) (Refused error) new → IsLive old id → ⊥
+      dead NotLive step live = step.0 live
+      dead Memory step live = step
+      dead Slots step live = step
+
+      is_none : (box : Box) → None ≡ Some box → ⊥
+      is_none box e = cc
+  freeing_leaves id NoRoom step = absurd step
+  freeing_leaves id (Allocated g) step = absurd step
+  freeing_leaves id (Changed list) step = absurd step
+  freeing_leaves id BadCall step = absurd step
+
+  pub freeing_count : (id : ℕ) → Step old (Deallocate id) Done new → length (live_in new) + 1 ≡ length (live_in old)
+  freeing_count id step = freed_count old new id (freeings_remove_one old new id sound step)
+
+  -- a growth, refused or not, keeps all
+  pub growth_keeps : (n : Sides) (reply : AtlasReply) → Step old (Grow n) reply new → KeepsAll old new
+  growth_keeps n Done step =
+      let its = growths_keep_boxes old new n sound step in
+      let sound_new = steps_keep old new (Grow n) Done sound step in
+      record {
+        sound = sound_new;
+        live = its.live;
+        guarded = λ held guarded. guarded_growth old new sound sound_new (subst (λ s. Fits old.size s.size) (sym step.2) step.0) its held guarded;
+      }
+  growth_keeps n (Refused error) step = same_all (refusals_change_nothing old new (Grow n) (Refused error) step refl)
+    where
+      same_all : new ≡ old → KeepsAll old new
+      same_all same = record {
+        sound = subst IsSound (sym same) sound;
+        live = ap live_in same;
+        guarded = λ held guarded. subst (λ s. AreGuarded s held) (sym same) guarded;
+      }
+  growth_keeps n BadCall step = record {
+    sound = subst IsSound (sym step.1) sound;
+    live = ap live_in step.1;
+    guarded = λ held guarded. subst (λ s. AreGuarded s held) (sym step.1) guarded;
+  }
+  growth_keeps n NoRoom step = absurd step
+  growth_keeps n (Allocated g) step = absurd step
+  growth_keeps n (Changed list) step = absurd step
