@@ -33,6 +33,7 @@ pub mod Starts
 pub mod Freeing
 pub mod Planning
 pub mod Replies
+pub mod Generations
 pub mod Batches
 pub mod Chosen
 pub mod Growing

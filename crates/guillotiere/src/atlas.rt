@@ -13,7 +13,7 @@ ghost use Rattle.guillotiere.specs.Changes.{only};
 ghost use Rattle.guillotiere.specs.TreeLaws.{is_among};
 ghost use Rattle.guillotiere.specs.Batches.{AreLiveOnce};
 ghost use Rattle.guillotiere.specs.Steps.{Step};
-ghost use Rattle.guillotiere.specs.Steps.AtlasCall.{Allocate, Deallocate, Grow};
+ghost use Rattle.guillotiere.specs.Steps.AtlasCall.{Allocate, Deallocate, Grow, Clear, Reset};
 ghost use Rattle.guillotiere.specs.Steps.AtlasReply.{Done};
 
 use crate::allocation::{AllocId, Allocation, SlotCount};
@@ -68,6 +68,7 @@ impl<A: Allocator + Copy> Model for AtlasAllocator<A> {
 
 impl<A: Allocator + Copy> AtlasAllocator<A> {
     ghost use Rattle.guillotiere.specs.Stored.{state_of};
+    ghost use Rattle.guillotiere.specs.Generations.{AreFirstGenerations};
     ghost use Rattle.guillotiere.specs.Replies.{allocate_reply, done_reply, live_box, IsExact};
 
     /// An atlas of this size, in pixels, with the default options: one free rectangle. Asks a size that isn't empty.
@@ -193,12 +194,13 @@ impl<A: Allocator + Copy> AtlasAllocator<A> {
     }
 
     /// Frees the box of an id: it joins the free space beside it. `NotLive` if the id isn't live, and then nothing changes.
-    /// Takes no memory, and at most one turn more than there are members fewer.
+    /// Takes no memory, and one turn more than there are members fewer. A turn marks a leaf as free, joins it with the
+    /// next one or lifts it into its container's place; links of lists are written beside the turns.
     pub fn deallocate(&mut self, id: AllocId) -> Result<(), AtlasError>
         ensures step { Step (state_of self.old) (Deallocate id) (done_reply result) (state_of self.new) }
         ensures refused { OnErr result (self.new ≡ self.old) }
         ensures unless { IsOkUnless result AtlasError.NotLive }
-        ensures turns { self.new.turns + used_in (state_of self.new) ≤ self.old.turns + 1 + used_in (state_of self.old) }
+        ensures turns { OnOk result (self.new.turns + used_in (state_of self.new) ≡ self.old.turns + 1 + used_in (state_of self.old)) }
     {
         if !self.is_live(id) {
             return Err(AtlasError::NotLive);
@@ -208,15 +210,15 @@ impl<A: Allocator + Copy> AtlasAllocator<A> {
     }
 
     /// Frees the boxes of the ids of a list, in an order that can't be told. `NotLive` if one of them isn't live or stands
-    /// twice, and then nothing changes. Takes no memory, time in proportion to the list, and at most one turn an id more
-    /// than there are members fewer.
+    /// twice, and then nothing changes. Takes no memory, time in proportion to the list, and one turn an id more than there
+    /// are members fewer.
     pub fn deallocate_all(&mut self, ids: &[AllocId]) -> Result<(), AtlasError>
         ensures freed { OnOk result (state_of self.new ≡ after_freeing (state_of self.old) (is_among ids.now)) }
         ensures ok { (result ≡ Ok tt) ↔ AreLiveOnce (state_of self.old) ids.now }
         ensures unless { IsOkUnless result AtlasError.NotLive }
         ensures refused { OnErr result (self.new ≡ self.old) }
         ensures none { ids.now ≡ [] → self.new ≡ self.old }
-        ensures turns { self.new.turns + used_in (state_of self.new) ≤ self.old.turns + length ids.now + used_in (state_of self.old) }
+        ensures turns { OnOk result (self.new.turns + used_in (state_of self.new) ≡ self.old.turns + length ids.now + used_in (state_of self.old)) }
     {
         if !self.are_live_once(ids) {
             return Err(AtlasError::NotLive);
@@ -250,6 +252,66 @@ impl<A: Allocator + Copy> AtlasAllocator<A> {
         self.used += added;
         self.size = new_size;
         Ok(())
+    }
+
+    /// Starts again at the present size, options and limit: one free rectangle, no id live, each slot in its first
+    /// generation. Always Ok. Keeps the room of the slots, and takes no memory and no turns.
+    pub fn clear(&mut self) -> Result<(), AtlasError>
+        ensures ok { result ≡ Ok tt }
+        ensures step { Step (state_of self.old) Clear (done_reply result) (state_of self.new) }
+        ensures anew { AreFirstGenerations self.new }
+        ensures turns { self.new.turns ≡ self.old.turns }
+    {
+        let size = self.size;
+        let options = self.store.options;
+        self.restart(size, &options);
+        Ok(())
+    }
+
+    /// Starts again at this size, in pixels, and with these options; the limit stays. Asks a size that isn't empty and
+    /// valid options. Always Ok. Keeps the room of the slots, and takes no memory and no turns.
+    pub fn reset(&mut self, size: Size, options: &AllocatorOptions) -> Result<(), AtlasError>
+        requires size { IsPositive (sides_of size) }
+        requires options { AreValid (options_of options.now) }
+        ensures ok { result ≡ Ok tt }
+        ensures step { Step (state_of self.old) (Reset (sides_of size) (options_of options.now)) (done_reply result) (state_of self.new) }
+        ensures anew { AreFirstGenerations self.new }
+        ensures turns { self.new.turns ≡ self.old.turns }
+    {
+        self.restart(size, options);
+        Ok(())
+    }
+
+    /// A copy: the whole stored value is equal, slots, generations and lists included, and so are its answers to later
+    /// calls, want of memory aside. Its turns begin at 0. `Memory` is the only error.
+    pub fn clone(&self) -> Result<Self, AtlasError>
+        ensures unless { IsOkUnless result AtlasError.Memory }
+        ensures equal { IfOk result (λ it. it.stored ≡ self.now.stored) }
+        ensures turns { IfOk result (λ it. it.turns ≡ 0) }
+    {
+        let store = self.store.copy()?;
+        let used = self.used;
+        Ok(AtlasAllocator {
+            store,
+            first: self.first,
+            used,
+            size: self.size,
+            limit: self.limit,
+        })
+    }
+
+    // One free slot of this size, with these options; the limit stays.
+    fn restart(&mut self, whole: Size, options: &AllocatorOptions)
+        requires size { IsPositive (sides_of whole) }
+        requires options { AreValid (options_of options.now) }
+        ensures state { state_of self.new ≡ started (sides_of whole) (options_of options.now) (state_of self.old).limit }
+        ensures anew { AreFirstGenerations self.new }
+        ensures turns { self.new.turns ≡ self.old.turns }
+    {
+        self.store.start(whole, options);
+        self.first = Link { number: 0 };
+        self.used = 1;
+        self.size = whole;
     }
 
     // Enlarges the one free box of an atlas in which nothing is live.

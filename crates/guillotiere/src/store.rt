@@ -1,5 +1,5 @@
 //! The slots of an atlas with their lists: each call keeps the tree that the slots stand for, and the lists, in order.
-ghost use Rattle.std.specs.Prelude.{◌≡◌, ◌≢◌, ◌+◌, ◌-◌, ◌<◌, ◌≤◌, ◌↔◌, ◌⊎◌, ℕ, List, true, false, IsTrue, vec_capacity, length};
+ghost use Rattle.std.specs.Prelude.{◌≡◌, ◌≢◌, ◌+◌, ◌-◌, ◌<◌, ◌≤◌, ◌↔◌, ◌⊎◌, ℕ, List, true, false, IsTrue, IfOk, vec_capacity, length};
 ghost use Rattle.guillotiere.specs.declared.slots.NodeKind.TheVariants.{Alloc, Free, Container, Unused};
 ghost use Rattle.guillotiere.specs.Pixels.{natural};
 ghost use Rattle.guillotiere.specs.Calm.{IsCalmAt, IsCalmBut};
@@ -16,7 +16,7 @@ use crate::options::AllocatorOptions;
 use crate::placing::{grant_leaf, split_leaf, wrap_leaf};
 use crate::slots::{Link, NO_SLOT, Node, NodeKind, Slot, join_next, lift, mark_free, read_node};
 use crate::turns::Turns;
-use std::alloc::Allocator;
+use std::alloc::{AllocError, Allocator};
 
 /// The slots, the lists that run through them, and the options by which free slots are listed. `turns` counts the
 /// markings, joins and lifts, and is nothing at run time.
@@ -31,6 +31,23 @@ pub struct Store<A: Allocator> {
 
 impl<A: Allocator> Store<A> {
     ghost use Rattle.guillotiere.specs.Holdings.{shelf_of, node_in, across_of, HasSlotsFor, IsHeld, IsLooseLeaf, IsReadyWith, KeepsRoom, with_held, with_loose, with_spare, after_take, after_grant, after_split, after_wrap, after_mark, after_join, after_lift};
+
+    /// A copy: the same slots and lists, in new memory of the same allocator. No turn was taken in it yet.
+    pub fn copy(&self) -> Result<Store<A>, AllocError>
+    where
+        A: Copy,
+        ensures same { IfOk result (λ it. shelf_of it ≡ shelf_of self.now) }
+        ensures turns { IfOk result (λ it. it.turns.count ≡ 0) }
+    {
+        let slots = Vec::from_slice(*self.slots.allocator(), &self.slots)?;
+        Ok(Store {
+            slots,
+            lists: self.lists,
+            unused: self.unused,
+            options: self.options,
+            turns: Turns::new(),
+        })
+    }
 
     /// The tree's part of a slot.
     pub fn node(&self, at: Link) -> Node

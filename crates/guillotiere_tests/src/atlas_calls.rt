@@ -27,6 +27,9 @@ pub enum Call {
     Grow(Sides),
     /// `grow` that would need more slots than the limit allows.
     GrowBeyondLimit(Sides),
+    Clear,
+    /// `reset` to a size and options.
+    Reset(Sides, AllocatorOptions),
     Get(u32, Option<Corners>),
     IsEmpty(bool),
     /// What `free_rectangles` lists, in any order.
@@ -54,9 +57,9 @@ pub struct Row {
 /// As many slots as ids can name.
 pub const MOST_SLOTS: u32 = 16777216;
 
-// What can be seen of an atlas without a request for memory; the boxes are folded into two numbers.
+/// What can be seen of an atlas without a request for memory; the boxes are folded into two numbers.
 #[derive(Clone, Copy, Debug, PartialEq)]
-struct Sight {
+pub struct Sight {
     sides: (i32, i32),
     empty: bool,
     slots: SlotCount,
@@ -73,7 +76,7 @@ fn folded(area: &Rectangle) -> u64 {
     sum
 }
 
-fn look_at(atlas: &Atlas<'_>) -> Sight {
+pub fn look_at(atlas: &Atlas<'_>) -> Sight {
     let mut free = 0u64;
     atlas.for_each_free_rectangle(|area: &Rectangle| free = free.wrapping_add(folded(area)));
     let mut live = 0u64;
@@ -92,8 +95,19 @@ fn look_at(atlas: &Atlas<'_>) -> Sight {
     }
 }
 
-// The atlas of a row, by the shortest constructor.
-fn created<'a>(
+/// The atlas of a row, by the shortest constructor; asked for again where memory is refused once.
+pub fn created<'a>(
+    rt: &impl Abort,
+    heap: &'a Refusing<Global>,
+    row: &Row,
+) -> Result<Atlas<'a>, AtlasError> {
+    match created_once(rt, heap, row) {
+        Err(AtlasError::Memory) => created_once(rt, heap, row),
+        first => first,
+    }
+}
+
+fn created_once<'a>(
     rt: &impl Abort,
     heap: &'a Refusing<Global>,
     row: &Row,
@@ -159,6 +173,26 @@ fn grow_once(rt: &impl Abort, atlas: &mut Atlas<'_>, sides: Sides) -> Result<(),
     assert!(rt; atlas.size().width <= new_size.width);
     assert!(rt; atlas.size().height <= new_size.height);
     atlas.grow(new_size)
+}
+
+// `clear` and `reset`, which never fail.
+fn started(rt: &impl Abort, atlas: &mut Atlas<'_>, call: &Call) {
+    match call {
+        Call::Clear => {
+            let sides = atlas.size();
+            assert_eq!(rt; atlas.clear(), Ok(()));
+            assert_eq!(rt; atlas.size(), sides);
+        }
+        Call::Reset(sides, options) => {
+            let size = size(*sides);
+            assert!(rt; !size.is_empty());
+            assert!(rt; options.is_valid());
+            assert_eq!(rt; atlas.reset(size, options), Ok(()));
+            assert_eq!(rt; atlas.size(), size);
+        }
+        _ => {}
+    }
+    assert!(rt; atlas.is_empty());
 }
 
 // The ids of a list.
@@ -281,6 +315,7 @@ fn make(
             let slots = atlas.slots();
             assert_eq!(rt; (slots.used, slots.kept), (*used, *kept));
         }
+        Call::Clear | Call::Reset(_, _) => started(rt, atlas, call),
         Call::RefuseEvery => heap.refuse_every(),
         Call::RefuseNone => heap.refuse_nth(0),
         _ => freed(rt, alloc, atlas, call)?,
@@ -292,11 +327,25 @@ fn make(
 fn size_after(size: Sides, calls: &[Call]) -> Sides {
     let mut last = size;
     for call in calls {
-        if let Call::Grow(sides) = call {
+        if let Call::Grow(sides) | Call::Reset(sides, _) = call {
             last = *sides;
         }
     }
     last
+}
+
+/// Makes calls of an atlas; one that is refused memory once is made again.
+pub fn make_all(
+    rt: &impl Abort,
+    alloc: Global,
+    heap: &Refusing<Global>,
+    atlas: &mut Atlas<'_>,
+    calls: &[Call],
+) -> Result<(), AtlasError> {
+    for call in calls {
+        make(rt, alloc, heap, atlas, call)?;
+    }
+    Ok(())
 }
 
 /// Makes the calls of a row; one that is refused memory once is made again.
@@ -306,18 +355,11 @@ pub fn play(
     heap: &Refusing<Global>,
     row: &Row,
 ) -> Result<(), AtlasError> {
-    let mut atlas = match created(rt, heap, row) {
-        Err(AtlasError::Memory) => created(rt, heap, row)?,
-        first => first?,
-    };
+    let mut atlas = created(rt, heap, row)?;
     assert!(rt; atlas.is_empty(), "{:?}", row.size);
     assert_eq!(rt; atlas.slots().limit, row.limit);
-    for call in row.start {
-        make(rt, alloc, heap, &mut atlas, call)?;
-    }
-    for call in row.calls {
-        make(rt, alloc, heap, &mut atlas, call)?;
-    }
+    make_all(rt, alloc, heap, &mut atlas, row.start)?;
+    make_all(rt, alloc, heap, &mut atlas, row.calls)?;
     let last = size_after(size_after(row.size, row.start), row.calls);
     assert_eq!(rt; atlas.size(), size(last));
     Ok(())

@@ -19,6 +19,8 @@ mod atlas_recorded;
 #[cfg(test)]
 mod atlas_sessions;
 #[cfg(test)]
+mod atlas_starts;
+#[cfg(test)]
 mod atlas_walks;
 #[cfg(test)]
 mod geometry;
