@@ -23,6 +23,20 @@ same_keeps : (old new : State) → IsSound old → new ≡ old → KeepsLive old
 same_keeps old new sound same =
     record { sound = subst IsSound (sym same) sound; kept = λ id live. ap (λ s. live_box s id) same }
 
+-- an id that isn't live has no box, and stays so
+pub unlive_leaves : (old new : State) (id : ℕ) → IsSound old → (IsLive old id → ⊥) → new ≡ old → LeavesNoBox old new id
+unlive_leaves old new id sound dead same =
+    let none : live_box old id ≡ None = unlive_box old id dead in
+    record {
+      sound = subst IsSound (sym same) sound;
+      gone = ap (λ s. live_box s id) same ∙ none;
+      others = λ k differ. ap (λ s. live_box s k) same;
+      guarded = λ box held is guarded. absurd (is_none box (sym none ∙ is));
+    }
+  where
+    is_none : (box : Box) → None ≡ Some box → ⊥
+    is_none box e = cc
+
 module _ (old new : State) (sound : IsSound old) where
   module _ (r : Sides) (g : Grant) (step : Step old (Allocate r) (Allocated g) new) where
     sound_new : IsSound new
@@ -72,22 +86,12 @@ module _ (old new : State) (sound : IsSound old) where
         guarded = λ box held is guarded. guarded_freeing old new sound sound_new (ap (λ s. s.size) step.1) id box its is held guarded;
       }
   freeing_leaves id (Refused error) step =
-      let same : new ≡ old = refusals_change_nothing old new (Deallocate id) (Refused error) step refl in
-      let none : live_box old id ≡ None = unlive_box old id (dead error step) in
-      record {
-        sound = subst IsSound (sym same) sound;
-        gone = ap (λ s. live_box s id) same ∙ none;
-        others = λ k differ. ap (λ s. live_box s k) same;
-        guarded = λ box held is guarded. absurd (is_none box (sym none ∙ is));
-      }
+      unlive_leaves old new id sound (dead error step) (refusals_change_nothing old new (Deallocate id) (Refused error) step refl)
     where
       dead : (error : AtlasError) → Step old (Deallocate id) (Refused error) new → IsLive old id → ⊥
       dead NotLive step live = step.0 live
       dead Memory step live = step
       dead Slots step live = step
-
-      is_none : (box : Box) → None ≡ Some box → ⊥
-      is_none box e = cc
   freeing_leaves id NoRoom step = absurd step
   freeing_leaves id (Allocated g) step = absurd step
   freeing_leaves id (Changed list) step = absurd step

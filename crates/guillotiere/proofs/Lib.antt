@@ -104,3 +104,4 @@ pub mod LiveBoxes
 pub mod LyingApart
 pub mod Guarding
 pub mod CallerSteps
+pub mod Measuring

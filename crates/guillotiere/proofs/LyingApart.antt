@@ -1,5 +1,5 @@
 -- Live boxes of different ids share no unit square, and lie apart.
-use Rattle.std.proofs.Common.{◌≡◌, ℕ, zero, suc, ◌+◌, ◌≤◌, ◌<◌, ◌&&◌, ◌⊎◌, ◌≤ℤ◌, pos, subst₂, Bool, true, false, List, ◌++◌, map, refl, ap, subst, sym, ◌∙◌, arith, Contains, inl, inr, Option, Some, None, option_map, nat_le, nat_lt}
+use Rattle.std.proofs.Common.{◌≡◌, ℕ, zero, suc, ◌+◌, ◌≤◌, ◌<◌, ◌&&◌, ◌⊎◌, ◌≤ℤ◌, pos, subst₂, Bool, true, false, List, ◌++◌, map, refl, ap, subst, sym, ◌∙◌, arith, Contains, inl, inr, Option, Some, None, IsSome, ◌↔◌, option_map, nat_le, nat_lt}
 use Rattle.std.specs.List.{count_by, find}
 use Rattle.std.proofs.lemmas.Bool.{eqb-true, false≢true, ltb-true, leb-true, lt-ltb, le-leb, and_parts, and_from, cases_lt}
 use Rattle.std.proofs.lemmas.List.Elements.{All-contains, Contains-append_left}
@@ -8,12 +8,12 @@ use Rattle.guillotiere.specs.Boxes.{Sides, Box, covers, IsNonempty, IsWithin}
 use Rattle.guillotiere.specs.declared.geometry.Rectangle.{Rectangle}
 use Rattle.guillotiere.specs.Pixels.{box_of, rectangle_of}
 use Rattle.guillotiere.specs.Trees.{Grant}
-use Rattle.guillotiere.specs.States.{State, live_in, free_in, IsSound}
+use Rattle.guillotiere.specs.States.{State, live_in, free_in, IsSound, IsLive}
 use Rattle.guillotiere.specs.Replies.{live_box}
 use Rattle.guillotiere.specs.RunLaws.{boxes_in}
 use Rattle.guillotiere.specs.Callers.{ShareNothing, BoxesLieApart, RectanglesLieApart, AllLieApart, AllLieWithin, rectangle_in, LiveShareNothing, LiveLieWithin}
 use Rattle.guillotiere.proofs.Counting.{count_by-append, counted_once, count_some}
-use Rattle.guillotiere.proofs.LiveBoxes.{sound_is_tiled, is_for}
+use Rattle.guillotiere.proofs.LiveBoxes.{sound_is_tiled, is_for, live_have_boxes}
 use Rattle.guillotiere.proofs.CallerLemmas.{Contains-find, Contains-map, count_by-map, find-counted}
 
 -- a unit square of a box that lies within sides lies within them
@@ -154,3 +154,18 @@ pub all_lie_within : (s : State) → IsSound s → AllLieWithin s
 all_lie_within s sound id r is =
     let b = rectangle_box s id r is in
     subst (λ k. IsNonempty (box_of k) × IsWithin s.size (box_of k)) b.2 (live_lie_within s id b.0 sound b.1)
+
+-- where an id's rectangle is shown, the id is live
+pub shown_live : (s : State) (id : ℕ) (o : Option Rectangle) → o ≡ rectangle_in s id → IsSome o ↔ IsLive s id
+shown_live s id o is = (
+  λ some. (live_have_boxes s id).1 (has_box (live_box s id) (subst (λ k. IsSome k) is some)),
+  λ live. subst (λ k. IsSome k) (sym is) (has_rectangle (live_box s id) ((live_have_boxes s id).0 live)),
+)
+  where
+    has_box : (k : Option Box) → IsSome (option_map rectangle_of k) → IsSome k
+    has_box None some = some
+    has_box (Some b) some = refl
+
+    has_rectangle : (k : Option Box) → IsSome k → IsSome (option_map rectangle_of k)
+    has_rectangle None some = some
+    has_rectangle (Some b) some = refl

@@ -1,8 +1,8 @@
 //! The atlas allocator.
-ghost use Rattle.std.specs.Prelude.{◌≡◌, ◌≤◌, ◌<◌, ◌+◌, ◌-◌, ◌↔◌, List, [], IsTrue, IfOk, IfSome, OnErr, IsOkUnless, OnOk, length, IsSome, option_map, None, Some, Ok};
+ghost use Rattle.std.specs.Prelude.{◌≡◌, ◌≤◌, ◌<◌, ◌+◌, ◌-◌, ◌↔◌, List, [], IsTrue, IfOk, IfSome, OnErr, IsOkUnless, OnOk, length, IsSome, option_map, None, Some, Ok, All};
 ghost use Rattle.guillotiere.specs.Boxes.{Fits, IsPositive};
 ghost use Rattle.guillotiere.specs.Choice.{AreValid};
-ghost use Rattle.guillotiere.specs.Pixels.{sides_of, size_of, options_of, rectangle_of};
+ghost use Rattle.guillotiere.specs.Pixels.{sides_of, size_of, options_of, rectangle_of, box_of, IsMeasurable};
 ghost use Rattle.guillotiere.specs.States.{live_in, used_in, started, after_freeing, IsSound, IsLive};
 ghost use Rattle.std.specs.List.{FoldsTo};
 ghost use Rattle.std.specs.Fn.{CalledAt};
@@ -12,6 +12,7 @@ ghost use Rattle.guillotiere.specs.Visits.{AreFreeAreas, AreGrants, CalledAtGran
 ghost use Rattle.guillotiere.specs.Changes.{only};
 ghost use Rattle.guillotiere.specs.TreeLaws.{is_among};
 ghost use Rattle.guillotiere.specs.Batches.{AreLiveOnce};
+ghost use Rattle.guillotiere.specs.RunLaws.{IsTiled};
 ghost use Rattle.guillotiere.specs.Steps.{Step};
 ghost use Rattle.guillotiere.specs.Steps.AtlasCall.{Allocate, Deallocate, Grow, Clear, Reset};
 ghost use Rattle.guillotiere.specs.Steps.AtlasReply.{Done};
@@ -70,6 +71,7 @@ impl<A: Allocator + Copy> AtlasAllocator<A> {
     ghost use Rattle.guillotiere.specs.Stored.{state_of};
     ghost use Rattle.guillotiere.specs.Generations.{AreFirstGenerations};
     ghost use Rattle.guillotiere.specs.Replies.{allocate_reply, done_reply, live_box, IsExact};
+    ghost use Rattle.guillotiere.specs.Callers.{AreGuarded, KeepsLive, AddsBox, LeavesNoBox, KeepsAll, AllLieApart, AllLieWithin};
 
     /// An atlas of this size, in pixels, with the default options: one free rectangle. Asks a size that isn't empty.
     /// `Memory` is the only error.
@@ -78,6 +80,7 @@ impl<A: Allocator + Copy> AtlasAllocator<A> {
         ensures unless { IsOkUnless result AtlasError.Memory }
         ensures state { IfOk result (λ it. state_of it ≡ started (sides_of size) (options_of DEFAULT_OPTIONS) MOST_SLOTS) }
         ensures turns { IfOk result (λ it. it.turns ≡ 0) }
+        ensures sound { IfOk result (λ it. IsSound (state_of it)) }
     {
         AtlasAllocator::with_options(alloc, size, &DEFAULT_OPTIONS)
     }
@@ -93,6 +96,7 @@ impl<A: Allocator + Copy> AtlasAllocator<A> {
         ensures unless { IsOkUnless result AtlasError.Memory }
         ensures state { IfOk result (λ it. state_of it ≡ started (sides_of size) (options_of options.now) MOST_SLOTS) }
         ensures turns { IfOk result (λ it. it.turns ≡ 0) }
+        ensures sound { IfOk result (λ it. IsSound (state_of it)) }
     {
         AtlasAllocator::with_slot_limit(alloc, size, options, MOST_SLOTS)
     }
@@ -112,6 +116,7 @@ impl<A: Allocator + Copy> AtlasAllocator<A> {
         ensures unless { IsOkUnless result AtlasError.Memory }
         ensures state { IfOk result (λ it. state_of it ≡ started (sides_of size) (options_of options.now) limit) }
         ensures turns { IfOk result (λ it. it.turns ≡ 0) }
+        ensures sound { IfOk result (λ it. IsSound (state_of it)) }
     {
         let none = Link { number: NO_SLOT };
         let mut store = Store {
@@ -139,6 +144,18 @@ impl<A: Allocator + Copy> AtlasAllocator<A> {
         self.size
     }
 
+    /// Says what each atlas keeps, and does nothing: it is sound, live and free boxes tile it, the rectangles of live ids lie
+    /// within it and apart from one another, and no held box at all is guarded.
+    pub fn prove_sound(&self)
+        ensures sound { IsSound (state_of self.now) }
+        ensures tiled { IsTiled (state_of self.now) }
+        ensures apart { AllLieApart (state_of self.now) }
+        ensures within { AllLieWithin (state_of self.now) }
+        ensures guarded { AreGuarded (state_of self.now) [] }
+    {
+        self.size();
+    }
+
     /// Whether no id is live.
     pub fn is_empty(&self) -> bool
         ensures { IsTrue result ↔ (live_in (state_of self.now) ≡ []) }
@@ -162,7 +179,8 @@ impl<A: Allocator + Copy> AtlasAllocator<A> {
 
     /// The rectangle of a live id, in pixels; None for every other id.
     pub fn get(&self, id: AllocId) -> Option<Rectangle>
-        ensures { result ≡ option_map rectangle_of (live_box (state_of self.now) id) }
+        ensures rectangle { result ≡ option_map rectangle_of (live_box (state_of self.now) id) }
+        ensures live { IsSome result ↔ IsLive (state_of self.now) id }
     {
         let at = named_slot(&self.store.slots, id)?;
         Some(self.store.slots[at].node.area)
@@ -178,6 +196,8 @@ impl<A: Allocator + Copy> AtlasAllocator<A> {
         ensures none { result ≡ Ok None → self.new ≡ self.old }
         ensures refused { OnErr result (self.new ≡ self.old) }
         ensures turns { self.new.turns ≡ self.old.turns }
+        ensures adds { IfOk result (λ granted. IfSome granted (λ a. AddsBox (state_of self.old) (state_of self.new) a.id (box_of a.rectangle))) }
+        ensures keeps { KeepsLive (state_of self.old) (state_of self.new) }
     {
         let Some(size) = rounded(requested_size, &self.store.options) else {
             return Ok(None);
@@ -201,6 +221,9 @@ impl<A: Allocator + Copy> AtlasAllocator<A> {
         ensures refused { OnErr result (self.new ≡ self.old) }
         ensures unless { IsOkUnless result AtlasError.NotLive }
         ensures turns { OnOk result (self.new.turns + used_in (state_of self.new) ≡ self.old.turns + 1 + used_in (state_of self.old)) }
+        ensures ok { (result ≡ Ok tt) ↔ IsLive (state_of self.old) id }
+        ensures leaves { LeavesNoBox (state_of self.old) (state_of self.new) id }
+        ensures count { OnOk result (length (live_in (state_of self.new)) + 1 ≡ length (live_in (state_of self.old))) }
     {
         if !self.is_live(id) {
             return Err(AtlasError::NotLive);
@@ -240,6 +263,7 @@ impl<A: Allocator + Copy> AtlasAllocator<A> {
         ensures step { Step (state_of self.old) (Grow (sides_of new_size)) (done_reply result) (state_of self.new) }
         ensures refused { OnErr result (self.new ≡ self.old) }
         ensures turns { self.new.turns ≡ self.old.turns }
+        ensures keeps { KeepsAll (state_of self.old) (state_of self.new) }
     {
         if self.is_empty() {
             self.grow_box(new_size);
@@ -261,6 +285,8 @@ impl<A: Allocator + Copy> AtlasAllocator<A> {
         ensures step { Step (state_of self.old) Clear (done_reply result) (state_of self.new) }
         ensures anew { AreFirstGenerations self.new }
         ensures turns { self.new.turns ≡ self.old.turns }
+        ensures sound { IsSound (state_of self.new) }
+        ensures idle { live_in (state_of self.new) ≡ [] }
     {
         let size = self.size;
         let options = self.store.options;
@@ -277,6 +303,8 @@ impl<A: Allocator + Copy> AtlasAllocator<A> {
         ensures step { Step (state_of self.old) (Reset (sides_of size) (options_of options.now)) (done_reply result) (state_of self.new) }
         ensures anew { AreFirstGenerations self.new }
         ensures turns { self.new.turns ≡ self.old.turns }
+        ensures sound { IsSound (state_of self.new) }
+        ensures idle { live_in (state_of self.new) ≡ [] }
     {
         self.restart(size, options);
         Ok(())
@@ -307,6 +335,7 @@ impl<A: Allocator + Copy> AtlasAllocator<A> {
         ensures state { state_of self.new ≡ started (sides_of whole) (options_of options.now) (state_of self.old).limit }
         ensures anew { AreFirstGenerations self.new }
         ensures turns { self.new.turns ≡ self.old.turns }
+        ensures sound { IsSound (state_of self.new) }
     {
         self.store.start(whole, options);
         self.first = Link { number: 0 };
@@ -320,6 +349,7 @@ impl<A: Allocator + Copy> AtlasAllocator<A> {
         requires idle { live_in (state_of self.old) ≡ [] }
         ensures step { Step (state_of self.old) (Grow (sides_of size)) Done (state_of self.new) }
         ensures turns { self.new.turns ≡ self.old.turns }
+        ensures keeps { KeepsAll (state_of self.old) (state_of self.new) }
     {
         grow_whole(&mut self.store, self.first, size);
         self.size = size;
@@ -336,7 +366,8 @@ impl<A: Allocator + Copy> AtlasAllocator<A> {
 
     // Whether an id is live.
     fn is_live(&self, id: AllocId) -> bool
-        ensures { IsTrue result ↔ IsLive (state_of self.now) id }
+        ensures live { IsTrue result ↔ IsLive (state_of self.now) id }
+        ensures sound { IsSound (state_of self.now) }
     {
         named_slot(&self.store.slots, id).is_some()
     }
@@ -373,6 +404,7 @@ impl<A: Allocator + Copy> AtlasAllocator<A> {
     pub fn allocations(&self) -> Result<Vec<Allocation, A>, AtlasError>
         ensures unless { IsOkUnless result AtlasError.Memory }
         ensures list { IfOk result (λ found. AreGrants (state_of self.now) found.items) }
+        ensures measurable { IfOk result (λ found. All (λ a. IsMeasurable a.rectangle) found.items) }
     {
         gather_allocated(*self.store.slots.allocator(), &self.store.slots)
     }
@@ -381,6 +413,7 @@ impl<A: Allocator + Copy> AtlasAllocator<A> {
     pub fn free_rectangles(&self) -> Result<Vec<Rectangle, A>, AtlasError>
         ensures unless { IsOkUnless result AtlasError.Memory }
         ensures list { IfOk result (λ found. AreFreeAreas (state_of self.now) found.items) }
+        ensures measurable { IfOk result (λ found. All IsMeasurable found.items) }
     {
         gather_free(*self.store.slots.allocator(), &self.store.slots)
     }

@@ -8,6 +8,9 @@ use Rattle.guillotiere.specs.Stored.{state_of}
 use Rattle.guillotiere.specs.Holdings.{shelf_of}
 use Rattle.guillotiere.proofs.Observing.{used-IsAtlas}
 use Rattle.guillotiere.proofs.GrownAtlas.{tree-here, some-plan, fits-from, refused-step, some-growable, grow-done}
+use Rattle.guillotiere.specs.States.{IsSound}
+use Rattle.guillotiere.specs.Steps.AtlasReply.{Done}
+use Rattle.guillotiere.proofs.CallerSteps.{growth_keeps}
 use Rattle.guillotiere.proofs.atlas.AtlasAllocator.grow.Goals as goal
 
 pub growth_for-growth-requires-clause-tree : goal.growth_for-growth-requires-clause-tree
@@ -61,3 +64,7 @@ returns-clause-step g c =
     rw (← c.self.view_is) ((grow-done _ c.self.invariant c.args.new_size larger c.growth_for-growth.result c.growth_for-growth.ensures some c.slots_for-added.result c.slots_for-added.ensures.need
     (shelf_of c.make_room.new.store) c.make_room.ensures.same (vec_capacity c.make_room.new.store.slots) c.in_ok-make_room.ensures.ok
     (shelf_of c.grow_tree-self-inside.new.store) c.grow_tree-self-inside.result c.grow_tree-self-inside.ensures.grown c.grow_tree-self-inside.ensures.options).step c.grow_tree-self-inside.new.store.turns.count c.self.inside.store.turns.count)
+
+pub returns-clause-keeps : goal.returns-clause-keeps
+returns-clause-keeps g c =
+    growth_keeps _ _ (subst (λ w. IsSound (state_of w)) c.self.view_is c.self.invariant.sound) (sides_of c.args.new_size) Done (returns-clause-step g c)
