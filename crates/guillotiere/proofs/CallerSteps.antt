@@ -12,7 +12,7 @@ use Rattle.guillotiere.specs.Steps.AtlasCall.{Allocate, Deallocate, Grow}
 use Rattle.guillotiere.specs.Steps.AtlasReply.{Allocated, NoRoom, Done, Changed, Refused, BadCall}
 use Rattle.guillotiere.specs.Replies.{live_box}
 use Rattle.guillotiere.specs.StepLaws.{is_refusal}
-use Rattle.guillotiere.specs.Callers.{AreGuarded, KeepsLive, AddsBox, LeavesNoBox, KeepsAll}
+use Rattle.guillotiere.specs.Callers.{AreGuarded, KeepsLive, AddsBox, JoinsGuarded, LeavesNoBox, KeepsAll}
 use Rattle.guillotiere.proofs.StepEffects.{grants_lie_inside, freeings_remove_one, growths_keep_boxes, refusals_change_nothing}
 use Rattle.guillotiere.proofs.StepKeeping.{steps_keep}
 use Rattle.guillotiere.proofs.LiveBoxes.{live_have_boxes, unlive_box, granted_unused, granted_live, granted_here, granted_others, granted_count, freed_box, freed_others, freed_count}
@@ -51,8 +51,11 @@ module _ (old new : State) (sound : IsSound old) where
           here = granted_here old new r g sound_new its;
           others = granted_others old new r g sound_new its;
           count = granted_count old new r g sound_new its;
-          guarded = λ held guarded. guarded_grant old new sound sound_new (ap (λ s. s.size) step.1.state) r g its held guarded;
         }
+
+    pub grant_guarded : JoinsGuarded old new g.box
+    grant_guarded held guarded =
+        guarded_grant old new sound sound_new (ap (λ s. s.size) step.1.state) r g (grants_lie_inside old new r g sound step) held guarded
 
     grant_keeps : KeepsLive old new
     grant_keeps = record {

@@ -14,6 +14,7 @@ rectangle_in s id = option_map rectangle_of (live_box s id)
 -- a list of boxes is guarded: they lie within the atlas, and are disjoint from each other and from the free boxes
 pub record AreGuarded (s : State) (held : List Box) : Type 0 where
   pub within : All (IsWithin s.size) held
+  pub apart : AreDisjoint held
   pub disjoint : AreDisjoint (held ++ free_in s)
 
 -- the atlas is sound, and each id that was live has the box that it had
@@ -21,14 +22,17 @@ pub record KeepsLive (old new : State) : Type 0 where
   pub sound : IsSound new
   pub kept : (id : ℕ) → IsLive old id → live_box new id ≡ live_box old id
 
--- An id that wasn't live has this box, and every other id what it had. The box joins each guarded list.
+-- an id that wasn't live has this box, and every other id what it had
 pub record AddsBox (old new : State) (id : ℕ) (box : Box) : Type 0 where
   pub unused : live_box old id ≡ None
   pub live : IsLive new id
   pub here : live_box new id ≡ Some box
   pub others : (k : ℕ) → k ≢ id → live_box new k ≡ live_box old k
   pub count : length (live_in new) ≡ length (live_in old) + 1
-  pub guarded : (held : List Box) → AreGuarded old held → AreGuarded new (box ∷ held)
+
+-- a box joins each guarded list
+abbrev pub JoinsGuarded : (old new : State) (box : Box) → Type 0
+JoinsGuarded old new box = (held : List Box) → AreGuarded old held → AreGuarded new (box ∷ held)
 
 -- The atlas is sound; an id has no box, and every other id what it had. A list that was guarded with the id's box is
 -- guarded without it.

@@ -39,3 +39,4 @@ pub mod Chosen
 pub mod Growing
 pub mod Growths
 pub mod Callers
+pub mod Codes

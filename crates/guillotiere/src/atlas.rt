@@ -71,7 +71,7 @@ impl<A: Allocator + Copy> AtlasAllocator<A> {
     ghost use Rattle.guillotiere.specs.Stored.{state_of};
     ghost use Rattle.guillotiere.specs.Generations.{AreFirstGenerations};
     ghost use Rattle.guillotiere.specs.Replies.{allocate_reply, done_reply, live_box, IsExact};
-    ghost use Rattle.guillotiere.specs.Callers.{AreGuarded, KeepsLive, AddsBox, LeavesNoBox, KeepsAll, AllLieApart, AllLieWithin};
+    ghost use Rattle.guillotiere.specs.Callers.{AreGuarded, KeepsLive, AddsBox, JoinsGuarded, LeavesNoBox, KeepsAll, AllLieApart, AllLieWithin};
 
     /// An atlas of this size, in pixels, with the default options: one free rectangle. Asks a size that isn't empty.
     /// `Memory` is the only error.
@@ -158,7 +158,8 @@ impl<A: Allocator + Copy> AtlasAllocator<A> {
 
     /// Whether no id is live.
     pub fn is_empty(&self) -> bool
-        ensures { IsTrue result ↔ (live_in (state_of self.now) ≡ []) }
+        ensures empty { IsTrue result ↔ (live_in (state_of self.now) ≡ []) }
+        ensures count { IsTrue result ↔ (length (live_in (state_of self.now)) ≡ 0) }
     {
         let first = self.store.node(self.first);
         first.kind == NodeKind::Free && first.next.number == NO_SLOT
@@ -197,6 +198,7 @@ impl<A: Allocator + Copy> AtlasAllocator<A> {
         ensures refused { OnErr result (self.new ≡ self.old) }
         ensures turns { self.new.turns ≡ self.old.turns }
         ensures adds { IfOk result (λ granted. IfSome granted (λ a. AddsBox (state_of self.old) (state_of self.new) a.id (box_of a.rectangle))) }
+        ensures guarded { IfOk result (λ granted. IfSome granted (λ a. JoinsGuarded (state_of self.old) (state_of self.new) (box_of a.rectangle))) }
         ensures keeps { KeepsLive (state_of self.old) (state_of self.new) }
     {
         let Some(size) = rounded(requested_size, &self.store.options) else {

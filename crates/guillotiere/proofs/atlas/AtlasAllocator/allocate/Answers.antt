@@ -10,7 +10,7 @@ use Rattle.guillotiere.specs.States.{IsSound}
 use Rattle.guillotiere.specs.Stored.{state_of}
 use Rattle.guillotiere.specs.Steps.AtlasReply.{Allocated}
 use Rattle.guillotiere.specs.Replies.{grant_of}
-use Rattle.guillotiere.proofs.CallerSteps.{grant_adds, request_keeps}
+use Rattle.guillotiere.proofs.CallerSteps.{grant_adds, grant_guarded, request_keeps}
 use Rattle.guillotiere.proofs.atlas.AtlasAllocator.allocate.Goals as goal
 
 pub returns-in_default-clause-step : goal.returns-in_default-clause-step
@@ -79,3 +79,8 @@ pub returns-clause-keeps : goal.returns-clause-keeps
 returns-clause-keeps g c =
     request_keeps _ _ (subst (λ w. IsSound (state_of w)) c.self.view_is c.self.invariant.sound) (sides_of c.args.requested_size)
     (Allocated (grant_of (record { id = c.grant-id.result; rectangle = c.granted-rectangle.result }))) (returns-clause-step g c)
+
+pub returns-clause-guarded : goal.returns-clause-guarded
+returns-clause-guarded g c =
+    grant_guarded _ _ (subst (λ w. IsSound (state_of w)) c.self.view_is c.self.invariant.sound) (sides_of c.args.requested_size)
+    (grant_of (record { id = c.grant-id.result; rectangle = c.granted-rectangle.result })) (returns-clause-step g c)
