@@ -7,13 +7,14 @@ use Rattle.atlas_lines.specs.declared.run.ToolEnd.{ToolEnd}
 use Rattle.atlas_lines.specs.declared.run.ToolEnd.TheVariants.{Done, BadLine, Limit}
 use Rattle.atlas_lines.specs.declared.run.ToolFault.{ToolFault}
 use Rattle.atlas_lines.specs.declared.run.ToolFault.TheVariants.{Read, Write}
+use Rattle.atlas_lines.specs.Blocks.{IsGathered}
 use Rattle.atlas_lines.specs.Devices.{WritesBeginning}
 use Rattle.atlas_lines.specs.Lines.{HasNoEnd, ended, all_ended}
 use Rattle.atlas_lines.specs.Machine.{ToolState}
 use Rattle.atlas_lines.specs.Replies.{bad_line_text}
 use Rattle.atlas_lines.specs.Texts.{IsBad, LineOwes, OwesText}
-use Rattle.atlas_lines.specs.Progress.{Place, state_at, Advances, IsCertainlyBad, MeetsBadLine, OwesBeginning, Stops, Continues, EndsBadly, LineEnds}
-use Rattle.atlas_lines.proofs.Known.{Appends_none, Appends_twice}
+use Rattle.atlas_lines.specs.Progress.{Place, state_at, Advances, IsCertainlyBad, MeetsBadLine, OwesBeginning, Stops, Continues, EndsBadly, EndsInReply, RepliesTo, LineEnds}
+use Rattle.atlas_lines.proofs.Blocks.{gathered_begins, gathered_begun, gathered_appends, gathered_written, gathered_twice, gathered_nothing}
 
 pub all_ended_twice : (xs ys : List (List ℕ)) → all_ended (xs ++ ys) ≡ all_ended xs ++ all_ended ys
 all_ended_twice [] ys = refl
@@ -105,31 +106,37 @@ owes_more a x y t o = record {
   advances = o.advances;
 }
 
-pub WritesBeginning_after : (old middle new : Option (List ℕ)) (s t : List ℕ) → Appends old middle s → WritesBeginning middle new t → WritesBeginning old new (s ++ t)
-WritesBeginning_after old middle None s t a b = tt
-WritesBeginning_after old middle (Some ys) s t a b =
-    (s ++ b.0, b.1, ap (λ u. s ++ u) b.2 ∙ sym (append_assoc s b.0 b.1), Appends_twice old middle (Some ys) s b.0 a b.3)
-
 -- the run ended among the bytes that came next
-pub stops_after : (end : Result ToolEnd ToolFault) (a b : Place) (x y s : List ℕ) (o p q : Option (List ℕ)) → Advances a x s b → Appends o p s → Stops end b y p q → Stops end a (x ++ y) o q
-stops_after (Ok (BadLine n)) a b x y s o p q f w e = (s ++ e.0, meets_after a b x y s e.0 n f e.1, Appends_twice o p q s e.0 w e.2)
-stops_after (Err Write) a b x y s o p q f w e = (
+pub stops_after : (end : Result ToolEnd ToolFault) (a b : Place) (x y s : List ℕ) (o p q : Option (List ℕ)) (before middle : List ℕ) → Advances a x s b → IsGathered o p middle (before ++ s)
+    → Stops end b y p q middle → Stops end a (x ++ y) o q before
+stops_after (Ok (BadLine n)) a b x y s o p q before middle f w e = (
+  s ++ e.0,
+  meets_after a b x y s e.0 n f e.1,
+  (
+      let P : List ℕ → Type 0 = λ t. Appends o q t in
+      subst P (append_assoc before s e.0) (gathered_appends o p q middle (before ++ s) e.0 w e.2)
+      ),
+)
+stops_after (Err Write) a b x y s o p q before middle f w e = (
   s ++ e.0,
   elim e.1 [ inl owes ↦ inl (owes_after a b x y s e.0 f owes) | inr meets ↦ inr (meets.0, meets_after a b x y s e.0 meets.0 f meets.1) ],
-  WritesBeginning_after o p q s e.0 w e.2,
+  (
+      let P : List ℕ → Type 0 = λ t. WritesBeginning o q t in
+      subst P (append_assoc before s e.0) (gathered_begins o p q middle (before ++ s) e.0 (middle ++ e.0) w refl e.2)
+      ),
 )
-stops_after (Ok Done) a b x y s o p q f w e = absurd e
-stops_after (Ok Limit) a b x y s o p q f w e = absurd e
-stops_after (Err Read) a b x y s o p q f w e = absurd e
+stops_after (Ok Done) a b x y s o p q before middle f w e = absurd e
+stops_after (Ok Limit) a b x y s o p q before middle f w e = absurd e
+stops_after (Err Read) a b x y s o p q before middle f w e = absurd e
 
 -- the run ended before more bytes
-pub stops_before : (end : Result ToolEnd ToolFault) (a : Place) (x y : List ℕ) (o q : Option (List ℕ)) → Stops end a x o q → Stops end a (x ++ y) o q
-stops_before (Ok (BadLine n)) a x y o q e = (e.0, meets_more a x y e.0 n e.1, e.2)
-stops_before (Err Write) a x y o q e =
+pub stops_before : (end : Result ToolEnd ToolFault) (a : Place) (x y : List ℕ) (o q : Option (List ℕ)) (before : List ℕ) → Stops end a x o q before → Stops end a (x ++ y) o q before
+stops_before (Ok (BadLine n)) a x y o q before e = (e.0, meets_more a x y e.0 n e.1, e.2)
+stops_before (Err Write) a x y o q before e =
     (e.0, elim e.1 [ inl owes ↦ inl (owes_more a x y e.0 owes) | inr meets ↦ inr (meets.0, meets_more a x y e.0 meets.0 meets.1) ], e.2)
-stops_before (Ok Done) a x y o q e = absurd e
-stops_before (Ok Limit) a x y o q e = absurd e
-stops_before (Err Read) a x y o q e = absurd e
+stops_before (Ok Done) a x y o q before e = absurd e
+stops_before (Ok Limit) a x y o q before e = absurd e
+stops_before (Err Read) a x y o q before e = absurd e
 
 -- ---- one line
 
@@ -160,32 +167,33 @@ bad_whole old n no_end bad number = record {
 }
 
 -- a line and its LF
-line_stops : (end : Result ToolEnd ToolFault) (old new : Place) (o q : Option (List ℕ)) → HasNoEnd old.line → LineEnds (Some end) old new o q → Stops end old (10 ∷ []) o q
-line_stops (Ok (BadLine n)) old new o q h (inl bad) = (bad_line_text n, bad_whole old n h bad.0 bad.1.0, bad.1.1)
-line_stops (Ok (BadLine n)) old new o q h (inr reply) = absurd (let e = reply.0 in cc)
-line_stops (Ok Done) old new o q h (inl bad) = absurd bad.1
-line_stops (Ok Done) old new o q h (inr reply) = absurd (let e = reply.0 in cc)
-line_stops (Ok Limit) old new o q h (inl bad) = absurd bad.1
-line_stops (Ok Limit) old new o q h (inr reply) = absurd (let e = reply.0 in cc)
-line_stops (Err Read) old new o q h (inl bad) = absurd bad.1
-line_stops (Err Read) old new o q h (inr reply) = absurd (let e = reply.0 in cc)
-line_stops (Err Write) old new o q h (inl bad) =
+line_stops : (end : Result ToolEnd ToolFault) (old new : Place) (o q : Option (List ℕ)) (before after : List ℕ) → HasNoEnd old.line → LineEnds (Some end) old new o q before after
+    → Stops end old (10 ∷ []) o q before
+line_stops (Ok (BadLine n)) old new o q before after h (inl bad) = (bad_line_text n, bad_whole old n h bad.0 bad.1.0, bad.1.1)
+line_stops (Ok (BadLine n)) old new o q before after h (inr reply) = absurd (let e = reply.0 in cc)
+line_stops (Ok Done) old new o q before after h (inl bad) = absurd bad.1
+line_stops (Ok Done) old new o q before after h (inr reply) = absurd (let e = reply.0 in cc)
+line_stops (Ok Limit) old new o q before after h (inl bad) = absurd bad.1
+line_stops (Ok Limit) old new o q before after h (inr reply) = absurd (let e = reply.0 in cc)
+line_stops (Err Read) old new o q before after h (inl bad) = absurd bad.1
+line_stops (Err Read) old new o q before after h (inr reply) = absurd (let e = reply.0 in cc)
+line_stops (Err Write) old new o q before after h (inl bad) =
     (bad_line_text (old.number + 1), inr (old.number + 1, bad_whole old (old.number + 1) h bad.0 refl), bad.1)
-line_stops (Err Write) old new o q h (inr reply) =
+line_stops (Err Write) old new o q before after h (inr reply) =
     let next : Place = record { held = reply.1.held; line = []; number = old.number + 1 } in (
       reply.1.text,
       inl (record { first = 10 ∷ []; later = []; new = next; whole = refl; advances = advances_by_line old next reply.1.text h reply.1.owed refl refl }),
       reply.1.written,
     )
 
-pub line_continues : (end : Option (Result ToolEnd ToolFault)) (old new : Place) (byte : ℕ) (o q : Option (List ℕ)) → byte ≡ 10 → HasNoEnd old.line → LineEnds end old new o q
-    → Continues end old (byte ∷ []) new o q
-line_continues None old new byte o q e h r =
-    let P : ℕ → Type 0 = λ b. Continues None old (b ∷ []) new o q in
-    subst P (sym e) (r.text, advances_by_line old new r.text h r.owed r.line r.number, r.written)
-line_continues (Some end) old new byte o q e h r =
-    let P : ℕ → Type 0 = λ b. Stops end old (b ∷ []) o q in
-    subst P (sym e) (line_stops end old new o q h r)
+pub line_continues : (end : Option (Result ToolEnd ToolFault)) (old new : Place) (byte : ℕ) (o q : Option (List ℕ)) (before after : List ℕ) → byte ≡ 10 → HasNoEnd old.line
+    → LineEnds end old new o q before after → Continues end old (byte ∷ []) new o q before after
+line_continues None old new byte o q before after e h r =
+    let P : ℕ → Type 0 = λ b. Continues None old (b ∷ []) new o q before after in
+    subst P (sym e) (r.text, advances_by_line old new r.text h r.owed r.line r.number, r.gathered)
+line_continues (Some end) old new byte o q before after e h r =
+    let P : ℕ → Type 0 = λ b. Stops end old (b ∷ []) o q before in
+    subst P (sym e) (line_stops end old new o q before after h r)
 
 bad_long : (old : Place) (byte n : ℕ) → byte ≢ 10 → HasNoEnd old.line → 120 ≤ length old.line → n ≡ old.number + 1 → MeetsBadLine old (byte ∷ []) n (bad_line_text n)
 bad_long old byte n other no_end long number = record {
@@ -204,33 +212,38 @@ bad_long old byte n other no_end long number = record {
 }
 
 -- the byte that makes a line too long
-pub long_stops : (end : Result ToolEnd ToolFault) (old : Place) (byte : ℕ) (o q : Option (List ℕ)) → byte ≢ 10 → HasNoEnd old.line → 120 ≤ length old.line → EndsBadly end old o q
-    → Stops end old (byte ∷ []) o q
-long_stops (Ok (BadLine n)) old byte o q other h long e = (bad_line_text n, bad_long old byte n other h long e.0, e.1)
-long_stops (Err Write) old byte o q other h long e = (bad_line_text (old.number + 1), inr (old.number + 1, bad_long old byte (old.number + 1) other h long refl), e)
-long_stops (Ok Done) old byte o q other h long e = absurd e
-long_stops (Ok Limit) old byte o q other h long e = absurd e
-long_stops (Err Read) old byte o q other h long e = absurd e
+pub long_stops : (end : Result ToolEnd ToolFault) (old : Place) (byte : ℕ) (o q : Option (List ℕ)) (before : List ℕ) → byte ≢ 10 → HasNoEnd old.line → 120 ≤ length old.line
+    → EndsBadly end old o q before → Stops end old (byte ∷ []) o q before
+long_stops (Ok (BadLine n)) old byte o q before other h long e = (bad_line_text n, bad_long old byte n other h long e.0, e.1)
+long_stops (Err Write) old byte o q before other h long e = (bad_line_text (old.number + 1), inr (old.number + 1, bad_long old byte (old.number + 1) other h long refl), e)
+long_stops (Ok Done) old byte o q before other h long e = absurd e
+long_stops (Ok Limit) old byte o q before other h long e = absurd e
+long_stops (Err Read) old byte o q before other h long e = absurd e
 
 -- one more byte of a block
-pub block_advances : (a b c : Place) (block : List ℕ) (i : ℕ) (s : List ℕ) (o p q : Option (List ℕ)) → i < length block → Advances a (take i block) s b → Appends o p s
-    → (t : List ℕ) × Advances b (get_or block i 0 ∷ []) t c × Appends p q t → (u : List ℕ) × Advances a (take (i + 1) block) u c × Appends o q u
-block_advances a b c block i s o p q h f w step =
+pub block_advances : (a b c : Place) (block : List ℕ) (i : ℕ) (s : List ℕ) (o p q : Option (List ℕ)) (before middle after : List ℕ) → i < length block → Advances a (take i block) s b
+    → IsGathered o p middle (before ++ s) → (t : List ℕ) × Advances b (get_or block i 0 ∷ []) t c × IsGathered p q after (middle ++ t)
+    → (u : List ℕ) × Advances a (take (i + 1) block) u c × IsGathered o q after (before ++ u)
+block_advances a b c block i s o p q before middle after h f w step =
     let P : List ℕ → Type 0 = λ bytes. Advances a bytes (s ++ step.0) c in
-    (s ++ step.0, subst P (sym (take_more block i 0 h)) (advance_twice a b c (take i block) (get_or block i 0 ∷ []) s step.0 f step.1), Appends_twice o p q s step.0 w step.2)
+    let Q : List ℕ → Type 0 = λ text. IsGathered o q after text in (
+      s ++ step.0,
+      subst P (sym (take_more block i 0 h)) (advance_twice a b c (take i block) (get_or block i 0 ∷ []) s step.0 f step.1),
+      subst Q (append_assoc before s step.0) (gathered_twice o p q middle after (before ++ s) step.0 w step.2),
+    )
 
-pub block_stops : (end : Result ToolEnd ToolFault) (a b : Place) (block : List ℕ) (i : ℕ) (s : List ℕ) (o p q : Option (List ℕ)) → i < length block → Advances a (take i block) s b → Appends o p s
-    → Stops end b (get_or block i 0 ∷ []) p q → Stops end a block o q
-block_stops end a b block i s o p q h f w step =
-    let P : List ℕ → Type 0 = λ bytes. Stops end a bytes o q in
+pub block_stops : (end : Result ToolEnd ToolFault) (a b : Place) (block : List ℕ) (i : ℕ) (s : List ℕ) (o p q : Option (List ℕ)) (before middle : List ℕ) → i < length block
+    → Advances a (take i block) s b → IsGathered o p middle (before ++ s) → Stops end b (get_or block i 0 ∷ []) p q middle → Stops end a block o q before
+block_stops end a b block i s o p q before middle h f w step =
+    let P : List ℕ → Type 0 = λ bytes. Stops end a bytes o q before in
     let parts : take (i + 1) block ++ drop (i + 1) block ≡ block = take-append-drop (i + 1) block in
-    subst P parts (stops_before end a (take (i + 1) block) (drop (i + 1) block) o q
-    (subst P (sym (take_more block i 0 h)) (stops_after end a b (take i block) (get_or block i 0 ∷ []) s o p q f w step)))
+    subst P parts (stops_before end a (take (i + 1) block) (drop (i + 1) block) o q before
+    (subst P (sym (take_more block i 0 h)) (stops_after end a b (take i block) (get_or block i 0 ∷ []) s o p q before middle f w step)))
 
 -- a byte that goes on with the line
-pub byte_continues : (inside old : Place) (byte : ℕ) (line : List ℕ) (o : Option (List ℕ)) → inside ≡ old → line ≡ inside.line ++ byte ∷ []
-    → Continues None old (byte ∷ []) (record { held = inside.held; line = line; number = inside.number }) o o
-byte_continues inside old byte line o e f = (
+pub byte_continues : (inside old : Place) (byte : ℕ) (line : List ℕ) (o : Option (List ℕ)) (before : List ℕ) → inside ≡ old → line ≡ inside.line ++ byte ∷ []
+    → Continues None old (byte ∷ []) (record { held = inside.held; line = line; number = inside.number }) o o before before
+byte_continues inside old byte line o before e f = (
   [],
   record {
     lines = [];
@@ -239,5 +252,25 @@ byte_continues inside old byte line o e f = (
     number = (let n : inside.number ≡ old.number = ap (λ (p : Place). p.number) e in omega arith);
     owed = (refl, ap (λ (p : Place). state_at p) e);
   },
-  Appends_none o,
+  gathered_nothing o before,
 )
+
+-- ---- writing what waits
+
+-- what waited was written, and then nothing waits
+pub line_written : (old new : Place) (o p q : Option (List ℕ)) (before middle : List ℕ) → RepliesTo old new o p before middle → Appends p q middle → RepliesTo old new o q before []
+line_written old new o p q before middle r w =
+    record { text = r.text; owed = r.owed; gathered = gathered_written o p q middle (before ++ r.text) r.gathered w; line = r.line; number = r.number }
+
+pub line_begun : (old new : Place) (o p q : Option (List ℕ)) (before middle : List ℕ) → RepliesTo old new o p before middle → WritesBeginning p q middle → EndsInReply old o q before
+line_begun old new o p q before middle r w =
+    record { held = new.held; text = r.text; owed = r.owed; written = gathered_begun o p q middle (before ++ r.text) r.gathered w }
+
+pub bytes_written : (old new : Place) (bytes : List ℕ) (o p q : Option (List ℕ)) (before middle : List ℕ) → Continues None old bytes new o p before middle → Appends p q middle
+    → Continues None old bytes new o q before []
+bytes_written old new bytes o p q before middle c w = (c.0, c.1, gathered_written o p q middle (before ++ c.0) c.2 w)
+
+pub bytes_begun : (old new : Place) (bytes : List ℕ) (o p q : Option (List ℕ)) (before middle : List ℕ) → Continues None old bytes new o p before middle → WritesBeginning p q middle
+    → Stops (Err Write) old bytes o q before
+bytes_begun old new bytes o p q before middle c w =
+    (c.0, inl (record { first = bytes; later = []; new = new; whole = sym (append-nil bytes); advances = c.1 }), gathered_begun o p q middle (before ++ c.0) c.2 w)

@@ -2,7 +2,7 @@
 use Rattle.std.proofs.Common.{◌≡◌, ℕ, ◌-◌, ◌≤◌, List, ◌++◌, length, take, drop, Some, None, Option, refl, sym, ap, ◌∙◌, append_assoc, append-nil, subst, [], arith}
 use Rattle.std.proofs.lemmas.List.{take-append-drop, take_all, length-drop}
 use Rattle.std.specs.Io.KnownBytes.{Appends, Consumes, IsAtEnd}
-use Rattle.atlas_lines.specs.Devices.{KeepsOrHides, ReadsBeginning, Holds}
+use Rattle.atlas_lines.specs.Devices.{KeepsOrHides, ReadsBeginning, WritesBeginning, Holds}
 
 pub Appends_none : (known : Option (List ℕ)) → Appends known known []
 Appends_none None = tt
@@ -23,6 +23,12 @@ Consumes_twice None mid new xs ys a b = tt
 Consumes_twice (Some o) None new xs ys a b = absurd a
 Consumes_twice (Some o) (Some m) None xs ys a b = absurd b
 Consumes_twice (Some o) (Some m) (Some n) xs ys a b = rw (a, b) (sym (append_assoc xs ys n))
+
+-- some text was written, and then a beginning of more
+pub WritesBeginning_after : (old middle new : Option (List ℕ)) (s t : List ℕ) → Appends old middle s → WritesBeginning middle new t → WritesBeginning old new (s ++ t)
+WritesBeginning_after old middle None s t a b = tt
+WritesBeginning_after old middle (Some ys) s t a b =
+    (s ++ b.0, b.1, ap (λ u. s ++ u) b.2 ∙ sym (append_assoc s b.0 b.1), Appends_twice old middle (Some ys) s b.0 a b.3)
 
 -- one more write of the loop
 pub write_step : (old mid new : Option (List ℕ)) (bytes done rest : List ℕ) (n : ℕ) → bytes ≡ done ++ rest → Appends old mid done → n ≤ length rest → Appends mid new (take n rest)

@@ -12,10 +12,11 @@ use Rattle.atlas_lines.specs.Lines.{HasNoEnd, ended, all_ended, ArePieces, AreLi
 use Rattle.atlas_lines.specs.Machine.{ToolState, state_of, at_start}
 use Rattle.atlas_lines.specs.Replies.{bad_line_text}
 use Rattle.atlas_lines.specs.Texts.{IsBad, LineOwes, OwesText}
-use Rattle.atlas_lines.specs.Ends.{is_read_fault, is_write_fault, OwesFirst, OwesToBadLine, EndsAtEnd, EndsAtRead, EndsAtWrite, Ends}
+use Rattle.atlas_lines.specs.Ends.{is_read_fault, is_write_fault, OwesFirst, OwesToBadLine, OwesBegun, OwesToBadRead, EndsAtEnd, EndsAtRead, EndsAtWrite, Ends}
 use Rattle.atlas_lines.specs.Progress.{Place, state_at, place_at_start, Advances, IsCertainlyBad, MeetsBadLine, OwesBeginning, Stops, Continues, RepliesTo, LineEnds, HasRun, is_write_end}
-use Rattle.atlas_lines.proofs.Known.{Appends_none, Appends_twice, Consumes_none, Consumes_nothing, Consumes_twice, ReadsBeginning_kept, Holds_at_end, Holds_with_rest}
-use Rattle.atlas_lines.proofs.Joins.{all_ended_twice, each_twice, owes_twice, advance_none, advance_twice, stops_after, meets_more, WritesBeginning_after}
+use Rattle.atlas_lines.proofs.Known.{Appends_none, Appends_twice, Consumes_none, Consumes_nothing, Consumes_twice, ReadsBeginning_kept, WritesBeginning_after, Holds_at_end, Holds_with_rest}
+use Rattle.atlas_lines.proofs.Blocks.{gathered_all, written_all}
+use Rattle.atlas_lines.proofs.Joins.{all_ended_twice, each_twice, owes_twice, advance_none, advance_twice, stops_after, meets_more}
 
 -- the lines and the rest of some bytes
 pub record Parted (bytes : List ℕ) : Type 0 where
@@ -66,15 +67,15 @@ lines_then input after lines whole each p = record {
   lines_are = sym (append_assoc lines p.lines (last_line p.rest));
 }
 
-pub first_owes : (input bytes later text : List ℕ) → input ≡ bytes ++ later → OwesBeginning place_at_start bytes text
-    → (lines : List (List ℕ)) × (others : List (List ℕ)) × OwesFirst input lines others text
+first_owes : (input bytes later text : List ℕ) → input ≡ bytes ++ later → (o : OwesBeginning place_at_start bytes text)
+    → (others : List (List ℕ)) × OwesFirst input o.advances.lines others text
 first_owes input bytes later text e o =
     let after = o.new.line ++ (o.later ++ later) in
     let all = all_ended o.advances.lines in
     let whole : input ≡ all ++ after =
     e ∙ ap (λ t. t ++ later) o.whole ∙ append_assoc o.first o.later later ∙ ap (λ t. t ++ (o.later ++ later)) o.advances.whole ∙ append_assoc all o.new.line (o.later ++ later) in
     let p = parted after in
-    (o.advances.lines, p.lines ++ last_line p.rest, record { state = state_at o.new; lines_are = lines_then input after o.advances.lines whole o.advances.each p; owed = o.advances.owed })
+    (p.lines ++ last_line p.rest, record { state = state_at o.new; lines_are = lines_then input after o.advances.lines whole o.advances.each p; owed = o.advances.owed })
 
 -- ---- the first bad line of an input
 
@@ -135,7 +136,7 @@ bad_found input bad after lines whole each no_end (inr is) =
     let f = bad_ended input bad is.1 lines (whole ∙ ap (λ t. all_ended lines ++ (bad ++ t)) is.2) each no_end in
     (bad, f.0, is.0, f.1)
 
-pub bad_owes : (input : List ℕ) (n : ℕ) (text : List ℕ) → MeetsBadLine place_at_start input n text → OwesToBadLine input n text
+bad_owes : (input : List ℕ) (n : ℕ) (text : List ℕ) → MeetsBadLine place_at_start input n text → OwesToBadLine input n text
 bad_owes input n text m =
     let f = bad_found input m.bad m.after m.lines m.whole m.each m.no_end m.certain in
     record {
@@ -163,7 +164,7 @@ pub no_room_at_start : (place : Place) → place ≡ place_at_start → place.nu
 no_room_at_start place e = subst (λ (p : Place). p.number + length p.line ≤ 0) (sym e) (omega arith)
 
 -- one more block
-pub run_goes_on : (i j k o p q : Option (List ℕ)) (old new : Place) (block : List ℕ) (n m : ℕ) → HasRun i j o p old n → Consumes j k block → Continues None old block new p q → length block + n ≡ m
+pub run_goes_on : (i j k o p q : Option (List ℕ)) (old new : Place) (block : List ℕ) (n m : ℕ) → HasRun i j o p old n → Consumes j k block → Continues None old block new p q [] [] → length block + n ≡ m
     → HasRun i k o q new m
 run_goes_on i j k o p q old new block n m run read step count = record {
   bytes = run.bytes ++ block;
@@ -171,18 +172,41 @@ run_goes_on i j k o p q old new block n m run read step count = record {
   read = Consumes_twice i j k run.bytes block run.read read;
   counted = omega (arith, length-append run.bytes block, run.counted);
   advances = advance_twice place_at_start old new run.bytes block run.text step.0 run.advances step.1;
-  written = Appends_twice o p q run.text step.0 run.written step.2;
+  written = Appends_twice o p q run.text step.0 run.written (written_all p q step.0 step.2);
 }
 
 -- a write that failed
-write_ends : (i o q : Option (List ℕ)) (bytes later text : List ℕ) → Holds i (bytes ++ later)
-    → OwesBeginning place_at_start bytes text ⊎ ((number : ℕ) × MeetsBadLine place_at_start bytes number text) → WritesBeginning o q text → EndsAtWrite i o q
-write_ends i o q bytes later text holds (inl owes) written =
-    record { input = bytes ++ later; text = text; holds = holds; owes = inl (first_owes (bytes ++ later) bytes later text refl owes); written = written }
-write_ends i o q bytes later text holds (inr meets) written =
-    record { input = bytes ++ later; text = text; holds = holds; owes = inr (meets.0, bad_owes (bytes ++ later) meets.0 text (meets_more place_at_start bytes later text meets.0 meets.1)); written = written }
+write_ends : (i j o q : Option (List ℕ)) (bytes later text : List ℕ) → Consumes i j bytes → Holds i (bytes ++ later)
+    → OwesBeginning place_at_start bytes text ⊎ ((number : ℕ) × MeetsBadLine place_at_start bytes number text) → WritesBeginning o q text → EndsAtWrite i j o q
+write_ends i j o q bytes later text read holds (inl owes) written =
+    let all = first_owes (bytes ++ later) bytes later text refl owes in
+    let some = first_owes bytes bytes [] text (sym (append-nil bytes)) owes in
+    record {
+      bytes = bytes;
+      unread = later;
+      text = text;
+      read = read;
+      holds = holds;
+      owes = inl (owes.advances.lines, record { others = all.0; others_read = some.0; owed = all.1; read = some.1 });
+      written = written;
+    }
+write_ends i j o q bytes later text read holds (inr meets) written = record {
+  bytes = bytes;
+  unread = later;
+  text = text;
+  read = read;
+  holds = holds;
+  owes = inr (
+    meets.0,
+    record {
+      owed = bad_owes (bytes ++ later) meets.0 text (meets_more place_at_start bytes later text meets.0 meets.1);
+      read = bad_owes bytes meets.0 text meets.1;
+    },
+  );
+  written = written;
+}
 
-stop_ends : (end : Result ToolEnd ToolFault) (i j o q : Option (List ℕ)) (bytes : List ℕ) → Consumes i j bytes → Stops end place_at_start bytes o q → Ends end i j o q
+stop_ends : (end : Result ToolEnd ToolFault) (i j o q : Option (List ℕ)) (bytes : List ℕ) → Consumes i j bytes → Stops end place_at_start bytes o q [] → Ends end i j o q
 stop_ends (Ok (BadLine n)) i j o q bytes read stops =
     let all = Holds_with_rest i j bytes read in
     record {
@@ -194,17 +218,17 @@ stop_ends (Ok (BadLine n)) i j o q bytes read stops =
     }
 stop_ends (Err Write) i j o q bytes read stops =
     let all = Holds_with_rest i j bytes read in
-    write_ends i o q bytes all.0 stops.0 all.1 stops.1 stops.2
+    write_ends i j o q bytes all.0 stops.0 read all.1 stops.1 stops.2
 stop_ends (Ok Done) i j o q bytes read stops = absurd stops
 stop_ends (Ok Limit) i j o q bytes read stops = absurd stops
 stop_ends (Err Read) i j o q bytes read stops = absurd stops
 
 -- the run ended among the bytes of a block
-pub run_stops : (end : Result ToolEnd ToolFault) (i j k o p q : Option (List ℕ)) (old : Place) (block : List ℕ) (n : ℕ) → HasRun i j o p old n → Consumes j k block → Stops end old block p q
+pub run_stops : (end : Result ToolEnd ToolFault) (i j k o p q : Option (List ℕ)) (old : Place) (block : List ℕ) (n : ℕ) → HasRun i j o p old n → Consumes j k block → Stops end old block p q []
     → Ends end i k o q
 run_stops end i j k o p q old block n run read stops =
     stop_ends end i k o q (run.bytes ++ block) (Consumes_twice i j k run.bytes block run.read read)
-    (stops_after end place_at_start old run.bytes block run.text o p q run.advances run.written stops)
+    (stops_after end place_at_start old run.bytes block run.text o p q [] [] run.advances (gathered_all o p run.text run.written) stops)
 
 -- ---- the reader's end
 
@@ -234,7 +258,7 @@ last_bad bytes text place n a no_end bad number = record {
   text_is = refl;
 }
 
-end_replied : (i j o p q : Option (List ℕ)) (place new : Place) (n : ℕ) → HasRun i j o p place n → IsAtEnd j → HasNoEnd place.line → RepliesTo place new p q → EndsAtEnd i j o q
+end_replied : (i j o p q : Option (List ℕ)) (place new : Place) (n : ℕ) → HasRun i j o p place n → IsAtEnd j → HasNoEnd place.line → RepliesTo place new p q [] [] → EndsAtEnd i j o q
 end_replied i j o p q place new n run at_end no_end r = record {
   input = run.bytes;
   lines = run.advances.lines ++ last_line place.line;
@@ -244,22 +268,32 @@ end_replied i j o p q place new n run at_end no_end r = record {
   at_end = at_end;
   lines_are = all_lines run.bytes run.text place run.advances no_end run.advances;
   owed = owes_twice at_start (state_at place) (state_at new) run.advances.lines (last_line place.line) run.text r.text run.advances.owed (owes_last (state_at place) (state_at new) place.line r.text r.owed);
-  written = Appends_twice o p q run.text r.text run.written r.written;
+  written = Appends_twice o p q run.text r.text run.written (written_all p q r.text r.gathered);
 }
 
-last_first : (bytes text more : List ℕ) (place : Place) (new : ToolState) → Advances place_at_start bytes text place → HasNoEnd place.line → LineOwes (state_at place) place.line more new
-    → (lines : List (List ℕ)) × (others : List (List ℕ)) × OwesFirst bytes lines others (text ++ more)
-last_first bytes text more place new a no_end owed = (
-  a.lines ++ last_line place.line,
-  [],
-  record {
-    state = new;
-    lines_are = subst (AreLines bytes) (sym (append-nil (a.lines ++ last_line place.line))) (all_lines bytes text place a no_end a);
-    owed = owes_twice at_start (state_at place) new a.lines (last_line place.line) text more a.owed (owes_last (state_at place) new place.line more owed);
-  },
-)
+last_first : (bytes text more : List ℕ) (place : Place) (new : ToolState) (a : Advances place_at_start bytes text place) → HasNoEnd place.line → LineOwes (state_at place) place.line more new
+    → OwesFirst bytes (a.lines ++ last_line place.line) [] (text ++ more)
+last_first bytes text more place new a no_end owed = record {
+  state = new;
+  lines_are = subst (AreLines bytes) (sym (append-nil (a.lines ++ last_line place.line))) (all_lines bytes text place a no_end a);
+  owed = owes_twice at_start (state_at place) new a.lines (last_line place.line) text more a.owed (owes_last (state_at place) new place.line more owed);
+}
 
-end_stopped : (end : Result ToolEnd ToolFault) (i j o p q : Option (List ℕ)) (place new : Place) (n : ℕ) → HasRun i j o p place n → IsAtEnd j → HasNoEnd place.line → LineEnds (Some end) place new p q
+-- what holds of the bytes read holds of the whole input, where nothing is unread
+begun_at_end : (bytes : List ℕ) (lines others : List (List ℕ)) (text : List ℕ) → OwesFirst bytes lines others text → OwesBegun bytes [] lines text
+begun_at_end bytes lines others text owed =
+    let P : List ℕ → Type 0 = λ input. OwesFirst input lines others text in
+    record { others = others; others_read = others; owed = subst P (sym (append-nil bytes)) owed; read = owed }
+
+bad_at_end : (bytes : List ℕ) (n : ℕ) (text : List ℕ) → OwesToBadLine bytes n text → OwesToBadRead bytes [] n text
+bad_at_end bytes n text owed =
+    let P : List ℕ → Type 0 = λ input. OwesToBadLine input n text in
+    record { owed = subst P (sym (append-nil bytes)) owed; read = owed }
+
+holds_at_end : (i j : Option (List ℕ)) (bytes : List ℕ) → Consumes i j bytes → IsAtEnd j → Holds i (bytes ++ [])
+holds_at_end i j bytes read at_end = subst (Holds i) (sym (append-nil bytes)) (Holds_at_end i j bytes read at_end)
+
+end_stopped : (end : Result ToolEnd ToolFault) (i j o p q : Option (List ℕ)) (place new : Place) (n : ℕ) → HasRun i j o p place n → IsAtEnd j → HasNoEnd place.line → LineEnds (Some end) place new p q [] []
     → Ends end i j o q
 end_stopped (Ok (BadLine m)) i j o p q place new n run at_end no_end (inl bad) = record {
   input = run.bytes;
@@ -276,28 +310,42 @@ end_stopped (Ok Limit) i j o p q place new n run at_end no_end (inr reply) = abs
 end_stopped (Err Read) i j o p q place new n run at_end no_end (inl bad) = absurd bad.1
 end_stopped (Err Read) i j o p q place new n run at_end no_end (inr reply) = absurd (let e = reply.0 in cc)
 end_stopped (Err Write) i j o p q place new n run at_end no_end (inl bad) = record {
-  input = run.bytes;
+  bytes = run.bytes;
+  unread = [];
   text = run.text ++ bad_line_text (place.number + 1);
-  holds = Holds_at_end i j run.bytes run.read at_end;
-  owes = inr (place.number + 1, last_bad run.bytes run.text place (place.number + 1) run.advances no_end bad.0 refl);
+  read = run.read;
+  holds = holds_at_end i j run.bytes run.read at_end;
+  owes = inr (
+    place.number + 1,
+    bad_at_end run.bytes (place.number + 1) (run.text ++ bad_line_text (place.number + 1))
+        (last_bad run.bytes run.text place (place.number + 1) run.advances no_end bad.0 refl),
+  );
   written = WritesBeginning_after o p q run.text (bad_line_text (place.number + 1)) run.written bad.1;
 }
-end_stopped (Err Write) i j o p q place new n run at_end no_end (inr reply) = record {
-  input = run.bytes;
-  text = run.text ++ reply.1.text;
-  holds = Holds_at_end i j run.bytes run.read at_end;
-  owes = inl (last_first run.bytes run.text reply.1.text place (state_of reply.1.held) run.advances no_end reply.1.owed);
-  written = WritesBeginning_after o p q run.text reply.1.text run.written reply.1.written;
-}
+end_stopped (Err Write) i j o p q place new n run at_end no_end (inr reply) =
+    let lines = run.advances.lines ++ last_line place.line in
+    record {
+      bytes = run.bytes;
+      unread = [];
+      text = run.text ++ reply.1.text;
+      read = run.read;
+      holds = holds_at_end i j run.bytes run.read at_end;
+      owes = inl (
+        lines,
+        begun_at_end run.bytes lines [] (run.text ++ reply.1.text)
+            (last_first run.bytes run.text reply.1.text place (state_of reply.1.held) run.advances no_end reply.1.owed),
+      );
+      written = WritesBeginning_after o p q run.text reply.1.text run.written reply.1.written;
+    }
 
-last_line_ends : (end : Option (Result ToolEnd ToolFault)) (i j o p q : Option (List ℕ)) (place new : Place) (n : ℕ) → HasRun i j o p place n → IsAtEnd j → HasNoEnd place.line → LineEnds end place new p q
+last_line_ends : (end : Option (Result ToolEnd ToolFault)) (i j o p q : Option (List ℕ)) (place new : Place) (n : ℕ) → HasRun i j o p place n → IsAtEnd j → HasNoEnd place.line → LineEnds end place new p q [] []
     → Ends (unwrap_or end (Ok Done)) i j o q
 last_line_ends None i j o p q place new n run at_end no_end r = end_replied i j o p q place new n run at_end no_end r
 last_line_ends (Some end) i j o p q place new n run at_end no_end r = end_stopped end i j o p q place new n run at_end no_end r
 
 -- at the reader's end, where the last line may lack its LF
 pub input_ends : (result : Result ToolEnd ToolFault) (end : Option (Result ToolEnd ToolFault)) (i j k o p q : Option (List ℕ)) (place new : Place) (n count : ℕ) (buffer : List ℕ)
-    → result ≡ unwrap_or end (Ok Done) → HasRun i j o p place n → count ≡ 0 → Consumes j k (take count buffer) → IsAtEnd k → HasNoEnd place.line → LineEnds end place new p q → Ends result i k o q
+    → result ≡ unwrap_or end (Ok Done) → HasRun i j o p place n → count ≡ 0 → Consumes j k (take count buffer) → IsAtEnd k → HasNoEnd place.line → LineEnds end place new p q [] [] → Ends result i k o q
 input_ends result end i j k o p q place new n count buffer is run zero read at_end no_end ends =
     let here : HasRun i k o p place n = record {
       bytes = run.bytes;
@@ -311,21 +359,21 @@ input_ends result end i j k o p q place new n count buffer is run zero read at_e
     subst P (sym is) (last_line_ends end i k o p q place new n here at_end no_end ends)
 
 -- a run that was answered in full or in part isn't one that ended at a read
-pub end_not_read : (end : Option (Result ToolEnd ToolFault)) (place new : Place) (p q : Option (List ℕ)) → LineEnds end place new p q → is_read_fault (unwrap_or end (Ok Done)) ≡ false
-end_not_read None place new p q ends = refl
-end_not_read (Some (Ok end)) place new p q ends = refl
-end_not_read (Some (Err Write)) place new p q ends = refl
-end_not_read (Some (Err Read)) place new p q (inl bad) = absurd bad.1
-end_not_read (Some (Err Read)) place new p q (inr reply) = absurd (let e = reply.0 in cc)
+pub end_not_read : (end : Option (Result ToolEnd ToolFault)) (place new : Place) (p q : Option (List ℕ)) (before : List ℕ) → LineEnds end place new p q before [] → is_read_fault (unwrap_or end (Ok Done)) ≡ false
+end_not_read None place new p q before ends = refl
+end_not_read (Some (Ok end)) place new p q before ends = refl
+end_not_read (Some (Err Write)) place new p q before ends = refl
+end_not_read (Some (Err Read)) place new p q before (inl bad) = absurd bad.1
+end_not_read (Some (Err Read)) place new p q before (inr reply) = absurd (let e = reply.0 in cc)
 
 pub end_is_write : (end : Option (Result ToolEnd ToolFault)) → is_write_end end ≡ is_write_fault (unwrap_or end (Ok Done))
 end_is_write None = refl
 end_is_write (Some end) = refl
 
-pub stop_not_read : (end : Result ToolEnd ToolFault) (place : Place) (bytes : List ℕ) (p q : Option (List ℕ)) → Stops end place bytes p q → is_read_fault end ≡ false
-stop_not_read (Ok end) place bytes p q stops = refl
-stop_not_read (Err Write) place bytes p q stops = refl
-stop_not_read (Err Read) place bytes p q stops = absurd stops
+pub stop_not_read : (end : Result ToolEnd ToolFault) (place : Place) (bytes : List ℕ) (p q : Option (List ℕ)) (before : List ℕ) → Stops end place bytes p q before → is_read_fault end ≡ false
+stop_not_read (Ok end) place bytes p q before stops = refl
+stop_not_read (Err Write) place bytes p q before stops = refl
+stop_not_read (Err Read) place bytes p q before stops = absurd stops
 
 -- a read that failed
 pub read_ends : (i j k o p : Option (List ℕ)) (place : Place) (n : ℕ) → HasRun i j o p place n → KeepsOrHides j k → HasNoEnd place.line → EndsAtRead i k o p

@@ -73,13 +73,27 @@ pub record EndsAtRead (in_old in_new out_old out_new : Option (List ℕ)) : Type
   pub owes : OwesRead bytes text
   pub written : Appends out_old out_new text
 
--- at a write that failed: a beginning of the text over the first lines, which the answer to a bad line may end
-pub record EndsAtWrite (in_old out_old out_new : Option (List ℕ)) : Type 0 where
-  pub input : List ℕ
+-- the first lines, which are lines of the bytes read and of the whole input, owe this text; of both other lines follow
+pub record OwesBegun (bytes unread : List ℕ) (lines : List (List ℕ)) (text : List ℕ) : Type 0 where
+  pub others : List (List ℕ)
+  pub others_read : List (List ℕ)
+  pub owed : OwesFirst (bytes ++ unread) lines others text
+  pub read : OwesFirst bytes lines others_read text
+
+-- the first bad line of the input is among the bytes read, and this is the text up to it and with its answer
+pub record OwesToBadRead (bytes unread : List ℕ) (number : ℕ) (text : List ℕ) : Type 0 where
+  pub owed : OwesToBadLine (bytes ++ unread) number text
+  pub read : OwesToBadLine bytes number text
+
+-- at a write that failed: a beginning of the text over the first lines read, which the answer to a bad line may end
+pub record EndsAtWrite (in_old in_new out_old out_new : Option (List ℕ)) : Type 0 where
+  pub bytes : List ℕ
+  pub unread : List ℕ
   pub text : List ℕ
-  pub holds : Holds in_old input
-  pub owes : ((lines : List (List ℕ)) × (others : List (List ℕ)) × OwesFirst input lines others text)
-      ⊎ ((number : ℕ) × OwesToBadLine input number text)
+  pub read : Consumes in_old in_new bytes
+  pub holds : Holds in_old (bytes ++ unread)
+  pub owes : ((lines : List (List ℕ)) × OwesBegun bytes unread lines text)
+      ⊎ ((number : ℕ) × OwesToBadRead bytes unread number text)
   pub written : WritesBeginning out_old out_new text
 
 -- how a run ended, by the bytes that its devices tell before and after it
@@ -88,7 +102,7 @@ Ends (Ok Done) in_old in_new out_old out_new = EndsAtEnd in_old in_new out_old o
 Ends (Ok (BadLine number)) in_old in_new out_old out_new = EndsAtBadLine number in_old out_old out_new
 Ends (Ok Limit) in_old in_new out_old out_new = EndsAtLimit in_old in_new out_old out_new
 Ends (Err Read) in_old in_new out_old out_new = EndsAtRead in_old in_new out_old out_new
-Ends (Err Write) in_old in_new out_old out_new = EndsAtWrite in_old out_old out_new
+Ends (Err Write) in_old in_new out_old out_new = EndsAtWrite in_old in_new out_old out_new
 
 abbrev pub is_read_fault : Result ToolEnd ToolFault → Bool
 is_read_fault (Err Read) = true

@@ -6,6 +6,7 @@ use Rattle.atlas_lines.specs.declared.run.ToolEnd.{ToolEnd}
 use Rattle.atlas_lines.specs.declared.run.ToolEnd.TheVariants.{BadLine}
 use Rattle.atlas_lines.specs.declared.run.ToolFault.{ToolFault}
 use Rattle.atlas_lines.specs.declared.run.ToolFault.TheVariants.{Write}
+use Rattle.atlas_lines.specs.Blocks.{IsGathered}
 use Rattle.atlas_lines.specs.Devices.{WritesBeginning}
 use Rattle.atlas_lines.specs.Ends.{is_write_fault}
 use Rattle.atlas_lines.specs.Lines.{HasNoEnd, all_ended}
@@ -60,45 +61,51 @@ pub record OwesBeginning (old : Place) (bytes text : List ℕ) : Type 0 where
   pub whole : bytes ≡ first ++ later
   pub advances : Advances old first text new
 
+-- Below, `before` is the text that waited to be written, and `after` the text that waits then.
+
 -- the run ended among these bytes
-abbrev pub Stops : Result ToolEnd ToolFault → Place → (bytes : List ℕ) → (out_old out_new : Option (List ℕ)) → Type 0
-Stops (Ok (BadLine number)) old bytes out_old out_new = (text : List ℕ) × MeetsBadLine old bytes number text × Appends out_old out_new text
-Stops (Err Write) old bytes out_old out_new =
-    (text : List ℕ) × (OwesBeginning old bytes text ⊎ ((number : ℕ) × MeetsBadLine old bytes number text)) × WritesBeginning out_old out_new text
-Stops _ old bytes out_old out_new = ⊥
+abbrev pub Stops : Result ToolEnd ToolFault → Place → (bytes : List ℕ) → (out_old out_new : Option (List ℕ)) → (before : List ℕ) → Type 0
+Stops (Ok (BadLine number)) old bytes out_old out_new before =
+    (text : List ℕ) × MeetsBadLine old bytes number text × Appends out_old out_new (before ++ text)
+Stops (Err Write) old bytes out_old out_new before =
+    (text : List ℕ) × (OwesBeginning old bytes text ⊎ ((number : ℕ) × MeetsBadLine old bytes number text))
+    × WritesBeginning out_old out_new (before ++ text)
+Stops _ old bytes out_old out_new before = ⊥
 
 -- the bytes were all taken and the run goes on, or it ended among them
-abbrev pub Continues : Option (Result ToolEnd ToolFault) → (old : Place) → (bytes : List ℕ) → (new : Place) → (out_old out_new : Option (List ℕ)) → Type 0
-Continues None old bytes new out_old out_new = (text : List ℕ) × Advances old bytes text new × Appends out_old out_new text
-Continues (Some end) old bytes new out_old out_new = Stops end old bytes out_old out_new
+abbrev pub Continues : Option (Result ToolEnd ToolFault) → (old : Place) → (bytes : List ℕ) → (new : Place) → (out_old out_new : Option (List ℕ)) → (before after : List ℕ) → Type 0
+Continues None old bytes new out_old out_new before after =
+    (text : List ℕ) × Advances old bytes text new × IsGathered out_old out_new after (before ++ text)
+Continues (Some end) old bytes new out_old out_new before after = Stops end old bytes out_old out_new before
 
 -- the answer to a bad line was written, or a beginning of it
-abbrev pub EndsBadly : Result ToolEnd ToolFault → (old : Place) → (out_old out_new : Option (List ℕ)) → Type 0
-EndsBadly (Ok (BadLine number)) old out_old out_new = (number ≡ old.number + 1) × Appends out_old out_new (bad_line_text number)
-EndsBadly (Err Write) old out_old out_new = WritesBeginning out_old out_new (bad_line_text (old.number + 1))
-EndsBadly _ old out_old out_new = ⊥
+abbrev pub EndsBadly : Result ToolEnd ToolFault → (old : Place) → (out_old out_new : Option (List ℕ)) → (before : List ℕ) → Type 0
+EndsBadly (Ok (BadLine number)) old out_old out_new before =
+    (number ≡ old.number + 1) × Appends out_old out_new (before ++ bad_line_text number)
+EndsBadly (Err Write) old out_old out_new before = WritesBeginning out_old out_new (before ++ bad_line_text (old.number + 1))
+EndsBadly _ old out_old out_new before = ⊥
 
 -- the reply to a line that isn't bad was written in part
-pub record EndsInReply (old : Place) (out_old out_new : Option (List ℕ)) : Type 0 where
+pub record EndsInReply (old : Place) (out_old out_new : Option (List ℕ)) (before : List ℕ) : Type 0 where
   pub held : Held
   pub text : List ℕ
   pub owed : LineOwes (state_at old) old.line text (state_of held)
-  pub written : WritesBeginning out_old out_new text
+  pub written : WritesBeginning out_old out_new (before ++ text)
 
--- the reply to a line that isn't bad was written
-pub record RepliesTo (old : Place) (new : Place) (out_old out_new : Option (List ℕ)) : Type 0 where
+-- the reply to a line that isn't bad was given
+pub record RepliesTo (old : Place) (new : Place) (out_old out_new : Option (List ℕ)) (before after : List ℕ) : Type 0 where
   pub text : List ℕ
   pub owed : LineOwes (state_at old) old.line text (state_at new)
-  pub written : Appends out_old out_new text
+  pub gathered : IsGathered out_old out_new after (before ++ text)
   pub line : new.line ≡ []
   pub number : new.number ≡ old.number + 1
 
 -- what one line does, of which all has come
-abbrev pub LineEnds : Option (Result ToolEnd ToolFault) → (old : Place) → (new : Place) → (out_old out_new : Option (List ℕ)) → Type 0
-LineEnds None old new out_old out_new = RepliesTo old new out_old out_new
-LineEnds (Some end) old new out_old out_new =
-    (IsBad old.line × EndsBadly end old out_old out_new)
-    ⊎ ((end ≡ Err Write) × EndsInReply old out_old out_new)
+abbrev pub LineEnds : Option (Result ToolEnd ToolFault) → (old : Place) → (new : Place) → (out_old out_new : Option (List ℕ)) → (before after : List ℕ) → Type 0
+LineEnds None old new out_old out_new before after = RepliesTo old new out_old out_new before after
+LineEnds (Some end) old new out_old out_new before after =
+    (IsBad old.line × EndsBadly end old out_old out_new before)
+    ⊎ ((end ≡ Err Write) × EndsInReply old out_old out_new before)
 
 abbrev pub is_write_end : Option (Result ToolEnd ToolFault) → Bool
 is_write_end None = false

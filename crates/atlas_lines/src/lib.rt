@@ -2,6 +2,7 @@
 #![tactic(auto)]
 
 mod buffer;
+mod changes;
 mod commands;
 mod devices;
 mod digits;

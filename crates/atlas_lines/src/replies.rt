@@ -4,7 +4,7 @@ ghost use Rattle.atlas_lines.specs.Replies.{spaced_number, line_text, bad_line_t
 
 use crate::buffer::FixedBytes;
 use crate::digits::{push_signed, push_unsigned};
-use guillotiere::{Allocation, AtlasError, Rectangle, Size};
+use guillotiere::{Allocation, AtlasError, ChangeList, Rectangle, Size};
 use std::alloc::Allocator;
 
 /// A reply of one line.
@@ -34,13 +34,16 @@ pub enum Reply {
 
 /// What a command is answered.
 #[derive(Drop)]
-pub enum Answer<A: Allocator> {
+pub enum Answer<A: Allocator + Copy> {
     /// One line.
     OneLine(Reply),
     /// `box N X0 Y0 X1 Y1` for each, then `live COUNT`
     LiveLines(Vec<Allocation, A>),
     /// `hole X0 Y0 X1 Y1` for each, then `holes COUNT`
     HoleLines(Vec<Rectangle, A>),
+    /// `moved N X0 Y0 X1 Y1 to N X0 Y0 X1 Y1` for each change, `lost N X0 Y0 X1 Y1` for each failure, then
+    /// `changes COUNT failures COUNT`
+    ChangeLines(ChangeList<A>),
 }
 
 // Adds a space and a number at the end.
@@ -77,30 +80,30 @@ fn refusal(error: AtlasError) -> &'static [u8]
 }
 
 /// No reply line is longer.
-pub const LINE: usize = 160;
+pub const LINE: usize = 240;
 
-/// The line that answers a command, with its LF.
-pub fn reply_line(reply: Reply) -> FixedBytes<LINE>
-    ensures { result ≡ line_text reply }
+/// Adds the line that answers a command at the end, with its LF.
+pub fn push_reply<const N: usize>(text: &mut FixedBytes<N>, reply: Reply)
+    requires { length text.old + LINE ≤ N }
+    ensures { text.new ≡ text.old ++ line_text reply }
 {
-    let mut text = FixedBytes::new();
     match reply {
         Reply::Completed => text.push_all(b"ok"),
         Reply::Placed(rectangle) => {
             text.push_all(b"at");
-            push_corners(&mut text, rectangle);
+            push_corners(text, rectangle);
         }
         Reply::NotPlaced => text.push_all(b"none"),
         Reply::Allocated(allocation) => {
             text.push_all(b"id ");
-            push_unsigned(&mut text, u64::from(allocation.id.serialize()));
+            push_unsigned(text, u64::from(allocation.id.serialize()));
             text.push_all(b" at");
-            push_corners(&mut text, allocation.rectangle);
+            push_corners(text, allocation.rectangle);
         }
         Reply::Extent(size) => {
             text.push_all(b"size");
-            push_spaced(&mut text, size.width);
-            push_spaced(&mut text, size.height);
+            push_spaced(text, size.width);
+            push_spaced(text, size.height);
         }
         Reply::Truth(true) => text.push_all(b"true"),
         Reply::Truth(false) => text.push_all(b"false"),
@@ -110,16 +113,14 @@ pub fn reply_line(reply: Reply) -> FixedBytes<LINE>
         Reply::Declined(error) => text.push_all(refusal(error)),
     }
     text.push(b'\n');
-    text
 }
 
-/// The line that answers a bad line with this number, with its LF.
-pub fn bad_line(number: u64) -> FixedBytes<LINE>
-    ensures { result ≡ bad_line_text number }
+/// Adds the line that answers a bad line with this number at the end, with its LF.
+pub fn push_bad_line<const N: usize>(text: &mut FixedBytes<N>, number: u64)
+    requires { length text.old + LINE ≤ N }
+    ensures { text.new ≡ text.old ++ bad_line_text number }
 {
-    let mut text = FixedBytes::new();
     text.push_all(b"bad line ");
-    push_unsigned(&mut text, number);
+    push_unsigned(text, number);
     text.push(b'\n');
-    text
 }

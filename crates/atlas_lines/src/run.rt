@@ -5,9 +5,9 @@ ghost use Rattle.atlas_lines.specs.Ends.{Ends, is_read_fault, is_write_fault};
 ghost use Rattle.atlas_lines.specs.Progress.{EndsBadly, LineEnds, Continues, place_at_start, is_write_end};
 
 use crate::buffer::FixedBytes;
-use crate::commands::parse_line;
-use crate::devices::{ToolInput, ToolOutput, write_all};
-use crate::replies::bad_line;
+use crate::commands::{LINE, parse_line};
+use crate::devices::{ToolInput, ToolOutput};
+use crate::listing::{Waiting, flush, send_bad_line};
 use crate::tool::Tool;
 use std::alloc::Allocator;
 use std::marker::Model;
@@ -32,16 +32,13 @@ pub enum ToolFault {
     Write,
 }
 
-// A line of more bytes is bad.
-const LINE: usize = 120;
-
 // How many bytes are asked for at once.
-const BLOCK: usize = 4096;
+const BLOCK: usize = 65536;
 
 // How many bytes are asked for, where so many may still be read.
 fn room(left: u64) -> usize
     ensures within { result ≤ left }
-    ensures short { result ≤ 4096 }
+    ensures short { result ≤ 65536 }
     ensures some { 0 < left → 0 < result }
 {
     if left < BLOCK as u64 {
@@ -78,15 +75,19 @@ impl<'a, A: Allocator> Progress<'a, A> {
         }
     }
 
-    // Answers the line as a bad one.
-    fn end_badly<W: ToolOutput>(&self, output: &mut W) -> Result<ToolEnd, ToolFault>
+    // Answers the line as a bad one, and writes all replies.
+    fn end_badly<W: ToolOutput>(
+        &self,
+        output: &mut W,
+        waiting: &mut Waiting,
+    ) -> Result<ToolEnd, ToolFault>
         requires room { self.now.number < 2 ^ 64 - 1 }
         requires output { W.has_failed output.old ≡ false }
-        ensures line { EndsBadly result self.now (W.contents output.old) (W.contents output.new) }
+        ensures line { EndsBadly result self.now (W.contents output.old) (W.contents output.new) waiting.old }
         ensures failed { W.has_failed output.new ≡ is_write_fault result }
     {
         let number = self.number + 1;
-        if write_all(output, bad_line(number).as_slice()) {
+        if send_bad_line(output, waiting, number) {
             Ok(ToolEnd::BadLine(number))
         } else {
             Err(ToolFault::Write)
@@ -94,21 +95,45 @@ impl<'a, A: Allocator> Progress<'a, A> {
     }
 
     // Carries out the line that has begun, of which no byte is still to come.
-    fn end_line<W: ToolOutput>(&mut self, output: &mut W) -> Option<Result<ToolEnd, ToolFault>>
+    fn end_line<W: ToolOutput>(
+        &mut self,
+        output: &mut W,
+        waiting: &mut Waiting,
+    ) -> Option<Result<ToolEnd, ToolFault>>
         requires room { self.old.number < 2 ^ 64 - 1 }
         requires output { W.has_failed output.old ≡ false }
-        ensures line { LineEnds result self.old self.new (W.contents output.old) (W.contents output.new) }
+        ensures line { LineEnds result self.old self.new (W.contents output.old) (W.contents output.new) waiting.old waiting.new }
         ensures failed { W.has_failed output.new ≡ is_write_end result }
     {
         if self.line.len() > 0 {
             let Some(command) = parse_line(self.line.as_slice()) else {
-                return Some(self.end_badly(output));
+                return Some(self.end_badly(output, waiting));
             };
-            if !self.tool.reply_to(command, output) {
+            if !self.tool.reply_to(command, output, waiting) {
                 return Some(Err(ToolFault::Write));
             }
         }
         self.next_line();
+        None
+    }
+
+    // Carries out the last line of an input, and writes all replies.
+    fn end_input<W: ToolOutput>(
+        &mut self,
+        output: &mut W,
+        waiting: &mut Waiting,
+    ) -> Option<Result<ToolEnd, ToolFault>>
+        requires room { self.old.number < 2 ^ 64 - 1 }
+        requires output { W.has_failed output.old ≡ false }
+        ensures line { LineEnds result self.old self.new (W.contents output.old) (W.contents output.new) waiting.old [] }
+        ensures failed { W.has_failed output.new ≡ is_write_end result }
+    {
+        if let Some(end) = self.end_line(output, waiting) {
+            return Some(end);
+        }
+        if !flush(output, waiting) {
+            return Some(Err(ToolFault::Write));
+        }
         None
     }
 
@@ -126,20 +151,21 @@ impl<'a, A: Allocator> Progress<'a, A> {
         &mut self,
         byte: u8,
         output: &mut W,
+        waiting: &mut Waiting,
     ) -> Option<Result<ToolEnd, ToolFault>>
         requires room { self.old.number + length self.old.line < 2 ^ 64 - 1 }
         requires line { HasNoEnd self.old.line }
         requires output { W.has_failed output.old ≡ false }
-        ensures continues { Continues result self.old (byte ∷ []) self.new (W.contents output.old) (W.contents output.new) }
+        ensures continues { Continues result self.old (byte ∷ []) self.new (W.contents output.old) (W.contents output.new) waiting.old waiting.new }
         ensures line { IsNone result → HasNoEnd self.new.line }
         ensures room { IsNone result → self.new.number + length self.new.line ≤ self.old.number + length self.old.line + 1 }
         ensures failed { W.has_failed output.new ≡ is_write_end result }
     {
         if byte == b'\n' {
-            return self.end_line(output);
+            return self.end_line(output, waiting);
         }
         if self.line.len() == LINE {
-            return Some(self.end_badly(output));
+            return Some(self.end_badly(output, waiting));
         }
         self.line.push(byte);
         None
@@ -150,19 +176,45 @@ impl<'a, A: Allocator> Progress<'a, A> {
         &mut self,
         block: &[u8],
         output: &mut W,
+        waiting: &mut Waiting,
     ) -> Option<Result<ToolEnd, ToolFault>>
         requires room { self.old.number + length self.old.line + length block.now < 2 ^ 64 }
         requires line { HasNoEnd self.old.line }
         requires output { W.has_failed output.old ≡ false }
-        ensures continues { Continues result self.old block.now self.new (W.contents output.old) (W.contents output.new) }
+        ensures continues { Continues result self.old block.now self.new (W.contents output.old) (W.contents output.new) waiting.old waiting.new }
         ensures line { IsNone result → HasNoEnd self.new.line }
         ensures room { IsNone result → self.new.number + length self.new.line ≤ self.old.number + length self.old.line + length block.now }
         ensures failed { W.has_failed output.new ≡ is_write_end result }
     {
         for byte in block {
-            if let Some(end) = self.take_byte(*byte, output) {
+            if let Some(end) = self.take_byte(*byte, output, waiting) {
                 return Some(end);
             }
+        }
+        None
+    }
+
+    // Takes the bytes that one read gave, and writes all replies to their lines.
+    fn take_read<W: ToolOutput>(
+        &mut self,
+        block: &[u8],
+        output: &mut W,
+        waiting: &mut Waiting,
+    ) -> Option<Result<ToolEnd, ToolFault>>
+        requires room { self.old.number + length self.old.line + length block.now < 2 ^ 64 }
+        requires line { HasNoEnd self.old.line }
+        requires output { W.has_failed output.old ≡ false }
+        ensures continues { Continues result self.old block.now self.new (W.contents output.old) (W.contents output.new) waiting.old [] }
+        ensures line { IsNone result → HasNoEnd self.new.line }
+        ensures room { IsNone result → self.new.number + length self.new.line ≤ self.old.number + length self.old.line + length block.now }
+        ensures waiting { IsNone result → waiting.new ≡ [] }
+        ensures failed { W.has_failed output.new ≡ is_write_end result }
+    {
+        if let Some(end) = self.take_block(block, output, waiting) {
+            return Some(end);
+        }
+        if !flush(output, waiting) {
+            return Some(Err(ToolFault::Write));
         }
         None
     }
@@ -182,16 +234,19 @@ impl<'a, A: Allocator> Progress<'a, A> {
     {
         let mut left = u64::MAX;
         let mut buffer = [0u8; BLOCK];
+        let mut waiting = FixedBytes::new();
         while left > 0 {
             let piece = &mut buffer[..room(left)];
             let Some(count) = input.read(piece) else {
                 return Err(ToolFault::Read);
             };
             if count == 0 {
-                return self.end_line(output).unwrap_or(Ok(ToolEnd::Done));
+                return self
+                    .end_input(output, &mut waiting)
+                    .unwrap_or(Ok(ToolEnd::Done));
             }
             left -= count as u64;
-            if let Some(end) = self.take_block(&piece[..count], output) {
+            if let Some(end) = self.take_read(&piece[..count], output, &mut waiting) {
                 return end;
             }
         }

@@ -1,6 +1,7 @@
 -- What each call does to the boxes that callers hold.
-use Rattle.std.proofs.Common.{◌≡◌, ℕ, ◌+◌, ◌≤◌, List, [], ◌∷◌, length, refl, ap, subst, sym, ◌∙◌, arith, Contains, Option, Some, None, IsSome}
-use Rattle.std.proofs.lemmas.Bool.{false≢true}
+use Rattle.std.proofs.Common.{◌≡◌, ℕ, ◌+◌, ◌==◌, true, false, not, List, length, refl, ap, subst, sym, ◌∙◌, Option, Some, None, IsSome, option_map}
+use Rattle.std.specs.List.{filter, find}
+use Rattle.std.proofs.lemmas.Bool.{false≢true, eqb-true}
 use Rattle.guillotiere.specs.declared.error.AtlasError.{AtlasError}
 use Rattle.guillotiere.specs.declared.error.AtlasError.TheVariants.{Memory, Slots, NotLive}
 use Rattle.guillotiere.specs.Boxes.{Box, Sides, Fits}
@@ -10,18 +11,45 @@ use Rattle.guillotiere.specs.States.{State, live_in, IsLive, IsSound, after_free
 use Rattle.guillotiere.specs.Steps.{AtlasReply, Step}
 use Rattle.guillotiere.specs.Steps.AtlasCall.{Allocate, Deallocate, Grow}
 use Rattle.guillotiere.specs.Steps.AtlasReply.{Allocated, NoRoom, Done, Changed, Refused, BadCall}
+use Rattle.guillotiere.specs.TreeLaws.{is_among}
 use Rattle.guillotiere.specs.Replies.{live_box}
 use Rattle.guillotiere.specs.StepLaws.{is_refusal}
-use Rattle.guillotiere.specs.Callers.{AreGuarded, KeepsLive, AddsBox, JoinsGuarded, LeavesNoBox, KeepsAll}
+use Rattle.guillotiere.specs.Callers.{AreGuarded, KeepsLive, AddsBox, JoinsGuarded, LeavesNoBox, LeavesNoBoxes, KeepsAll}
 use Rattle.guillotiere.proofs.StepEffects.{grants_lie_inside, freeings_remove_one, growths_keep_boxes, refusals_change_nothing}
-use Rattle.guillotiere.proofs.StepKeeping.{steps_keep}
-use Rattle.guillotiere.proofs.LiveBoxes.{live_have_boxes, unlive_box, granted_unused, granted_live, granted_here, granted_others, granted_count, freed_box, freed_others, freed_count}
+use Rattle.guillotiere.proofs.StepKeeping.{steps_keep, freeing_sound}
+use Rattle.guillotiere.proofs.TreeLive.{live_release}
+use Rattle.guillotiere.proofs.CallerLemmas.{find-filter_gone, find-filter_kept}
+use Rattle.guillotiere.proofs.LiveBoxes.{is_for, live_have_boxes, unlive_box, granted_unused, granted_live, granted_here, granted_others, granted_boxes, granted_count, freed_box, freed_others, freed_count}
 use Rattle.guillotiere.proofs.Guarding.{guarded_grant, guarded_freeing, guarded_growth}
 
 -- an unchanged state keeps what is live
 same_keeps : (old new : State) → IsSound old → new ≡ old → KeepsLive old new
 same_keeps old new sound same =
     record { sound = subst IsSound (sym same) sound; kept = λ id live. ap (λ s. live_box s id) same }
+
+-- a freeing of a list leaves its ids without a box
+pub batch_leaves : (old new : State) (ids : List ℕ) → IsSound old → new ≡ after_freeing old (is_among ids) → LeavesNoBoxes old new ids
+batch_leaves old new ids sound is = record {
+  sound = subst IsSound (sym is) (freeing_sound old (is_among ids) sound);
+  gone = λ id among.
+      shown id
+      ∙ ap (option_map (λ (g : Grant). g.box)) (find-filter_gone (is_for id) (λ g. not (is_among ids g.id)) (hits id among) (live_in old));
+  others = λ id apart.
+      shown id
+      ∙ ap (option_map (λ (g : Grant). g.box)) (find-filter_kept (is_for id) (λ g. not (is_among ids g.id)) (misses id apart) (live_in old));
+}
+  where
+    shown : (id : ℕ)
+        → live_box new id ≡ option_map (λ (g : Grant). g.box) (find (is_for id) (filter (λ g. not (is_among ids g.id)) (live_in old)))
+    shown id =
+        ap (λ s. live_box s id) is
+        ∙ ap (λ l. option_map (λ (g : Grant). g.box) (find (is_for id) l)) (live_release old.size (is_among ids) old.tree)
+
+    hits : (id : ℕ) → is_among ids id ≡ true → (g : Grant) → (g.id == id) ≡ true → not (is_among ids g.id) ≡ false
+    hits id among g is = ap not (ap (is_among ids) (eqb-true g.id id is) ∙ among)
+
+    misses : (id : ℕ) → is_among ids id ≡ false → (g : Grant) → (g.id == id) ≡ true → not (is_among ids g.id) ≡ true
+    misses id apart g is = ap not (ap (is_among ids) (eqb-true g.id id is) ∙ apart)
 
 -- an id that isn't live has no box, and stays so
 pub unlive_leaves : (old new : State) (id : ℕ) → IsSound old → (IsLive old id → ⊥) → new ≡ old → LeavesNoBox old new id
@@ -49,7 +77,7 @@ module _ (old new : State) (sound : IsSound old) where
           unused = granted_unused old new r g sound_new its;
           live = granted_live old new r g sound_new its;
           here = granted_here old new r g sound_new its;
-          others = granted_others old new r g sound_new its;
+          boxes = granted_boxes old new r g sound_new its;
           count = granted_count old new r g sound_new its;
         }
 
@@ -60,7 +88,7 @@ module _ (old new : State) (sound : IsSound old) where
     grant_keeps : KeepsLive old new
     grant_keeps = record {
       sound = sound_new;
-      kept = λ id live. grant_adds.others id (λ same. absurd (dead id same live));
+      kept = λ id live. granted_others old new r g sound_new (grants_lie_inside old new r g sound step) id (λ same. absurd (dead id same live));
     }
       where
         dead : (id : ℕ) → id ≡ g.id → IsLive old id → ⊥

@@ -1,7 +1,7 @@
 -- Guarded boxes: what grants, freeings and growths make of them.
-use Rattle.std.proofs.Common.{◌≡◌, ℕ, zero, suc, ◌+◌, ◌≤◌, ◌<◌, ◌==◌, Bool, true, false, not, List, [], ◌∷◌, ◌++◌, map, length, refl, ap, subst, sym, ◌∙◌, arith, Contains, All, Some}
-use Rattle.std.specs.List.{count_by, filter, find, sum_by}
-use Rattle.std.proofs.lemmas.Bool.{eq-eqb, eqb-true}
+use Rattle.std.proofs.Common.{◌≡◌, ℕ, zero, suc, ◌+◌, ◌≤◌, ◌<◌, Bool, true, false, not, List, [], ◌∷◌, ◌++◌, map, length, refl, ap, subst, sym, ◌∙◌, arith, Contains, All, Some}
+use Rattle.std.specs.List.{count_by, filter}
+use Rattle.std.proofs.lemmas.Bool.{eq-eqb}
 use Rattle.std.proofs.lemmas.List.Elements.{All-nil, All-cons, All-tail, All-weaker, All-contains, All-map}
 use Rattle.std.proofs.lemmas.List.Filters.{sum_by-filter_both}
 use Rattle.std.proofs.lemmas.List.Sums.{length-filter, count_by-le-length}
@@ -16,7 +16,7 @@ use Rattle.guillotiere.specs.Callers.{AreGuarded, LiveAreGuarded}
 use Rattle.guillotiere.proofs.TreeBasics.{one_if}
 use Rattle.guillotiere.proofs.TreeIds.{Contains-first}
 use Rattle.guillotiere.proofs.BoxLists.{live_in_place}
-use Rattle.guillotiere.proofs.Counting.{count_by-cons, count_by-append, count_some, counted_once}
+use Rattle.guillotiere.proofs.Counting.{count_by-cons, count_by-append, counted_once}
 use Rattle.guillotiere.proofs.CallerLemmas.{count_by-permutation, find-counted, Contains-filter}
 use Rattle.guillotiere.proofs.LiveBoxes.{is_for}
 use Rattle.guillotiere.proofs.LyingApart.{covered_within, covered_inside, covered_once, covered_few, count_boxes, box_owner}

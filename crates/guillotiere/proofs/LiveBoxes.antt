@@ -1,5 +1,5 @@
 -- The boxes of live ids, and what grants, freeings and growths make of them.
-use Rattle.std.proofs.Common.{◌≡◌, ℕ, zero, suc, ◌+◌, ◌-◌, ◌≤◌, ◌<◌, ◌==◌, Bool, true, false, not, cond, List, [], ◌∷◌, ◌++◌, length, refl, ap, subst, sym, ◌∙◌, arith, Contains, IsPermutation, inl, inr, Option, Some, None, IsSome, option_map}
+use Rattle.std.proofs.Common.{◌≡◌, ℕ, zero, suc, ◌+◌, ◌≤◌, ◌==◌, Bool, true, false, not, cond, [], ◌∷◌, ◌++◌, length, refl, ap, subst, sym, ◌∙◌, arith, Contains, inl, inr, Option, Some, None, IsSome, option_map}
 use Rattle.std.specs.List.{count_by, filter, find}
 use Rattle.std.proofs.lemmas.Bool.{eq-eqb, eqb-true, false≢true}
 use Rattle.std.proofs.lemmas.Bool.Decides.{eqb_tells}
@@ -15,10 +15,10 @@ use Rattle.guillotiere.specs.StepLaws.{live_count, IsGrantStep, IsFreeingStep}
 use Rattle.guillotiere.specs.RunLaws.{IsTiled}
 use Rattle.guillotiere.specs.Callers.{SoundIsTiled, LiveHaveBoxes}
 use Rattle.guillotiere.proofs.TreeIds.{Contains-first}
-use Rattle.guillotiere.proofs.Counting.{count_by-cons, count_some, split_at, IsSplitAt}
+use Rattle.guillotiere.proofs.Counting.{count_some, split_at, IsSplitAt}
 use Rattle.guillotiere.proofs.BoxLists.{count_live}
 use Rattle.guillotiere.proofs.RunKeeping.{runs_keep_order}
-use Rattle.guillotiere.proofs.CallerLemmas.{length-permutation, find-counted, find-counted_once, find-uncounted, uncounted-find, find-permutation, find-filter_kept, find-filter_gone, count_by-permutation}
+use Rattle.guillotiere.proofs.CallerLemmas.{length-permutation, find-counted, find-counted_once, find-uncounted, find-permutation, find-filter_kept, find-filter_gone, count_by-permutation}
 
 pub sound_is_tiled : SoundIsTiled
 sound_is_tiled s sound = (runs_keep_order s s [] [] sound refl).1.tiled
@@ -93,6 +93,12 @@ module _ (old new : State) (r : Sides) (g : Grant) (sound_new : IsSound new) (st
         | inl same ↦ absurd (differ (sym same.1))
         | inr other ↦ ap (λ b. cond b (Some g) (find (is_for k) (live_in old))) other.0
       ]
+
+  pub granted_boxes : (k : ℕ) → live_box new k ≡ cond (k == g.id) (Some g.box) (live_box old k)
+  granted_boxes k = elim (eqb_tells k g.id) [
+    | inl same ↦ ap (live_box new) same.1 ∙ granted_here ∙ ap (λ b. cond b (Some g.box) (live_box old k)) (sym same.0)
+    | inr other ↦ granted_others k other.1 ∙ ap (λ b. cond b (Some g.box) (live_box old k)) (sym other.0)
+  ]
 
   pub granted_count : length (live_in new) ≡ length (live_in old) + 1
   granted_count = length-permutation (g ∷ live_in old) (live_in new) step.live ∙ omega arith

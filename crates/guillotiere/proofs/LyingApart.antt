@@ -1,7 +1,7 @@
 -- Live boxes of different ids share no unit square, and lie apart.
-use Rattle.std.proofs.Common.{◌≡◌, ℕ, zero, suc, ◌+◌, ◌≤◌, ◌<◌, ◌&&◌, ◌⊎◌, ◌≤ℤ◌, pos, subst₂, Bool, true, false, List, ◌++◌, map, refl, ap, subst, sym, ◌∙◌, arith, Contains, inl, inr, Option, Some, None, IsSome, ◌↔◌, option_map, nat_le, nat_lt}
+use Rattle.std.proofs.Common.{◌≡◌, ℕ, zero, suc, ◌+◌, ◌≤◌, ◌<◌, ◌&&◌, ◌⊎◌, ◌≤ℤ◌, pos, subst₂, Bool, true, false, List, ◌++◌, map, refl, ap, subst, sym, ◌∙◌, arith, Contains, inl, inr, Option, Some, None, IsSome, IfSome, ◌↔◌, option_map, nat_le, nat_lt}
 use Rattle.std.specs.List.{count_by, find}
-use Rattle.std.proofs.lemmas.Bool.{eqb-true, false≢true, ltb-true, leb-true, lt-ltb, le-leb, and_parts, and_from, cases_lt}
+use Rattle.std.proofs.lemmas.Bool.{eqb-true, false≢true, ltb-true, lt-ltb, le-leb, and_parts, and_from, cases_lt}
 use Rattle.std.proofs.lemmas.List.Elements.{All-contains, Contains-append_left}
 use Rattle.std.proofs.lemmas.Int.{ints}
 use Rattle.guillotiere.specs.Boxes.{Sides, Box, covers, IsNonempty, IsWithin}
@@ -151,9 +151,21 @@ all_lie_apart s sound i j r q differ is is' =
     subst₂ RectanglesLieApart b.2 c.2 (rectangles_apart b.0 c.0 (live_share_nothing s i j b.0 c.0 sound differ b.1 c.1).1)
 
 pub all_lie_within : (s : State) → IsSound s → AllLieWithin s
-all_lie_within s sound id r is =
-    let b = rectangle_box s id r is in
-    subst (λ k. IsNonempty (box_of k) × IsWithin s.size (box_of k)) b.2 (live_lie_within s id b.0 sound b.1)
+all_lie_within s sound id = by_box (live_box s id) refl
+  where
+    by_box : (o : Option Box) → live_box s id ≡ o
+        → IfSome (option_map rectangle_of o) (λ r. IsNonempty (box_of r) × IsWithin s.size (box_of r))
+    by_box None e = tt
+    by_box (Some b) e = live_lie_within s id b sound e
+
+-- a shown rectangle lies within the atlas
+pub shown_within : (s : State) → IsSound s → (id : ℕ) (o : Option Rectangle) → o ≡ rectangle_in s id
+    → IfSome o (λ r. IsWithin s.size (box_of r))
+shown_within s sound id o is = subst (λ k. IfSome k (λ r. IsWithin s.size (box_of r))) (sym is) (weaker (rectangle_in s id) (all_lie_within s sound id))
+  where
+    weaker : (k : Option Rectangle) → IfSome k (λ r. IsNonempty (box_of r) × IsWithin s.size (box_of r)) → IfSome k (λ r. IsWithin s.size (box_of r))
+    weaker None h = tt
+    weaker (Some r) h = h.1
 
 -- where an id's rectangle is shown, the id is live
 pub shown_live : (s : State) (id : ℕ) (o : Option Rectangle) → o ≡ rectangle_in s id → IsSome o ↔ IsLive s id

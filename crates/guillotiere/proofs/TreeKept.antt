@@ -255,7 +255,7 @@ ids-lengthened_to a b m = by_test (ltb a b)
     by_test true = ids-lengthened (b - a) m
     by_test false = refl
 
-ids-grown : (old new : Sides) (axis : Axis) (m : Members) → ids (grown_members old new axis m).members ≡ ids m
+pub ids-grown : (old new : Sides) (axis : Axis) (m : Members) → ids (grown_members old new axis m).members ≡ ids m
 ids-grown old new axis (Free e End) = refl
 ids-grown old new axis m =
     ids-widened (side (other axis) old) (side (other axis) new) axis (lengthened_to (side axis old) (side axis new) m)

@@ -1,10 +1,11 @@
 -- What a caller holds of an atlas: live boxes, which stay where they are and apart from one another.
-use Rattle.std.specs.Prelude.{◌≡◌, ◌≢◌, ℕ, ◌+◌, ◌≤◌, ◌≤ℤ◌, ◌&&◌, ◌⊎◌, ◌↔◌, false, List, [], ◌∷◌, ◌++◌, map, length, All, Option, Some, None, IsSome, option_map}
+use Rattle.std.specs.Prelude.{◌≡◌, ◌≢◌, ℕ, ◌+◌, ◌≤◌, ◌≤ℤ◌, ◌&&◌, ◌⊎◌, ◌↔◌, true, false, List, [], ◌∷◌, ◌++◌, map, length, All, Option, Some, None, IsSome, IfSome, option_map, ◌==◌, if◌then◌else◌}
 use Rattle.guillotiere.specs.declared.geometry.Rectangle.{Rectangle}
 use Rattle.guillotiere.specs.Boxes.{Box, covers, IsNonempty, IsWithin, AreDisjoint}
 use Rattle.guillotiere.specs.Pixels.{box_of, rectangle_of}
 use Rattle.guillotiere.specs.States.{State, live_in, free_in, IsLive, IsSound}
 use Rattle.guillotiere.specs.Replies.{live_box}
+use Rattle.guillotiere.specs.TreeLaws.{is_among}
 use Rattle.guillotiere.specs.RunLaws.{IsTiled}
 
 -- the rectangle of a live id
@@ -27,7 +28,7 @@ pub record AddsBox (old new : State) (id : ℕ) (box : Box) : Type 0 where
   pub unused : live_box old id ≡ None
   pub live : IsLive new id
   pub here : live_box new id ≡ Some box
-  pub others : (k : ℕ) → k ≢ id → live_box new k ≡ live_box old k
+  pub boxes : (k : ℕ) → live_box new k ≡ (if k == id then Some box else live_box old k)
   pub count : length (live_in new) ≡ length (live_in old) + 1
 
 -- a box joins each guarded list
@@ -41,6 +42,12 @@ pub record LeavesNoBox (old new : State) (id : ℕ) : Type 0 where
   pub gone : live_box new id ≡ None
   pub others : (k : ℕ) → k ≢ id → live_box new k ≡ live_box old k
   pub guarded : (box : Box) (held : List Box) → live_box old id ≡ Some box → AreGuarded old (box ∷ held) → AreGuarded new held
+
+-- the atlas is sound; the ids of a list have no box, and every other id what it had
+pub record LeavesNoBoxes (old new : State) (ids : List ℕ) : Type 0 where
+  pub sound : IsSound new
+  pub gone : (id : ℕ) → is_among ids id ≡ true → live_box new id ≡ None
+  pub others : (id : ℕ) → is_among ids id ≡ false → live_box new id ≡ live_box old id
 
 -- The atlas is sound; what is live is what was live, where it was; each guarded list is guarded.
 pub record KeepsAll (old new : State) : Type 0 where
@@ -67,8 +74,7 @@ AllLieApart s =
 
 -- the rectangle of each id is nonempty and lies within the atlas
 abbrev pub AllLieWithin : State → Type 0
-AllLieWithin s =
-    (id : ℕ) (r : Rectangle) → rectangle_in s id ≡ Some r → IsNonempty (box_of r) × IsWithin s.size (box_of r)
+AllLieWithin s = (id : ℕ) → IfSome (rectangle_in s id) (λ r. IsNonempty (box_of r) × IsWithin s.size (box_of r))
 
 -- laws of what is live
 

@@ -1,6 +1,6 @@
 //! The atlas allocator.
-ghost use Rattle.std.specs.Prelude.{◌≡◌, ◌≤◌, ◌<◌, ◌+◌, ◌-◌, ◌↔◌, List, [], IsTrue, IfOk, IfSome, OnErr, IsOkUnless, OnOk, length, IsSome, option_map, None, Some, Ok, All};
-ghost use Rattle.guillotiere.specs.Boxes.{Fits, IsPositive};
+ghost use Rattle.std.specs.Prelude.{◌≡◌, ◌≤◌, ◌<◌, ◌+◌, ◌-◌, ◌↔◌, List, [], IsTrue, IfOk, IfSome, OnErr, IsOkUnless, OnOk, length, IsSome, option_map, None, Some, Ok, All, map};
+ghost use Rattle.guillotiere.specs.Boxes.{Fits, IsPositive, IsWithin};
 ghost use Rattle.guillotiere.specs.Choice.{AreValid};
 ghost use Rattle.guillotiere.specs.Pixels.{sides_of, size_of, options_of, rectangle_of, box_of, IsMeasurable};
 ghost use Rattle.guillotiere.specs.States.{live_in, used_in, started, after_freeing, IsSound, IsLive};
@@ -8,17 +8,20 @@ ghost use Rattle.std.specs.List.{FoldsTo};
 ghost use Rattle.std.specs.Fn.{CalledAt};
 ghost use Rattle.guillotiere.specs.declared.geometry.Rectangle.{Rectangle as Area};
 ghost use Rattle.guillotiere.specs.declared.allocation.Allocation.{Allocation as Grant};
-ghost use Rattle.guillotiere.specs.Visits.{AreFreeAreas, AreGrants, CalledAtGrant};
+ghost use Rattle.guillotiere.specs.Visits.{AreFreeAreas, AreGrants, CalledAtGrant, free_areas};
+ghost use Rattle.guillotiere.specs.Slots.{nodes};
+ghost use Rattle.guillotiere.specs.Walks.{IsCallableAlong, IsCallableAlongGrants, IsShownArea, IsShownGrant};
 ghost use Rattle.guillotiere.specs.Changes.{only};
 ghost use Rattle.guillotiere.specs.TreeLaws.{is_among};
 ghost use Rattle.guillotiere.specs.Batches.{AreLiveOnce};
 ghost use Rattle.guillotiere.specs.RunLaws.{IsTiled};
 ghost use Rattle.guillotiere.specs.Steps.{Step};
-ghost use Rattle.guillotiere.specs.Steps.AtlasCall.{Allocate, Deallocate, Grow, Clear, Reset};
+ghost use Rattle.guillotiere.specs.Steps.AtlasCall.{Allocate, Deallocate, Grow, Clear, Reset, Rearrange, ResizeAndRearrange};
 ghost use Rattle.guillotiere.specs.Steps.AtlasReply.{Done};
 
 use crate::allocation::{AllocId, Allocation, SlotCount};
 use crate::batch::are_named_once;
+use crate::change::ChangeList;
 use crate::choice::rounded;
 use crate::cut::granted;
 use crate::error::AtlasError;
@@ -26,6 +29,7 @@ use crate::geometry::{Rectangle, Size};
 use crate::growth::{grow_tree, grow_whole, growth_for, slots_for};
 use crate::lists::empty_lists;
 use crate::options::{AllocatorOptions, DEFAULT_OPTIONS};
+use crate::refit::{refit, sort_for_refit};
 use crate::requests::{choose, grant, make_room};
 use crate::slots::{Link, NO_SLOT, NodeKind};
 use crate::store::Store;
@@ -70,8 +74,12 @@ impl<A: Allocator + Copy> Model for AtlasAllocator<A> {
 impl<A: Allocator + Copy> AtlasAllocator<A> {
     ghost use Rattle.guillotiere.specs.Stored.{state_of};
     ghost use Rattle.guillotiere.specs.Generations.{AreFirstGenerations};
-    ghost use Rattle.guillotiere.specs.Replies.{allocate_reply, done_reply, live_box, IsExact};
-    ghost use Rattle.guillotiere.specs.Callers.{AreGuarded, KeepsLive, AddsBox, JoinsGuarded, LeavesNoBox, KeepsAll, AllLieApart, AllLieWithin};
+    ghost use Rattle.guillotiere.specs.Replies.{allocate_reply, done_reply, grant_of, live_box, IsExact};
+    ghost use Rattle.guillotiere.specs.Rearranging.{change_reply, rearrangement_of, AreExactChanges};
+    ghost use Rattle.guillotiere.specs.StepLaws.{IsRearrangingStep};
+    ghost use Rattle.guillotiere.specs.Refits.{IsRefitOrder};
+    ghost use Rattle.guillotiere.specs.Refitted.{HasExactRectangle};
+    ghost use Rattle.guillotiere.specs.Callers.{AreGuarded, KeepsLive, AddsBox, JoinsGuarded, LeavesNoBox, LeavesNoBoxes, KeepsAll, AllLieApart, AllLieWithin};
 
     /// An atlas of this size, in pixels, with the default options: one free rectangle. Asks a size that isn't empty.
     /// `Memory` is the only error.
@@ -182,6 +190,7 @@ impl<A: Allocator + Copy> AtlasAllocator<A> {
     pub fn get(&self, id: AllocId) -> Option<Rectangle>
         ensures rectangle { result ≡ option_map rectangle_of (live_box (state_of self.now) id) }
         ensures live { IsSome result ↔ IsLive (state_of self.now) id }
+        ensures within { IfSome result (λ rectangle. IsWithin (state_of self.now).size (box_of rectangle)) }
     {
         let at = named_slot(&self.store.slots, id)?;
         Some(self.store.slots[at].node.area)
@@ -244,6 +253,8 @@ impl<A: Allocator + Copy> AtlasAllocator<A> {
         ensures refused { OnErr result (self.new ≡ self.old) }
         ensures none { ids.now ≡ [] → self.new ≡ self.old }
         ensures turns { OnOk result (self.new.turns + used_in (state_of self.new) ≡ self.old.turns + length ids.now + used_in (state_of self.old)) }
+        ensures leaves { OnOk result (LeavesNoBoxes (state_of self.old) (state_of self.new) ids.now) }
+        ensures sound { IsSound (state_of self.new) }
     {
         if !self.are_live_once(ids) {
             return Err(AtlasError::NotLive);
@@ -278,6 +289,73 @@ impl<A: Allocator + Copy> AtlasAllocator<A> {
         self.used += added;
         self.size = new_size;
         Ok(())
+    }
+
+    /// `resize_and_rearrange` at the present size.
+    pub fn rearrange(&mut self) -> Result<ChangeList<A>, AtlasError>
+        ensures step { Step (state_of self.old) Rearrange (change_reply result) (state_of self.new) }
+        ensures exact { IfOk result AreExactChanges }
+        ensures moves { IfOk result (λ list. IsRearrangingStep (state_of self.old) (rearrangement_of list) (state_of self.new)) }
+        ensures refused { OnErr result (self.new ≡ self.old) }
+        ensures turns { self.new.turns ≡ self.old.turns }
+        ensures sound { IsSound (state_of self.new) }
+    {
+        self.resize_and_rearrange(self.size)
+    }
+
+    /// Places what is allocated anew in an empty atlas of this size, the largest first; the options and the limit stay.
+    /// Asks a size that isn't empty. The rectangles are taken in order of descending area, where areas count up to
+    /// 2147483647, and of descending slot, the low 24 bits of the id, where areas are equal; each is placed where it
+    /// then fits, or else listed as a failure, whose id is live no more. All former ids are void. `Slots` if on the way
+    /// more slots would be used than the limit allows; `Memory` if memory is refused; then nothing changes. Takes no
+    /// turns.
+    pub fn resize_and_rearrange(&mut self, new_size: Size) -> Result<ChangeList<A>, AtlasError>
+        requires { IsPositive (sides_of new_size) }
+        ensures step { Step (state_of self.old) (ResizeAndRearrange (sides_of new_size)) (change_reply result) (state_of self.new) }
+        ensures exact { IfOk result AreExactChanges }
+        ensures moves { IfOk result (λ list. IsRearrangingStep (state_of self.old) (rearrangement_of list) (state_of self.new)) }
+        ensures refused { OnErr result (self.new ≡ self.old) }
+        ensures turns { self.new.turns ≡ self.old.turns }
+        ensures sound { IsSound (state_of self.new) }
+    {
+        let order = self.refit_order()?;
+        let alloc = *self.store.slots.allocator();
+        let options = self.store.options;
+        let mut placed = AtlasAllocator::with_slot_limit(alloc, new_size, &options, self.limit)?;
+        let list = refit(&mut placed, order)?;
+        self.become_like(placed);
+        Ok(list)
+    }
+
+    // What is allocated, in the order in which it is placed anew.
+    fn refit_order(&self) -> Result<Vec<Allocation, A>, AtlasError>
+        ensures unless { IsOkUnless result AtlasError.Memory }
+        ensures order { IfOk result (λ boxes. IsRefitOrder (live_in (state_of self.now)) (map grant_of boxes.items)) }
+        ensures exact { IfOk result (λ boxes. All HasExactRectangle boxes.items) }
+    {
+        let mut boxes = self.allocations()?;
+        sort_for_refit(&mut boxes);
+        Ok(boxes)
+    }
+
+    // Stores what another atlas stores. The turns stay.
+    fn become_like(&mut self, other: AtlasAllocator<A>)
+        ensures stored { self.new.stored ≡ other.stored }
+        ensures turns { self.new.turns ≡ self.old.turns }
+    {
+        let AtlasAllocator {
+            store,
+            first,
+            used,
+            size,
+            limit,
+        } = other;
+        self.store.slots = store.slots;
+        self.store.lists = store.lists;
+        self.store.unused = store.unused;
+        self.store.options = store.options;
+        (self.first, self.used) = (first, used);
+        (self.size, self.limit) = (size, limit);
     }
 
     /// Starts again at the present size, options and limit: one free rectangle, no id live, each slot in its first
@@ -385,18 +463,27 @@ impl<A: Allocator + Copy> AtlasAllocator<A> {
         self.used -= given;
     }
 
-    /// Calls `visit` on each free rectangle once, in an order that is left open. Asks that `visit` may be called.
+    /// The slots and the options, for a simple allocator that takes over the free rectangles.
+    pub(crate) fn store(&self) -> &Store<A>
+        ensures options { options_of result.now.options ≡ (state_of self.now).options }
+        ensures areas { AreFreeAreas (state_of self.now) (free_areas (nodes result.now.slots.items)) }
+    {
+        &self.store
+    }
+
+    /// Calls `visit` on each free rectangle once, in an order that is left open. Asks that `visit` may be called along each
+    /// list that may be shown, and no more: nothing else is called. No coordinate of these rectangles is negative.
     pub fn for_each_free_rectangle<F: FnMut(&Rectangle)>(&self, visit: F)
-        requires { F.IsAlwaysCallable visit }
+        requires { (areas : List Area) → AreFreeAreas (state_of self.now) areas → IsCallableAlong F.FnMut IsShownArea visit areas }
         ensures { (areas : List Area) × AreFreeAreas (state_of self.now) areas × ((last : F) × FoldsTo (λ p x q. CalledAt F.FnMut p x tt q) visit areas last) }
     {
         visit_free(&self.store.slots, visit);
     }
 
     /// Calls `visit` on each live id and its rectangle once, by rising number of the slot, which is the low 24 bits of the
-    /// id. Asks that `visit` may be called.
+    /// id. Asks that `visit` may be called along that list, and no more: nothing else is called.
     pub fn for_each_allocated_rectangle<F: FnMut(AllocId, &Rectangle)>(&self, visit: F)
-        requires { F.IsAlwaysCallable visit }
+        requires { (grants : List Grant) → AreGrants (state_of self.now) grants → IsCallableAlongGrants F.FnMut (IsShownGrant (state_of self.now)) visit grants }
         ensures { (grants : List Grant) × AreGrants (state_of self.now) grants × ((last : F) × FoldsTo (CalledAtGrant F.FnMut) visit grants last) }
     {
         visit_allocated(&self.store.slots, visit);

@@ -4,6 +4,7 @@
 mod allocation;
 mod atlas;
 mod batch;
+mod change;
 mod choice;
 mod cut;
 mod error;
@@ -16,7 +17,9 @@ mod lists;
 mod options;
 mod pick;
 mod placing;
+mod refit;
 mod requests;
+pub mod session;
 mod simple;
 mod slots;
 mod start;
@@ -27,6 +30,7 @@ mod walks;
 
 pub use allocation::{AllocId, Allocation, SlotCount};
 pub use atlas::AtlasAllocator;
+pub use change::{Change, ChangeList};
 pub use error::AtlasError;
 pub use geometry::{Point, Rectangle, Size, point2, size2};
 pub use options::{AllocatorOptions, DEFAULT_OPTIONS};

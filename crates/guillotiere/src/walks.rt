@@ -5,6 +5,7 @@ ghost use Rattle.std.specs.Fn.{CalledAt};
 ghost use Rattle.guillotiere.specs.Slots.{nodes};
 ghost use Rattle.guillotiere.specs.Numbered.{id_of};
 ghost use Rattle.guillotiere.specs.Visits.{CalledAtGrant, allocated_from, free_areas, is_named};
+ghost use Rattle.guillotiere.specs.Walks.{IsCallableAlong, IsCallableAlongGrants};
 
 use crate::allocation::{AllocId, Allocation};
 use crate::error::AtlasError;
@@ -43,7 +44,7 @@ pub fn named_slot(slots: &[Slot], id: AllocId) -> Option<usize>
 /// Calls `visit` on each allocated slot, by rising number.
 pub fn visit_allocated<F: FnMut(AllocId, &Rectangle)>(slots: &[Slot], mut visit: F)
     requires short { length slots.now ≤ SLOT_NUMBERS }
-    requires callable { F.IsAlwaysCallable visit }
+    requires callable { IsCallableAlongGrants F.FnMut (λ _. Unit {0}) visit (allocated_from 0 (nodes slots.now)) }
     ensures { (last : F) × FoldsTo (CalledAtGrant F.FnMut) visit (allocated_from 0 (nodes slots.now)) last }
 {
     for (number, slot) in slots.iter().enumerate() {
@@ -55,7 +56,7 @@ pub fn visit_allocated<F: FnMut(AllocId, &Rectangle)>(slots: &[Slot], mut visit:
 
 /// Calls `visit` on the rectangle of each free slot, by rising number.
 pub fn visit_free<F: FnMut(&Rectangle)>(slots: &[Slot], mut visit: F)
-    requires { F.IsAlwaysCallable visit }
+    requires { IsCallableAlong F.FnMut (λ _. Unit {0}) visit (free_areas (nodes slots.now)) }
     ensures { (last : F) × FoldsTo (λ p x q. CalledAt F.FnMut p x tt q) visit (free_areas (nodes slots.now)) last }
 {
     for slot in slots {

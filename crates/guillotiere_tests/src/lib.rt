@@ -7,6 +7,8 @@ mod atlas_calls;
 #[cfg(test)]
 mod atlas_churn;
 #[cfg(test)]
+mod atlas_extremes;
+#[cfg(test)]
 mod atlas_freeing;
 #[cfg(test)]
 mod atlas_grants;
@@ -25,18 +27,28 @@ mod atlas_walks;
 #[cfg(test)]
 mod geometry;
 #[cfg(test)]
+mod session_long;
+#[cfg(test)]
+mod session_rows;
+#[cfg(test)]
 mod simple_recorded;
 #[cfg(test)]
 mod simple_rows;
 #[cfg(test)]
 mod simple_sessions;
 #[cfg(test)]
+mod simple_whole;
+#[cfg(test)]
 mod tables;
 #[cfg(test)]
 mod tool_atlas;
+#[cfg(test)]
+mod tool_conversation;
 #[cfg(test)]
 mod tool_devices;
 #[cfg(test)]
 mod tool_faults;
 #[cfg(test)]
 mod tool_rows;
+#[cfg(test)]
+mod tool_whole;

@@ -1,4 +1,4 @@
-use Rattle.std.proofs.Common.{◌≡◌, ◌+◌, ◌-◌, ◌^◌, ◌≤◌, length, false}
+use Rattle.std.proofs.Common.{◌≡◌, ◌+◌, ◌-◌, ◌^◌, ◌≤◌, length, [], false}
 use Rattle.atlas_lines.specs.Lines.{HasNoEnd}
 use Rattle.atlas_lines.specs.Progress.{HasRun}
 use Rattle.atlas_lines.proofs.run.Progress.run.Given as goal
@@ -7,6 +7,7 @@ abbrev pub invariant-loop-left : goal.invariant-loop-left
 invariant-loop-left g l = record {
   reading : g.R.ToolInput.has_failed l.input ≡ false;
   working : g.W.ToolOutput.has_failed l.output ≡ false;
+  waiting : l.waiting ≡ [];
   top : l.left ≤ 2 ^ 64 - 1;
   no_end : HasNoEnd l.self.line;
   room : l.self.number + length l.self.line ≤ 2 ^ 64 - 1 - l.left;

@@ -1,7 +1,8 @@
-use Rattle.std.proofs.Common.{sym, ◌∙◌}
+use Rattle.std.proofs.Common.{sym, subst, ◌∙◌}
+use Rattle.guillotiere.specs.States.{IsSound}
 use Rattle.guillotiere.specs.Stored.{state_of}
 use Rattle.guillotiere.proofs.NamedSlots.{named-found, named-missed}
-use Rattle.guillotiere.proofs.LyingApart.{shown_live}
+use Rattle.guillotiere.proofs.LyingApart.{shown_live, shown_within}
 use Rattle.guillotiere.proofs.atlas.AtlasAllocator.get.Goals as goal
 
 pub returns-in_err-at-clause-rectangle : goal.returns-in_err-at-clause-rectangle
@@ -19,3 +20,13 @@ returns-in_err-at-clause-live g c = shown_live (state_of c.args.self.now) c.args
 
 pub returns-clause-live : goal.returns-clause-live
 returns-clause-live g c = shown_live (state_of c.args.self.now) c.args.id _ (returns-clause-rectangle g c)
+
+pub returns-in_err-at-clause-within : goal.returns-in_err-at-clause-within
+returns-in_err-at-clause-within g c =
+    shown_within (state_of c.args.self.now) (subst (λ w. IsSound (state_of w)) c.self.view_is c.self.invariant.sound) c.args.id _
+    (returns-in_err-at-clause-rectangle g c)
+
+pub returns-clause-within : goal.returns-clause-within
+returns-clause-within g c =
+    shown_within (state_of c.args.self.now) (subst (λ w. IsSound (state_of w)) c.self.view_is c.self.invariant.sound) c.args.id _
+    (returns-clause-rectangle g c)

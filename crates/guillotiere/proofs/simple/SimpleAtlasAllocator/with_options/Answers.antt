@@ -8,4 +8,4 @@ pub invariant_of-result : goal.invariant_of-result
 invariant_of-result g c =
     start-stored c.in_ok-lists.lists c.args.size c.args.options.now c.class.result c.from.result
     (omega (arith, c.class.ensures, class_of-below (options_of c.args.options.now) (sides_of c.args.size)))
-    c.requires.nonempty c.requires.valid c.class.ensures c.from.ensures c.in_ok-lists.ensures.added c.in_ok-lists.ensures.others
+    c.requires.nonempty c.requires.valid c.class.ensures c.from.ensures c.in_ok-lists.ensures.added (λ j _. c.in_ok-lists.ensures.others j)

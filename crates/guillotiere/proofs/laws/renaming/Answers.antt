@@ -1,0 +1,5 @@
+use Rattle.guillotiere.proofs.Renaming.{renaming}
+use Rattle.guillotiere.proofs.laws.renaming.Goals as goal
+
+pub returns : goal.returns
+returns c = renaming

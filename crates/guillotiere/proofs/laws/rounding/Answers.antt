@@ -1,0 +1,5 @@
+use Rattle.guillotiere.proofs.Existence.{rounding_is_least}
+use Rattle.guillotiere.proofs.laws.rounding.Goals as goal
+
+pub returns : goal.returns
+returns c = rounding_is_least

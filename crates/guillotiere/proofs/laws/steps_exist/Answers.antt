@@ -1,0 +1,5 @@
+use Rattle.guillotiere.proofs.Existence.{steps_exist}
+use Rattle.guillotiere.proofs.laws.steps_exist.Goals as goal
+
+pub returns : goal.returns
+returns c = steps_exist

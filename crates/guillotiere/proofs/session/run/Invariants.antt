@@ -1,0 +1,17 @@
+use Rattle.std.proofs.Common.{◌≡◌, ◌+◌, ◌≤◌, length, take, drop, vec_len, vec_capacity, All}
+use Rattle.guillotiere.specs.States.{IsSound}
+use Rattle.guillotiere.specs.Stored.{state_of}
+use Rattle.guillotiere.specs.Sessions.{calls_of, replies_of, IsExactReply}
+use Rattle.guillotiere.proofs.Playing.{IsPlayed}
+use Rattle.guillotiere.proofs.session.run.Given as goal
+
+abbrev pub invariant-loop-call : goal.invariant-loop-call
+invariant-loop-call g l =
+    record {
+      sound : IsSound (state_of l.fn.atlas);
+      room : vec_len l.replies + length l.calls ≤ vec_capacity l.replies + l.call-index;
+      longer : vec_len l.fn.replies ≤ length l.replies.items;
+      kept : take (vec_len l.fn.replies) l.replies.items ≡ l.fn.replies.items;
+      exact : All IsExactReply (drop (vec_len l.fn.replies) l.replies.items);
+      played : IsPlayed l.fn.atlas (calls_of (take l.call-index l.calls)) (replies_of (drop (vec_len l.fn.replies) l.replies.items)) l.atlas;
+    }

@@ -1,0 +1,31 @@
+-- What a rearranging answers, as the model sees it.
+use Rattle.std.specs.Prelude.{All, map, Result, Ok, Err}
+use Rattle.guillotiere.specs.declared.allocation.Allocation.{Allocation}
+use Rattle.guillotiere.specs.declared.change.Change.{Change}
+use Rattle.guillotiere.specs.declared.change.ChangeList.{ChangeList}
+use Rattle.guillotiere.specs.declared.error.AtlasError.{AtlasError}
+use Rattle.guillotiere.specs.Refits.{Transfer, Rearrangement}
+use Rattle.guillotiere.specs.Replies.{grant_of, IsExact}
+use Rattle.guillotiere.specs.Steps.{AtlasReply}
+use Rattle.guillotiere.specs.Steps.AtlasReply.{Changed, Refused}
+
+abbrev pub transfer_of : Change → Transfer
+transfer_of c = record { old = grant_of c.old; new = grant_of c.new }
+
+-- both lists, in their order
+abbrev pub rearrangement_of : {A : Type 0} → ChangeList A → Rearrangement
+rearrangement_of list =
+    record { changes = map transfer_of list.changes.items; failures = map grant_of list.failures.items }
+
+-- both rectangles of a change have the coordinates of boxes
+abbrev pub IsExactChange : Change → Type 0
+IsExactChange c = IsExact c.old.rectangle × IsExact c.new.rectangle
+
+-- each rectangle of both lists has the coordinates of a box
+pub record AreExactChanges {A : Type 0} (list : ChangeList A) : Type 0 where
+  pub changes : All IsExactChange list.changes.items
+  pub failures : All (λ (a : Allocation). IsExact a.rectangle) list.failures.items
+
+abbrev pub change_reply : {A : Type 0} → Result (ChangeList A) AtlasError → AtlasReply
+change_reply (Ok list) = Changed (rearrangement_of list)
+change_reply (Err error) = Refused error

@@ -1,0 +1,189 @@
+//! Sessions: lists of calls of an atlas, and their replies.
+ghost use Rattle.std.specs.Prelude.{◌≡◌, ◌↔◌, true, All, take, drop, vec_len, IsTrue, IfOk, OnOk, OnErr, IsOkUnless};
+ghost use Rattle.guillotiere.specs.Boxes.{Fits, IsPositive};
+ghost use Rattle.guillotiere.specs.Pixels.{sides_of, options_of};
+ghost use Rattle.guillotiere.specs.Steps.{Step};
+ghost use Rattle.guillotiere.specs.StepLaws.{is_refusal};
+ghost use Rattle.guillotiere.specs.Stored.{state_of};
+ghost use Rattle.guillotiere.specs.Steps.AtlasCall.{Allocate, Deallocate, Grow, Reset, ResizeAndRearrange};
+ghost use Rattle.guillotiere.specs.Replies.{done_reply};
+ghost use Rattle.guillotiere.specs.Rearranging.{change_reply, AreExactChanges};
+ghost use Rattle.guillotiere.specs.Sessions.{call_of, reply_of, IsExactReply, TakesTurns, IsAnswered, IsSession};
+
+mod simple;
+
+pub use simple::{SimpleCall, SimpleReply, run_simple};
+
+use crate::allocation::{AllocId, Allocation};
+use crate::atlas::AtlasAllocator;
+use crate::change::ChangeList;
+use crate::error::AtlasError;
+use crate::geometry::Size;
+use crate::options::AllocatorOptions;
+use std::alloc::{Allocator, Global};
+
+/// A call of an atlas, as data.
+#[derive(Clone, Copy, Debug, PartialEq, Eq)]
+pub enum Call {
+    /// `allocate`
+    Allocate(Size),
+    /// `deallocate`
+    Deallocate(AllocId),
+    /// `grow`, to a size of which no side is below that of the atlas
+    Grow(Size),
+    /// `clear`
+    Clear,
+    /// `reset`, to a size that isn't empty, with valid options
+    Reset(Size, AllocatorOptions),
+    /// `rearrange`
+    Rearrange,
+    /// `resize_and_rearrange`, to a size that isn't empty
+    ResizeAndRearrange(Size),
+}
+
+/// What a call of an atlas answers.
+#[derive(Drop)]
+#[derive_where(Debug, PartialEq)]
+pub enum Reply<A: Allocator + Copy = Global> {
+    /// A request was granted.
+    Allocated(Allocation),
+    /// A request has no room; nothing changed.
+    NoRoom,
+    /// A freeing, a growth or a start is done.
+    Done,
+    /// A rearranging is done.
+    Changed(ChangeList<A>),
+    /// The call was refused; nothing changed.
+    Refused(AtlasError),
+    /// The condition of the call doesn't hold; nothing changed.
+    BadCall,
+}
+
+// Whether both sides are above 0.
+fn is_positive(size: Size) -> bool
+    ensures { IsTrue result ↔ IsPositive (sides_of size) }
+{
+    size.width > 0 && size.height > 0
+}
+
+// Whether neither side of the atlas is greater than that of a size.
+fn shrinks_no_side<A: Allocator + Copy>(atlas: &AtlasAllocator<A>, new_size: Size) -> bool
+    ensures { IsTrue result ↔ Fits (state_of atlas.now).size (sides_of new_size) }
+{
+    let size = atlas.size();
+    size.width <= new_size.width && size.height <= new_size.height
+}
+
+// What a call answers that gives nothing back.
+fn done<A: Allocator + Copy>(answer: Result<(), AtlasError>) -> Reply<A>
+    ensures reply { reply_of result ≡ done_reply answer }
+    ensures exact { IsExactReply result }
+{
+    match answer {
+        Ok(()) => Reply::Done,
+        Err(error) => Reply::Refused(error),
+    }
+}
+
+// What a rearranging answers.
+fn changed<A: Allocator + Copy>(answer: Result<ChangeList<A>, AtlasError>) -> Reply<A>
+    requires { IfOk answer AreExactChanges }
+    ensures reply { reply_of result ≡ change_reply answer }
+    ensures exact { IsExactReply result }
+{
+    match answer {
+        Ok(list) => Reply::Changed(list),
+        Err(error) => Reply::Refused(error),
+    }
+}
+
+fn allocate<A: Allocator + Copy>(atlas: &mut AtlasAllocator<A>, size: Size) -> Reply<A>
+    ensures { IsAnswered atlas.old (Allocate (sides_of size)) result atlas.new }
+{
+    match atlas.allocate(size) {
+        Ok(Some(allocation)) => Reply::Allocated(allocation),
+        Ok(None) => Reply::NoRoom,
+        Err(error) => Reply::Refused(error),
+    }
+}
+
+fn deallocate<A: Allocator + Copy>(atlas: &mut AtlasAllocator<A>, id: AllocId) -> Reply<A>
+    ensures { IsAnswered atlas.old (Deallocate id) result atlas.new }
+{
+    done(atlas.deallocate(id))
+}
+
+fn grow<A: Allocator + Copy>(atlas: &mut AtlasAllocator<A>, size: Size) -> Reply<A>
+    ensures { IsAnswered atlas.old (Grow (sides_of size)) result atlas.new }
+{
+    if !shrinks_no_side(atlas, size) {
+        return Reply::BadCall;
+    }
+    done(atlas.grow(size))
+}
+
+fn reset<A: Allocator + Copy>(
+    atlas: &mut AtlasAllocator<A>,
+    size: Size,
+    options: &AllocatorOptions,
+) -> Reply<A>
+    ensures { IsAnswered atlas.old (Reset (sides_of size) (options_of options.now)) result atlas.new }
+{
+    if !is_positive(size) || !options.is_valid() {
+        return Reply::BadCall;
+    }
+    done(atlas.reset(size, options))
+}
+
+fn resize<A: Allocator + Copy>(atlas: &mut AtlasAllocator<A>, size: Size) -> Reply<A>
+    ensures { IsAnswered atlas.old (ResizeAndRearrange (sides_of size)) result atlas.new }
+{
+    if !is_positive(size) {
+        return Reply::BadCall;
+    }
+    changed(atlas.resize_and_rearrange(size))
+}
+
+/// Makes a call of an atlas. Where the condition of the call doesn't hold it answers `BadCall`. Unless the reply says
+/// that something was done, nothing changes.
+pub fn step<A: Allocator + Copy>(atlas: &mut AtlasAllocator<A>, call: &Call) -> Reply<A>
+    ensures step { Step (state_of atlas.old) (call_of call.now) (reply_of result) (state_of atlas.new) }
+    ensures exact { IsExactReply result }
+    ensures unchanged { is_refusal (reply_of result) ≡ true → atlas.new ≡ atlas.old }
+    ensures turns { TakesTurns atlas.old (call_of call.now) (reply_of result) atlas.new }
+{
+    match call {
+        Call::Allocate(size) => allocate(atlas, *size),
+        Call::Deallocate(id) => deallocate(atlas, *id),
+        Call::Grow(size) => grow(atlas, *size),
+        Call::Clear => done(atlas.clear()),
+        Call::Reset(size, options) => reset(atlas, *size, options),
+        Call::Rearrange => changed(atlas.rearrange()),
+        Call::ResizeAndRearrange(size) => resize(atlas, *size),
+    }
+}
+
+/// Makes calls of an atlas in turn, and appends a reply for each. Room for all replies comes first: `Memory` is the
+/// only error, and after it atlas and replies are as before. So after any list of calls the boxes tile the atlas as
+/// leaves of one normal tree of cuts, and each reply is owed (docs/MODEL.md, "Sessions").
+pub fn run<A: Allocator + Copy>(
+    atlas: &mut AtlasAllocator<A>,
+    calls: &[Call],
+    replies: &mut Vec<Reply<A>, A>,
+) -> Result<(), AtlasError>
+    ensures unless { IsOkUnless result AtlasError.Memory }
+    ensures session { OnOk result
+        (IsSession atlas.old calls.now (drop (vec_len replies.old) replies.new.items) atlas.new) }
+    ensures exact { OnOk result (All IsExactReply (drop (vec_len replies.old) replies.new.items)) }
+    ensures kept { take (vec_len replies.old) replies.new.items ≡ replies.old.items }
+    ensures refused { OnErr result (atlas.new ≡ atlas.old) }
+    ensures no_reply { OnErr result (replies.new.items ≡ replies.old.items) }
+{
+    replies.reserve(calls.len())?;
+    // its contract says that the atlas is sound
+    let _size = atlas.size();
+    for call in calls {
+        replies.push_reserved(step(atlas, call));
+    }
+    Ok(())
+}
