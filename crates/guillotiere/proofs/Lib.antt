@@ -126,3 +126,5 @@ pub mod CallerLemmas
 pub mod LiveBoxes
 pub mod LyingApart
 pub mod Guarding
+pub mod CallerSteps
+pub mod Measuring

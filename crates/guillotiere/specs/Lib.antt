@@ -52,3 +52,4 @@ pub mod Rearranging
 pub mod Refitted
 pub mod Sessions
 pub mod Callers
+pub mod Codes

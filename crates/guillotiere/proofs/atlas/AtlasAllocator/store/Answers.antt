@@ -1,4 +1,3 @@
-use Rattle.guillotiere.specs.Visits.{AreFreeAreas}
 use Rattle.guillotiere.proofs.ShownLists.{free_areas-IsAtlas}
 use Rattle.std.proofs.Common.{refl}
 use Rattle.guillotiere.proofs.atlas.AtlasAllocator.store.Goals as goal

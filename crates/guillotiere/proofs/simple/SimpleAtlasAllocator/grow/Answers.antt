@@ -2,7 +2,6 @@ use Rattle.std.proofs.Common.{sym, subst, ◌∙◌}
 use Rattle.guillotiere.specs.Boxes.{Fits}
 use Rattle.guillotiere.specs.Pixels.{sides_of}
 use Rattle.guillotiere.specs.FreeLists.{state_of}
-use Rattle.guillotiere.specs.Simple.{SimplyGrows}
 use Rattle.guillotiere.proofs.SimpleSteps.{grow-guarded}
 use Rattle.guillotiere.proofs.SimpleStarting.{grows-stored, grown-stored, equal-grows, same-sides}
 use Rattle.guillotiere.proofs.simple.SimpleAtlasAllocator.grow.Goals as goal

@@ -1,12 +1,12 @@
 use Rattle.std.proofs.Common.{ℕ, ◌<◌, ◌≤◌, ◌∙◌, Result, Ok, Err, rules, arith}
 use Rattle.std.specs.Result.{OnErr}
 use Rattle.guillotiere.specs.Boxes.{whole_box}
-use Rattle.guillotiere.specs.Pixels.{box_of, options_of, sides_of}
+use Rattle.guillotiere.specs.Pixels.{options_of, sides_of}
 use Rattle.guillotiere.specs.FreeLists.{spare_at}
 use Rattle.guillotiere.proofs.ListedBoxes.{same-classes}
-use Rattle.guillotiere.proofs.CuttingFromLists.{unsigned_of, match_weaker, home-class}
+use Rattle.guillotiere.proofs.CuttingFromLists.{match_weaker, home-class}
 use Rattle.guillotiere.proofs.SimpleSteps.{whole-positive}
-use Rattle.guillotiere.proofs.SimpleLists.{kept-needed, rest-boxes, whole-exact, whole-holds}
+use Rattle.guillotiere.proofs.SimpleLists.{kept-needed, rest-boxes, whole-exact}
 use Rattle.guillotiere.proofs.simple.changes.add_rest.Goals as goal
 
 always : {V E P : Type 0} (r : Result V E) → P → OnErr r P

@@ -1,7 +1,7 @@
-use Rattle.std.proofs.Common.{rules, ◌++◌, map, drop, subst, sym}
+use Rattle.std.proofs.Common.{rules, ◌++◌, map, subst}
 use Rattle.guillotiere.specs.Boxes.{AreSameBoxes, IsNonempty}
-use Rattle.guillotiere.specs.FreeLists.{AreInClasses, listed}
-use Rattle.guillotiere.specs.Pixels.{box_of, options_of}
+use Rattle.guillotiere.specs.FreeLists.{listed}
+use Rattle.guillotiere.specs.Pixels.{box_of}
 use Rattle.guillotiere.specs.Rectangles.{IsUnsigned}
 use Rattle.std.specs.List.{All}
 use Rattle.guillotiere.specs.Slots.{nodes}
