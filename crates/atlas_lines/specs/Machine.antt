@@ -18,7 +18,7 @@ use Rattle.guillotiere.specs.Stored.{AtlasValue}
 use Rattle.guillotiere.specs.Stored as stored
 use Rattle.guillotiere.specs.Simple.{SimpleState, SimpleAtlasCall, SimpleAnswer, SimpleStep, simple_start}
 use Rattle.atlas_lines.specs.declared.commands.Command.{Command}
-use Rattle.atlas_lines.specs.declared.commands.Command.TheVariants.{Simple, Take, Atlas, Alloc, Live, Holes, AskSize, Free, Grow, Empty, Clear, Rearrange, Resize}
+use Rattle.atlas_lines.specs.declared.commands.Command.TheVariants.{Simple, Take, Atlas, Alloc, Live, Holes, AskSize, Free, Grow, Empty, Clear, Rearrange, Resize, FromAtlas}
 use Rattle.atlas_lines.specs.declared.replies.Reply.{Reply}
 use Rattle.atlas_lines.specs.declared.replies.Reply.TheVariants.{Completed, Placed, NotPlaced, Allocated, Extent, Truth, NoAtlas, NoSimple, Invalid, Declined}
 
@@ -76,6 +76,14 @@ RequestsSimple None size reply new = (reply ≡ NoSimple) × (new ≡ None)
 RequestsSimple (Some state) size reply new =
     (answer : SimpleAnswer) × (later : SimpleState)
     × SimpleStep state (SimpleAtlasCall.Allocate size) answer later × (reply ≡ simple_reply answer) × (new ≡ Some later)
+
+-- the simple allocator takes over from the atlas, if there are both
+abbrev pub StartsSimple : Option State → Option SimpleState → Reply → Option SimpleState → Type 0
+StartsSimple None simple reply new = (reply ≡ NoAtlas) × (new ≡ simple)
+StartsSimple (Some source) None reply new = (reply ≡ NoSimple) × (new ≡ None)
+StartsSimple (Some source) (Some state) reply new =
+    (answer : SimpleAnswer) × (later : SimpleState)
+    × SimpleStep state (SimpleAtlasCall.Start source) answer later × (reply ≡ simple_reply answer) × (new ≡ Some later)
 
 -- the creation of an atlas, which takes the place of an earlier one
 abbrev pub CreatesAtlas : ToolState → Sides → Options → Reply → ToolState → Type 0
@@ -188,6 +196,8 @@ ToolStep old Clear reply new = IsLine (λ line. CallsAtlas old.atlas AtlasCall.C
 ToolStep old Rearrange reply new = RearrangesAtlas old.atlas AtlasCall.Rearrange reply new.atlas × (new.simple ≡ old.simple)
 ToolStep old (Resize size) reply new =
     RearrangesAtlas old.atlas (ResizeAndRearrange (sides_of size)) reply new.atlas × (new.simple ≡ old.simple)
+ToolStep old FromAtlas reply new =
+    IsLine (λ line. StartsSimple old.atlas old.simple line new.simple) reply × (new.atlas ≡ old.atlas)
 ToolStep old Live reply new = LooksAtAtlas old.atlas ShowsLive reply × (new ≡ old)
 ToolStep old Holes reply new = LooksAtAtlas old.atlas ShowsHoles reply × (new ≡ old)
 ToolStep old AskSize reply new = LooksAtAtlas old.atlas (λ state. IsLine (ShowsSize state)) reply × (new ≡ old)

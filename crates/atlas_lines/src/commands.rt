@@ -37,6 +37,8 @@ pub enum Command {
     Rearrange,
     /// `resize W H`: place what is allocated anew in this size.
     Resize(Size),
+    /// `from-atlas`: make the simple allocator take over the atlas's size, options and free rectangles.
+    FromAtlas,
 }
 
 /// A line of more bytes is bad.
@@ -67,6 +69,9 @@ fn parse_alone(word: &[u8], rest: &[u8]) -> Option<Command>
     }
     if word == b"rearrange".as_slice() {
         return Some(Command::Rearrange);
+    }
+    if word == b"from-atlas".as_slice() {
+        return Some(Command::FromAtlas);
     }
     None
 }

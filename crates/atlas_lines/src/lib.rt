@@ -18,4 +18,5 @@ pub use commands::{Command, parse_line};
 pub use devices::{ToolInput, ToolOutput};
 pub use run::{ToolEnd, ToolFault, run_lines};
 pub use standard::{StdInput, StdOutput};
+// The words and numbers of lines, for other programs that read lines.
 pub use words::{first_word, unsigned};

@@ -12,9 +12,10 @@ pub struct StdInput<R> {
 }
 
 impl<R: Read> StdInput<R> {
-    /// A device that hasn't failed.
+    /// A device that hasn't failed. It will give the bytes that the reader will give, where the reader tells them.
     pub fn new(inner: R) -> StdInput<R>
-        ensures { result ≡ record { inner = inner; failed = false } }
+        ensures failed { ⟦<StdInput<R> as ToolInput>⟧.has_failed result ≡ false }
+        ensures remaining { ⟦<StdInput<R> as ToolInput>⟧.remaining result ≡ R.remaining inner }
     {
         StdInput {
             inner,
@@ -51,9 +52,10 @@ pub struct StdOutput<W> {
 }
 
 impl<W: Write> StdOutput<W> {
-    /// A device that hasn't failed.
+    /// A device that hasn't failed. It holds the bytes that the writer holds, where the writer tells them.
     pub fn new(inner: W) -> StdOutput<W>
-        ensures { result ≡ record { inner = inner; failed = false } }
+        ensures failed { ⟦<StdOutput<W> as ToolOutput>⟧.has_failed result ≡ false }
+        ensures contents { ⟦<StdOutput<W> as ToolOutput>⟧.contents result ≡ W.contents inner }
     {
         StdOutput {
             inner,

@@ -8,7 +8,7 @@ ghost use Rattle.guillotiere.specs.Rearranging.{AreExactChanges, change_reply};
 ghost use Rattle.guillotiere.specs.Steps.AtlasCall.{Allocate, Deallocate, Grow, Clear, Rearrange, ResizeAndRearrange};
 ghost use Rattle.guillotiere.specs.Stored as stored;
 ghost use Rattle.atlas_lines.specs.Answers.{shown_by, Replies, BeginsToReply};
-ghost use Rattle.atlas_lines.specs.Machine.{ToolReply, ToolStep, CreatesSimple, RequestsSimple, CreatesAtlas, CallsAtlas, RearrangesAtlas, ShowsRearranging, LooksAtAtlas, IsLine, ShowsLive, ShowsHoles, ShowsSize, ShowsEmpty, HoldsHoles, atlas_in, state_of};
+ghost use Rattle.atlas_lines.specs.Machine.{ToolReply, ToolStep, CreatesSimple, RequestsSimple, StartsSimple, CreatesAtlas, CallsAtlas, RearrangesAtlas, ShowsRearranging, LooksAtAtlas, IsLine, ShowsLive, ShowsHoles, ShowsSize, ShowsEmpty, HoldsHoles, atlas_in, state_of};
 
 use crate::commands::Command;
 use crate::devices::ToolOutput;
@@ -106,6 +106,7 @@ impl<'a, A: Allocator> Tool<'a, A> {
             Command::Clear => Answer::OneLine(self.clear()),
             Command::Rearrange => self.rearrange(),
             Command::Resize(size) => self.resize(size),
+            Command::FromAtlas => Answer::OneLine(self.start_simple()),
         }
     }
 
@@ -150,6 +151,22 @@ impl<'a, A: Allocator> Tool<'a, A> {
         match simple.allocate(size) {
             Ok(Some(rectangle)) => Reply::Placed(rectangle),
             Ok(None) => Reply::NotPlaced,
+            Err(error) => Reply::Declined(error),
+        }
+    }
+
+    fn start_simple(&mut self) -> Reply
+        ensures step { StartsSimple (atlas_in self.old.atlas) self.old.simple result self.new.simple }
+        ensures atlas { self.new.atlas ≡ self.old.atlas }
+    {
+        let Some(atlas) = &self.atlas else {
+            return Reply::NoAtlas;
+        };
+        let Some(simple) = &mut self.simple else {
+            return Reply::NoSimple;
+        };
+        match simple.init_from_allocator(atlas) {
+            Ok(()) => Reply::Completed,
             Err(error) => Reply::Declined(error),
         }
     }

@@ -51,11 +51,11 @@ ids-marked s (Seq e inner rest) k at =
       | inr h ↦ Contains-append_right (ids inner) (ids rest) k (ids-marked s rest k h)
     ]
 
-ids_released : (s : ℕ → Bool) (t : Tree) (k : ℕ) → Contains (ids (release s t).members) k → Contains (ids t.members) k
+pub ids_released : (s : ℕ → Bool) (t : Tree) (k : ℕ) → Contains (ids (release s t).members) k → Contains (ids t.members) k
 ids_released s t k at = ids-marked s t.members k (subst (λ xs. Contains xs k) (ids-nf (mark s t.members)) at)
 
 -- an id is the new one, or one of a list
-abbrev IsNewOr : (id : ℕ) → List ℕ → ℕ → Type 0
+abbrev pub IsNewOr : (id : ℕ) → List ℕ → ℕ → Type 0
 IsNewOr id xs k = (id ≡ k) ⊎ Contains xs k
 
 new_or_more : (id : ℕ) (xs ys : List ℕ) (k : ℕ) → (Contains xs k → Contains ys k) → IsNewOr id xs k → IsNewOr id ys k
@@ -99,7 +99,7 @@ ids-placed_at b r id axis o across (Seq e inner rest) k at =
           (ids-placed_at b r id axis (moved axis o e) across rest k h)
     ]
 
-ids_placed : (size : Sides) (b : Box) (r : Sides) (id : ℕ) (t : Tree) (k : ℕ) → Contains (ids (place size b r id t).members) k
+pub ids_placed : (size : Sides) (b : Box) (r : Sides) (id : ℕ) (t : Tree) (k : ℕ) → Contains (ids (place size b r id t).members) k
     → (id ≡ k) ⊎ Contains (ids t.members) k
 ids_placed size b r id t k at = ids-placed_at b r id t.axis origin (side (other t.axis) size) t.members k at
 

@@ -2,7 +2,7 @@
 use Rattle.std.proofs.Common.{ℕ, suc, ◌+◌, ◌%◌, ◌^◌, ◌<◌, ◌≡◌, Bool, true, false, cond, List, [], ◌∷◌, length, All, Option, Some, None, option_map, refl, sym, ap, subst, ◌∙◌, arith}
 use Rattle.std.proofs.lemmas.Bool.{false≢true}
 use Rattle.std.proofs.lemmas.List.{length-map}
-use Rattle.std.proofs.lemmas.List.Elements.{All-nil, All-cons, All-head, All-rest}
+use Rattle.std.proofs.lemmas.List.Elements.{All-nil, All-cons, All-head, All-rest, All-weaker}
 use Rattle.std.specs.Iterator.{Yields, CallableAtEachTurn}
 use Rattle.guillotiere.specs.declared.slots.Slot.{Slot}
 use Rattle.guillotiere.specs.declared.slots.Node.{Node}
@@ -18,9 +18,11 @@ use Rattle.guillotiere.specs.Stored.{Stored, IsAtlas, state_of}
 use Rattle.guillotiere.specs.Visits.{is_alloc, allocation_at, allocated_from, free_areas}
 use Rattle.guillotiere.specs.Lists.{is_free}
 use Rattle.guillotiere.specs.Walks.{first_of, IsShownArea, IsShownGrant}
+use Rattle.guillotiere.specs.Areas.{live_areas}
+use Rattle.guillotiere.proofs.AreaSums.{live_areas-shown}
 use Rattle.guillotiere.proofs.JoiningWrites.{used-inside}
 use Rattle.guillotiere.proofs.SlotAreas.{Stands-exact}
-use Rattle.guillotiere.proofs.SlotMeasures.{Holds-measurable}
+use Rattle.guillotiere.proofs.SlotMeasures.{Holds-span}
 use Rattle.guillotiere.proofs.NamedSlots.{named-true, named-IsAtlas, is_alloc-true}
 
 -- where each item of a list has P, an item that comes has it
@@ -96,11 +98,13 @@ module _ (v : Stored) (a : IsAtlas v) (turns : ℕ) where
       ∙ ap (λ b. cond b (Some (node_at ns (id % 2 ^ 24)).area) None) named.0
       ∙ ap (λ k. Some (node_at ns k).area) named.1 in
       let box = box_is _ (node_at ns i).area area in
+      let span = Holds-span v.shelf a.holding i a.holds used in
       record {
         live = rw box refl;
         box = box;
         exact = Stands-exact ns i a.holding.sequence a.holding.tree a.holds.stands used;
-        measurable = Holds-measurable v.shelf a.holding i a.holds used;
+        measurable = span.measurable;
+        nonempty = span.nonempty;
       }
 
   -- each allocated slot shows a live id with its rectangle
@@ -114,9 +118,11 @@ module _ (v : Stored) (a : IsAtlas v) (turns : ℕ) where
   shown-area i is =
       let ns = nodes v.shelf.slots in
       let used = is_free-used (node_at ns i).kind is in
+      let span = Holds-span v.shelf a.holding i a.holds used in
       record {
         exact = Stands-exact ns i a.holding.sequence a.holding.tree a.holds.stands used;
-        measurable = Holds-measurable v.shelf a.holding i a.holds used;
+        measurable = span.measurable;
+        nonempty = span.nonempty;
       }
 
   -- each free slot shows an exact rectangle that may be measured
@@ -124,3 +130,14 @@ module _ (v : Stored) (a : IsAtlas v) (turns : ℕ) where
   shown_areas-IsAtlas slots same =
       subst (λ l. All IsShownArea (free_areas (nodes l))) (sym same)
       (each-free IsShownArea (nodes v.shelf.slots) 0 (nodes v.shelf.slots) (λ j. ap (λ i. node_at (nodes v.shelf.slots) i) (let e : 0 + j ≡ j = omega arith in e)) shown-area)
+
+  -- each allocated slot too
+  pub shown_live-IsAtlas : (slots : List Slot) → slots ≡ v.shelf.slots → All IsShownArea (live_areas (nodes slots))
+  shown_live-IsAtlas slots same =
+      live_areas-shown IsShownArea 0 (nodes slots)
+      (All-weaker (IsShownGrant (state_of (record { stored = v; turns = 0 }))) (λ (x : Allocation). IsShownArea x.rectangle)
+      (λ x w. record { exact = w.exact; measurable = w.measurable; nonempty = w.nonempty }) (allocated_from 0 (nodes slots))
+      (shown-zero slots same))
+    where
+      shown-zero : (slots : List Slot) → slots ≡ v.shelf.slots → All (IsShownGrant (state_of (record { stored = v; turns = 0 }))) (allocated_from 0 (nodes slots))
+      shown-zero slots same = shown-IsAtlas slots same

@@ -61,6 +61,8 @@ pub mod SlotSums
 pub mod LeafCounts
 pub mod WalkSteps
 pub mod SlotMeasures
+mod CountSums
+mod AreaSums
 pub mod AlongLists
 pub mod Observing
 pub mod NamedSlots

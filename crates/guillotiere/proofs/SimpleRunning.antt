@@ -1,14 +1,16 @@
 -- Each run of the simple allocator keeps what is held guarded.
-use Rattle.std.proofs.Common.{◌≡◌, Bool, true, false, List, [], ◌∷◌, ◌++◌, append_assoc, refl, ap, sym, ◌∙◌, subst}
+use Rattle.std.proofs.Common.{◌≡◌, ◌≤◌, arith, false, List, [], ◌∷◌, ◌++◌, append_assoc, refl, sym, ◌∙◌, subst}
 use Rattle.std.proofs.lemmas.Bool.{or_parts, false≢true}
+use Rattle.std.specs.List.{count_by}
 use Rattle.std.proofs.lemmas.List.{append-nil}
+use Rattle.std.proofs.lemmas.List.Sums.{sum_by-append}
 use Rattle.guillotiere.specs.declared.error.AtlasError.TheVariants.{Memory}
-use Rattle.guillotiere.specs.Boxes.{Box}
+use Rattle.guillotiere.specs.Boxes.{Box, covers}
 use Rattle.guillotiere.specs.Simple.SimpleAtlasCall.{Allocate, Grow, Clear, Reset, Start}
 use Rattle.guillotiere.specs.Simple.SimpleAnswer.{Granted, NoRoom, Done, Refused, BadCall}
 use Rattle.guillotiere.specs.Simple.{SimpleState, IsSimple, IsGuarded, SimpleAtlasCall, SimpleAnswer, SimpleStep}
-use Rattle.guillotiere.specs.SimpleRuns.{SimpleRun, held_after, held_along, granted_boxes, is_start, has_start, KeepsGuard, SimpleRunsKeepGuard, SimpleStartsGuard}
-use Rattle.guillotiere.proofs.SimpleGrants.{start-simple}
+use Rattle.guillotiere.specs.SimpleRuns.{SimpleRun, held_after, held_along, granted_boxes, is_start, has_start, SimpleRunsKeepGuard, SimpleStartsGuard, GuardedAreDisjoint}
+use Rattle.guillotiere.proofs.SimpleGrants.{one_if, start-simple}
 use Rattle.guillotiere.proofs.SimpleSteps.{step-simple, step-held, starts-guarded, none-guarded}
 
 -- along a run
@@ -71,3 +73,8 @@ simple_starts_guard = record {
   reset = λ old new n o step. none-guarded new (subst IsSimple (sym step.2) (start-simple n o step.0 step.1));
   started = λ old new source step. starts-guarded source new step;
 }
+
+pub guarded_are_disjoint : GuardedAreDisjoint
+guarded_are_disjoint s held guarded x y =
+    let more : count_by (covers x y) held ≤ count_by (covers x y) (held ++ s.free) = omega (arith, sum_by-append (λ (b : Box). one_if (covers x y b)) held s.free) in
+    omega (arith, more, guarded.disjoint x y)

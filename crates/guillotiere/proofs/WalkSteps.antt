@@ -26,7 +26,7 @@ allocated-next xs i d low is =
     ∙ ap (λ k. cond (is_alloc k) (allocation_at i (get_or xs i d).node ∷ allocated_from (i + 1) (nodes (drop (i + 1) xs))) (allocated_from (i + 1) (nodes (drop (i + 1) xs)))) is
 
 -- a kind that the test of the code tells apart
-not_alloc : (k : NodeKind) (b : Bool) → b ≡ sameb the_type k kind.Alloc → b ≡ false → is_alloc k ≡ false
+pub not_alloc : (k : NodeKind) (b : Bool) → b ≡ sameb the_type k kind.Alloc → b ≡ false → is_alloc k ≡ false
 not_alloc kind.Alloc b e f = absurd (true≢false (sym e ∙ f))
 not_alloc kind.Container b e f = refl
 not_alloc kind.Free b e f = refl

@@ -38,6 +38,7 @@ pub mod Picks
 pub mod Holdings
 pub mod Visits
 pub mod Walks
+pub mod Areas
 pub mod Starts
 pub mod Freeing
 pub mod Planning

@@ -1,9 +1,11 @@
 -- The simple allocator: a set of free boxes, which grants and never takes back.
-use Rattle.std.specs.Prelude.{◌≡◌, ◌≢◌, nat_le, Bool, ◌&&◌, List, [], ◌∷◌, ◌++◌, map, filter, All, Option, Some, None, Result, Ok, Err}
+use Rattle.std.specs.Prelude.{◌≡◌, ◌≢◌, nat_le, Bool, ◌&&◌, List, [], ◌∷◌, ◌++◌, map, filter, All}
+use Rattle.std.specs.Prelude.{Option, Some, None, Result, Ok, Err}
 use Rattle.guillotiere.specs.declared.error.AtlasError.{AtlasError}
 use Rattle.guillotiere.specs.declared.error.AtlasError.TheVariants.{Memory}
 use Rattle.guillotiere.specs.declared.geometry.Rectangle.{Rectangle}
-use Rattle.guillotiere.specs.Boxes.{Sides, Box, Fits, IsPositive, IsNonempty, IsWithin, AreDisjoint, AreSameBoxes, box_at, box_sides, whole_box}
+use Rattle.guillotiere.specs.Boxes.{Sides, Box, box_at, box_sides, whole_box}
+use Rattle.guillotiere.specs.Boxes.{Fits, IsPositive, IsNonempty, IsWithin, AreDisjoint, AreSameBoxes}
 use Rattle.guillotiere.specs.Cuts.{rest_of}
 use Rattle.guillotiere.specs.Choice.{Options, AreValid, rounded, IsPick, HasRoom, HasNoRoom}
 use Rattle.guillotiere.specs.Pixels.{box_of}

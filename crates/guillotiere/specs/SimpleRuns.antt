@@ -1,9 +1,10 @@
 -- Runs of the simple allocator, the boxes that are held along them, and their laws.
 use Rattle.std.specs.Prelude.{◌≡◌, Bool, true, false, ◌||◌, List, [], ◌∷◌, ◌++◌}
-use Rattle.guillotiere.specs.Boxes.{Sides, Box, IsPositive}
+use Rattle.guillotiere.specs.Boxes.{Sides, Box, IsPositive, AreDisjoint}
 use Rattle.guillotiere.specs.Choice.{Options, AreValid}
 use Rattle.guillotiere.specs.States.{State}
-use Rattle.guillotiere.specs.Simple.{SimpleState, SimpleAtlasCall, SimpleAnswer, SimpleStep, IsSimple, IsGuarded, live_boxes, simple_start}
+use Rattle.guillotiere.specs.Simple.{SimpleState, SimpleAtlasCall, SimpleAnswer, SimpleStep}
+use Rattle.guillotiere.specs.Simple.{IsSimple, IsGuarded, live_boxes, simple_start}
 use Rattle.guillotiere.specs.Simple.SimpleAtlasCall.{Allocate, Clear, Reset, Start}
 use Rattle.guillotiere.specs.Simple.SimpleAnswer.{Granted, Done}
 
@@ -48,11 +49,14 @@ has_start _ _ = false
 
 -- What a run keeps: each state is that of a simple allocator, and boxes held before it are guarded after it, with
 -- those granted since; after a start, those that the atlas then held live, with those granted since.
-pub record KeepsGuard (old : SimpleState) (calls : List SimpleAtlasCall) (answers : List SimpleAnswer) (new : SimpleState) : Type 0 where
+pub record KeepsGuard (old : SimpleState) (calls : List SimpleAtlasCall) (answers : List SimpleAnswer)
+    (new : SimpleState) : Type 0 where
   pub simple : IsSimple new
   pub held : (held : List Box) → IsGuarded old held → IsGuarded new (held_along held calls answers)
   -- without a start, these are the boxes of before and the granted ones
-  pub granted : (held : List Box) → has_start calls answers ≡ false → IsGuarded old held → IsGuarded new (held ++ granted_boxes answers)
+  pub granted :
+      (held : List Box) → has_start calls answers ≡ false → IsGuarded old held
+      → IsGuarded new (held ++ granted_boxes answers)
 
 abbrev pub SimpleRunsKeepGuard : Type 0
 SimpleRunsKeepGuard =
@@ -65,4 +69,10 @@ pub record SimpleStartsGuard : Type 0 where
   pub created : (size : Sides) (o : Options) → IsPositive size → AreValid o → IsGuarded (simple_start size o) []
   pub cleared : (old new : SimpleState) → IsSimple old → SimpleStep old Clear Done new → IsGuarded new []
   pub reset : (old new : SimpleState) (n : Sides) (o : Options) → SimpleStep old (Reset n o) Done new → IsGuarded new []
-  pub started : (old new : SimpleState) (source : State) → SimpleStep old (Start source) Done new → IsGuarded new (live_boxes source)
+  pub started :
+      (old new : SimpleState) (source : State) → SimpleStep old (Start source) Done new
+      → IsGuarded new (live_boxes source)
+
+-- boxes that are guarded are disjoint from each other
+abbrev pub GuardedAreDisjoint : Type 0
+GuardedAreDisjoint = (s : SimpleState) (held : List Box) → IsGuarded s held → AreDisjoint held

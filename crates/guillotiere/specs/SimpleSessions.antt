@@ -40,8 +40,8 @@ simple_answers_of replies = map simple_answer_of replies
 
 -- Calls made of a simple allocator in turn, and their replies, one for each: a run of the model. It keeps guarded what
 -- was held before it, with what was granted since.
-pub record IsSimpleSession (source : State) (old : SimpleState) (calls : List SimpleCall) (replies : List SimpleReply) (new : SimpleState)
-    : Type 0 where
+pub record IsSimpleSession (source : State) (old : SimpleState) (calls : List SimpleCall)
+    (replies : List SimpleReply) (new : SimpleState) : Type 0 where
   pub count : length replies ≡ length calls
   pub run : SimpleRun old (simple_calls_of source calls) (simple_answers_of replies) new
   pub guard : KeepsGuard old (simple_calls_of source calls) (simple_answers_of replies) new

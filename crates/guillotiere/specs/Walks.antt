@@ -5,6 +5,7 @@ use Rattle.std.specs.Fn.{Mut, CalledAt, Takes, TakesAt}
 use Rattle.std.specs.Iterator.{CallableAtEachTurn}
 use Rattle.guillotiere.specs.declared.allocation.Allocation.{Allocation}
 use Rattle.guillotiere.specs.declared.geometry.Rectangle.{Rectangle}
+use Rattle.guillotiere.specs.Boxes.{IsNonempty}
 use Rattle.guillotiere.specs.Pixels.{box_of, IsMeasurable}
 use Rattle.guillotiere.specs.States.{State}
 use Rattle.guillotiere.specs.Replies.{IsExact, live_box}
@@ -22,6 +23,7 @@ TakesAtGrant g f x = (shown : Bor Rectangle) → shown.now ≡ x.rectangle → T
 pub record IsShownArea (area : Rectangle) : Type 0 where
   pub exact : IsExact area
   pub measurable : IsMeasurable area
+  pub nonempty : IsNonempty (box_of area)
 
 -- and at an id with its rectangle: the id is live
 pub record IsShownGrant (s : State) (x : Allocation) : Type 0 where
@@ -29,6 +31,7 @@ pub record IsShownGrant (s : State) (x : Allocation) : Type 0 where
   pub box : live_box s x.id ≡ Some (box_of x.rectangle)
   pub exact : IsExact x.rectangle
   pub measurable : IsMeasurable x.rectangle
+  pub nonempty : IsNonempty (box_of x.rectangle)
 
 -- f may be called at each rectangle of a list in turn, from the first on; each has P
 abbrev pub IsCallableAlong : {F : Type 0} → Mut F (Bor Rectangle × Unit {0}) (Unit {0}) → (Rectangle → Type 0) → F → List Rectangle → Type 0

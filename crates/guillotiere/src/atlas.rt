@@ -1,9 +1,9 @@
 //! The atlas allocator.
-ghost use Rattle.std.specs.Prelude.{◌≡◌, ◌≤◌, ◌<◌, ◌+◌, ◌-◌, ◌↔◌, List, [], IsTrue, IfOk, IfSome, OnErr, IsOkUnless, OnOk, length, IsSome, option_map, None, Some, Ok, All, map};
-ghost use Rattle.guillotiere.specs.Boxes.{Fits, IsPositive, IsWithin};
+ghost use Rattle.std.specs.Prelude.{◌≡◌, ◌≤◌, ◌<◌, ◌+◌, ◌-◌, ◌*◌, ◌↔◌, List, [], sum_by, IsTrue, IfOk, IfSome, OnErr, IsOkUnless, OnOk, length, IsSome, option_map, None, Some, Ok, All, map};
+ghost use Rattle.guillotiere.specs.Boxes.{area, Fits, IsPositive, IsWithin};
 ghost use Rattle.guillotiere.specs.Choice.{AreValid};
 ghost use Rattle.guillotiere.specs.Pixels.{sides_of, size_of, options_of, rectangle_of, box_of, IsMeasurable};
-ghost use Rattle.guillotiere.specs.States.{live_in, used_in, started, after_freeing, IsSound, IsLive};
+ghost use Rattle.guillotiere.specs.States.{live_in, free_in, used_in, started, after_freeing, IsSound, IsLive};
 ghost use Rattle.std.specs.List.{FoldsTo};
 ghost use Rattle.std.specs.Fn.{CalledAt};
 ghost use Rattle.guillotiere.specs.declared.geometry.Rectangle.{Rectangle as Area};
@@ -35,7 +35,9 @@ use crate::slots::{Link, NO_SLOT, NodeKind};
 use crate::store::Store;
 use crate::tree::{free_leaf, slots_needed};
 use crate::turns::Turns;
-use crate::walks::{gather_allocated, gather_free, named_slot, visit_allocated, visit_free};
+use crate::walks::{
+    free_sum, gather_allocated, gather_free, live_sum, named_slot, visit_allocated, visit_free,
+};
 use std::alloc::{Allocator, Global};
 use std::marker::Model;
 use std::ops::Index;
@@ -75,7 +77,7 @@ impl<A: Allocator + Copy> AtlasAllocator<A> {
     ghost use Rattle.guillotiere.specs.Stored.{state_of};
     ghost use Rattle.guillotiere.specs.Generations.{AreFirstGenerations};
     ghost use Rattle.guillotiere.specs.Replies.{allocate_reply, done_reply, grant_of, live_box, IsExact};
-    ghost use Rattle.guillotiere.specs.Rearranging.{change_reply, rearrangement_of, AreExactChanges};
+    ghost use Rattle.guillotiere.specs.Rearranging.{change_reply, rearrangement_of, AreExactChanges, KeepsSides};
     ghost use Rattle.guillotiere.specs.StepLaws.{IsRearrangingStep};
     ghost use Rattle.guillotiere.specs.Refits.{IsRefitOrder};
     ghost use Rattle.guillotiere.specs.Refitted.{HasExactRectangle};
@@ -243,9 +245,9 @@ impl<A: Allocator + Copy> AtlasAllocator<A> {
         Ok(())
     }
 
-    /// Frees the boxes of the ids of a list, in an order that can't be told. `NotLive` if one of them isn't live or stands
-    /// twice, and then nothing changes. Takes no memory, time in proportion to the list, and one turn an id more than there
-    /// are members fewer.
+    /// Frees the boxes of the ids of a list. The tree that is left doesn't tell in which order; the numbers of later ids
+    /// may. `NotLive` if one of them isn't live or stands twice, and then nothing changes. Takes no memory, time in
+    /// proportion to the list, and one turn an id more than there are members fewer.
     pub fn deallocate_all(&mut self, ids: &[AllocId]) -> Result<(), AtlasError>
         ensures freed { OnOk result (state_of self.new ≡ after_freeing (state_of self.old) (is_among ids.now)) }
         ensures ok { (result ≡ Ok tt) ↔ AreLiveOnce (state_of self.old) ids.now }
@@ -295,6 +297,7 @@ impl<A: Allocator + Copy> AtlasAllocator<A> {
     pub fn rearrange(&mut self) -> Result<ChangeList<A>, AtlasError>
         ensures step { Step (state_of self.old) Rearrange (change_reply result) (state_of self.new) }
         ensures exact { IfOk result AreExactChanges }
+        ensures sides { IfOk result (λ list. All KeepsSides list.changes.items) }
         ensures moves { IfOk result (λ list. IsRearrangingStep (state_of self.old) (rearrangement_of list) (state_of self.new)) }
         ensures refused { OnErr result (self.new ≡ self.old) }
         ensures turns { self.new.turns ≡ self.old.turns }
@@ -313,6 +316,7 @@ impl<A: Allocator + Copy> AtlasAllocator<A> {
         requires { IsPositive (sides_of new_size) }
         ensures step { Step (state_of self.old) (ResizeAndRearrange (sides_of new_size)) (change_reply result) (state_of self.new) }
         ensures exact { IfOk result AreExactChanges }
+        ensures sides { IfOk result (λ list. All KeepsSides list.changes.items) }
         ensures moves { IfOk result (λ list. IsRearrangingStep (state_of self.old) (rearrangement_of list) (state_of self.new)) }
         ensures refused { OnErr result (self.new ≡ self.old) }
         ensures turns { self.new.turns ≡ self.old.turns }
@@ -469,6 +473,23 @@ impl<A: Allocator + Copy> AtlasAllocator<A> {
         ensures areas { AreFreeAreas (state_of self.now) (free_areas (nodes result.now.slots.items)) }
     {
         &self.store
+    }
+
+    /// The area of all live rectangles together, in unit squares: with `free_area` it is the width times the height of the
+    /// atlas. One pass over the slots, and no memory.
+    pub fn allocated_area(&self) -> u64
+        ensures area { result ≡ sum_by (λ g. area g.box) (live_in (state_of self.now)) }
+        ensures whole { result + sum_by area (free_in (state_of self.now)) ≡ (state_of self.now).size.width * (state_of self.now).size.height }
+    {
+        live_sum(&self.store.slots)
+    }
+
+    /// The area of all free rectangles together, in unit squares. One pass over the slots, and no memory.
+    pub fn free_area(&self) -> u64
+        ensures area { result ≡ sum_by area (free_in (state_of self.now)) }
+        ensures whole { sum_by (λ g. area g.box) (live_in (state_of self.now)) + result ≡ (state_of self.now).size.width * (state_of self.now).size.height }
+    {
+        free_sum(&self.store.slots)
     }
 
     /// Calls `visit` on each free rectangle once, in an order that is left open. Asks that `visit` may be called along each

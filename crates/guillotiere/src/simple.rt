@@ -49,6 +49,7 @@ impl<A: Allocator + Copy> SimpleAtlasAllocator<A> {
         requires { IsPositive (sides_of size) }
         ensures unless { IsOkUnless result AtlasError.Memory }
         ensures start { IfOk result (λ it. it ≡ simple_start (sides_of size) (options_of DEFAULT_OPTIONS)) }
+        ensures guarded { IfOk result (λ it. IsGuarded it []) }
     {
         Self::with_options(alloc, size, &DEFAULT_OPTIONS)
     }
@@ -63,6 +64,7 @@ impl<A: Allocator + Copy> SimpleAtlasAllocator<A> {
         requires valid { AreValid (options_of options.now) }
         ensures unless { IsOkUnless result AtlasError.Memory }
         ensures start { IfOk result (λ it. it ≡ simple_start (sides_of size) (options_of options.now)) }
+        ensures guarded { IfOk result (λ it. IsGuarded it []) }
     {
         let lists = one_box(alloc, class(size, options), Rectangle::from(size))?;
         Ok(SimpleAtlasAllocator {

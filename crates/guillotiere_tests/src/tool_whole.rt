@@ -14,8 +14,26 @@ const REARRANGED: Row = (
     ToolEnd::Done,
 );
 
-const ROWS: [Row; 6] = [
+const STARTED: Row = (
+    b"atlas 100 300\nalloc 100 100\nalloc 100 100\nalloc 100 100\nfree 0\nfree 1\nfrom-atlas\nsimple 1 1\nfrom-atlas\ntake 100 100\ntake 100 100\ntake 100 100\n",
+    b"ok\nid 0 at 0 0 100 100\nid 1 at 0 100 100 200\nid 2 at 0 200 100 300\nok\nok\nno simple\nok\nok\nat 0 0 100 100\nat 0 100 100 200\nnone\n",
+    ToolEnd::Done,
+);
+
+const ROWS: [Row; 9] = [
     REARRANGED,
+    STARTED,
+    (
+        b"from-atlas\natlas 100 100\nalloc 20 60\nfrom-atlas\nsimple 1 1\nfrom-atlas\ntake 80 100\ntake 20 40\ntake 1 1\n",
+        b"no atlas\nok\nid 3 at 0 0 20 60\nno simple\nok\nok\nat 20 0 100 100\nat 0 60 20 100\nnone\n",
+        ToolEnd::Done,
+    ),
+    // a simple allocator alone
+    (
+        b"simple 5 5\nfrom-atlas\ntake 5 5\n",
+        b"ok\nno atlas\nat 0 0 5 5\n",
+        ToolEnd::Done,
+    ),
     (
         b"alloc 5 5\nfree x\nsize\n",
         b"no atlas\nbad line 2\n",
@@ -119,7 +137,7 @@ fn first_difference(got: &[u8], want: &[u8]) -> usize {
 #[test]
 fn rows_with_each_request_for_memory_refused_in_turn(rt: HostRuntime) {
     let heap = Refusing::new(rt.alloc());
-    for (text, want, end) in [REARRANGED] {
+    for (text, want, end) in [REARRANGED, STARTED] {
         let mut refusals = 0;
         for number in 1..100 {
             heap.refuse_nth(number);

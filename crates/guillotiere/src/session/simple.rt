@@ -90,7 +90,8 @@ fn reset<A: Allocator + Copy>(
     size: Size,
     options: &AllocatorOptions,
 ) -> SimpleReply
-    ensures step { SimpleStep simple.old (Reset (sides_of size) (options_of options.now)) (simple_answer_of result) simple.new }
+    ensures step { SimpleStep simple.old (Reset (sides_of size) (options_of options.now))
+        (simple_answer_of result) simple.new }
     ensures exact { GrantsExact result }
 {
     if !is_positive(size) || !options.is_valid() {
@@ -105,7 +106,8 @@ fn make<A: Allocator + Copy>(
     source: &AtlasAllocator<A>,
     call: &SimpleCall,
 ) -> SimpleReply
-    ensures step { SimpleStep simple.old (simple_call_of (state_of source.now) call.now) (simple_answer_of result) simple.new }
+    ensures step { SimpleStep simple.old (simple_call_of (state_of source.now) call.now)
+        (simple_answer_of result) simple.new }
     ensures exact { GrantsExact result }
 {
     match call {
@@ -129,7 +131,8 @@ pub fn run_simple<A: Allocator + Copy>(
 ) -> Result<(), AtlasError>
     ensures unless { IsOkUnless result AtlasError.Memory }
     ensures session { OnOk result
-        (IsSimpleSession (state_of source.now) simple.old calls.now (drop (vec_len replies.old) replies.new.items) simple.new) }
+        (IsSimpleSession (state_of source.now) simple.old calls.now
+        (drop (vec_len replies.old) replies.new.items) simple.new) }
     ensures exact { OnOk result (All GrantsExact (drop (vec_len replies.old) replies.new.items)) }
     ensures kept { take (vec_len replies.old) replies.new.items ≡ replies.old.items }
     ensures refused { OnErr result (simple.new ≡ simple.old) }

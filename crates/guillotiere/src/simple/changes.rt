@@ -1,11 +1,11 @@
 //! A simple allocator that grows or begins anew.
 ghost use Rattle.std.specs.Prelude.{◌≡◌, ◌≢◌, ◌<◌, ◌++◌, ℕ, [], ◌∷◌, List, All, map, Ok, OnOk, OnErr, IsOkUnless};
-ghost use Rattle.guillotiere.specs.Boxes.{AreSameBoxes, Box, Fits, IsNonempty, IsPositive, whole_box};
+ghost use Rattle.guillotiere.specs.Boxes.{AreSameBoxes, Box, Fits, IsNonempty, IsPositive};
 ghost use Rattle.guillotiere.specs.Choice.{AreValid};
-ghost use Rattle.guillotiere.specs.FreeLists.{AreInClasses, items_at, listed};
+ghost use Rattle.guillotiere.specs.FreeLists.{AreInClasses, items_at, kept_beyond, listed};
 ghost use Rattle.guillotiere.specs.Pixels.{box_of, options_of, sides_of};
 ghost use Rattle.guillotiere.specs.Rectangles.{IsUnsigned};
-ghost use Rattle.guillotiere.specs.Simple.{IsGuarded, IsSimple, SimpleStep, kept_rest, live_boxes, simple_done};
+ghost use Rattle.guillotiere.specs.Simple.{IsGuarded, IsSimple, SimpleStep, live_boxes, simple_done};
 ghost use Rattle.guillotiere.specs.Simple.SimpleAtlasCall.{Clear, Grow, Reset, Start};
 ghost use Rattle.guillotiere.specs.Slots.{nodes};
 ghost use Rattle.guillotiere.specs.Stored.{state_of};
@@ -43,24 +43,27 @@ impl<A: Allocator + Copy> SimpleAtlasAllocator<A> {
         Ok(())
     }
 
-    /// Begins anew with one free box of the allocator's size. Its lists keep their room. The only error is `Memory`, and
-    /// after it everything is as before.
+    /// Begins anew with one free box of the allocator's size. Its lists keep their room. The only error is `Memory`,
+    /// and after it everything is as before.
     pub fn clear(&mut self) -> Result<(), AtlasError>
         ensures unless { IsOkUnless result AtlasError.Memory }
         ensures step { SimpleStep self.old Clear (simple_done result) self.new }
+        ensures guarded { OnOk result (IsGuarded self.new []) }
         ensures simple { IsSimple self.new }
     {
         let options = self.options;
         self.reset(self.size, &options)
     }
 
-    /// Begins anew with one free box of this size and with these options. Asks a size that isn't empty and valid options.
-    /// The only error is `Memory`, and after it everything is as before.
+    /// Begins anew with one free box of this size and with these options. Asks a size that isn't empty and valid
+    /// options. The only error is `Memory`, and after it everything is as before.
     pub fn reset(&mut self, size: Size, options: &AllocatorOptions) -> Result<(), AtlasError>
         requires nonempty { IsPositive (sides_of size) }
         requires valid { AreValid (options_of options.now) }
         ensures unless { IsOkUnless result AtlasError.Memory }
-        ensures step { SimpleStep self.old (Reset (sides_of size) (options_of options.now)) (simple_done result) self.new }
+        ensures step { SimpleStep self.old (Reset (sides_of size) (options_of options.now))
+            (simple_done result) self.new }
+        ensures guarded { OnOk result (IsGuarded self.new []) }
         ensures simple { IsSimple self.new }
     {
         keep_only(
@@ -105,9 +108,10 @@ fn add_rest<A: Allocator>(
     requires classes { AreInClasses (options_of options.now) lists.old }
     ensures unless { IsOkUnless result AtlasError.Memory }
     ensures classes { AreInClasses (options_of options.now) lists.new }
-    ensures ok { OnOk result (AreSameBoxes (listed lists.new) (kept_rest (options_of options.now) (whole_box (sides_of new_size)) (sides_of size) ++ listed lists.old)) }
+    ensures ok { OnOk result
+        (AreSameBoxes (listed lists.new) (kept_beyond options.now size new_size ++ listed lists.old)) }
     ensures err { OnErr result ((k : ℕ) → items_at lists.new k ≡ items_at lists.old k) }
-    ensures needed { OnErr result (kept_rest (options_of options.now) (whole_box (sides_of new_size)) (sides_of size) ≢ []) }
+    ensures needed { OnErr result (kept_beyond options.now size new_size ≢ []) }
 {
     let rest = guillotine(Rectangle::from(new_size), size);
     let split_home = home(rest.split, options);
@@ -197,10 +201,12 @@ fn file<A: Allocator>(
     requires unsigned { IsUnsigned area }
     requires nonempty { IsNonempty (box_of area) }
     ensures unless { IsOkUnless result AtlasError.Memory }
-    ensures classes { OnOk result (AreInClasses (options_of options.now) lists.old → AreInClasses (options_of options.now) lists.new) }
+    ensures classes { OnOk result
+        (AreInClasses (options_of options.now) lists.old → AreInClasses (options_of options.now) lists.new) }
     ensures boxes { OnOk result (AreSameBoxes (listed lists.new) (box_of area ∷ listed lists.old)) }
 {
-    append(lists, class(area.size(), options), area)
+    let size = area.size();
+    append(lists, class(size, options), area)
 }
 
 // Adds the rectangle of each free slot to the list of its class.
@@ -213,7 +219,8 @@ fn file_free<A: Allocator>(
     requires classes { AreInClasses (options_of options.now) lists.old }
     ensures unless { IsOkUnless result AtlasError.Memory }
     ensures classes { OnOk result (AreInClasses (options_of options.now) lists.new) }
-    ensures boxes { OnOk result (AreSameBoxes (listed lists.new) (map box_of (free_areas (nodes slots.now)) ++ listed lists.old)) }
+    ensures boxes { OnOk result
+        (AreSameBoxes (listed lists.new) (map box_of (free_areas (nodes slots.now)) ++ listed lists.old)) }
 {
     for slot in slots {
         if slot.node.kind == NodeKind::Free {

@@ -12,7 +12,7 @@ loop-number-preserved g c =
     elim c.if-eq.branch [
       | then-eq w ↦ (
         asks-more-allocated g.F.FnMut c.args.slots.now c.loop-number.number _ c.loop-number-test.true c.loop-number.visit w.visit.new.self c.if-eq.visit _ _ (search rules)
-        w.slot_id.ensures refl w.visit.ensures w.visit-is c.loop-number.invariant.0,
+            w.slot_id.ensures refl w.visit.ensures w.visit-is c.loop-number.invariant.0,
         λ last more. c.loop-number.invariant.1 last
             (visits-allocated g.F.FnMut c.loop-number.visit w.visit.new.self c.if-eq.visit last c.args.slots.now c.loop-number.number _ _ _ c.loop-number-test.true (search rules) w.slot_id.ensures refl w.visit.ensures w.visit-is more),
       )

@@ -12,7 +12,7 @@ loop-slot-preserved g c =
     elim c.if-eq.branch [
       | then-eq w ↦ (
         asks-more-free g.F.FnMut c.args.slots.now c.loop-slot.slot-index _ c.loop-slot-test.true c.loop-slot.visit w.visit.new.self c.if-eq.visit (search rules)
-        (record { shown = _; shows = refl; called = w.visit.ensures }) w.visit-is c.loop-slot.invariant.0,
+            (record { shown = _; shows = refl; called = w.visit.ensures }) w.visit-is c.loop-slot.invariant.0,
         λ last more. c.loop-slot.invariant.1 last
             (visits-free g.F.FnMut c.loop-slot.visit w.visit.new.self c.if-eq.visit last c.args.slots.now c.loop-slot.slot-index _ c.loop-slot-test.true (search rules) (record { shown = _; shows = refl; called = w.visit.ensures }) w.visit-is more),
       )

@@ -1,0 +1,17 @@
+//! Laws over the definitions of recordings, each the contract of a function that does nothing.
+ghost use Rattle.guillotiere_recording.specs.Books.{EventsKeepNames, SessionsAreNamed, BooksAreTrue};
+
+/// An event leads from a sound state whose names go one to one with its live ids to another such state.
+pub fn events_keep_names()
+    ensures { EventsKeepNames }
+{}
+
+/// In every state that recorded events lead to, names and live ids go together one to one, and the state is sound.
+pub fn sessions_are_named()
+    ensures { SessionsAreNamed }
+{}
+
+/// The book of recorded events lists the live names with their boxes, in every state that they lead to.
+pub fn books_are_true()
+    ensures { BooksAreTrue }
+{}

@@ -1,0 +1,16 @@
+//! Records every session of an atlas as a list of events, by names that are never given twice.
+#![tactic(auto)]
+
+mod allocator;
+mod error;
+mod event;
+pub mod laws;
+mod log;
+mod names;
+mod recording;
+mod walks;
+
+pub use allocator::RecordingAllocator;
+pub use error::RecordingError;
+pub use event::Event;
+pub use recording::{Recorder, Recording};

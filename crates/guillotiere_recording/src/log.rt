@@ -1,0 +1,49 @@
+//! The log of events that recordings, recorders and recording allocators keep.
+ghost use Rattle.std.specs.Prelude.{◌≡◌, ◌++◌, ◌∷◌, [], ◌<◌, OnErr, OnOk, IsOkUnless, vec_len, vec_capacity};
+ghost use Rattle.guillotiere_recording.specs.Events.{event_of};
+ghost use Rattle.guillotiere_recording.specs.Logs.{recording_of, with_event};
+
+use crate::error::RecordingError;
+use crate::event::Event;
+use crate::names::append;
+use guillotiere::{AllocatorOptions, Size};
+use std::alloc::Allocator;
+
+/// The size and the options of an atlas when it was new, and what happened since.
+#[derive(Drop)]
+pub struct Log<A: Allocator + Copy> {
+    pub size: Size,
+    pub options: AllocatorOptions,
+    pub events: Vec<Event<A>, A>,
+}
+
+impl<A: Allocator + Copy> Log<A> {
+    /// A log without events. Takes no memory.
+    pub fn new(alloc: A, size: Size, options: &AllocatorOptions) -> Log<A>
+        ensures { recording_of result ≡ record { size = size; options = options.now; events = [] } }
+    {
+        Log {
+            size,
+            options: *options,
+            events: Vec::new(alloc),
+        }
+    }
+
+    /// Makes room for one event more. `Memory` is the only error.
+    pub fn make_room(&mut self) -> Result<(), RecordingError>
+        ensures same { recording_of self.new ≡ recording_of self.old }
+        ensures unless { IsOkUnless result RecordingError.Memory }
+        ensures room { OnOk result (vec_len self.new.events < vec_capacity self.new.events) }
+    {
+        self.events.reserve(1)?;
+        Ok(())
+    }
+
+    /// Appends an event, for which there is room.
+    pub fn note(&mut self, event: Event<A>)
+        requires { vec_len self.old.events < vec_capacity self.old.events }
+        ensures { recording_of self.new ≡ with_event (event_of event) (recording_of self.old) }
+    {
+        append(&mut self.events, event);
+    }
+}

@@ -1,0 +1,118 @@
+//! Recordings, and recorders, which make one of events that they are given.
+ghost use Rattle.std.specs.Prelude.{◌≡◌, [], OnErr, IfOk, OnOk, IsOkUnless, map};
+ghost use Rattle.guillotiere.specs.Boxes.{IsPositive};
+ghost use Rattle.guillotiere.specs.Choice.{AreValid};
+ghost use Rattle.guillotiere.specs.Pixels.{sides_of, options_of};
+ghost use Rattle.guillotiere_recording.specs.Events.{event_of};
+ghost use Rattle.guillotiere_recording.specs.Logs.{recording_of, with_event};
+
+use crate::error::RecordingError;
+use crate::event::Event;
+use crate::log::Log;
+use guillotiere::{AllocatorOptions, Size};
+use std::alloc::{Allocator, Global};
+use std::marker::Model;
+use std::mem;
+
+/// What happened to an atlas: its size and its options when it was new, and the events since.
+#[derive(Drop)]
+pub struct Recording<A: Allocator + Copy = Global> {
+    log: Log<A>,
+}
+
+impl<A: Allocator + Copy> Model for Recording<A> {
+    ghost use Rattle.guillotiere_recording.specs.Logs.{RecordingValue, recording_of};
+
+    ghost Value = { RecordingValue };
+
+    ghost view = { λ r. recording_of r.log };
+}
+
+impl<A: Allocator + Copy> Recording<A> {
+    // The recording of a log.
+    pub(crate) fn from_log(log: Log<A>) -> Recording<A>
+        ensures { result ≡ recording_of log }
+    {
+        Recording { log }
+    }
+
+    /// The events, in order.
+    pub fn events(&self) -> &[Event<A>]
+        ensures { map event_of result.now ≡ self.now.events }
+    {
+        &self.log.events
+    }
+
+    /// The same recording once more. `Memory` is the only error.
+    pub fn clone(&self) -> Result<Recording<A>, RecordingError>
+        ensures unless { IsOkUnless result RecordingError.Memory }
+        ensures same { IfOk result (λ recording. recording ≡ self.now) }
+    {
+        let mut events = Vec::new(*self.log.events.allocator());
+        for event in &self.log.events {
+            events.push(event.clone()?)?;
+        }
+        Ok(Recording {
+            log: Log {
+                size: self.log.size,
+                options: self.log.options,
+                events,
+            },
+        })
+    }
+}
+
+/// Makes a recording of events that it is given, whether or not they happened.
+#[derive(Drop)]
+pub struct Recorder<A: Allocator + Copy = Global> {
+    log: Log<A>,
+}
+
+impl<A: Allocator + Copy> Model for Recorder<A> {
+    ghost use Rattle.guillotiere_recording.specs.Logs.{RecordingValue, recording_of};
+
+    ghost Value = { RecordingValue };
+
+    ghost view = { λ r. recording_of r.log };
+}
+
+impl<A: Allocator + Copy> Recorder<A> {
+    /// A recorder of an atlas of this size, in pixels, with these options, without events. Asks a size that isn't empty
+    /// and valid options. Takes no memory.
+    pub fn new(alloc: A, size: Size, options: &AllocatorOptions) -> Recorder<A>
+        requires size { IsPositive (sides_of size) }
+        requires options { AreValid (options_of options.now) }
+        ensures { result ≡ record { size = size; options = options.now; events = [] } }
+    {
+        Recorder {
+            log: Log::new(alloc, size, options),
+        }
+    }
+
+    /// Appends an event. `Memory` is the only error, and then nothing changes.
+    pub fn record(&mut self, event: Event<A>) -> Result<(), RecordingError>
+        ensures ok { OnOk result (self.new ≡ with_event (event_of event) self.old) }
+        ensures unless { IsOkUnless result RecordingError.Memory }
+        ensures refused { OnErr result (self.new ≡ self.old) }
+    {
+        self.log.make_room()?;
+        self.log.note(event);
+        Ok(())
+    }
+
+    /// Takes all events out, and leaves none. Takes no memory.
+    pub fn finish(&mut self) -> Recording<A>
+        ensures taken { result ≡ self.old }
+        ensures left { self.new ≡ record { size = self.old.size; options = self.old.options; events = [] } }
+    {
+        let alloc = *self.log.events.allocator();
+        let events = mem::replace(&mut self.log.events, Vec::new(alloc));
+        Recording {
+            log: Log {
+                size: self.log.size,
+                options: self.log.options,
+                events,
+            },
+        }
+    }
+}

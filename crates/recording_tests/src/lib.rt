@@ -1,0 +1,5 @@
+//! Tests of recordings. Expected values are worked by hand from the rules; none is an answer of the code under test.
+#![tactic(auto)]
+
+#[cfg(test)]
+mod sessions;

@@ -1,0 +1,292 @@
+//! Rows of calls of a recording allocator, played with ample memory and with each request for memory refused in turn.
+
+use guillotiere::{AllocId, Allocation, DEFAULT_OPTIONS, Point, Rectangle, Size};
+use guillotiere_recording::{Event, Recorder, RecordingAllocator, RecordingError};
+use refusing::Refusing;
+use std::alloc::Global;
+use std::process::Abort;
+use std::test::Fail;
+
+type Session<'a> = RecordingAllocator<&'a Refusing<Global>>;
+
+type Sides = (i32, i32);
+
+type Corners = (i32, i32, i32, i32);
+
+/// A call and its answer; names are numbers.
+enum Call {
+    /// `allocate`: the name and the box, or none.
+    Allocate(Sides, Option<(u32, Corners)>),
+    Deallocate(u32),
+    /// `deallocate` of a name that is not live: refused, and not recorded.
+    DeallocateDead(u32),
+    Grow(Sides),
+    /// What `allocations` lists.
+    Live(&'static [(u32, Corners)]),
+    /// What `free_rectangles` lists, where it is one box or none.
+    Free(&'static [Corners]),
+}
+
+// A name is given anew, and never a second time.
+const NAMES: &[Call] = &[
+    Call::Allocate((20, 60), Some((0, (0, 0, 20, 60)))),
+    Call::Deallocate(0),
+    Call::DeallocateDead(0),
+    Call::Allocate((20, 60), Some((1, (0, 0, 20, 60)))),
+    Call::Live(&[(1, (0, 0, 20, 60))]),
+];
+
+// Three boxes one below another, and no room for a fourth; what is live is listed by rising name.
+const COLUMN: &[Call] = &[
+    Call::Allocate((100, 100), Some((0, (0, 0, 100, 100)))),
+    Call::Allocate((100, 100), Some((1, (0, 100, 100, 200)))),
+    Call::Allocate((100, 100), Some((2, (0, 200, 100, 300)))),
+    Call::Allocate((1, 1), None),
+    Call::Free(&[]),
+    Call::Deallocate(1),
+    Call::Free(&[(0, 100, 100, 200)]),
+    Call::Live(&[(0, (0, 0, 100, 100)), (2, (0, 200, 100, 300))]),
+    Call::Allocate((0, 5), None),
+    Call::Allocate((100, 100), Some((3, (0, 100, 100, 200)))),
+    Call::Grow((100, 400)),
+    Call::Allocate((100, 100), Some((4, (0, 300, 100, 400)))),
+    Call::Live(&[
+        (0, (0, 0, 100, 100)),
+        (2, (0, 200, 100, 300)),
+        (3, (0, 100, 100, 200)),
+        (4, (0, 300, 100, 400)),
+    ]),
+    Call::DeallocateDead(1),
+    Call::DeallocateDead(4294967295),
+];
+
+fn size((width, height): Sides) -> Size {
+    Size { width, height }
+}
+
+fn rectangle((left, top, right, bottom): Corners) -> Rectangle {
+    Rectangle {
+        min: Point { x: left, y: top },
+        max: Point {
+            x: right,
+            y: bottom,
+        },
+    }
+}
+
+fn allocation((name, corners): (u32, Corners)) -> Allocation {
+    Allocation {
+        id: AllocId::deserialize(name),
+        rectangle: rectangle(corners),
+    }
+}
+
+// What can be seen of a session without a request for memory, folded into numbers; free boxes in any order.
+#[derive(Clone, Copy, Debug, PartialEq)]
+struct Sight {
+    sides: Sides,
+    free: u64,
+    live: u64,
+}
+
+fn folded(area: &Rectangle) -> u64 {
+    let mut sum = 14695981039346656037u64;
+    for side in [area.min.x, area.min.y, area.max.x, area.max.y] {
+        sum = (sum ^ u64::from(side.cast_unsigned())).wrapping_mul(1099511628211);
+    }
+    sum
+}
+
+fn look_at(session: &Session<'_>) -> Sight {
+    let mut free = 0u64;
+    session.for_each_free_rectangle(|area: &Rectangle| free = free.wrapping_add(folded(area)));
+    let mut live = 0u64;
+    session.for_each_allocated_rectangle(|id: AllocId, area: &Rectangle| {
+        live = live
+            .wrapping_mul(31)
+            .wrapping_add(folded(area))
+            .wrapping_add(u64::from(id.serialize()));
+    });
+    Sight {
+        sides: (session.size().width, session.size().height),
+        free,
+        live,
+    }
+}
+
+// Makes a call and compares its answer; false where memory was refused.
+fn made(rt: &impl Abort, session: &mut Session<'_>, call: &Call) -> bool {
+    match call {
+        Call::Allocate(request, answer) => match session.allocate(size(*request)) {
+            Ok(granted) => {
+                assert_eq!(rt; granted, answer.map(allocation));
+                true
+            }
+            Err(error) => {
+                assert_eq!(rt; error, RecordingError::Memory);
+                false
+            }
+        },
+        Call::Deallocate(name) => match session.deallocate(AllocId::deserialize(*name)) {
+            Ok(()) => true,
+            Err(error) => {
+                assert_eq!(rt; error, RecordingError::Memory);
+                false
+            }
+        },
+        Call::DeallocateDead(name) => {
+            let answer = session.deallocate(AllocId::deserialize(*name));
+            assert_eq!(rt; answer, Err(RecordingError::NotLive));
+            true
+        }
+        Call::Grow(sides) => grew(rt, session, *sides),
+        Call::Live(boxes) => shows_live(rt, session, boxes),
+        Call::Free(boxes) => shows_free(rt, session, boxes),
+    }
+}
+
+fn grew(rt: &impl Abort, session: &mut Session<'_>, sides: Sides) -> bool {
+    let new_size = size(sides);
+    assert!(rt; session.size().width <= new_size.width);
+    assert!(rt; session.size().height <= new_size.height);
+    match session.grow(new_size) {
+        Ok(()) => true,
+        Err(error) => {
+            assert_eq!(rt; error, RecordingError::Memory);
+            false
+        }
+    }
+}
+
+fn shows_live(rt: &impl Abort, session: &Session<'_>, boxes: &[(u32, Corners)]) -> bool {
+    let Ok(found) = session.allocations() else {
+        return false;
+    };
+    assert_eq!(rt; found.len(), boxes.len());
+    for (shown, expected) in found.iter().zip(boxes) {
+        assert_eq!(rt; *shown, allocation(*expected));
+    }
+    true
+}
+
+fn shows_free(rt: &impl Abort, session: &Session<'_>, boxes: &[Corners]) -> bool {
+    let Ok(found) = session.free_rectangles() else {
+        return false;
+    };
+    assert_eq!(rt; found.len(), boxes.len());
+    for (shown, expected) in found.iter().zip(boxes) {
+        assert_eq!(rt; *shown, rectangle(*expected));
+    }
+    true
+}
+
+// Whether an event is that of a call.
+fn is_event(event: &Event<&Refusing<Global>>, call: &Call) -> bool {
+    match (event, call) {
+        (Event::Allocate(request, answer), Call::Allocate(sides, expected)) => {
+            *request == size(*sides) && *answer == expected.map(allocation)
+        }
+        (Event::Deallocate(name), Call::Deallocate(expected)) => name.serialize() == *expected,
+        (Event::Grow(new_size), Call::Grow(sides)) => *new_size == size(*sides),
+        _ => false,
+    }
+}
+
+fn is_recorded(call: &Call) -> bool {
+    matches!(
+        call,
+        Call::Allocate(_, _) | Call::Deallocate(_) | Call::Grow(_)
+    )
+}
+
+// Plays a row. A call that memory is refused for leaves all as before, and is made again.
+fn play(
+    rt: &impl Abort,
+    heap: &Refusing<Global>,
+    sides: Sides,
+    calls: &[Call],
+) -> Result<(), Fail> {
+    assert!(rt; !size(sides).is_empty());
+    let created = match RecordingAllocator::new(heap, size(sides)) {
+        Err(RecordingError::Memory) => RecordingAllocator::new(heap, size(sides)),
+        first => first,
+    };
+    let mut session = created?;
+    for call in calls {
+        let before = look_at(&session);
+        if !made(rt, &mut session, call) {
+            assert!(rt; heap.is_done());
+            assert_eq!(rt; look_at(&session), before);
+            assert!(rt; made(rt, &mut session, call), "a second refusal");
+        }
+    }
+    heap.refuse_every();
+    let recording = session.finish();
+    let mut events = recording.events().iter();
+    for call in calls {
+        if is_recorded(call) {
+            let Some(event) = events.next() else {
+                assert!(rt; false, "an event is missing");
+                return Ok(());
+            };
+            assert!(rt; is_event(event, call), "{event:?}");
+        }
+    }
+    assert!(rt; events.next().is_none(), "an event too many");
+    Ok(())
+}
+
+#[test]
+fn rows(rt: HostRuntime) -> Result<(), Fail> {
+    let heap = Refusing::new(rt.alloc());
+    for (sides, calls) in [((100, 100), NAMES), ((100, 300), COLUMN)] {
+        heap.refuse_nth(0);
+        play(&rt, &heap, sides, calls)?;
+        let mut refusals = 0u32;
+        for number in 1..1000u32 {
+            let first = heap.requests();
+            heap.refuse_nth(number);
+            play(&rt, &heap, sides, calls)?;
+            if heap.requests().wrapping_sub(first) < u64::from(number) {
+                break;
+            }
+            refusals = number;
+        }
+        assert!(rt; refusals > 2, "too few requests for memory");
+    }
+    Ok(())
+}
+
+#[test]
+fn recorder_takes_no_memory_but_for_events(rt: HostRuntime) -> Result<(), Fail> {
+    let heap = Refusing::new(rt.alloc());
+    heap.refuse_every();
+    let mut recorder = Recorder::new(&heap, size((10, 10)), &DEFAULT_OPTIONS);
+    assert_eq!(rt;
+        recorder.record(Event::Grow(size((9, 10)))),
+        Err(RecordingError::Memory)
+    );
+    assert_eq!(rt; recorder.finish().events().len(), 0);
+    heap.refuse_nth(0);
+    assert_eq!(rt; recorder.record(Event::Grow(size((9, 10)))), Ok(()));
+    assert_eq!(rt;
+        recorder.record(Event::Deallocate(AllocId::deserialize(7))),
+        Ok(())
+    );
+    heap.refuse_every();
+    let recording = recorder.finish();
+    assert_eq!(rt;
+        recording.events(),
+        [
+            Event::Grow(size((9, 10))),
+            Event::Deallocate(AllocId::deserialize(7))
+        ]
+        .as_slice()
+    );
+    assert_eq!(rt; recorder.finish().events().len(), 0);
+    assert!(rt; recording.clone().is_err());
+    heap.refuse_nth(0);
+    let again = recording.clone()?;
+    assert_eq!(rt; again.events(), recording.events());
+    Ok(())
+}
