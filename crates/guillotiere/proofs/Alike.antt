@@ -14,12 +14,12 @@ use Rattle.guillotiere.specs.States.{State, IsLive, IsSound, free_in, used_in, w
 use Rattle.guillotiere.specs.Steps.{AtlasCall, AtlasReply, Step, Takes, Grants, nodes_with, nodes_grown}
 use Rattle.guillotiere.specs.Steps.AtlasCall.{Allocate, Deallocate, Grow}
 use Rattle.guillotiere.specs.Steps.AtlasReply.{Allocated, NoRoom, Done, Changed, Refused, BadCall}
-use Rattle.guillotiere.specs.Renaming.{renamed_tree, with_name, IsOneToOne, IsNewName, AreAlike, AreSameCalls, AnswerAlike, is_out_of_memory, AnswersWithoutIds}
+use Rattle.guillotiere.specs.Renaming.{renamed_tree, with_name, IsOneToOne, IsNewName, AreAlike, AreSameCalls, AnswerAlike, is_out_of_memory, AreNamedAlike, AnswersWithoutIds, LiveNamesCount}
 use Rattle.guillotiere.proofs.StepEffects.{picks_are_one}
 use Rattle.guillotiere.proofs.TreeIds.{Contains-first, Contains-later, Contains-none, Contains-cons_cases, unused-absent}
 use Rattle.guillotiere.proofs.TreeKept.{ids-nf, ids-grown}
 use Rattle.guillotiere.proofs.TreePuts.{ids-put}
-use Rattle.guillotiere.proofs.Renaming.{ids-renamed, nodes-renamed, free_renamed, need_renamed, grown_renamed, place_renamed, release_renamed, with_name-itself, with_name-other}
+use Rattle.guillotiere.proofs.Renaming.{agreeing_renamed, ids-renamed, nodes-renamed, free_renamed, need_renamed, grown_renamed, place_renamed, release_renamed, with_name-itself, with_name-other}
 
 -- the ids after a change
 
@@ -51,11 +51,11 @@ ids-marked s (Seq e inner rest) k at =
       | inr h ↦ Contains-append_right (ids inner) (ids rest) k (ids-marked s rest k h)
     ]
 
-ids_released : (s : ℕ → Bool) (t : Tree) (k : ℕ) → Contains (ids (release s t).members) k → Contains (ids t.members) k
+pub ids_released : (s : ℕ → Bool) (t : Tree) (k : ℕ) → Contains (ids (release s t).members) k → Contains (ids t.members) k
 ids_released s t k at = ids-marked s t.members k (subst (λ xs. Contains xs k) (ids-nf (mark s t.members)) at)
 
 -- an id is the new one, or one of a list
-abbrev IsNewOr : (id : ℕ) → List ℕ → ℕ → Type 0
+abbrev pub IsNewOr : (id : ℕ) → List ℕ → ℕ → Type 0
 IsNewOr id xs k = (id ≡ k) ⊎ Contains xs k
 
 new_or_more : (id : ℕ) (xs ys : List ℕ) (k : ℕ) → (Contains xs k → Contains ys k) → IsNewOr id xs k → IsNewOr id ys k
@@ -99,7 +99,7 @@ ids-placed_at b r id axis o across (Seq e inner rest) k at =
           (ids-placed_at b r id axis (moved axis o e) across rest k h)
     ]
 
-ids_placed : (size : Sides) (b : Box) (r : Sides) (id : ℕ) (t : Tree) (k : ℕ) → Contains (ids (place size b r id t).members) k
+pub ids_placed : (size : Sides) (b : Box) (r : Sides) (id : ℕ) (t : Tree) (k : ℕ) → Contains (ids (place size b r id t).members) k
     → (id ≡ k) ⊎ Contains (ids t.members) k
 ids_placed size b r id t k at = ids-placed_at b r id t.axis origin (side (other t.axis) size) t.members k at
 
@@ -380,3 +380,19 @@ by_call f g s t s' t' call twin reply answer sound a same h k met met' = absurd 
 pub answers_without_ids : AnswersWithoutIds
 answers_without_ids f g s t s' t' call twin reply answer sound sound' a same h k met met' =
     by_call f g s t s' t' call twin reply answer sound a same h k met met'
+
+-- the names of ids that aren't live don't count
+
+same_one_to_one : (f g : ℕ → ℕ) (xs : List ℕ) → AreNamedAlike f g xs → IsOneToOne f xs → IsOneToOne g xs
+same_one_to_one f g xs same one a b at_a at_b e = one a b at_a at_b (sym (same a at_a) ∙ e ∙ same b at_b)
+
+pub live_names_count : LiveNamesCount
+live_names_count f g i j s t a same twins = record {
+  size = a.size;
+  options = a.options;
+  limit = a.limit;
+  kept = a.kept;
+  tree = agreeing_renamed g j t.tree twins ∙ a.tree ∙ sym (agreeing_renamed f i s.tree same);
+  names = same_one_to_one f i (ids s.tree.members) same a.names;
+  twins = same_one_to_one g j (ids t.tree.members) twins a.twins;
+}

@@ -3,6 +3,8 @@ pub mod PickExistence
 pub mod RunKeeping
 pub mod Renaming
 pub mod Alike
+pub mod WorkedPicks
+pub mod WorkedRefits
 pub mod RefitOrders
 pub mod Existence
 pub mod Traces
@@ -50,6 +52,7 @@ pub mod Cutting
 pub mod Occurrences
 pub mod Unlinking
 pub mod Banding
+pub mod ClassLists
 pub mod Filing
 pub mod Taking
 pub mod Choosing
@@ -57,6 +60,10 @@ pub mod Turning
 pub mod SlotSums
 pub mod LeafCounts
 pub mod WalkSteps
+pub mod SlotMeasures
+mod CountSums
+mod AreaSums
+pub mod AlongLists
 pub mod Observing
 pub mod NamedSlots
 pub mod ShownLists
@@ -82,6 +89,11 @@ pub mod ListedBoxes
 pub mod CuttingFromLists
 pub mod Storing
 pub mod SimpleGrants
+pub mod SimpleSteps
+pub mod SimpleRunning
+pub mod SimplePlaying
+pub mod SimpleLists
+pub mod SimpleStarting
 pub mod FreedAtlas
 pub mod Hiding
 pub mod FreedLists
@@ -103,9 +115,16 @@ pub mod LastMembers
 pub mod GrownTrees
 pub mod GrownSlots
 pub mod GrownStages
+pub mod RefitRanks
+pub mod RefitSizes
+pub mod RefitParts
+pub mod RefitLoops
+pub mod RearrangedAtlas
 pub mod TurnCounting
 pub mod Playing
 pub mod CallerLemmas
 pub mod LiveBoxes
 pub mod LyingApart
 pub mod Guarding
+pub mod CallerSteps
+pub mod Measuring

@@ -1,7 +1,7 @@
 -- Where a request has room there is a pick: the least fitting box by class, equal side, margin and place.
-use Rattle.std.proofs.Common.{◌≡◌, ℕ, ◌-◌, ◌≤◌, ◌<◌, ◌==◌, Bool, true, false, cond, nat_le, ◌&&◌, ◌||◌, List, [], ◌∷◌, refl, ap, sym, subst, ◌∙◌, arith, inl, inr, ◌⊎◌, Contains}
+use Rattle.std.proofs.Common.{◌≡◌, ℕ, ◌-◌, ◌≤◌, ◌<◌, ◌==◌, Bool, true, false, cond, not, ltb, nat_le, ◌&&◌, ◌||◌, List, [], ◌∷◌, refl, ap, sym, subst, ◌∙◌, arith, inl, inr, ◌⊎◌, Contains}
 use Rattle.std.specs.List.{sum_by}
-use Rattle.std.proofs.lemmas.Bool.{true≢false, cases_lt, cases_order, cases_Bool, eqb-true, eqb-false, eq-eqb, le-leb, leb-true, and_parts, and_from, or_cases, or_left, or_right}
+use Rattle.std.proofs.lemmas.Bool.{true≢false, cases_lt, cases_order, cases_Bool, eqb-true, eqb-false, eq-eqb, le-leb, leb-true, ltb-true, and_parts, and_from, or_cases, or_left, or_right}
 use Rattle.std.proofs.lemmas.List.Sums.{get_or-le-sum_by}
 use Rattle.guillotiere.specs.Boxes.{Sides, Box, box_sides, Fits, IsPositive}
 use Rattle.guillotiere.specs.Choice.{Options, reaches, rounded, class_of, least_margin, HasEqualSide, IsFitting, IsCandidate, HasBetterMargin, IsBest, ComesFirst, IsPick, HasRoom, HasNoRoom}
@@ -314,3 +314,73 @@ room_or_none free o s = by_side (cases_lt 0 s.width) (cases_lt 0 s.height)
     by_side (inl wide) (inl high) = found (wide, high) (least_or_none [] (fits r) free)
     by_side (inr flat) high = inr (λ room. let pos : 0 < s.width = room.positive.0 in omega arith)
     by_side (inl wide) (inr flat) = inr (λ room. let pos : 0 < s.height = room.positive.1 in omega arith)
+
+-- picks by computation
+
+abbrev keys_at_most : {X : Type 0} → List (X → ℕ) → X → X → Bool
+keys_at_most [] x y = true
+keys_at_most (k ∷ ks) x y = ltb (k x) (k y) || ((k x == k y) && keys_at_most ks x y)
+
+-- the keys of an element are the least of all in a list that pass a test
+abbrev is_least : {X : Type 0} → List (X → ℕ) → (X → Bool) → X → List X → Bool
+is_least ks p x [] = true
+is_least ks p x (y ∷ ys) = (not (p y) || keys_at_most ks x y) && is_least ks p x ys
+
+module _ {X : Type 0} where
+  keys_are : (ks : List (X → ℕ)) (x y : X) → keys_at_most ks x y ≡ true → KeysAtMost ks x y
+  keys_are [] x y h = tt
+  keys_are (k ∷ ks) x y h =
+      elim (or_cases (ltb (k x) (k y)) ((k x == k y) && keys_at_most ks x y) h) [
+        | inl less ↦ inl (ltb-true (k x) (k y) less)
+        | inr both ↦
+            let parts = and_parts (k x == k y) (keys_at_most ks x y) both in
+            inr (eqb-true (k x) (k y) parts.0, keys_are ks x y parts.1)
+      ]
+
+  least_is : (ks : List (X → ℕ)) (p : X → Bool) (x : X) (xs : List X) → is_least ks p x xs ≡ true
+      → (y : X) → Contains xs y → p y ≡ true → KeysAtMost ks x y
+  least_is ks p x [] h y at passes = absurd (Contains-none y at)
+  least_is ks p x (z ∷ zs) h y at passes =
+      let parts = and_parts (not (p z) || keys_at_most ks x z) (is_least ks p x zs) h in
+      elim (Contains-cons_cases z zs y at) [
+        | inl same ↦
+            elim (or_cases (not (p z)) (keys_at_most ks x z) parts.0) [
+              | inl fails ↦ absurd (true≢false (sym fails ∙ ap not (ap p same ∙ passes)))
+              | inr keys ↦ subst (KeysAtMost ks x) same (keys_are ks x z keys)
+            ]
+        | inr later ↦ least_is ks p x zs parts.1 y later passes
+      ]
+
+-- a free box that the request fits, with the least keys, is the pick
+pub pick_by_keys : (free : List Box) (o : Options) (r : Sides) (f : Box) → Contains free f → fits r f ≡ true
+    → is_least (choice_keys o r (sum_by (λ b. least_margin r b) free)) (fits r) f free ≡ true → IsPick free o r f
+pick_by_keys free o r f at fit least =
+    least_pick free o r most few (record {
+      it = f;
+      at = at;
+      passes = fit;
+      least = least_is (choice_keys o r most) (fits r) f free least;
+    })
+  where
+    most : ℕ
+    most = sum_by (λ b. least_margin r b) free
+
+    few : (b : Box) → Contains free b → least_margin r b ≤ most
+    few b at = subst (λ c. least_margin r c ≤ most) at.2 (get_or-le-sum_by (λ b. least_margin r b) free at.0 b at.1)
+
+abbrev fits_none : Sides → List Box → Bool
+fits_none r [] = true
+fits_none r (b ∷ bs) = not (fits r b) && fits_none r bs
+
+-- a request that fits none of the free boxes has no room
+pub no_room_by_test : (free : List Box) (o : Options) (s : Sides) → fits_none (rounded o s) free ≡ true → HasNoRoom free o s
+no_room_by_test free o s none room = at_none free none room.box room.fitting.is_free (is_fits (rounded o s) room.box room.fitting.fits)
+  where
+    at_none : (bs : List Box) → fits_none (rounded o s) bs ≡ true → (b : Box) → Contains bs b → fits (rounded o s) b ≡ true → ⊥
+    at_none [] h b at fit = Contains-none b at
+    at_none (c ∷ cs) h b at fit =
+        let parts = and_parts (not (fits (rounded o s) c)) (fits_none (rounded o s) cs) h in
+        elim (Contains-cons_cases c cs b at) [
+          | inl same ↦ true≢false (sym parts.0 ∙ ap not (ap (fits (rounded o s)) same ∙ fit))
+          | inr later ↦ at_none cs parts.1 b later fit
+        ]

@@ -20,7 +20,6 @@ abbrev AllDiffer : List Grant → Type 0
 AllDiffer [] = Unit {0}
 AllDiffer (g ∷ gs) = All (Differ g) gs × AllDiffer gs
 
-
 all_differ : (gs : List Grant) → ((id : ℕ) → count_by (λ g. g.id % 2 ^ 24 == id % 2 ^ 24) gs ≤ 1) → AllDiffer gs
 all_differ [] once = tt
 all_differ (g ∷ gs) once = (first, all_differ gs rest)

@@ -10,7 +10,7 @@ use Rattle.guillotiere.specs.Cuts.Cut.{Whole, Strip, Corner}
 use Rattle.guillotiere.specs.Trees.{Members, Tree, Grant, grant, live, free_boxes, ids, nodes}
 use Rattle.guillotiere.specs.Trees.Members.{End, Free, Alloc, Seq}
 use Rattle.guillotiere.specs.Changes.{free_before, seq_before, nf, mark, only, release, put, placed, place, needed, need, place_need, lengthened, lengthened_to, widened, grown_members, grown}
-use Rattle.guillotiere.specs.Renaming.{renamed, renamed_tree, renamed_grant, with_name, IsOneToOne, RenamingChangesNothing}
+use Rattle.guillotiere.specs.Renaming.{renamed, renamed_tree, renamed_grant, with_name, IsOneToOne, AreNamedAlike, RenamingChangesNothing}
 use Rattle.guillotiere.proofs.TreeBasics.{live_among, live_among-seq, free_among, free_among-seq}
 use Rattle.guillotiere.proofs.TreeIds.{Contains-first, Contains-later}
 
@@ -21,6 +21,19 @@ renamed-itself End = refl
 renamed-itself (Free e rest) = ap (Free e) (renamed-itself rest)
 renamed-itself (Alloc id e rest) = ap (Alloc id e) (renamed-itself rest)
 renamed-itself (Seq e inner rest) = ap₂ (Seq e) (renamed-itself inner) (renamed-itself rest)
+
+pub renamed-agreeing : (f g : ℕ → ℕ) (m : Members) → AreNamedAlike f g (ids m) → renamed g m ≡ renamed f m
+renamed-agreeing f g End same = refl
+renamed-agreeing f g (Free e rest) same = ap (Free e) (renamed-agreeing f g rest same)
+renamed-agreeing f g (Alloc id e rest) same =
+    ap₂ (λ k m. Alloc k e m) (same id (Contains-first id (ids rest)))
+    (renamed-agreeing f g rest (λ k at. same k (Contains-later id (ids rest) k at)))
+renamed-agreeing f g (Seq e inner rest) same =
+    ap₂ (Seq e) (renamed-agreeing f g inner (λ k at. same k (Contains-append_left (ids inner) (ids rest) k at)))
+    (renamed-agreeing f g rest (λ k at. same k (Contains-append_right (ids inner) (ids rest) k at)))
+
+pub agreeing_renamed : (f g : ℕ → ℕ) (t : Tree) → AreNamedAlike f g (ids t.members) → renamed_tree g t ≡ renamed_tree f t
+agreeing_renamed f g t same = ap (λ m. record { axis = t.axis; members = m }) (renamed-agreeing f g t.members same)
 
 pub ids-renamed : (f : ℕ → ℕ) (m : Members) → ids (renamed f m) ≡ map f (ids m)
 ids-renamed f End = refl
@@ -254,6 +267,7 @@ place_renamed f size t b r id name absent =
 pub renaming : RenamingChangesNothing
 renaming = record {
   itself = λ t. ap (λ m. record { axis = t.axis; members = m }) (renamed-itself t.members);
+  own_ids = agreeing_renamed;
   names = λ f t. ids-renamed f t.members;
   members = λ f t. nodes-renamed f t.members;
   live = live_renamed;

@@ -1,4 +1,4 @@
--- Laws that the definitions are met: each call has a step, each proper start is sound, and rounding is what it is called.
+-- Laws that the definitions are met: each call has a step, each proper start is sound, and rounding is least.
 use Rattle.std.specs.Prelude.{◌≡◌, ℕ, ◌<◌, ◌≤◌, ◌%◌, false}
 use Rattle.guillotiere.specs.Boxes.{Sides, IsPositive}
 use Rattle.guillotiere.specs.Choice.{Options, AreValid, up}

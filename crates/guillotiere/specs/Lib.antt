@@ -6,6 +6,8 @@ pub mod Requests
 pub mod Searches
 pub mod Choice
 pub mod Simple
+pub mod SimpleRuns
+pub mod SimpleSessions
 pub mod FreeLists
 pub mod Trees
 pub mod Changes
@@ -19,6 +21,8 @@ pub mod StepLaws
 pub mod RunLaws
 pub mod RunTurns
 pub mod Renaming
+pub mod ChoiceExamples
+pub mod RefitExamples
 pub mod Existence
 pub mod Slots
 pub mod Numbered
@@ -28,10 +32,13 @@ pub mod Reading
 pub mod Parts
 pub mod Calm
 pub mod Stored
+pub mod ClassLists
 pub mod Links
 pub mod Picks
 pub mod Holdings
 pub mod Visits
+pub mod Walks
+pub mod Areas
 pub mod Starts
 pub mod Freeing
 pub mod Planning
@@ -42,5 +49,7 @@ pub mod Chosen
 pub mod Growing
 pub mod Growths
 pub mod Rearranging
+pub mod Refitted
 pub mod Sessions
 pub mod Callers
+pub mod Codes

@@ -35,9 +35,15 @@ IsOneToOne f xs = (a b : ℕ) → Contains xs a → Contains xs b → f a ≡ f 
 abbrev pub IsNewName : (ℕ → ℕ) → Tree → (name : ℕ) → Type 0
 IsNewName f t name = Contains (ids (renamed f t.members)) name → ⊥
 
+-- the ids of a list have the same names by both
+abbrev pub AreNamedAlike : (f g : ℕ → ℕ) → List ℕ → Type 0
+AreNamedAlike f g xs = (id : ℕ) → Contains xs id → g id ≡ f id
+
 -- what a tree shows doesn't depend on its ids, and placing, freeing and growing are the same under names
 pub record RenamingChangesNothing : Type 0 where
   pub itself : (t : Tree) → renamed_tree (λ id. id) t ≡ t
+  -- the names of other ids don't count
+  pub own_ids : (f g : ℕ → ℕ) (t : Tree) → AreNamedAlike f g (ids t.members) → renamed_tree g t ≡ renamed_tree f t
   pub names : (f : ℕ → ℕ) (t : Tree) → ids (renamed_tree f t).members ≡ map f (ids t.members)
   pub members : (f : ℕ → ℕ) (t : Tree) → nodes (renamed_tree f t).members ≡ nodes t.members
   pub live : (f : ℕ → ℕ) (size : Sides) (t : Tree) → live size (renamed_tree f t) ≡ map (renamed_grant f) (live size t)
@@ -89,3 +95,9 @@ AnswersWithoutIds =
     (f g : ℕ → ℕ) (s t s' t' : State) (call twin : AtlasCall) (reply answer : AtlasReply) → IsSound s → IsSound t
     → AreAlike f g s t → AreSameCalls f g s t call twin → Step s call reply s' → Step t twin answer t'
     → is_out_of_memory reply ≡ false → is_out_of_memory answer ≡ false → AnswerAlike f g s s' t' reply answer
+
+-- Two states that are one but for their ids are so by all functions that give their live ids the same names.
+abbrev pub LiveNamesCount : Type 0
+LiveNamesCount =
+    (f g i j : ℕ → ℕ) (s t : State) → AreAlike f g s t → AreNamedAlike f i (ids s.tree.members)
+    → AreNamedAlike g j (ids t.tree.members) → AreAlike i j s t

@@ -6,7 +6,7 @@ use Rattle.guillotiere.specs.Changes.{release}
 use Rattle.guillotiere.specs.States.{State, live_in, free_in, IsSound}
 use Rattle.guillotiere.specs.Steps.{AtlasCall, AtlasReply, Step}
 use Rattle.guillotiere.specs.StepLaws.{live_count, Does, GrantsAsDue, DeniesAsDue}
-use Rattle.guillotiere.specs.Runs.{Run, Since, since_start, since, is_plain, has_growth, IsAsWithout}
+use Rattle.guillotiere.specs.Runs.{Run, Since, since_start, since, is_plain, IsAsWithout}
 
 -- the live boxes and the free ones
 abbrev pub boxes_in : State → List Box
@@ -55,11 +55,11 @@ abbrev pub since_run : State → List AtlasCall → List AtlasReply → Since
 since_run old calls replies = since (since_start old) calls replies
 
 -- Freeing what the run granted and still holds leaves the tree that its growths and its freeings of older ids alone
--- make; only where the run grew may both be one free leaf along different axes.
+-- make; only where the atlas has another size than before may both be one free leaf along different axes.
 pub record LeavesNoTrace (old : State) (calls : List AtlasCall) (replies : List AtlasReply) (new : State) : Type 0 where
   pub size : (since_run old calls replies).size ≡ new.size
   pub tree :
-      IsAsWithout new.size (has_growth calls replies) (release (since_run old calls replies).held new.tree)
+      IsAsWithout old.size new.size (release (since_run old calls replies).held new.tree)
       (since_run old calls replies).tree
 
 -- every run of grants, freeings and growths leaves no trace

@@ -1,5 +1,5 @@
 -- Runs: lists of calls with their replies, and what a run leaves once what was granted in it is freed.
-use Rattle.std.specs.Prelude.{◌≡◌, ℕ, ◌==◌, ◌⊎◌, Bool, true, false, ◌&&◌, ◌||◌, not, if◌then◌else◌, List, [], ◌∷◌}
+use Rattle.std.specs.Prelude.{◌≡◌, ℕ, ◌==◌, ◌⊎◌, Bool, true, false, ◌&&◌, not, if◌then◌else◌, List, [], ◌∷◌}
 use Rattle.guillotiere.specs.Boxes.{Sides}
 use Rattle.guillotiere.specs.Trees.{Tree, IsOneFree}
 use Rattle.guillotiere.specs.Changes.{only, and_id, release, grown}
@@ -47,15 +47,6 @@ is_plain (Deallocate id) = true
 is_plain (Grow n) = true
 is_plain _ = false
 
--- whether the atlas grew
-abbrev pub is_growth : AtlasCall → AtlasReply → Bool
-is_growth (Grow n) Done = true
-is_growth _ _ = false
-
-abbrev pub has_growth : List AtlasCall → List AtlasReply → Bool
-has_growth (call ∷ calls) (reply ∷ replies) = is_growth call reply || has_growth calls replies
-has_growth _ _ = false
-
--- the trees are one; or, only after a growth, both are one free leaf as large as the atlas
-abbrev pub IsAsWithout : Sides → (grew : Bool) → Tree → Tree → Type 0
-IsAsWithout size grew t u = (t ≡ u) ⊎ ((grew ≡ true) × IsOneFree size t × IsOneFree size u)
+-- the trees are one; or, only where the size has changed, both are one free leaf as large as the atlas
+abbrev pub IsAsWithout : (before now : Sides) → Tree → Tree → Type 0
+IsAsWithout before now t u = (t ≡ u) ⊎ ((now ≡ before → ⊥) × IsOneFree now t × IsOneFree now u)

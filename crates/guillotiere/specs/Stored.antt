@@ -77,7 +77,7 @@ Holds v h = HoldsWith (λ i. 0) v h
 abbrev pub IsLooseOnly : List ℕ → Holding → Type 0
 IsLooseOnly ks h = (i : ℕ) → occurs i ks ≡ 0 → h.loose i ≡ false
 
--- what each stored atlas keeps
+-- what each stored atlas keeps; `ClassLists` says of it that each free slot stands once in the lists of its class
 pub record IsAtlas (v : Stored) : Type 0 where
   pub holding : Holding
   pub holds : Holds v.shelf holding

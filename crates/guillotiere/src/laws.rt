@@ -1,15 +1,26 @@
 //! Laws over the definitions of docs/MODEL.md, each the contract of a function that does nothing.
-ghost use Rattle.std.specs.Prelude.{◌≡◌, [], ◌∷◌};
+ghost use Rattle.std.specs.Prelude.{◌≡◌, true, false, [], ◌∷◌};
 ghost use Rattle.guillotiere.specs.Boxes.Axis.{Horizontal, Vertical};
-ghost use Rattle.guillotiere.specs.Trees.{grant};
+ghost use Rattle.guillotiere.specs.Trees.{grant, live};
 ghost use Rattle.guillotiere.specs.Trees.Members.{End, Free, Alloc};
 ghost use Rattle.guillotiere.specs.Changes.{fresh, only, release, grown};
 ghost use Rattle.guillotiere.specs.Examples.{Shows, sides, box, both, one_corner, other_corner, capped_corner, grown_full, grown_below, quarters, row_of_three, half_between};
+ghost use Rattle.guillotiere.specs.Choice.{up, class_of, IsPick};
+ghost use Rattle.guillotiere.specs.ChoiceExamples.{IsDefaultPick, default_options, large_options, alike_boxes, large_boxes, mixed_boxes};
+ghost use Rattle.guillotiere.specs.declared.error.AtlasError.TheVariants.{Slots};
+ghost use Rattle.guillotiere.specs.States.{after_refit};
+ghost use Rattle.guillotiere.specs.Refits.{Refits, RefitPasses, IsRanked, IsRefitOrder};
+ghost use Rattle.guillotiere.specs.RefitExamples.{three_boxes, three_within, three_in_order, three_moved, moved_tree, upright, one_older, five_calls, five_replies, after_five, since_five};
+ghost use Rattle.guillotiere.specs.Runs.{Run};
+ghost use Rattle.guillotiere.specs.Steps.{Step};
+ghost use Rattle.guillotiere.specs.Steps.AtlasCall.{Rearrange};
+ghost use Rattle.guillotiere.specs.Steps.AtlasReply.{Changed, Refused};
 ghost use Rattle.guillotiere.specs.TreeLaws.{LeavesTile, AreasAddUp, ReleasesInAnyOrder, GrantsAreUndone, GrowthAndReleaseSwap, NothingLiveIsOneFree, PlacingsKeepTrees, ReleasesKeepTrees, GrowthsKeepTrees, FreedHasRoom, MembersAreCounted};
 ghost use Rattle.guillotiere.specs.StepLaws.{StepsKeep, PicksAreOne, PicksExist, SmallerFits, GrantsLieInside, FreeingsRemoveOne, GrowthsKeepBoxes, RearrangingsLoseNothing, RefusalsChangeNothing, StepsAnswerAsDue};
+ghost use Rattle.guillotiere.specs.SimpleRuns.{GuardedAreDisjoint, SimpleRunsKeepGuard, SimpleStartsGuard};
 ghost use Rattle.guillotiere.specs.RunLaws.{RunsKeepOrder, RunsLeaveNoTrace};
 ghost use Rattle.guillotiere.specs.Existence.{RoundingIsLeast, StartsAreSound, StepsExist};
-ghost use Rattle.guillotiere.specs.Renaming.{RenamingChangesNothing, AnswersWithoutIds};
+ghost use Rattle.guillotiere.specs.Renaming.{RenamingChangesNothing, AnswersWithoutIds, LiveNamesCount};
 ghost use Rattle.guillotiere.specs.Callers.{SoundIsTiled, LiveHaveBoxes, LiveShareNothing, LiveLieWithin, LiveAreGuarded};
 
 /// In a well formed tree of cuts each unit square of the atlas lies in exactly one leaf's box, and no
@@ -104,6 +115,60 @@ pub fn examples()
     ensures half_freed { release (only 5) half_between ≡ record { axis = Vertical; members = Alloc 0 100 (Free 100 End) } }
 {}
 
+/// Worked roundings and classes, by computation.
+pub fn examples_of_choice()
+    ensures up_to_step { up 9 8 ≡ 16 }
+    ensures multiple_stays { up 8 8 ≡ 8 }
+    ensures past_i32 { up 2147483647 2 ≡ 2147483648 }
+    ensures small { class_of default_options (sides 31 31) ≡ 0 }
+    ensures medium { class_of default_options (sides 32 1) ≡ 1 }
+    ensures large { class_of default_options (sides 1 256) ≡ 2 }
+    ensures all_large { class_of large_options (sides 1 1) ≡ 2 }
+{}
+
+/// Worked picks, by computation.
+pub fn examples_of_picks()
+    // the highest of boxes that are equally good, and then the one furthest left
+    ensures tie { IsDefaultPick 10 10 alike_boxes (box 30 0 50 20) }
+    // an equal side wins, though a large request wants the greatest margin otherwise
+    ensures equal_side { IsDefaultPick 300 300 large_boxes (box 0 0 300 400) }
+    ensures large { IsDefaultPick 301 301 large_boxes (box 400 0 900 500) }
+    ensures medium { IsDefaultPick 100 250 large_boxes (box 0 400 310 710) }
+    // the box of the lower class, though one of a higher class has an equal side
+    ensures class_above { IsDefaultPick 10 10 mixed_boxes (box 0 0 40 40) }
+    ensures all_large { IsPick mixed_boxes large_options (sides 10 10) (box 100 0 110 300) }
+{}
+
+/// A worked rearranging, of three boxes: its order, its changes, its failure, and the limits that it would pass.
+pub fn examples_of_refits()
+    ensures three { Shows (sides 10 10) three_boxes
+        (grant 0 (box 0 0 10 3) ∷ grant 3 (box 0 3 5 10) ∷ grant 2 (box 5 3 10 10) ∷ []) [] 4 }
+    ensures order { IsRefitOrder (live (sides 10 10) three_boxes) three_in_order }
+    // areas count up to 2147483647, so these are equally large; and of ids the low 24 bits count
+    ensures capped_order { IsRanked (grant 1 (box 0 40000 100000 70000) ∷ grant 0 (box 0 0 100000 40000) ∷ []) }
+    ensures order_by_slot { IsRanked (grant 16777219 (box 0 3 5 10) ∷ grant 50331650 (box 5 3 10 10) ∷ []) }
+    ensures moved { Shows (sides 10 10) moved_tree (grant 3 (box 0 0 5 7) ∷ grant 6 (box 5 0 10 7) ∷ [])
+        (box 0 7 5 10 ∷ box 5 7 10 10 ∷ []) 7 }
+    ensures refit { Refits (sides 10 10) default_options 7 (fresh (sides 10 10)) three_in_order three_moved moved_tree }
+    ensures passes_four { RefitPasses (sides 10 10) default_options 4 (fresh (sides 10 10)) three_in_order }
+    ensures passes_five { RefitPasses (sides 10 10) default_options 5 (fresh (sides 10 10)) three_in_order }
+    ensures passes_six { RefitPasses (sides 10 10) default_options 6 (fresh (sides 10 10)) three_in_order }
+    ensures step { Step (three_within 7) Rearrange (Changed three_moved)
+        (after_refit (three_within 7) (sides 10 10) moved_tree) }
+    ensures refused { Step (three_within 4) Rearrange (Refused Slots) (three_within 4) }
+{}
+
+/// A worked run, with what it leaves once what it granted and still holds is freed.
+pub fn examples_of_runs()
+    ensures run { Run one_older five_calls five_replies after_five }
+    ensures held { since_five.held 5 ≡ true }
+    ensures freed { since_five.held 4 ≡ false }
+    ensures older { since_five.held 7 ≡ false }
+    ensures size { since_five.size ≡ sides 10 12 }
+    ensures tree { since_five.tree ≡ upright (Free 12 End) }
+    ensures left { release since_five.held after_five.tree ≡ since_five.tree }
+{}
+
 /// Each step from a sound state leads to a sound state.
 pub fn steps_keep()
     ensures { StepsKeep }
@@ -169,10 +234,12 @@ pub fn renaming()
     ensures { RenamingChangesNothing }
 {}
 
-/// Two sound states that are one but for their ids answer each grant, freeing and growth alike, where neither is refused
-/// for memory, and are one but for their ids after it.
+/// Two sound states that are one but for their ids answer each grant, freeing and growth alike, where neither is
+/// refused for memory, and are one but for their ids after it.
 pub fn answers_without_ids()
-    ensures { AnswersWithoutIds }
+    ensures alike { AnswersWithoutIds }
+    // the names of ids that aren't live don't count
+    ensures live_names { LiveNamesCount }
 {}
 
 /// The rounded side is at least the side and a multiple of the alignment, and no such multiple is smaller.
@@ -214,4 +281,21 @@ pub fn live_boxes_lie_within()
 /// The live boxes are guarded: disjoint from each other and from the free boxes.
 pub fn live_boxes_are_guarded()
     ensures { LiveAreGuarded }
+{}
+
+/// Along each run of a simple allocator, boxes that are held stay within it and disjoint from each other and from the
+/// free boxes, with those granted since.
+pub fn simple_runs_keep_guard()
+    ensures { SimpleRunsKeepGuard }
+{}
+
+/// Boxes that are guarded are disjoint from each other.
+pub fn guarded_are_disjoint()
+    ensures { GuardedAreDisjoint }
+{}
+
+/// After a creation, a clearing and a reset of a simple allocator no box is held, and after a start from an atlas the
+/// boxes that are live there are.
+pub fn simple_starts_guard()
+    ensures { SimpleStartsGuard }
 {}

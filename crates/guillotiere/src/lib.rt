@@ -17,6 +17,7 @@ mod lists;
 mod options;
 mod pick;
 mod placing;
+mod refit;
 mod requests;
 pub mod session;
 mod simple;

@@ -7,6 +7,8 @@ mod atlas_calls;
 #[cfg(test)]
 mod atlas_churn;
 #[cfg(test)]
+mod atlas_extremes;
+#[cfg(test)]
 mod atlas_freeing;
 #[cfg(test)]
 mod atlas_grants;
@@ -14,6 +16,13 @@ mod atlas_grants;
 mod atlas_growth;
 #[cfg(test)]
 mod atlas_growth_recorded;
+#[cfg(test)]
+mod atlas_rearranging;
+#[cfg(test)]
+mod atlas_rearranging_recorded;
+#[cfg(test)]
+mod atlas_rearranging_sessions;
+mod atlas_memory;
 #[cfg(test)]
 mod atlas_recorded;
 #[cfg(test)]
@@ -23,7 +32,13 @@ mod atlas_starts;
 #[cfg(test)]
 mod atlas_walks;
 #[cfg(test)]
+mod errors;
+#[cfg(test)]
 mod geometry;
+#[cfg(test)]
+mod session_long;
+#[cfg(test)]
+mod session_rows;
 #[cfg(test)]
 mod simple_recorded;
 #[cfg(test)]
@@ -31,12 +46,22 @@ mod simple_rows;
 #[cfg(test)]
 mod simple_sessions;
 #[cfg(test)]
+mod simple_starts;
+#[cfg(test)]
+mod simple_starts_recorded;
+#[cfg(test)]
+mod simple_whole;
+#[cfg(test)]
 mod tables;
 #[cfg(test)]
 mod tool_atlas;
+#[cfg(test)]
+mod tool_conversation;
 #[cfg(test)]
 mod tool_devices;
 #[cfg(test)]
 mod tool_faults;
 #[cfg(test)]
 mod tool_rows;
+#[cfg(test)]
+mod tool_whole;

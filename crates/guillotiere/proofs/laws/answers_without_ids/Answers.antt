@@ -1,5 +1,5 @@
-use Rattle.guillotiere.proofs.Alike.{answers_without_ids}
+use Rattle.guillotiere.proofs.Alike.{answers_without_ids, live_names_count}
 use Rattle.guillotiere.proofs.laws.answers_without_ids.Goals as goal
 
 pub returns : goal.returns
-returns c = answers_without_ids
+returns c = record { alike = answers_without_ids; live_names = live_names_count }
