@@ -7,7 +7,7 @@ extern crate alloc;
 
 mod allocator;
 
-use allocator::{AllocId, Allocation, AtlasAllocator};
+use allocator::{AllocId, Allocation, AtlasAllocator, ChangeList};
 use euclid::size2;
 use std::io::Read;
 
@@ -54,14 +54,16 @@ impl Answers {
     fn request(&mut self, answer: Option<Allocation>) {
         self.calls += 1;
         match answer {
-            Some(allocation) => {
-                let r = allocation.rectangle;
-                self.add(u64::from(allocation.id.serialize()));
-                self.add((u64::from(r.min.x as u32) << 32) | u64::from(r.min.y as u32));
-                self.add((u64::from(r.max.x as u32) << 32) | u64::from(r.max.y as u32));
-            }
+            Some(allocation) => self.add_grant(&allocation),
             None => self.add(u64::MAX),
         }
+    }
+
+    fn add_grant(&mut self, allocation: &Allocation) {
+        let r = allocation.rectangle;
+        self.add(u64::from(allocation.id.serialize()));
+        self.add((u64::from(r.min.x as u32) << 32) | u64::from(r.min.y as u32));
+        self.add((u64::from(r.max.x as u32) << 32) | u64::from(r.max.y as u32));
     }
 
     fn freed(&mut self) {
@@ -72,6 +74,18 @@ impl Answers {
     fn grown(&mut self) {
         self.calls += 1;
         self.add(u64::MAX - 2);
+    }
+
+    fn rearranged(&mut self, list: &ChangeList) {
+        self.calls += 1;
+        for change in &list.changes {
+            self.add_grant(&change.old);
+            self.add_grant(&change.new);
+        }
+        for failure in &list.failures {
+            self.add_grant(failure);
+        }
+        self.add(u64::MAX - 3);
     }
 }
 
@@ -103,7 +117,7 @@ fn glyph(calls: u32) -> Answers {
     answers
 }
 
-fn sprite(count: u32, is_sorted: bool) -> Answers {
+fn sprite_sizes(count: u32) -> Vec<Size> {
     let mut random = Random(2);
     let mut sizes = Vec::with_capacity(count as usize);
     for _ in 0..count {
@@ -115,6 +129,11 @@ fn sprite(count: u32, is_sorted: bool) -> Answers {
         let width = random.between(low, high);
         sizes.push(size2(width, random.between(low, high)));
     }
+    sizes
+}
+
+fn sprite(count: u32, is_sorted: bool) -> Answers {
+    let mut sizes = sprite_sizes(count);
     if is_sorted {
         sizes.sort_by(|a, b| (b.height, b.width).cmp(&(a.height, a.width)));
     }
@@ -122,6 +141,27 @@ fn sprite(count: u32, is_sorted: bool) -> Answers {
     let mut answers = Answers::new();
     for size in sizes {
         answers.request(atlas.allocate(size));
+    }
+    answers
+}
+
+fn rearrange(times: u32) -> Answers {
+    let mut atlas = AtlasAllocator::new(size2(4096, 4096));
+    let mut answers = Answers::new();
+    let mut ids = Vec::new();
+    for size in sprite_sizes(5_000) {
+        let answer = atlas.allocate(size);
+        answers.request(answer);
+        if let Some(allocation) = answer {
+            ids.push(allocation.id);
+        }
+    }
+    for id in ids.iter().step_by(2) {
+        atlas.deallocate(*id);
+        answers.freed();
+    }
+    for _ in 0..times {
+        answers.rearranged(&atlas.rearrange());
     }
     answers
 }
@@ -213,6 +253,7 @@ fn main() {
             "checker" => checker(size),
             "search" => search(size),
             "growth" => growth(size),
+            "rearrange" => rearrange(size),
             _ => panic!("no workload {name}"),
         };
         println!("{name} {} {}", answers.calls, answers.checksum);

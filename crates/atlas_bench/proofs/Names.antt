@@ -4,7 +4,7 @@ use Rattle.atlas_lines.specs.Words.{BeginsWithWord}
 use Rattle.atlas_lines.proofs.Keywords.{has_no_space, no_space_by_test}
 use Rattle.atlas_lines.proofs.Parting.{one_word}
 use Rattle.atlas_bench.specs.declared.workload.Workload.{Workload}
-use Rattle.atlas_bench.specs.declared.workload.Workload.TheVariants.{Glyph, Sprite, SortedSprite, Checker, Search, Growth}
+use Rattle.atlas_bench.specs.declared.workload.Workload.TheVariants.{Glyph, Sprite, SortedSprite, Checker, Search, Growth, Rearrange}
 use Rattle.atlas_bench.specs.Workloads.{name}
 
 name_test : (w : Workload) → has_no_space (name w) ≡ true
@@ -15,6 +15,7 @@ name_test SortedSprite = refl
 name_test Checker = refl
 name_test Search = refl
 name_test Growth = refl
+name_test Rearrange = refl
 
 -- the first word of a line that begins with a name and a space is that name
 pub name_first : (w : Workload) (line word rest digits : List ℕ) → BeginsWithWord line word rest → line ≡ name w ++ 32 ∷ digits → (word ≡ name w) × (rest ≡ 32 ∷ digits)

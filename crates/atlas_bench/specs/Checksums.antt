@@ -1,7 +1,8 @@
 -- The checksum of answers.
-use Rattle.std.specs.Prelude.{ℕ, ◌+◌, ◌*◌, ◌%◌, ◌^◌, bit_xor}
+use Rattle.std.specs.Prelude.{ℕ, ◌+◌, ◌*◌, ◌%◌, ◌^◌, bit_xor, List, fold}
 use Rattle.std.specs.Int.{w32, cast_unsigned}
 use Rattle.guillotiere.specs.declared.allocation.Allocation.{Allocation}
+use Rattle.guillotiere.specs.declared.change.Change.{Change}
 use Rattle.guillotiere.specs.declared.geometry.Point.{Point}
 
 -- a checksum after one more word: FNV-1a, by words of 64 bits
@@ -16,3 +17,11 @@ point_word p = cast_unsigned w32 p.x * 2 ^ 32 + cast_unsigned w32 p.y
 abbrev pub with_grant : (checksum : ℕ) → Allocation → ℕ
 with_grant checksum a =
     with_word (with_word (with_word checksum a.id) (point_word a.rectangle.min)) (point_word a.rectangle.max)
+
+-- a checksum after what a box was and what it became
+abbrev pub with_change : (checksum : ℕ) → Change → ℕ
+with_change checksum c = with_grant (with_grant checksum c.old) c.new
+
+-- a checksum after both lists of a rearranging
+abbrev pub with_list : (checksum : ℕ) → List Change → List Allocation → ℕ
+with_list checksum changes failures = fold with_grant (fold with_change checksum changes) failures

@@ -1,8 +1,8 @@
 //! What a workload was answered.
-ghost use Rattle.std.specs.Prelude.{◌≡◌, ◌<◌, ◌+◌, ◌^◌};
-ghost use Rattle.atlas_bench.specs.Checksums.{with_word, with_grant, point_word};
+ghost use Rattle.std.specs.Prelude.{◌≡◌, ◌<◌, ◌+◌, ◌^◌, fold};
+ghost use Rattle.atlas_bench.specs.Checksums.{with_word, with_grant, with_change, with_list, point_word};
 
-use guillotiere::{Allocation, Point};
+use guillotiere::{Allocation, Change, ChangeList, Point};
 use std::marker::Model;
 
 // The word of an answer that a request has no room. No id is so great.
@@ -13,6 +13,9 @@ const FREED: u64 = 0xffff_ffff_ffff_fffe;
 
 // The word of an answer that the atlas grew.
 const GROWN: u64 = 0xffff_ffff_ffff_fffd;
+
+// The word that ends an answer that the atlas was rearranged.
+const REARRANGED: u64 = 0xffff_ffff_ffff_fffc;
 
 /// How many calls of an atlas were answered, and a checksum of their answers in order.
 #[derive(Clone, Copy)]
@@ -52,9 +55,35 @@ impl Answers {
         ensures { self.new ≡ record { calls = self.old.calls + 1; checksum = with_grant self.old.checksum allocation } }
     {
         self.calls += 1;
+        self.add_grant(allocation);
+    }
+
+    // Takes the words of a granted box into the checksum.
+    fn add_grant(&mut self, allocation: Allocation)
+        ensures { self.new ≡ record { calls = self.old.calls; checksum = with_grant self.old.checksum allocation } }
+    {
         self.add(u64::from(allocation.id.serialize()));
         self.add(word_of(allocation.rectangle.min));
         self.add(word_of(allocation.rectangle.max));
+    }
+
+    // The same of boxes, in order.
+    fn add_grants(&mut self, grants: &[Allocation])
+        ensures { self.new ≡ record { calls = self.old.calls; checksum = fold with_grant self.old.checksum grants.now } }
+    {
+        for allocation in grants {
+            self.add_grant(*allocation);
+        }
+    }
+
+    // The same of what boxes were and what they became, in order.
+    fn add_changes(&mut self, changes: &[Change])
+        ensures { self.new ≡ record { calls = self.old.calls; checksum = fold with_change self.old.checksum changes.now } }
+    {
+        for change in changes {
+            self.add_grant(change.old);
+            self.add_grant(change.new);
+        }
     }
 
     /// Takes in that a request had no room.
@@ -82,5 +111,16 @@ impl Answers {
     {
         self.calls += 1;
         self.add(GROWN);
+    }
+
+    /// Takes in that the atlas was rearranged.
+    pub fn rearranged(&mut self, list: &ChangeList)
+        requires { self.old.calls + 1 < 2 ^ 64 }
+        ensures { self.new ≡ record { calls = self.old.calls + 1; checksum = with_word (with_list self.old.checksum list.now.changes.items list.now.failures.items) REARRANGED } }
+    {
+        self.calls += 1;
+        self.add_changes(&list.changes);
+        self.add_grants(&list.failures);
+        self.add(REARRANGED);
     }
 }

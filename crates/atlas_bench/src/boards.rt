@@ -60,8 +60,8 @@ impl Board {
     }
 }
 
-// Frees every other one of these boxes, from the first or the second on.
-fn free_others(
+/// Frees every other one of these boxes, from the first or the second on.
+pub fn free_others(
     atlas: &mut AtlasAllocator,
     ids: &[AllocId],
     first: usize,

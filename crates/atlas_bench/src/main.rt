@@ -9,6 +9,7 @@ mod growth;
 mod jobs;
 mod random;
 mod run;
+mod sheets;
 mod sprites;
 mod workload;
 

@@ -9,6 +9,7 @@ use crate::error::BenchError;
 use crate::glyphs::glyph;
 use crate::growth::growth;
 use crate::jobs::jobs;
+use crate::sheets::rearrange;
 use crate::sprites::{sorted_sprite, sprite};
 use crate::workload::{Job, Workload};
 use std::alloc::Global;
@@ -25,6 +26,7 @@ fn run_job(alloc: Global, job: Job) -> Result<Answers, BenchError>
         Workload::Checker => checker(alloc, job.size),
         Workload::Search => search(alloc, job.size),
         Workload::Growth => growth(alloc, job.size),
+        Workload::Rearrange => rearrange(alloc, job.size),
     }
 }
 

@@ -22,8 +22,8 @@ fn next_size(random: &mut Random) -> Size
     random.size_between(low, high)
 }
 
-// The sizes of so many sprites.
-fn sizes(alloc: Global, count: u32) -> Result<Vec<Size>, BenchError>
+/// The sizes of so many sprites.
+pub fn sizes(alloc: Global, count: u32) -> Result<Vec<Size>, BenchError>
     ensures { IfOk result (λ sizes. vec_len sizes ≡ count) }
 {
     let mut random = Random::new(2);

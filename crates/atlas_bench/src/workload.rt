@@ -17,6 +17,8 @@ pub enum Workload {
     Search,
     /// `growth`: an atlas that grows; the size is the side, in pixels, up to which both of its sides grow.
     Growth,
+    /// `rearrange`: sprites that are rearranged; the size is how often.
+    Rearrange,
 }
 
 /// A workload and its size, which is in range.
@@ -41,6 +43,7 @@ impl Workload {
             b"checker" => Some(Workload::Checker),
             b"search" => Some(Workload::Search),
             b"growth" => Some(Workload::Growth),
+            b"rearrange" => Some(Workload::Rearrange),
             _ => None,
         }
     }
@@ -56,6 +59,7 @@ impl Workload {
             Workload::Checker => "checker",
             Workload::Search => "search",
             Workload::Growth => "growth",
+            Workload::Rearrange => "rearrange",
         }
     }
 
@@ -64,7 +68,7 @@ impl Workload {
         ensures { result ≡ most_size self }
     {
         match self {
-            Workload::Glyph | Workload::Search => 1_000_000_000,
+            Workload::Glyph | Workload::Search | Workload::Rearrange => 1_000_000_000,
             Workload::Sprite | Workload::SortedSprite => 1_000_000,
             Workload::Checker => 8_000_000,
             Workload::Growth => 32_768,

@@ -99,6 +99,13 @@ list_stops f xs i last old mid new before block g w =
     append_assoc before first (rest ++ last) ∙ ap (λ t. before ++ t) (sym (append_assoc first rest last) ∙ ap (λ t. t ++ last) (sym (all_pieces f xs i))) in
     subst P whole (begins_more old new (before ++ first) (rest ++ last) (gathered_begun old mid new block (before ++ first) g w))
 
+-- the device failed among lines that none follows
+pub lines_stop : {X : Type 0} (f : X → List ℕ) (xs : List X) (i : ℕ) (old mid new : Option (List ℕ)) (before block : List ℕ)
+    → IsGathered old mid block (before ++ flat_map f (take i xs)) → WritesBeginning mid new block → WritesBeginning old new (before ++ flat_map f xs)
+lines_stop f xs i old mid new before block g w =
+    let P : List ℕ → Type 0 = λ t. WritesBeginning old new (before ++ t) in
+    subst P (append-nil (flat_map f xs)) (list_stops f xs i [] old mid new before block g w)
+
 -- all lines were gathered
 pub list_whole : {X : Type 0} (f : X → List ℕ) (xs : List X) (i : ℕ) → i ≡ length xs → flat_map f (take i xs) ≡ flat_map f xs
 list_whole f xs i e = ap (flat_map f) (take_all i xs (omega arith))
@@ -116,3 +123,35 @@ pub list_begun : (old mid new : Option (List ℕ)) (before block text whole last
 list_begun old mid new before block text whole last e g w =
     let P : List ℕ → Type 0 = λ t. WritesBeginning old new t in
     subst P (append_assoc before text last ∙ ap (λ t. before ++ (t ++ last)) e) (gathered_begins old mid new block (before ++ text) last (block ++ last) g refl w)
+
+-- three parts, one after another
+pub parts_gathered : (old mid next new : Option (List ℕ)) (before block second after first middle last : List ℕ) → IsGathered old mid block (before ++ first) → IsGathered mid next second (block ++ middle)
+    → IsGathered next new after (second ++ last) → IsGathered old new after (before ++ (first ++ (middle ++ last)))
+parts_gathered old mid next new before block second after first middle last g h k =
+    let P : List ℕ → Type 0 = λ t. IsGathered old new after t in
+    subst P (append_assoc before first (middle ++ last))
+    (gathered_twice old mid new block after (before ++ first) (middle ++ last) g
+    (let Q : List ℕ → Type 0 = λ t. IsGathered mid new after t in
+    subst Q (append_assoc block middle last) (gathered_twice mid next new second after (block ++ middle) last h k)))
+
+-- the device failed in the first, the second or the third part
+pub first_begins : (old new : Option (List ℕ)) (before first rest : List ℕ) → WritesBeginning old new (before ++ first) → WritesBeginning old new (before ++ (first ++ rest))
+first_begins old new before first rest w =
+    let P : List ℕ → Type 0 = λ t. WritesBeginning old new t in
+    subst P (append_assoc before first rest) (begins_more old new (before ++ first) rest w)
+
+pub second_begins : (old mid new : Option (List ℕ)) (before block first middle rest : List ℕ) → IsGathered old mid block (before ++ first) → WritesBeginning mid new (block ++ middle)
+    → WritesBeginning old new (before ++ (first ++ (middle ++ rest)))
+second_begins old mid new before block first middle rest g w =
+    let P : List ℕ → Type 0 = λ t. WritesBeginning old new t in
+    subst P (append_assoc before first (middle ++ rest))
+    (gathered_begins old mid new block (before ++ first) (middle ++ rest) (block ++ (middle ++ rest)) g refl (first_begins mid new block middle rest w))
+
+pub third_begins : (old mid next new : Option (List ℕ)) (before block second first middle last : List ℕ) → IsGathered old mid block (before ++ first) → IsGathered mid next second (block ++ middle)
+    → WritesBeginning next new (second ++ last) → WritesBeginning old new (before ++ (first ++ (middle ++ last)))
+third_begins old mid next new before block second first middle last g h w =
+    let P : List ℕ → Type 0 = λ t. WritesBeginning old new t in
+    let Q : List ℕ → Type 0 = λ t. IsGathered old next second t in
+    let two : IsGathered old next second ((before ++ first) ++ middle) = gathered_twice old mid next block second (before ++ first) middle g h in
+    subst P (append_assoc (before ++ first) middle last ∙ append_assoc before first (middle ++ last))
+    (gathered_begins old next new second ((before ++ first) ++ middle) last (second ++ last) two refl w)

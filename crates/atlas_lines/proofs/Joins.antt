@@ -113,17 +113,17 @@ stops_after (Ok (BadLine n)) a b x y s o p q before middle f w e = (
   s ++ e.0,
   meets_after a b x y s e.0 n f e.1,
   (
-    let P : List ℕ → Type 0 = λ t. Appends o q t in
-    subst P (append_assoc before s e.0) (gathered_appends o p q middle (before ++ s) e.0 w e.2)
-  ),
+      let P : List ℕ → Type 0 = λ t. Appends o q t in
+      subst P (append_assoc before s e.0) (gathered_appends o p q middle (before ++ s) e.0 w e.2)
+      ),
 )
 stops_after (Err Write) a b x y s o p q before middle f w e = (
   s ++ e.0,
   elim e.1 [ inl owes ↦ inl (owes_after a b x y s e.0 f owes) | inr meets ↦ inr (meets.0, meets_after a b x y s e.0 meets.0 f meets.1) ],
   (
-    let P : List ℕ → Type 0 = λ t. WritesBeginning o q t in
-    subst P (append_assoc before s e.0) (gathered_begins o p q middle (before ++ s) e.0 (middle ++ e.0) w refl e.2)
-  ),
+      let P : List ℕ → Type 0 = λ t. WritesBeginning o q t in
+      subst P (append_assoc before s e.0) (gathered_begins o p q middle (before ++ s) e.0 (middle ++ e.0) w refl e.2)
+      ),
 )
 stops_after (Ok Done) a b x y s o p q before middle f w e = absurd e
 stops_after (Ok Limit) a b x y s o p q before middle f w e = absurd e

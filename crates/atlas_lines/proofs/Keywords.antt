@@ -1,12 +1,12 @@
 -- Which command a line's first word begins.
-use Rattle.std.proofs.Common.{◌≡◌, ℕ, ◌≢◌, Bool, true, false, not, ◌&&◌, eqb, List, [], ◌∷◌, codes, refl, sym, ◌∙◌, subst, inl, inr}
+use Rattle.std.proofs.Common.{◌≡◌, ℕ, ◌≢◌, Bool, true, false, not, ◌&&◌, eqb, List, [], ◌∷◌, codes, length, arith, refl, sym, ◌∙◌, subst, inl, inr}
 use Rattle.std.proofs.lemmas.Bool.{and_parts, eq-eqb, not-true, both_ways}
 use Rattle.std.proofs.lemmas.Slice.Eq.{bytes_eq-Decides}
 use Rattle.std.specs.Str.{bytes_eq}
 use Rattle.guillotiere.specs.declared.geometry.Size.{Size}
 use Rattle.guillotiere.specs.declared.options.AllocatorOptions.{AllocatorOptions}
 use Rattle.atlas_lines.specs.declared.commands.Command.{Command}
-use Rattle.atlas_lines.specs.declared.commands.Command.TheVariants.{Simple, Take, Atlas, Alloc, Live, Holes, AskSize, Free, Grow, Empty}
+use Rattle.atlas_lines.specs.declared.commands.Command.TheVariants.{Simple, Take, Atlas, Alloc, Live, Holes, AskSize, Free, Grow, Empty, Clear, Rearrange, Resize, FromAtlas}
 use Rattle.atlas_lines.specs.Grammar.{SpellsSize, SpellsAtlas, SpellsId, SpellsArguments, Spells, keyword}
 use Rattle.atlas_lines.specs.Words.{HasNoSpace, IsEmptyOrSpaced, BeginsWithWord, SpellsInParts}
 use Rattle.atlas_lines.proofs.Parting.{one_word, numbers_spaced}
@@ -38,6 +38,10 @@ keyword_test Live = refl
 keyword_test Holes = refl
 keyword_test AskSize = refl
 keyword_test Empty = refl
+keyword_test Clear = refl
+keyword_test Rearrange = refl
+keyword_test (Resize size) = refl
+keyword_test FromAtlas = refl
 
 pub keyword_no_space : (c : Command) → HasNoSpace (keyword c)
 keyword_no_space c = no_space_by_test (keyword c) (keyword_test c)
@@ -56,6 +60,10 @@ arguments_spaced Live text spells = subst IsEmptyOrSpaced (sym spells) tt
 arguments_spaced Holes text spells = subst IsEmptyOrSpaced (sym spells) tt
 arguments_spaced AskSize text spells = subst IsEmptyOrSpaced (sym spells) tt
 arguments_spaced Empty text spells = subst IsEmptyOrSpaced (sym spells) tt
+arguments_spaced Clear text spells = subst IsEmptyOrSpaced (sym spells) tt
+arguments_spaced Rearrange text spells = subst IsEmptyOrSpaced (sym spells) tt
+arguments_spaced (Resize size) text spells = size_spaced size text spells
+arguments_spaced FromAtlas text spells = subst IsEmptyOrSpaced (sym spells) tt
 
 -- the first word of a line that spells a command is its keyword
 pub in_parts : (c : Command) (line word rest : List ℕ) → BeginsWithWord line word rest → Spells c line → SpellsInParts c word rest
@@ -105,16 +113,82 @@ pub only_empty : (c : Command) (word rest : List ℕ) → word ≡ codes "empty"
 only_empty Empty word rest e parts = (refl, parts.1)
 only_empty c word rest e parts = absurd (differ (codes "empty") (keyword c) refl (sym e ∙ parts.0))
 
--- no other word begins a command
-pub no_keyword : (c : Command) (word rest : List ℕ) → word ≢ codes "simple" → word ≢ codes "take" → word ≢ codes "atlas" → word ≢ codes "alloc" → word ≢ codes "free"
-    → word ≢ codes "grow" → word ≢ codes "live" → word ≢ codes "holes" → word ≢ codes "size" → word ≢ codes "empty" → SpellsInParts c word rest → ⊥
-no_keyword (Simple size) word rest simple take atlas alloc free grow live holes ask empty parts = simple parts.0
-no_keyword (Take size) word rest simple take atlas alloc free grow live holes ask empty parts = take parts.0
-no_keyword (Atlas size options) word rest simple take atlas alloc free grow live holes ask empty parts = atlas parts.0
-no_keyword (Alloc size) word rest simple take atlas alloc free grow live holes ask empty parts = alloc parts.0
-no_keyword (Free id) word rest simple take atlas alloc free grow live holes ask empty parts = free parts.0
-no_keyword (Grow size) word rest simple take atlas alloc free grow live holes ask empty parts = grow parts.0
-no_keyword Live word rest simple take atlas alloc free grow live holes ask empty parts = live parts.0
-no_keyword Holes word rest simple take atlas alloc free grow live holes ask empty parts = holes parts.0
-no_keyword AskSize word rest simple take atlas alloc free grow live holes ask empty parts = ask parts.0
-no_keyword Empty word rest simple take atlas alloc free grow live holes ask empty parts = empty parts.0
+pub only_resize : (c : Command) (word rest : List ℕ) → word ≡ codes "resize" → SpellsInParts c word rest → (size : Size) × (c ≡ Resize size) × SpellsSize size rest
+only_resize (Resize size) word rest e parts = (size, refl, parts.1)
+only_resize c word rest e parts = absurd (differ (codes "resize") (keyword c) refl (sym e ∙ parts.0))
+
+pub only_clear : (c : Command) (word rest : List ℕ) → word ≡ codes "clear" → SpellsInParts c word rest → (c ≡ Clear) × (rest ≡ [])
+only_clear Clear word rest e parts = (refl, parts.1)
+only_clear c word rest e parts = absurd (differ (codes "clear") (keyword c) refl (sym e ∙ parts.0))
+
+pub only_rearrange : (c : Command) (word rest : List ℕ) → word ≡ codes "rearrange" → SpellsInParts c word rest → (c ≡ Rearrange) × (rest ≡ [])
+only_rearrange Rearrange word rest e parts = (refl, parts.1)
+only_rearrange c word rest e parts = absurd (differ (codes "rearrange") (keyword c) refl (sym e ∙ parts.0))
+
+pub only_from_atlas : (c : Command) (word rest : List ℕ) → word ≡ codes "from-atlas" → SpellsInParts c word rest → (c ≡ FromAtlas) × (rest ≡ [])
+only_from_atlas FromAtlas word rest e parts = (refl, parts.1)
+only_from_atlas c word rest e parts = absurd (differ (codes "from-atlas") (keyword c) refl (sym e ∙ parts.0))
+
+no_size : (size : Size) → SpellsSize size [] → ⊥
+no_size size spells = let e = spells.2 in cc
+
+no_atlas : (size : Size) (options : AllocatorOptions) → SpellsAtlas size options [] → ⊥
+no_atlas size options (inl two) = no_size size two.0
+no_atlas size options (inr six) = let e = six.2 in cc
+
+pub no_bytes : (text : List ℕ) → length text ≡ 0 → text ≡ []
+no_bytes [] e = refl
+no_bytes (b ∷ bs) e = absurd (omega arith)
+
+-- nothing follows the word of a command without arguments
+pub ends_alone : (c : Command) (rest : List ℕ) → SpellsArguments c [] → SpellsArguments c rest → rest ≡ []
+ends_alone (Simple size) rest alone spells = absurd (no_size size alone)
+ends_alone (Take size) rest alone spells = absurd (no_size size alone)
+ends_alone (Atlas size options) rest alone spells = absurd (no_atlas size options alone)
+ends_alone (Alloc size) rest alone spells = absurd (no_size size alone)
+ends_alone (Free id) rest alone spells = absurd (let e = alone.1 in cc)
+ends_alone (Grow size) rest alone spells = absurd (no_size size alone)
+ends_alone (Resize size) rest alone spells = absurd (no_size size alone)
+ends_alone Live rest alone spells = spells
+ends_alone Holes rest alone spells = spells
+ends_alone AskSize rest alone spells = spells
+ends_alone Empty rest alone spells = spells
+ends_alone Clear rest alone spells = spells
+ends_alone Rearrange rest alone spells = spells
+ends_alone FromAtlas rest alone spells = spells
+
+-- no other word begins a command with arguments
+pub stands_alone : (c : Command) (word rest : List ℕ) → word ≢ codes "simple" → word ≢ codes "take" → word ≢ codes "atlas" → word ≢ codes "alloc" → word ≢ codes "free"
+    → word ≢ codes "grow" → word ≢ codes "resize" → SpellsInParts c word rest → SpellsArguments c []
+stands_alone (Simple size) word rest simple take atlas alloc free grow resize parts = absurd (simple parts.0)
+stands_alone (Take size) word rest simple take atlas alloc free grow resize parts = absurd (take parts.0)
+stands_alone (Atlas size options) word rest simple take atlas alloc free grow resize parts = absurd (atlas parts.0)
+stands_alone (Alloc size) word rest simple take atlas alloc free grow resize parts = absurd (alloc parts.0)
+stands_alone (Free id) word rest simple take atlas alloc free grow resize parts = absurd (free parts.0)
+stands_alone (Grow size) word rest simple take atlas alloc free grow resize parts = absurd (grow parts.0)
+stands_alone (Resize size) word rest simple take atlas alloc free grow resize parts = absurd (resize parts.0)
+stands_alone Live word rest simple take atlas alloc free grow resize parts = refl
+stands_alone Holes word rest simple take atlas alloc free grow resize parts = refl
+stands_alone AskSize word rest simple take atlas alloc free grow resize parts = refl
+stands_alone Empty word rest simple take atlas alloc free grow resize parts = refl
+stands_alone Clear word rest simple take atlas alloc free grow resize parts = refl
+stands_alone Rearrange word rest simple take atlas alloc free grow resize parts = refl
+stands_alone FromAtlas word rest simple take atlas alloc free grow resize parts = refl
+
+-- no other word begins a command without arguments
+pub no_keyword : (c : Command) (word rest : List ℕ) → SpellsArguments c [] → word ≢ codes "live" → word ≢ codes "holes" → word ≢ codes "size" → word ≢ codes "empty"
+    → word ≢ codes "clear" → word ≢ codes "rearrange" → word ≢ codes "from-atlas" → SpellsInParts c word rest → ⊥
+no_keyword (Simple size) word rest alone live holes ask empty clear rearrange from parts = no_size size alone
+no_keyword (Take size) word rest alone live holes ask empty clear rearrange from parts = no_size size alone
+no_keyword (Atlas size options) word rest alone live holes ask empty clear rearrange from parts = no_atlas size options alone
+no_keyword (Alloc size) word rest alone live holes ask empty clear rearrange from parts = no_size size alone
+no_keyword (Free id) word rest alone live holes ask empty clear rearrange from parts = let e = alone.1 in cc
+no_keyword (Grow size) word rest alone live holes ask empty clear rearrange from parts = no_size size alone
+no_keyword (Resize size) word rest alone live holes ask empty clear rearrange from parts = no_size size alone
+no_keyword Live word rest alone live holes ask empty clear rearrange from parts = live parts.0
+no_keyword Holes word rest alone live holes ask empty clear rearrange from parts = holes parts.0
+no_keyword AskSize word rest alone live holes ask empty clear rearrange from parts = ask parts.0
+no_keyword Empty word rest alone live holes ask empty clear rearrange from parts = empty parts.0
+no_keyword Clear word rest alone live holes ask empty clear rearrange from parts = clear parts.0
+no_keyword Rearrange word rest alone live holes ask empty clear rearrange from parts = rearrange parts.0
+no_keyword FromAtlas word rest alone live holes ask empty clear rearrange from parts = from parts.0

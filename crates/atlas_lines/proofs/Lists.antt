@@ -11,6 +11,7 @@ use Rattle.std.proofs.lemmas.List.{get_or-map, length-map}
 use Rattle.std.proofs.lemmas.List.Elements.{All-tail}
 use Rattle.std.proofs.lemmas.List.Sorted.{IsPermutation-map, All-permutation, sum_by-IsPermutation}
 use Rattle.guillotiere.specs.declared.allocation.Allocation.{Allocation}
+use Rattle.guillotiere.specs.declared.change.Change.{Change}
 use Rattle.guillotiere.specs.declared.geometry.Rectangle.{Rectangle}
 use Rattle.guillotiere.specs.Boxes.{Box}
 use Rattle.guillotiere.specs.Choice.{ComesFirst}
@@ -19,20 +20,41 @@ use Rattle.guillotiere.specs.States.{State}
 use Rattle.guillotiere.specs.Replies.{grant_of, IsExact}
 use Rattle.guillotiere.specs.Stored.{AtlasValue, state_of}
 use Rattle.guillotiere.specs.Visits.{AreGrants, AreFreeAreas}
+use Rattle.guillotiere.specs.Rearranging.{IsExactChange, transfer_of}
 use Rattle.guillotiere.specs.Simple.{SimpleState}
 use Rattle.atlas_lines.specs.declared.replies.Reply.{Reply}
 use Rattle.atlas_lines.specs.Machine.{state_of as tool_state_of}
-use Rattle.atlas_lines.specs.Machine.{ToolReply, Held, with_atlas, LooksAtAtlas, IsLine, ShowsSize, ShowsEmpty, atlas_in, ShowsLive, HoldsHoles, AreInOrder, allocation_of}
+use Rattle.atlas_lines.specs.Machine.{ToolReply, Held, with_atlas, LooksAtAtlas, IsLine, ShowsSize, ShowsEmpty, atlas_in, ShowsLive, HoldsHoles, AreInOrder, allocation_of, change_of}
 
 same_allocation : (a : Allocation) → IsExact a.rectangle → a ≡ allocation_of (grant_of a)
 same_allocation a e = λ i. record { id = a.id; rectangle = e i }
 
-granted_back : (found : List Allocation) → All (λ (a : Allocation). IsExact a.rectangle) found → found ≡ map allocation_of (map grant_of found)
+pub granted_back : (found : List Allocation) → All (λ (a : Allocation). IsExact a.rectangle) found → found ≡ map allocation_of (map grant_of found)
 granted_back [] exact = refl
 granted_back (a ∷ found) exact =
     let first = same_allocation a (exact 0 a (omega arith)) in
     let others = granted_back found (All-tail (λ (b : Allocation). IsExact b.rectangle) a found exact) in
     ap (λ (b : Allocation). b ∷ found) first ∙ ap (λ (bs : List Allocation). allocation_of (grant_of a) ∷ bs) others
+
+same_change : (c : Change) → IsExactChange c → c ≡ change_of (transfer_of c)
+same_change c e =
+    let old = same_allocation c.old e.0 in
+    let new = same_allocation c.new e.1 in
+    λ i. record { old = old i; new = new i }
+
+pub changes_back : (found : List Change) → All IsExactChange found → found ≡ map change_of (map transfer_of found)
+changes_back [] exact = refl
+changes_back (c ∷ found) exact =
+    let first = same_change c (exact 0 c (omega arith)) in
+    let others = changes_back found (All-tail IsExactChange c found exact) in
+    ap (λ (d : Change). d ∷ found) first ∙ ap (λ (ds : List Change). change_of (transfer_of c) ∷ ds) others
+
+pub changes_shown : (changes : List Change) (failures : List Allocation) → All IsExactChange changes → All (λ (a : Allocation). IsExact a.rectangle) failures
+    → ToolReply.ChangeLines changes failures ≡ ToolReply.ChangeLines (map change_of (map transfer_of changes)) (map allocation_of (map grant_of failures))
+changes_shown changes failures exact lost =
+    let moved = changes_back changes exact in
+    let left = granted_back failures lost in
+    λ i. ToolReply.ChangeLines (moved i) (left i)
 
 -- the gathered live list is one that may be shown
 live_shown : (state : State) (found : List Allocation) → AreGrants state found → ShowsLive state (ToolReply.LiveLines found)

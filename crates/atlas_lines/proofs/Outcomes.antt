@@ -318,7 +318,7 @@ end_stopped (Err Write) i j o p q place new n run at_end no_end (inl bad) = reco
   owes = inr (
     place.number + 1,
     bad_at_end run.bytes (place.number + 1) (run.text ++ bad_line_text (place.number + 1))
-    (last_bad run.bytes run.text place (place.number + 1) run.advances no_end bad.0 refl),
+        (last_bad run.bytes run.text place (place.number + 1) run.advances no_end bad.0 refl),
   );
   written = WritesBeginning_after o p q run.text (bad_line_text (place.number + 1)) run.written bad.1;
 }
@@ -333,7 +333,7 @@ end_stopped (Err Write) i j o p q place new n run at_end no_end (inr reply) =
       owes = inl (
         lines,
         begun_at_end run.bytes lines [] (run.text ++ reply.1.text)
-        (last_first run.bytes run.text reply.1.text place (state_of reply.1.held) run.advances no_end reply.1.owed),
+            (last_first run.bytes run.text reply.1.text place (state_of reply.1.held) run.advances no_end reply.1.owed),
       );
       written = WritesBeginning_after o p q run.text reply.1.text run.written reply.1.written;
     }

@@ -28,12 +28,12 @@ step_from inside place command reply new e step =
     subst P e step
 
 -- what a command's line owes
-pub owed_by : (old new : ToolState) (line text : List ℕ) (command : Command) (reply : ToolReply) → text ≡ line → 0 < length line → length line ≤ 120
+pub owed_by : (old new : ToolState) (line text : List ℕ) (command : Command) (reply : ToolReply) → text ≡ line → 0 < length line
     → Spells command text → ToolStep old command reply new → LineOwes old line (reply_text reply) new
-owed_by old new [] text command reply e some short spells step = absurd (omega arith)
-owed_by old new (b ∷ bs) text command reply e some short spells step =
+owed_by old new [] text command reply e some spells step = absurd (omega arith)
+owed_by old new (b ∷ bs) text command reply e some spells step =
     let P : List ℕ → Type 0 = Spells command in
-    (command, reply, short, subst P e spells, step, refl)
+    (command, reply, subst P e spells, step, refl)
 
 -- the reply was given, and the next line begins
 pub replied : (old middle new : Place) (held : Held) (out_old out_sent out_new : Option (List ℕ)) (before sent after text : List ℕ) → LineOwes (state_at old) old.line text (state_of held)

@@ -2,7 +2,7 @@
 use Rattle.std.specs.Prelude.{ℕ, Option, List, ◌++◌}
 use Rattle.atlas_lines.specs.declared.commands.Command.{Command}
 use Rattle.atlas_lines.specs.declared.replies.Answer.{Answer}
-use Rattle.atlas_lines.specs.declared.replies.Answer.TheVariants.{OneLine, LiveLines, HoleLines}
+use Rattle.atlas_lines.specs.declared.replies.Answer.TheVariants.{OneLine, LiveLines, HoleLines, ChangeLines}
 use Rattle.atlas_lines.specs.Blocks.{IsGathered}
 use Rattle.atlas_lines.specs.Devices.{WritesBeginning}
 use Rattle.atlas_lines.specs.Machine.{ToolReply, ToolState, ToolStep}
@@ -12,6 +12,7 @@ abbrev pub shown_by : {A : Type 0} → Answer A → ToolReply
 shown_by (OneLine reply) = ToolReply.OneLine reply
 shown_by (LiveLines found) = ToolReply.LiveLines found.items
 shown_by (HoleLines found) = ToolReply.HoleLines found.items
+shown_by (ChangeLines list) = ToolReply.ChangeLines list.changes.items list.failures.items
 
 -- the command was carried out, and its reply follows the text that waited
 pub record Replies (old : ToolState) (command : Command) (new : ToolState) (out_old out_new : Option (List ℕ)) (before after : List ℕ) : Type 0 where

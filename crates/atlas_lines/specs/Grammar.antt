@@ -1,12 +1,12 @@
 -- The lines that spell a command.
-use Rattle.std.specs.Prelude.{◌≡◌, ℕ, ◌<◌, ◌^◌, ℤ, pos, neg_ℤ, FitsSigned, ◌⊎◌, List, [], ◌∷◌, ◌++◌, codes}
+use Rattle.std.specs.Prelude.{◌≡◌, ℕ, ◌<◌, ◌≤◌, ◌^◌, ℤ, pos, neg_ℤ, FitsSigned, ◌⊎◌, List, [], ◌∷◌, ◌++◌, length, codes}
 use Rattle.std.specs.Int.{w32}
 use Rattle.std.specs.Str.Parse.{IsNumeral, digits_value}
 use Rattle.guillotiere.specs.declared.geometry.Size.{Size}
 use Rattle.guillotiere.specs.declared.options.AllocatorOptions.{AllocatorOptions}
 use Rattle.guillotiere.specs.declared.options.TheConstants.{DEFAULT_OPTIONS}
 use Rattle.atlas_lines.specs.declared.commands.Command.{Command}
-use Rattle.atlas_lines.specs.declared.commands.Command.TheVariants.{Simple, Take, Atlas, Alloc, Live, Holes, AskSize, Free, Grow, Empty}
+use Rattle.atlas_lines.specs.declared.commands.Command.TheVariants.{Simple, Take, Atlas, Alloc, Live, Holes, AskSize, Free, Grow, Empty, Clear, Rearrange, Resize, FromAtlas}
 
 -- one or more decimal digits, with a value that fits a `u32`
 abbrev pub SpellsUnsigned : ℕ → List ℕ → Type 0
@@ -53,6 +53,10 @@ keyword AskSize = codes "size"
 keyword (Free id) = codes "free"
 keyword (Grow size) = codes "grow"
 keyword Empty = codes "empty"
+keyword Clear = codes "clear"
+keyword Rearrange = codes "rearrange"
+keyword (Resize size) = codes "resize"
+keyword FromAtlas = codes "from-atlas"
 
 -- what follows that word
 abbrev pub SpellsArguments : Command → List ℕ → Type 0
@@ -66,7 +70,12 @@ SpellsArguments AskSize text = text ≡ []
 SpellsArguments (Free id) text = SpellsId id text
 SpellsArguments (Grow size) text = SpellsSize size text
 SpellsArguments Empty text = text ≡ []
+SpellsArguments Clear text = text ≡ []
+SpellsArguments Rearrange text = text ≡ []
+SpellsArguments (Resize size) text = SpellsSize size text
+SpellsArguments FromAtlas text = text ≡ []
 
--- the bytes of a line, without its LF, spell this command
+-- the bytes of a line, without its LF, of which there are at most 120, spell this command
 abbrev pub Spells : Command → List ℕ → Type 0
-Spells command line = (arguments : List ℕ) × (line ≡ keyword command ++ arguments) × SpellsArguments command arguments
+Spells command line =
+    (arguments : List ℕ) × (line ≡ keyword command ++ arguments) × SpellsArguments command arguments × (length line ≤ 120)

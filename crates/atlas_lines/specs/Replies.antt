@@ -2,6 +2,7 @@
 use Rattle.std.specs.Prelude.{ℕ, ℤ, Bool, true, false, List, ◌++◌, codes, decimal, length, flat_map}
 use Rattle.std.specs.Fmt.{signed_decimal}
 use Rattle.guillotiere.specs.declared.allocation.Allocation.{Allocation}
+use Rattle.guillotiere.specs.declared.change.Change.{Change}
 use Rattle.guillotiere.specs.declared.geometry.Rectangle.{Rectangle}
 use Rattle.guillotiere.specs.declared.error.AtlasError.{AtlasError}
 use Rattle.guillotiere.specs.declared.error.AtlasError.TheVariants.{Memory, Slots, NotLive}
@@ -9,7 +10,7 @@ use Rattle.atlas_lines.specs.declared.replies.Reply.{Reply}
 use Rattle.atlas_lines.specs.declared.replies.Reply.TheVariants.{Completed, Placed, NotPlaced, Allocated, Extent, Truth, NoAtlas, NoSimple, Invalid, Declined}
 use Rattle.atlas_lines.specs.Lines.{ended}
 use Rattle.atlas_lines.specs.Machine.{ToolReply}
-use Rattle.atlas_lines.specs.Machine.ToolReply.{OneLine, LiveLines, HoleLines}
+use Rattle.atlas_lines.specs.Machine.ToolReply.{OneLine, LiveLines, HoleLines, ChangeLines}
 
 -- a space and a number
 abbrev pub spaced_number : ℤ → List ℕ
@@ -49,6 +50,20 @@ live_line a = ended (codes "box " ++ decimal a.id ++ corners_text a.rectangle)
 abbrev pub hole_line : Rectangle → List ℕ
 hole_line r = ended (codes "hole" ++ corners_text r)
 
+-- the line of a rectangle that was placed anew
+abbrev pub change_line : Change → List ℕ
+change_line c =
+    ended
+    (codes "moved " ++ decimal c.old.id ++ corners_text c.old.rectangle ++ codes " to " ++ decimal c.new.id ++ corners_text c.new.rectangle)
+
+-- the line of a rectangle that found no room
+abbrev pub lost_line : Allocation → List ℕ
+lost_line a = ended (codes "lost " ++ decimal a.id ++ corners_text a.rectangle)
+
+-- how many were placed anew, and how many found no room
+abbrev pub counts_line : (changes failures : ℕ) → List ℕ
+counts_line changes failures = ended (codes "changes " ++ decimal changes ++ codes " failures " ++ decimal failures)
+
 -- a word and a count
 abbrev pub count_line : (word : List ℕ) → (count : ℕ) → List ℕ
 count_line word count = ended (word ++ decimal count)
@@ -58,6 +73,8 @@ abbrev pub reply_text : ToolReply → List ℕ
 reply_text (OneLine reply) = line_text reply
 reply_text (LiveLines granted) = flat_map live_line granted ++ count_line (codes "live ") (length granted)
 reply_text (HoleLines areas) = flat_map hole_line areas ++ count_line (codes "holes ") (length areas)
+reply_text (ChangeLines changes failures) =
+    flat_map change_line changes ++ (flat_map lost_line failures ++ counts_line (length changes) (length failures))
 
 -- the answer to a bad line with this number
 abbrev pub bad_line_text : ℕ → List ℕ

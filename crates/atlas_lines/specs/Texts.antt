@@ -1,11 +1,11 @@
 -- The text that the tool owes for a list of lines.
-use Rattle.std.specs.Prelude.{◌≡◌, ℕ, ◌<◌, ◌≤◌, ◌≢◌, ◌⊎◌, List, [], ◌∷◌, ◌++◌, length}
+use Rattle.std.specs.Prelude.{◌≡◌, ℕ, ◌<◌, ◌≢◌, ◌⊎◌, List, [], ◌∷◌, ◌++◌, length}
 use Rattle.atlas_lines.specs.declared.commands.Command.{Command}
 use Rattle.atlas_lines.specs.Grammar.{Spells}
 use Rattle.atlas_lines.specs.Machine.{ToolReply, ToolState, ToolStep}
 use Rattle.atlas_lines.specs.Replies.{reply_text}
 
--- a line of more than 120 bytes is bad, and so is one that spells no command and isn't empty
+-- a line of more than 120 bytes is bad, and so is every other one that spells no command and isn't empty
 abbrev pub IsBad : List ℕ → Type 0
 IsBad line = (120 < length line) ⊎ ((line ≢ []) × ((command : Command) → Spells command line → ⊥))
 
@@ -14,7 +14,7 @@ abbrev pub LineOwes : ToolState → List ℕ → List ℕ → ToolState → Type
 LineOwes old [] text new = (text ≡ []) × (new ≡ old)
 LineOwes old (byte ∷ bytes) text new =
     (command : Command) × (reply : ToolReply)
-    × (length (byte ∷ bytes) ≤ 120) × Spells command (byte ∷ bytes) × ToolStep old command reply new × (text ≡ reply_text reply)
+    × Spells command (byte ∷ bytes) × ToolStep old command reply new × (text ≡ reply_text reply)
 
 -- From old, these lines, none of them bad, owe this text and lead to new.
 abbrev pub OwesText : ToolState → List (List ℕ) → List ℕ → ToolState → Type 0

@@ -1,7 +1,7 @@
 //! Commands, and the lines that spell them.
 ghost use Rattle.std.specs.Prelude.{◌≡◌, Some, IfSome, []};
 ghost use Rattle.atlas_lines.specs.declared.commands.Command.{Command};
-ghost use Rattle.atlas_lines.specs.Grammar.{Spells};
+ghost use Rattle.atlas_lines.specs.Grammar.{Spells, SpellsArguments};
 ghost use Rattle.atlas_lines.specs.Words.{SpellsInParts};
 
 use crate::words::{atlas_arguments, first_word, id_argument, size_arguments};
@@ -31,14 +31,49 @@ pub enum Command {
     Grow(Size),
     /// `empty`: tell whether no rectangle is allocated.
     Empty,
+    /// `clear`: make the atlas one free rectangle again.
+    Clear,
+    /// `rearrange`: place what is allocated anew.
+    Rearrange,
+    /// `resize W H`: place what is allocated anew in this size.
+    Resize(Size),
+    /// `from-atlas`: make the simple allocator take over the atlas's size, options and free rectangles.
+    FromAtlas,
 }
 
-// The command, if nothing follows its word.
-fn alone(command: Command, rest: &[u8]) -> Option<Command>
-    ensures found { IfSome result (λ it. (it ≡ command) × (rest.now ≡ [])) }
-    ensures only { rest.now ≡ [] → result ≡ Some command }
+/// A line of more bytes is bad.
+pub const LINE: usize = 120;
+
+// The command that begins with this word and has this rest, if it has no arguments.
+fn parse_alone(word: &[u8], rest: &[u8]) -> Option<Command>
+    ensures found { IfSome result (λ command. SpellsInParts command word.now rest.now) }
+    ensures only { (command : Command) → SpellsArguments command [] → SpellsInParts command word.now rest.now → result ≡ Some command }
 {
-    if rest.is_empty() { Some(command) } else { None }
+    if !rest.is_empty() {
+        return None;
+    }
+    if word == b"live".as_slice() {
+        return Some(Command::Live);
+    }
+    if word == b"holes".as_slice() {
+        return Some(Command::Holes);
+    }
+    if word == b"size".as_slice() {
+        return Some(Command::AskSize);
+    }
+    if word == b"empty".as_slice() {
+        return Some(Command::Empty);
+    }
+    if word == b"clear".as_slice() {
+        return Some(Command::Clear);
+    }
+    if word == b"rearrange".as_slice() {
+        return Some(Command::Rearrange);
+    }
+    if word == b"from-atlas".as_slice() {
+        return Some(Command::FromAtlas);
+    }
+    None
 }
 
 // The command that begins with this word and has this rest.
@@ -65,26 +100,21 @@ fn parse_words(word: &[u8], rest: &[u8]) -> Option<Command>
     if word == b"grow".as_slice() {
         return Some(Command::Grow(size_arguments(rest)?));
     }
-    if word == b"live".as_slice() {
-        return alone(Command::Live, rest);
+    if word == b"resize".as_slice() {
+        return Some(Command::Resize(size_arguments(rest)?));
     }
-    if word == b"holes".as_slice() {
-        return alone(Command::Holes, rest);
-    }
-    if word == b"size".as_slice() {
-        return alone(Command::AskSize, rest);
-    }
-    if word == b"empty".as_slice() {
-        return alone(Command::Empty, rest);
-    }
-    None
+    parse_alone(word, rest)
 }
 
-/// The command that the bytes of a line, without its LF, spell. It takes no memory.
+/// The command that the bytes of a line, without its LF, spell; None for a line of more than 120 bytes. It takes no
+/// memory.
 pub fn parse_line(line: &[u8]) -> Option<Command>
     ensures found { IfSome result (λ command. Spells command line.now) }
     ensures only { (command : Command) → Spells command line.now → result ≡ Some command }
 {
+    if line.len() > LINE {
+        return None;
+    }
     let (word, rest) = first_word(line);
     parse_words(word, rest)
 }

@@ -10,14 +10,15 @@ ghost use Rattle.atlas_lines.specs.Machine.{ToolReply};
 ghost use Rattle.atlas_lines.specs.Replies.{reply_text, line_text, bad_line_text, live_line, hole_line, count_line};
 
 use crate::buffer::FixedBytes;
+use crate::changes::send_changes;
 use crate::devices::{ToolOutput, write_all};
 use crate::digits::push_unsigned;
 use crate::replies::{Answer, LINE, Reply, push_bad_line, push_corners, push_reply};
 use guillotiere::{Allocation, Rectangle};
 use std::alloc::Allocator;
 
-// How many bytes of replies are written at once, at most.
-const BLOCK: usize = 65536;
+/// How many bytes of replies are written at once, at most.
+pub const BLOCK: usize = 65536;
 
 /// Text that waits to be written.
 pub type Waiting = FixedBytes<BLOCK>;
@@ -71,8 +72,8 @@ fn push_count<const N: usize>(text: &mut FixedBytes<N>, word: &[u8], count: usiz
     text.push(b'\n');
 }
 
-// Writes what waits if there is no room for another line. `false` where the device failed.
-fn make_room<W: ToolOutput>(output: &mut W, waiting: &mut Waiting) -> bool
+/// Writes what waits if there is no room for another line. `false` where the device failed.
+pub fn make_room<W: ToolOutput>(output: &mut W, waiting: &mut Waiting) -> bool
     requires { W.has_failed output.old ≡ false }
     ensures room { result ≡ true → length waiting.new + LINE ≤ BLOCK }
     ensures gathered { result ≡ true → IsGathered (W.contents output.old) (W.contents output.new) waiting.new waiting.old }
@@ -113,12 +114,7 @@ pub fn send_bad_line<W: ToolOutput>(output: &mut W, waiting: &mut Waiting, numbe
 }
 
 // Adds a line with a word and a count. `false` where the device failed.
-fn end_list<W: ToolOutput>(
-    output: &mut W,
-    waiting: &mut Waiting,
-    word: &[u8],
-    count: usize,
-) -> bool
+fn end_list<W: ToolOutput>(output: &mut W, waiting: &mut Waiting, word: &[u8], count: usize) -> bool
     requires output { W.has_failed output.old ≡ false }
     requires short { length word.now ≤ 100 }
     ensures gathered { result ≡ true → IsGathered (W.contents output.old) (W.contents output.new) waiting.new (waiting.old ++ count_line word.now count) }
@@ -163,7 +159,7 @@ fn send_holes<W: ToolOutput>(output: &mut W, waiting: &mut Waiting, found: &[Rec
 }
 
 /// Adds the reply to a command; what waited is written where there is no room. `false` where the device failed.
-pub fn send<A: Allocator, W: ToolOutput>(
+pub fn send<A: Allocator + Copy, W: ToolOutput>(
     output: &mut W,
     waiting: &mut Waiting,
     answer: &Answer<A>,
@@ -177,5 +173,6 @@ pub fn send<A: Allocator, W: ToolOutput>(
         Answer::OneLine(reply) => send_line(output, waiting, *reply),
         Answer::LiveLines(found) => send_live(output, waiting, found.as_slice()),
         Answer::HoleLines(found) => send_holes(output, waiting, found.as_slice()),
+        Answer::ChangeLines(list) => send_changes(output, waiting, &list.changes, &list.failures),
     }
 }

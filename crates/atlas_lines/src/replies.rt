@@ -4,7 +4,7 @@ ghost use Rattle.atlas_lines.specs.Replies.{spaced_number, line_text, bad_line_t
 
 use crate::buffer::FixedBytes;
 use crate::digits::{push_signed, push_unsigned};
-use guillotiere::{Allocation, AtlasError, Rectangle, Size};
+use guillotiere::{Allocation, AtlasError, ChangeList, Rectangle, Size};
 use std::alloc::Allocator;
 
 /// A reply of one line.
@@ -34,13 +34,16 @@ pub enum Reply {
 
 /// What a command is answered.
 #[derive(Drop)]
-pub enum Answer<A: Allocator> {
+pub enum Answer<A: Allocator + Copy> {
     /// One line.
     OneLine(Reply),
     /// `box N X0 Y0 X1 Y1` for each, then `live COUNT`
     LiveLines(Vec<Allocation, A>),
     /// `hole X0 Y0 X1 Y1` for each, then `holes COUNT`
     HoleLines(Vec<Rectangle, A>),
+    /// `moved N X0 Y0 X1 Y1 to N X0 Y0 X1 Y1` for each change, `lost N X0 Y0 X1 Y1` for each failure, then
+    /// `changes COUNT failures COUNT`
+    ChangeLines(ChangeList<A>),
 }
 
 // Adds a space and a number at the end.

@@ -5,7 +5,7 @@ ghost use Rattle.atlas_lines.specs.Ends.{Ends, is_read_fault, is_write_fault};
 ghost use Rattle.atlas_lines.specs.Progress.{EndsBadly, LineEnds, Continues, place_at_start, is_write_end};
 
 use crate::buffer::FixedBytes;
-use crate::commands::parse_line;
+use crate::commands::{LINE, parse_line};
 use crate::devices::{ToolInput, ToolOutput};
 use crate::listing::{Waiting, flush, send_bad_line};
 use crate::tool::Tool;
@@ -31,9 +31,6 @@ pub enum ToolFault {
     /// A write failed, or took none of some bytes.
     Write,
 }
-
-// A line of more bytes is bad.
-const LINE: usize = 120;
 
 // How many bytes are asked for at once.
 const BLOCK: usize = 65536;

@@ -1,19 +1,22 @@
 //! The tool between its lines: what it holds, and how it carries out a command.
 ghost use Rattle.std.specs.Prelude.{◌≡◌, ◌↔◌, None, true, false, not, IsTrue, IfOk, IsOkUnless};
+ghost use Rattle.std.specs.Result.{ForOk};
 ghost use Rattle.guillotiere.specs.declared.error.AtlasError.TheVariants as error;
 ghost use Rattle.guillotiere.specs.Boxes.{Fits, IsPositive};
 ghost use Rattle.guillotiere.specs.Pixels.{sides_of, options_of};
-ghost use Rattle.guillotiere.specs.Steps.AtlasCall.{Allocate, Deallocate, Grow};
+ghost use Rattle.guillotiere.specs.Rearranging.{AreExactChanges, change_reply};
+ghost use Rattle.guillotiere.specs.Steps.AtlasCall.{Allocate, Deallocate, Grow, Clear, Rearrange, ResizeAndRearrange};
 ghost use Rattle.guillotiere.specs.Stored as stored;
 ghost use Rattle.atlas_lines.specs.Answers.{shown_by, Replies, BeginsToReply};
-ghost use Rattle.atlas_lines.specs.Machine.{ToolReply, ToolStep, CreatesSimple, RequestsSimple, CreatesAtlas, CallsAtlas, LooksAtAtlas, IsLine, ShowsLive, ShowsHoles, ShowsSize, ShowsEmpty, HoldsHoles, atlas_in, state_of};
+ghost use Rattle.atlas_lines.specs.Machine.{ToolReply, ToolStep, CreatesSimple, RequestsSimple, StartsSimple, CreatesAtlas, CallsAtlas, RearrangesAtlas, ShowsRearranging, LooksAtAtlas, IsLine, ShowsLive, ShowsHoles, ShowsSize, ShowsEmpty, HoldsHoles, atlas_in, state_of};
 
 use crate::commands::Command;
 use crate::devices::ToolOutput;
 use crate::listing::{Waiting, send};
 use crate::replies::{Answer, Reply};
 use guillotiere::{
-    AllocId, AllocatorOptions, AtlasAllocator, AtlasError, Rectangle, SimpleAtlasAllocator, Size,
+    AllocId, AllocatorOptions, AtlasAllocator, AtlasError, ChangeList, Rectangle,
+    SimpleAtlasAllocator, Size,
 };
 use std::alloc::Allocator;
 use std::marker::Model;
@@ -62,6 +65,17 @@ fn ordered_holes<A: Allocator + Copy>(
     Ok(areas)
 }
 
+// The lines of what a rearranging answers.
+fn answer_changes<A: Allocator + Copy>(changed: Result<ChangeList<A>, AtlasError>) -> Answer<A>
+    requires { ForOk changed AreExactChanges }
+    ensures { ShowsRearranging (change_reply changed) (shown_by result) }
+{
+    match changed {
+        Ok(list) => Answer::ChangeLines(list),
+        Err(error) => Answer::OneLine(Reply::Declined(error)),
+    }
+}
+
 impl<'a, A: Allocator> Tool<'a, A> {
     /// A tool that holds nothing yet. It takes no memory.
     pub fn new(alloc: &'a A) -> Self
@@ -89,6 +103,10 @@ impl<'a, A: Allocator> Tool<'a, A> {
             Command::Holes => self.list_holes(),
             Command::AskSize => Answer::OneLine(self.tell_size()),
             Command::Empty => Answer::OneLine(self.tell_empty()),
+            Command::Clear => Answer::OneLine(self.clear()),
+            Command::Rearrange => self.rearrange(),
+            Command::Resize(size) => self.resize(size),
+            Command::FromAtlas => Answer::OneLine(self.start_simple()),
         }
     }
 
@@ -133,6 +151,22 @@ impl<'a, A: Allocator> Tool<'a, A> {
         match simple.allocate(size) {
             Ok(Some(rectangle)) => Reply::Placed(rectangle),
             Ok(None) => Reply::NotPlaced,
+            Err(error) => Reply::Declined(error),
+        }
+    }
+
+    fn start_simple(&mut self) -> Reply
+        ensures step { StartsSimple (atlas_in self.old.atlas) self.old.simple result self.new.simple }
+        ensures atlas { self.new.atlas ≡ self.old.atlas }
+    {
+        let Some(atlas) = &self.atlas else {
+            return Reply::NoAtlas;
+        };
+        let Some(simple) = &mut self.simple else {
+            return Reply::NoSimple;
+        };
+        match simple.init_from_allocator(atlas) {
+            Ok(()) => Reply::Completed,
             Err(error) => Reply::Declined(error),
         }
     }
@@ -196,6 +230,42 @@ impl<'a, A: Allocator> Tool<'a, A> {
             Ok(()) => Reply::Completed,
             Err(error) => Reply::Declined(error),
         }
+    }
+
+    fn clear(&mut self) -> Reply
+        ensures step { CallsAtlas (atlas_in self.old.atlas) Clear result (atlas_in self.new.atlas) }
+        ensures simple { self.new.simple ≡ self.old.simple }
+    {
+        let Some(atlas) = &mut self.atlas else {
+            return Reply::NoAtlas;
+        };
+        match atlas.clear() {
+            Ok(()) => Reply::Completed,
+            Err(error) => Reply::Declined(error),
+        }
+    }
+
+    fn rearrange(&mut self) -> Answer<&'a A>
+        ensures step { RearrangesAtlas (atlas_in self.old.atlas) Rearrange (shown_by result) (atlas_in self.new.atlas) }
+        ensures simple { self.new.simple ≡ self.old.simple }
+    {
+        let Some(atlas) = &mut self.atlas else {
+            return Answer::OneLine(Reply::NoAtlas);
+        };
+        answer_changes(atlas.rearrange())
+    }
+
+    fn resize(&mut self, new_size: Size) -> Answer<&'a A>
+        ensures step { RearrangesAtlas (atlas_in self.old.atlas) (ResizeAndRearrange (sides_of new_size)) (shown_by result) (atlas_in self.new.atlas) }
+        ensures simple { self.new.simple ≡ self.old.simple }
+    {
+        let Some(atlas) = &mut self.atlas else {
+            return Answer::OneLine(Reply::NoAtlas);
+        };
+        if !is_positive(new_size) {
+            return Answer::OneLine(Reply::Invalid);
+        }
+        answer_changes(atlas.resize_and_rearrange(new_size))
     }
 
     fn list_live(&self) -> Answer<&'a A>

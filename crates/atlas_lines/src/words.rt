@@ -7,7 +7,8 @@ ghost use Rattle.atlas_lines.specs.Words.{BeginsWithWord, BeginsWithNumber, Begi
 
 use guillotiere::{AllocId, AllocatorOptions, DEFAULT_OPTIONS, Size, size2};
 
-/// The bytes before the first space, and the rest from it on.
+/// The bytes before the first space, all of them where there is none, and the rest from that space on. For programs that
+/// read lines of their own, as `atlas_bench`. It takes no memory.
 pub fn first_word(text: &[u8]) -> (&[u8], &[u8])
     ensures { BeginsWithWord text.now result.0.now result.1.now }
 {
@@ -19,7 +20,8 @@ pub fn first_word(text: &[u8]) -> (&[u8], &[u8])
     text.split_at(text.len())
 }
 
-/// The number that decimal digits write, where it fits a `u32`.
+/// The number that one or more decimal digits write, where it fits a `u32`; None for every other text. For programs that
+/// read lines of their own, as `atlas_bench`. It takes no memory.
 pub fn unsigned(text: &[u8]) -> Option<u32>
     ensures found { IfSome result (λ n. SpellsUnsigned n text.now) }
     ensures only { (n : ℕ) → SpellsUnsigned n text.now → result ≡ Some n }

@@ -1,5 +1,5 @@
 -- Lists as callers meet them: counts and searches under a permutation, a filter and a map.
-use Rattle.std.proofs.Common.{◌≡◌, zero, suc, ◌+◌, ◌≤◌, Bool, true, false, cond, List, [], ◌∷◌, map, length, refl, ap, subst, sym, ◌∙◌, arith, Contains, IsPermutation, inl, inr, Option, Some, None}
+use Rattle.std.proofs.Common.{◌≡◌, ◌↔◌, zero, suc, ◌+◌, ◌≤◌, Bool, true, false, cond, List, [], ◌∷◌, map, length, refl, ap, subst, sym, ◌∙◌, arith, Contains, IsPermutation, inl, inr, Option, Some, None}
 use Rattle.std.specs.List.{count_by, filter, find}
 use Rattle.std.proofs.lemmas.List.Sorted.{sum_by-IsPermutation, Contains-permutation}
 use Rattle.guillotiere.proofs.TreeBasics.{one_if}
@@ -158,3 +158,8 @@ module _ {X : Type 0} where
     Contains-map (y ∷ ys) x (zero, below, is) = subst (Contains (f y ∷ map f ys)) (ap f is) (Contains-first (f y) (map f ys))
     Contains-map (y ∷ ys) x (suc k, below, is) =
         Contains-later (f y) (map f ys) (f x) (Contains-map ys x (k, omega arith, is))
+
+-- a fact that holds exactly of no list holds exactly of no length
+pub empty_count : {X : Type 0} (P : Type 0) (xs : List X) → P ↔ (xs ≡ []) → P ↔ (length xs ≡ 0)
+empty_count P [] is = (λ p. refl, λ e. is.1 refl)
+empty_count P (x ∷ xs) is = (λ p. ap length (is.0 p), λ e. absurd (omega (arith, e)))

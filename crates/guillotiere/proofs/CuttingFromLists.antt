@@ -64,12 +64,12 @@ home-class o part (Some k) h = omega (arith, h.1.class_is, class_of-below o (box
 
 -- the boxes
 
-same-listed : {Z : Type 0} (old new : List (Vec Rectangle Z)) → ((k : ℕ) → items_at new k ≡ items_at old k) → listed new ≡ listed old
+pub same-listed : {Z : Type 0} (old new : List (Vec Rectangle Z)) → ((k : ℕ) → items_at new k ≡ items_at old k) → listed new ≡ listed old
 same-listed old new same =
     let F : List Rectangle → List Rectangle → List Rectangle → List Box = λ a b c. map box_of a ++ (map box_of b ++ map box_of c) in
     ap (λ a. F a (items_at new 1) (items_at new 2)) (same 0) ∙ (ap (λ b. F (items_at old 0) b (items_at new 2)) (same 1) ∙ ap (λ c. F (items_at old 0) (items_at old 1) c) (same 2))
 
-count-kept_rest : (p : Box → Bool) (o : Options) (f : Box) (r : Sides) (rest : Rest) → IsRestOf f r rest
+pub count-kept_rest : (p : Box → Bool) (o : Options) (f : Box) (r : Sides) (rest : Rest) → IsRestOf f r rest
     → count_by p (kept_rest o f r) ≡ count_by p (kept_of o (box_of rest.split)) + count_by p (kept_of o (box_of rest.leftover))
 count-kept_rest p o f r rest is =
     let axis = cut_axis (box_sides f) r in

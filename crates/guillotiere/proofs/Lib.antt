@@ -60,6 +60,10 @@ pub mod Turning
 pub mod SlotSums
 pub mod LeafCounts
 pub mod WalkSteps
+pub mod SlotMeasures
+mod CountSums
+mod AreaSums
+pub mod AlongLists
 pub mod Observing
 pub mod NamedSlots
 pub mod ShownLists
@@ -85,6 +89,11 @@ pub mod ListedBoxes
 pub mod CuttingFromLists
 pub mod Storing
 pub mod SimpleGrants
+pub mod SimpleSteps
+pub mod SimpleRunning
+pub mod SimplePlaying
+pub mod SimpleLists
+pub mod SimpleStarting
 pub mod FreedAtlas
 pub mod Hiding
 pub mod FreedLists
@@ -117,3 +126,5 @@ pub mod CallerLemmas
 pub mod LiveBoxes
 pub mod LyingApart
 pub mod Guarding
+pub mod CallerSteps
+pub mod Measuring

@@ -1,6 +1,6 @@
 -- The boxes of live ids, and what grants, freeings and growths make of them.
 use Rattle.std.proofs.Common.{◌≡◌, ℕ, zero, suc, ◌+◌, ◌≤◌, ◌==◌, Bool, true, false, not, cond, [], ◌∷◌, ◌++◌, length, refl, ap, subst, sym, ◌∙◌, arith, Contains, inl, inr, Option, Some, None, IsSome, option_map}
-use Rattle.std.specs.List.{filter, find}
+use Rattle.std.specs.List.{count_by, filter, find}
 use Rattle.std.proofs.lemmas.Bool.{eq-eqb, eqb-true, false≢true}
 use Rattle.std.proofs.lemmas.Bool.Decides.{eqb_tells}
 use Rattle.std.proofs.lemmas.List.Sorted.{Contains-permutation}
@@ -12,7 +12,7 @@ use Rattle.guillotiere.specs.Trees.{Grant, ids}
 use Rattle.guillotiere.specs.States.{State, live_in, IsLive, IsSound}
 use Rattle.guillotiere.specs.Replies.{live_box}
 use Rattle.guillotiere.specs.StepLaws.{live_count, IsGrantStep, IsFreeingStep}
-use Rattle.guillotiere.specs.Callers.{KeepsOthers, AddsBox, SoundIsTiled, LiveHaveBoxes}
+use Rattle.guillotiere.specs.Callers.{SoundIsTiled, LiveHaveBoxes}
 use Rattle.guillotiere.proofs.TreeIds.{Contains-first}
 use Rattle.guillotiere.proofs.Counting.{count_some, split_at, IsSplitAt}
 use Rattle.guillotiere.proofs.BoxLists.{count_live}
@@ -64,26 +64,43 @@ pub few_live : (s : State) (id : ℕ) → IsSound s → live_count id s ≤ 1
 few_live s id sound = (sound_is_tiled s sound).ids id
 
 -- a grant
-pub adds_box : (old new : State) (r : Sides) (g : Grant) → IsSound old → IsSound new → IsGrantStep old r g new → AddsBox old new g.id g.box
-adds_box old new r g sound_old sound_new step = record {
-  unused = ap (option_map (λ (k : Grant). k.box)) (find-uncounted (is_for g.id) (live_in old) step.id);
-  live = counted_live new g.id (count_some (is_for g.id) (live_in new) g at (eq-eqb g.id g.id refl));
-  box_now = ap (option_map (λ (k : Grant). k.box)) (find-counted_once (is_for g.id) (live_in new) g (few_live new g.id sound_new) at (eq-eqb g.id g.id refl));
-  others = λ k differ. ap (option_map (λ (h : Grant). h.box)) (
-      find-permutation (is_for k) (g ∷ live_in old) (live_in new) step.live (omega (arith, few_live new k sound_new, count_by-permutation (is_for k) (g ∷ live_in old) (live_in new) step.live))
-      ∙ passed k differ
-      );
-  count = length-permutation (g ∷ live_in old) (live_in new) step.live ∙ omega arith;
-}
-  where
-    at : Contains (live_in new) g
-    at = Contains-permutation (g ∷ live_in old) (live_in new) g step.live (Contains-first g (live_in old))
+module _ (old new : State) (r : Sides) (g : Grant) (sound_new : IsSound new) (step : IsGrantStep old r g new) where
+  at : Contains (live_in new) g
+  at = Contains-permutation (g ∷ live_in old) (live_in new) g step.live (Contains-first g (live_in old))
 
-    passed : (k : ℕ) → (k ≡ g.id → ⊥) → find (is_for k) (g ∷ live_in old) ≡ find (is_for k) (live_in old)
-    passed k differ = elim (eqb_tells g.id k) [
-      | inl same ↦ absurd (differ (sym same.1))
-      | inr other ↦ ap (λ b. cond b (Some g) (find (is_for k) (live_in old))) other.0
-    ]
+  pub granted_unused : live_box old g.id ≡ None
+  granted_unused = ap (option_map (λ (k : Grant). k.box)) (find-uncounted (is_for g.id) (live_in old) step.id)
+
+  pub granted_live : IsLive new g.id
+  granted_live = counted_live new g.id (count_some (is_for g.id) (live_in new) g at (eq-eqb g.id g.id refl))
+
+  pub granted_here : live_box new g.id ≡ Some g.box
+  granted_here =
+      ap (option_map (λ (k : Grant). k.box))
+      (find-counted_once (is_for g.id) (live_in new) g (few_live new g.id sound_new) at (eq-eqb g.id g.id refl))
+
+  pub granted_others : (k : ℕ) → (k ≡ g.id → ⊥) → live_box new k ≡ live_box old k
+  granted_others k differ =
+      let same : count_by (is_for k) (live_in new) ≡ count_by (is_for k) (g ∷ live_in old) =
+      count_by-permutation (is_for k) (g ∷ live_in old) (live_in new) step.live in
+      ap (option_map (λ (h : Grant). h.box))
+      (find-permutation (is_for k) (g ∷ live_in old) (live_in new) step.live (omega (arith, few_live new k sound_new))
+      ∙ passed)
+    where
+      passed : find (is_for k) (g ∷ live_in old) ≡ find (is_for k) (live_in old)
+      passed = elim (eqb_tells g.id k) [
+        | inl same ↦ absurd (differ (sym same.1))
+        | inr other ↦ ap (λ b. cond b (Some g) (find (is_for k) (live_in old))) other.0
+      ]
+
+  pub granted_boxes : (k : ℕ) → live_box new k ≡ cond (k == g.id) (Some g.box) (live_box old k)
+  granted_boxes k = elim (eqb_tells k g.id) [
+    | inl same ↦ ap (live_box new) same.1 ∙ granted_here ∙ ap (λ b. cond b (Some g.box) (live_box old k)) (sym same.0)
+    | inr other ↦ granted_others k other.1 ∙ ap (λ b. cond b (Some g.box) (live_box old k)) (sym other.0)
+  ]
+
+  pub granted_count : length (live_in new) ≡ length (live_in old) + 1
+  granted_count = length-permutation (g ∷ live_in old) (live_in new) step.live ∙ omega arith
 
 -- a freeing
 freed_itself : (id : ℕ) (g : Grant) → (g.id == id) ≡ true → not (g.id == id) ≡ false
@@ -100,7 +117,7 @@ freed_box old new id step =
     ap (λ l. option_map (λ (g : Grant). g.box) (find (is_for id) l)) step.live
     ∙ ap (option_map (λ (g : Grant). g.box)) (find-filter_gone (is_for id) (λ g. not (g.id == id)) (freed_itself id) (live_in old))
 
-pub freed_others : (old new : State) (id : ℕ) → IsFreeingStep old id new → KeepsOthers old new id
+pub freed_others : (old new : State) (id : ℕ) → IsFreeingStep old id new → (k : ℕ) → (k ≡ id → ⊥) → live_box new k ≡ live_box old k
 freed_others old new id step k differ =
     ap (λ l. option_map (λ (g : Grant). g.box) (find (is_for k) l)) step.live
     ∙ ap (option_map (λ (g : Grant). g.box)) (find-filter_kept (is_for k) (λ g. not (g.id == id)) (freed_other id k differ) (live_in old))

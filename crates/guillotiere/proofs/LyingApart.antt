@@ -1,16 +1,19 @@
 -- Live boxes of different ids share no unit square, and lie apart.
-use Rattle.std.proofs.Common.{◌≡◌, ℕ, zero, suc, ◌+◌, ◌≤◌, ◌<◌, ◌&&◌, ◌⊎◌, Bool, true, false, map, refl, ap, subst, sym, ◌∙◌, arith, Contains, inl, inr, Option, Some, None, option_map, nat_le, nat_lt}
+use Rattle.std.proofs.Common.{◌≡◌, ℕ, zero, suc, ◌+◌, ◌≤◌, ◌<◌, ◌&&◌, ◌⊎◌, ◌≤ℤ◌, pos, subst₂, Bool, true, false, map, refl, ap, subst, sym, ◌∙◌, arith, Contains, inl, inr, Option, Some, None, IsSome, IfSome, ◌↔◌, option_map, nat_le, nat_lt}
 use Rattle.std.specs.List.{count_by, find}
 use Rattle.std.proofs.lemmas.Bool.{eqb-true, false≢true, ltb-true, lt-ltb, le-leb, and_parts, and_from, cases_lt}
 use Rattle.std.proofs.lemmas.List.Elements.{All-contains, Contains-append_left}
+use Rattle.std.proofs.lemmas.Int.{ints}
 use Rattle.guillotiere.specs.Boxes.{Sides, Box, covers, IsNonempty, IsWithin}
+use Rattle.guillotiere.specs.declared.geometry.Rectangle.{Rectangle}
+use Rattle.guillotiere.specs.Pixels.{box_of, rectangle_of}
 use Rattle.guillotiere.specs.Trees.{Grant}
-use Rattle.guillotiere.specs.States.{State, live_in, free_in, IsSound}
+use Rattle.guillotiere.specs.States.{State, live_in, free_in, IsSound, IsLive}
 use Rattle.guillotiere.specs.Replies.{live_box}
 use Rattle.guillotiere.specs.RunLaws.{boxes_in}
-use Rattle.guillotiere.specs.Callers.{ShareNothing, LieApart, LiveShareNothing, LiveLieWithin}
+use Rattle.guillotiere.specs.Callers.{ShareNothing, BoxesLieApart, RectanglesLieApart, AllLieApart, AllLieWithin, rectangle_in, LiveShareNothing, LiveLieWithin}
 use Rattle.guillotiere.proofs.Counting.{count_by-append, counted_once}
-use Rattle.guillotiere.proofs.LiveBoxes.{sound_is_tiled, is_for}
+use Rattle.guillotiere.proofs.LiveBoxes.{sound_is_tiled, is_for, live_have_boxes}
 use Rattle.guillotiere.proofs.CallerLemmas.{Contains-find, Contains-map, count_by-map, find-counted}
 
 -- a unit square of a box that lies within sides lies within them
@@ -81,7 +84,7 @@ share_nothing s i j b c sound differ is is' x y = by_tests (covers x y b) (cover
         absurd (differ (sym g.2 ∙ ap (λ (k : Grant). k.id) same ∙ h.2))
 
 -- nonempty boxes that share no unit square lie apart
-pub lie_apart : (b c : Box) → IsNonempty b → IsNonempty c → ShareNothing b c → LieApart b c
+pub lie_apart : (b c : Box) → IsNonempty b → IsNonempty c → ShareNothing b c → BoxesLieApart b c
 lie_apart b c some_b some_c nothing =
     elim (cases_lt c.min.x b.max.x) [
       | inr left ↦ inl left
@@ -123,3 +126,58 @@ pub live_share_nothing : LiveShareNothing
 live_share_nothing s i j b c sound differ is is' =
     let nothing = share_nothing s i j b c sound differ is is' in
     (nothing, lie_apart b c (live_lie_within s i b sound is).0 (live_lie_within s j c sound is').0 nothing)
+
+-- the rectangle of a live box
+rectangle_box : (s : State) (id : ℕ) (r : Rectangle) → rectangle_in s id ≡ Some r → (b : Box) × (live_box s id ≡ Some b) × (rectangle_of b ≡ r)
+rectangle_box s id r is = by_box (live_box s id) refl is
+  where
+    by_box : (o : Option Box) → live_box s id ≡ o → option_map rectangle_of o ≡ Some r → (b : Box) × (live_box s id ≡ Some b) × (rectangle_of b ≡ r)
+    by_box None e none = cc
+    by_box (Some b) e some = (b, e, cc)
+
+whole_order : (m n : ℕ) → m ≤ n → pos m ≤ℤ pos n
+whole_order m n h = omega (arith, ints)
+
+rectangles_apart : (b c : Box) → BoxesLieApart b c → RectanglesLieApart (rectangle_of b) (rectangle_of c)
+rectangles_apart b c (inl left) = inl (whole_order _ _ left)
+rectangles_apart b c (inr (inl right)) = inr (inl (whole_order _ _ right))
+rectangles_apart b c (inr (inr (inl above))) = inr (inr (inl (whole_order _ _ above)))
+rectangles_apart b c (inr (inr (inr below))) = inr (inr (inr (whole_order _ _ below)))
+
+pub all_lie_apart : (s : State) → IsSound s → AllLieApart s
+all_lie_apart s sound i j r q differ is is' =
+    let b = rectangle_box s i r is in
+    let c = rectangle_box s j q is' in
+    subst₂ RectanglesLieApart b.2 c.2 (rectangles_apart b.0 c.0 (live_share_nothing s i j b.0 c.0 sound differ b.1 c.1).1)
+
+pub all_lie_within : (s : State) → IsSound s → AllLieWithin s
+all_lie_within s sound id = by_box (live_box s id) refl
+  where
+    by_box : (o : Option Box) → live_box s id ≡ o
+        → IfSome (option_map rectangle_of o) (λ r. IsNonempty (box_of r) × IsWithin s.size (box_of r))
+    by_box None e = tt
+    by_box (Some b) e = live_lie_within s id b sound e
+
+-- a shown rectangle lies within the atlas
+pub shown_within : (s : State) → IsSound s → (id : ℕ) (o : Option Rectangle) → o ≡ rectangle_in s id
+    → IfSome o (λ r. IsWithin s.size (box_of r))
+shown_within s sound id o is = subst (λ k. IfSome k (λ r. IsWithin s.size (box_of r))) (sym is) (weaker (rectangle_in s id) (all_lie_within s sound id))
+  where
+    weaker : (k : Option Rectangle) → IfSome k (λ r. IsNonempty (box_of r) × IsWithin s.size (box_of r)) → IfSome k (λ r. IsWithin s.size (box_of r))
+    weaker None h = tt
+    weaker (Some r) h = h.1
+
+-- where an id's rectangle is shown, the id is live
+pub shown_live : (s : State) (id : ℕ) (o : Option Rectangle) → o ≡ rectangle_in s id → IsSome o ↔ IsLive s id
+shown_live s id o is = (
+  λ some. (live_have_boxes s id).1 (has_box (live_box s id) (subst (λ k. IsSome k) is some)),
+  λ live. subst (λ k. IsSome k) (sym is) (has_rectangle (live_box s id) ((live_have_boxes s id).0 live)),
+)
+  where
+    has_box : (k : Option Box) → IsSome (option_map rectangle_of k) → IsSome k
+    has_box None some = some
+    has_box (Some b) some = refl
+
+    has_rectangle : (k : Option Box) → IsSome k → IsSome (option_map rectangle_of k)
+    has_rectangle None some = some
+    has_rectangle (Some b) some = refl

@@ -1,14 +1,17 @@
 -- What a rearranging makes of an atlas.
-use Rattle.std.proofs.Common.{◌≡◌, List, map, All, IsPermutation, refl, ap, sym, subst}
+use Rattle.std.proofs.Common.{◌≡◌, List, map, All, IsPermutation, refl, ap, sym, subst, [], ◌∷◌}
+use Rattle.std.proofs.lemmas.List.Elements.{All-nil, All-cons, All-head, All-tail}
 use Rattle.std.proofs.lemmas.List.Sorted.{All-permutation, IsPermutation-map}
 use Rattle.guillotiere.specs.declared.allocation.Allocation.{Allocation}
-use Rattle.guillotiere.specs.Boxes.{Sides, IsPositive}
+use Rattle.guillotiere.specs.declared.change.Change.{Change}
+use Rattle.guillotiere.specs.Boxes.{Sides, IsPositive, box_sides}
 use Rattle.guillotiere.specs.Trees.{Grant}
 use Rattle.guillotiere.specs.States.{State, live_in, started, after_refit, IsSound}
-use Rattle.guillotiere.specs.Refits.{Rearrangement, IsRanked, IsRefitOrder}
+use Rattle.guillotiere.specs.Refits.{Transfer, Rearrangement, IsRanked, IsRefitOrder}
 use Rattle.guillotiere.specs.Steps.{Rearranges}
 use Rattle.guillotiere.specs.Steps.AtlasReply.{Changed}
 use Rattle.guillotiere.specs.StepLaws.{IsRearrangingStep}
+use Rattle.guillotiere.specs.Rearranging.{transfer_of, KeepsSides}
 use Rattle.guillotiere.specs.Replies.{grant_of, AreRising}
 use Rattle.guillotiere.specs.Visits.{AreGrants}
 use Rattle.guillotiere.specs.Stored.{AtlasValue, state_of}
@@ -40,6 +43,13 @@ module _ (old : State) (n : Sides) (start : State) (order : List Grant) (positiv
 pub exact-sorted : (s : State) (found sorted : List Allocation) → AreGrants s found → IsPermutation found sorted → All HasExactRectangle sorted
 exact-sorted s found sorted grants moved = All-permutation HasExactRectangle found sorted moved grants.exact
 
+-- what holds of each transfer of a list, of each of its changes
+changes_of : (P : Transfer → Type 0) (changes : List Change) → All P (map transfer_of changes) → All (λ c. P (transfer_of c)) changes
+changes_of P [] all = All-nil (λ c. P (transfer_of c))
+changes_of P (c ∷ rest) all =
+    All-cons (λ k. P (transfer_of k)) c rest (All-head P (transfer_of c) (map transfer_of rest) all)
+    (changes_of P rest (All-tail P (transfer_of c) (map transfer_of rest) all))
+
 -- a state is read from what is stored
 same_state : (v w : AtlasValue) → v.stored ≡ w.stored → state_of v ≡ state_of w
 same_state v w is = ap (λ s. state_of (record { stored = s; turns = 0 })) is
@@ -58,3 +68,9 @@ module _ (old start placed new : AtlasValue) (n : Sides) (positive : IsPositive 
   atlas-moved sound =
       subst (IsRearrangingStep (state_of old) list) (sym (same_state new placed stored))
       (rearranged-step (state_of old) n (state_of start) order positive is_start ordered list (state_of placed) sound made)
+
+  -- boxes keep their sides
+  pub atlas-sides : IsSound (state_of old) → (changes : List Change) → list.changes ≡ map transfer_of changes → All KeepsSides changes
+  atlas-sides sound changes is =
+      let P : Transfer → Type 0 = λ t. box_sides t.new.box ≡ box_sides t.old.box in
+      changes_of P changes (subst (All P) is (atlas-moved sound).sides)

@@ -9,16 +9,15 @@ use Rattle.std.proofs.lemmas.List.Elements.{All-nil, All-cons, All-head, All-tai
 use Rattle.std.proofs.lemmas.List.Sums.{sum_by-cons, sum_by-append}
 use Rattle.guillotiere.specs.declared.geometry.Rectangle.{Rectangle}
 use Rattle.guillotiere.specs.declared.error.AtlasError.{AtlasError}
-use Rattle.guillotiere.specs.declared.error.AtlasError.TheVariants.{Memory, Slots, NotLive}
 use Rattle.guillotiere.specs.Pixels.{box_of}
 use Rattle.guillotiere.specs.Boxes.{Sides, Box, Axis, box_at, whole_box, box_sides, covers, Fits, IsPositive, IsNonempty, IsWithin}
 use Rattle.guillotiere.specs.Boxes.Axis.{Horizontal, Vertical}
 use Rattle.guillotiere.specs.Cuts.{cut_axis, split_along, leftover_along}
 use Rattle.guillotiere.specs.Choice.{Options, AreValid, rounded}
-use Rattle.guillotiere.specs.Simple.SimpleAnswer.{Granted, NoRoom, Refused}
-use Rattle.guillotiere.specs.Simple.{SimpleState, IsSimple, SimplyGrants, IsGuarded, is_kept, kept_rest, simple_start, SimpleAnswer, SimpleStep, simple_answer}
+use Rattle.guillotiere.specs.Simple.SimpleAtlasCall.{Allocate}
+use Rattle.guillotiere.specs.Simple.{SimpleState, IsSimple, SimplyGrants, IsGuarded, is_kept, kept_rest, simple_start, SimpleStep, simple_answer}
 
-abbrev one_if : Bool → ℕ
+abbrev pub one_if : Bool → ℕ
 one_if b = cond b 1 0
 
 -- the parts of a box tile it
@@ -48,7 +47,7 @@ unfolding AreParts
 cells_down p1 p2 p q1 q2 q h k = grind arith
 
 -- of a box that isn't empty and that a request fits, each unit square lies in the granted part, the split or the leftover
-squares_of_cut : (axis : Axis) (f : Box) (r : Sides) (x y : ℕ) → IsNonempty f → Fits r (box_sides f)
+pub squares_of_cut : (axis : Axis) (f : Box) (r : Sides) (x y : ℕ) → IsNonempty f → Fits r (box_sides f)
     → one_if (covers x y (box_at f.min r)) + (one_if (covers x y (split_along axis f r)) + one_if (covers x y (leftover_along axis f r))) ≡ one_if (covers x y f)
 squares_of_cut Horizontal f r x y nonempty fits =
     cells_across _ _ _ _ _ _ (parts f.min.x (f.min.x + r.width) f.max.x x (omega arith) (omega arith)) (parts f.min.y (f.min.y + r.height) f.max.y y (omega arith) (omega arith))
@@ -56,7 +55,7 @@ squares_of_cut Vertical f r x y nonempty fits =
     cells_down _ _ _ _ _ _ (parts f.min.x (f.min.x + r.width) f.max.x x (omega arith) (omega arith)) (parts f.min.y (f.min.y + r.height) f.max.y y (omega arith) (omega arith))
 
 -- what is kept of a part covers no more than the part
-kept_le : (keep : Box → Bool) (a b : Box) (p : Box → Bool) → count_by p (filter keep (a ∷ b ∷ [])) ≤ one_if (p a) + one_if (p b)
+pub kept_le : (keep : Box → Bool) (a b : Box) (p : Box → Bool) → count_by p (filter keep (a ∷ b ∷ [])) ≤ one_if (p a) + one_if (p b)
 kept_le keep a b p = by_tests (keep a) (keep b)
   where
     by_tests : (s t : Bool) → count_by p (cond s (a ∷ cond t (b ∷ []) []) (cond t (b ∷ []) [])) ≤ one_if (p a) + one_if (p b)
@@ -81,13 +80,13 @@ grant-squares old new s box simple grants x y =
 
 -- a fact of all boxes, by a count of those that fail it
 
-count-none : (p : Box → Bool) (xs : List Box) → All (λ b. p b ≡ false) xs → count_by p xs ≡ 0
+pub count-none : (p : Box → Bool) (xs : List Box) → All (λ b. p b ≡ false) xs → count_by p xs ≡ 0
 count-none p [] h = refl
 count-none p (x ∷ xs) h =
     let head : one_if (p x) ≡ 0 = ap one_if (All-head (λ b. p b ≡ false) x xs h) in
     omega (arith, sum_by-cons (λ b. one_if (p b)) x xs, count-none p xs (All-tail (λ b. p b ≡ false) x xs h), head)
 
-none-count : (p : Box → Bool) (xs : List Box) → count_by p xs ≡ 0 → All (λ b. p b ≡ false) xs
+pub none-count : (p : Box → Bool) (xs : List Box) → count_by p xs ≡ 0 → All (λ b. p b ≡ false) xs
 none-count p [] e = All-nil (λ b. p b ≡ false)
 none-count p (x ∷ xs) e =
     let c = sum_by-cons (λ b. one_if (p b)) x xs in
@@ -98,19 +97,19 @@ none-count p (x ∷ xs) e =
     zero_if false h = refl
 
 -- a box that is empty or passes the size
-misplaced : Sides → Box → Bool
+pub misplaced : Sides → Box → Bool
 misplaced size b = (leb b.max.x b.min.x || leb b.max.y b.min.y) || (ltb size.width b.max.x || ltb size.height b.max.y)
 
-well_placed : (size : Sides) (b : Box) → misplaced size b ≡ false → IsNonempty b × IsWithin size b
+pub well_placed : (size : Sides) (b : Box) → misplaced size b ≡ false → IsNonempty b × IsWithin size b
 unfolding misplaced
 well_placed size b h = grind (arith, nat_tests)
 
-not_misplaced : (size : Sides) (b : Box) → IsNonempty b × IsWithin size b → misplaced size b ≡ false
+pub not_misplaced : (size : Sides) (b : Box) → IsNonempty b × IsWithin size b → misplaced size b ≡ false
 unfolding misplaced
 not_misplaced size b h = grind (arith, nat_tests)
 
 -- a part that is kept isn't empty and passes no size that its box doesn't
-kept-placed : (o : Options) (size : Sides) (axis : Axis) (f : Box) (r : Sides) → AreValid o → IsNonempty f → IsWithin size f → Fits r (box_sides f)
+pub kept-placed : (o : Options) (size : Sides) (axis : Axis) (f : Box) (r : Sides) → AreValid o → IsNonempty f → IsWithin size f → Fits r (box_sides f)
     → All (λ b. IsNonempty b × IsWithin size b) (filter (is_kept o) (split_along axis f r ∷ leftover_along axis f r ∷ []))
 kept-placed o size axis f r valid nonempty within fits =
     let P : Box → Type 0 = λ b. IsWithin size b in
@@ -190,16 +189,9 @@ start-simple size o positive valid = record {
     at_most true = omega arith
     at_most false = omega arith
 
--- each step keeps it
+-- a request
 
-pub step-simple : (old new : SimpleState) (s : Sides) (answer : SimpleAnswer) → IsSimple old → SimpleStep old s answer new → IsSimple new
-step-simple old new s (Granted box) simple step = grant-simple old new s box simple step
-step-simple old new s NoRoom simple step = subst IsSimple (sym step.1) simple
-step-simple old new s (Refused Memory) simple step = subst IsSimple (sym step.1) simple
-step-simple old new s (Refused Slots) simple step = absurd step
-step-simple old new s (Refused NotLive) simple step = absurd step
-
-pub step-guarded : (old new : SimpleState) (s : Sides) (result : Result (Option Rectangle) AtlasError) (held : List Box) → IsSimple old → SimpleStep old s (simple_answer result) new
+pub step-guarded : (old new : SimpleState) (s : Sides) (result : Result (Option Rectangle) AtlasError) (held : List Box) → IsSimple old → SimpleStep old (Allocate s) (simple_answer result) new
     → IsGuarded old held → IfOk result (λ granted. IfSome granted (λ rectangle. IsGuarded new (box_of rectangle ∷ held)))
 step-guarded old new s (Ok (Some rectangle)) held simple step guarded = grant-guarded old new s (box_of rectangle) held simple step guarded
 step-guarded old new s (Ok None) held simple step guarded = tt

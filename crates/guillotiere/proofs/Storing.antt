@@ -15,9 +15,11 @@ use Rattle.guillotiere.specs.Boxes.{Box, Sides, box_sides, whole_box, IsPositive
 use Rattle.guillotiere.specs.Choice.{Options, AreValid, class_of}
 use Rattle.guillotiere.specs.Pixels.{natural, box_of, rectangle_of, sides_of, options_of}
 use Rattle.guillotiere.specs.Rectangles.{IsUnsigned}
+use Rattle.guillotiere.specs.Simple.SimpleAtlasCall.{Allocate}
 use Rattle.guillotiere.specs.Simple.{IsSimple, SimpleStep, simple_answer, simple_start}
 use Rattle.guillotiere.specs.FreeLists.{items_at, listed, IsStoredIn, AreInClasses, IsStoredState, state_of}
-use Rattle.guillotiere.proofs.SimpleGrants.{start-simple, step-simple}
+use Rattle.guillotiere.proofs.SimpleGrants.{start-simple}
+use Rattle.guillotiere.proofs.SimpleSteps.{step-simple}
 use Rattle.guillotiere.proofs.PickingFromLists.{listed-has, listed-from}
 use Rattle.guillotiere.proofs.Sizes.{size_is}
 
@@ -29,43 +31,43 @@ natural-fits (negsuc n) f = omega arith
 
 pub stored-step : {Z : Type 0} (old new : List (Vec Rectangle Z)) (size : Size) (options : AllocatorOptions) (s : Sides) (result : Result (Option Rectangle) AtlasError)
     → IsStoredState old size options → AreInClasses (options_of options) new
-    → SimpleStep (state_of old (sides_of size) options) s (simple_answer result) (state_of new (sides_of size) options) → IsStoredState new size options
+    → SimpleStep (state_of old (sides_of size) options) (Allocate s) (simple_answer result) (state_of new (sides_of size) options) → IsStoredState new size options
 stored-step old new size options s result stored classes step =
     record {
-      simple = step-simple (state_of old (sides_of size) options) (state_of new (sides_of size) options) s (simple_answer result) stored.simple step;
+      simple = step-simple (state_of old (sides_of size) options) (state_of new (sides_of size) options) (Allocate s) (simple_answer result) stored.simple step;
       classes = classes;
     }
 
 -- a new allocator
 
-only-listed : {Z : Type 0} (lists : List (Vec Rectangle Z)) (k : ℕ) (r : Rectangle) → k < 3 → items_at lists k ≡ r ∷ [] → ((j : ℕ) → j ≢ k → items_at lists j ≡ [])
+only-listed : {Z : Type 0} (lists : List (Vec Rectangle Z)) (k : ℕ) (r : Rectangle) → k < 3 → items_at lists k ≡ r ∷ [] → ((j : ℕ) → j < 3 → j ≢ k → items_at lists j ≡ [])
     → listed lists ≡ box_of r ∷ []
 only-listed lists zero r h own others =
     let F : List Rectangle → List Rectangle → List Rectangle → List Box = λ a b c. map box_of a ++ (map box_of b ++ map box_of c) in
-    ap (λ a. F a (items_at lists 1) (items_at lists 2)) own ∙ (ap (λ b. F (r ∷ []) b (items_at lists 2)) (others 1 (omega arith)) ∙ ap (λ c. F (r ∷ []) [] c) (others 2 (omega arith)))
+    ap (λ a. F a (items_at lists 1) (items_at lists 2)) own ∙ (ap (λ b. F (r ∷ []) b (items_at lists 2)) (others 1 (omega arith) (omega arith)) ∙ ap (λ c. F (r ∷ []) [] c) (others 2 (omega arith) (omega arith)))
 only-listed lists (suc zero) r h own others =
     let F : List Rectangle → List Rectangle → List Rectangle → List Box = λ a b c. map box_of a ++ (map box_of b ++ map box_of c) in
-    ap (λ a. F a (items_at lists 1) (items_at lists 2)) (others 0 (omega arith)) ∙ (ap (λ b. F [] b (items_at lists 2)) own ∙ ap (λ c. F [] (r ∷ []) c) (others 2 (omega arith)))
+    ap (λ a. F a (items_at lists 1) (items_at lists 2)) (others 0 (omega arith) (omega arith)) ∙ (ap (λ b. F [] b (items_at lists 2)) own ∙ ap (λ c. F [] (r ∷ []) c) (others 2 (omega arith) (omega arith)))
 only-listed lists (suc (suc zero)) r h own others =
     let F : List Rectangle → List Rectangle → List Rectangle → List Box = λ a b c. map box_of a ++ (map box_of b ++ map box_of c) in
-    ap (λ a. F a (items_at lists 1) (items_at lists 2)) (others 0 (omega arith)) ∙ (ap (λ b. F [] b (items_at lists 2)) (others 1 (omega arith)) ∙ ap (λ c. F [] [] c) own)
+    ap (λ a. F a (items_at lists 1) (items_at lists 2)) (others 0 (omega arith) (omega arith)) ∙ (ap (λ b. F [] b (items_at lists 2)) (others 1 (omega arith) (omega arith)) ∙ ap (λ c. F [] [] c) own)
 only-listed lists (suc (suc (suc k))) r h own others = absurd (omega arith)
 
 -- the rectangle of a whole size
-abbrev whole_rectangle : Size → Rectangle
+abbrev pub whole_rectangle : Size → Rectangle
 whole_rectangle size = record { min = record { x = pos 0; y = pos 0 }; max = record { x = size.width; y = size.height } }
 
-whole-unsigned : (size : Size) → IsPositive (sides_of size) → IsUnsigned (whole_rectangle size)
+pub whole-unsigned : (size : Size) → IsPositive (sides_of size) → IsUnsigned (whole_rectangle size)
 whole-unsigned size positive = ap whole_rectangle (size_is size positive)
 
-whole-sides : (size : Sides) → box_sides (whole_box size) ≡ size
+pub whole-sides : (size : Sides) → box_sides (whole_box size) ≡ size
 whole-sides size =
     let F : ℕ → ℕ → Sides = λ w h. record { width = w; height = h } in
     let w : 0 + size.width - 0 ≡ size.width = omega arith in
     let h : 0 + size.height - 0 ≡ size.height = omega arith in
     ap (λ n. F n (0 + size.height - 0)) w ∙ ap (λ n. F size.width n) h
 
-whole-box : (size : Size) → box_of (whole_rectangle size) ≡ whole_box (sides_of size)
+pub whole-box : (size : Size) → box_of (whole_rectangle size) ≡ whole_box (sides_of size)
 whole-box size =
     let w : natural size.width ≡ 0 + natural size.width = omega arith in
     let h : natural size.height ≡ 0 + natural size.height = omega arith in
@@ -82,7 +84,7 @@ whole-stored o size k positive c =
     }
 
 pub start-state : {Z : Type 0} (lists : List (Vec Rectangle Z)) (size : Size) (options : AllocatorOptions) (k : ℕ) (r : Rectangle) → k < 3
-    → r ≡ whole_rectangle size → items_at lists k ≡ r ∷ [] → ((j : ℕ) → j ≢ k → items_at lists j ≡ [])
+    → r ≡ whole_rectangle size → items_at lists k ≡ r ∷ [] → ((j : ℕ) → j < 3 → j ≢ k → items_at lists j ≡ [])
     → state_of lists (sides_of size) options ≡ simple_start (sides_of size) (options_of options)
 start-state lists size options k r h e own others =
     ap (λ free. record { free = free; size = sides_of size; options = options_of options })
@@ -90,7 +92,7 @@ start-state lists size options k r h e own others =
 
 pub start-stored : {Z : Type 0} (lists : List (Vec Rectangle Z)) (size : Size) (options : AllocatorOptions) (k : ℕ) (r : Rectangle) → k < 3
     → IsPositive (sides_of size) → AreValid (options_of options) → k ≡ class_of (options_of options) (sides_of size)
-    → r ≡ whole_rectangle size → items_at lists k ≡ r ∷ [] → ((j : ℕ) → j ≢ k → items_at lists j ≡ []) → IsStoredState lists size options
+    → r ≡ whole_rectangle size → items_at lists k ≡ r ∷ [] → ((j : ℕ) → j < 3 → j ≢ k → items_at lists j ≡ []) → IsStoredState lists size options
 start-stored lists size options k r h positive valid c e own others =
     let o = options_of options in
     record {
@@ -100,7 +102,7 @@ start-stored lists size options k r h positive valid c e own others =
             | inl same ↦
                 let P : ℕ → Type 0 = λ i. All (IsStoredIn o i) (items_at lists i) in
                 subst P (sym same) (subst (All (IsStoredIn o k)) (sym own) (All-cons (IsStoredIn o k) r [] (subst (IsStoredIn o k) (sym e) (whole-stored o size k positive c)) (All-nil (IsStoredIn o k))))
-            | inr ne ↦ subst (All (IsStoredIn o j)) (sym (others j ne)) (All-nil (IsStoredIn o j))
+            | inr ne ↦ subst (All (IsStoredIn o j)) (sym (others j l ne)) (All-nil (IsStoredIn o j))
           ];
     }
 

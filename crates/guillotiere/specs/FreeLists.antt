@@ -4,12 +4,12 @@ use Rattle.guillotiere.specs.declared.geometry.Rectangle.{Rectangle}
 use Rattle.guillotiere.specs.declared.geometry.Size.{Size}
 use Rattle.guillotiere.specs.declared.options.AllocatorOptions.{AllocatorOptions}
 use Rattle.guillotiere.specs.declared.simple.Place.{Place}
-use Rattle.guillotiere.specs.Boxes.{Box, Sides, IsNonempty, box_sides}
+use Rattle.guillotiere.specs.Boxes.{Box, Sides, IsNonempty, box_sides, whole_box}
 use Rattle.guillotiere.specs.Choice.{Options, class_of, IsPick}
 use Rattle.guillotiere.specs.Pixels.{box_of, sides_of, options_of}
 use Rattle.guillotiere.specs.Rectangles.{IsUnsigned}
 use Rattle.guillotiere.specs.Searches.{Shown, shown_at}
-use Rattle.guillotiere.specs.Simple.{SimpleState, IsSimple, is_kept}
+use Rattle.guillotiere.specs.Simple.{SimpleState, IsSimple, is_kept, kept_rest}
 
 -- the rectangles of one of the lists
 abbrev pub items_at : {Z : Type 0} → List (Vec Rectangle Z) → ℕ → List Rectangle
@@ -45,6 +45,10 @@ shown_from k (r ∷ rs) = shown_at (box_of r) k ∷ shown_from (k + 1) rs
 -- the box alone if it is kept, and nothing if it is dropped
 abbrev pub kept_of : Options → Box → List Box
 kept_of o b = filter (is_kept o) (b ∷ [])
+
+-- what is kept of a size cut for another, which lies at its corner
+abbrev pub kept_beyond : AllocatorOptions → (size new_size : Size) → List Box
+kept_beyond options size new_size = kept_rest (options_of options) (whole_box (sides_of new_size)) (sides_of size)
 
 -- the class of the list that a part goes into, if it is kept
 abbrev pub IsHome : Options → Rectangle → Option ℕ → Type 0

@@ -6,6 +6,8 @@ pub mod Requests
 pub mod Searches
 pub mod Choice
 pub mod Simple
+pub mod SimpleRuns
+pub mod SimpleSessions
 pub mod FreeLists
 pub mod Trees
 pub mod Changes
@@ -35,6 +37,8 @@ pub mod Links
 pub mod Picks
 pub mod Holdings
 pub mod Visits
+pub mod Walks
+pub mod Areas
 pub mod Starts
 pub mod Freeing
 pub mod Planning
@@ -48,3 +52,4 @@ pub mod Rearranging
 pub mod Refitted
 pub mod Sessions
 pub mod Callers
+pub mod Codes

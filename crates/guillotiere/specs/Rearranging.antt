@@ -1,9 +1,11 @@
 -- What a rearranging answers, as the model sees it.
-use Rattle.std.specs.Prelude.{All, map, Result, Ok, Err}
+use Rattle.std.specs.Prelude.{◌≡◌, All, map, Result, Ok, Err}
 use Rattle.guillotiere.specs.declared.allocation.Allocation.{Allocation}
 use Rattle.guillotiere.specs.declared.change.Change.{Change}
 use Rattle.guillotiere.specs.declared.change.ChangeList.{ChangeList}
 use Rattle.guillotiere.specs.declared.error.AtlasError.{AtlasError}
+use Rattle.guillotiere.specs.Boxes.{box_sides}
+use Rattle.guillotiere.specs.Pixels.{box_of}
 use Rattle.guillotiere.specs.Refits.{Transfer, Rearrangement}
 use Rattle.guillotiere.specs.Replies.{grant_of, IsExact}
 use Rattle.guillotiere.specs.Steps.{AtlasReply}
@@ -20,6 +22,10 @@ rearrangement_of list =
 -- both rectangles of a change have the coordinates of boxes
 abbrev pub IsExactChange : Change → Type 0
 IsExactChange c = IsExact c.old.rectangle × IsExact c.new.rectangle
+
+-- the new rectangle has the sides of the old one
+abbrev pub KeepsSides : Change → Type 0
+KeepsSides c = box_sides (box_of c.new.rectangle) ≡ box_sides (box_of c.old.rectangle)
 
 -- each rectangle of both lists has the coordinates of a box
 pub record AreExactChanges {A : Type 0} (list : ChangeList A) : Type 0 where

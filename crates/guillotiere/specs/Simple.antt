@@ -1,12 +1,15 @@
 -- The simple allocator: a set of free boxes, which grants and never takes back.
-use Rattle.std.specs.Prelude.{◌≡◌, nat_le, Bool, ◌&&◌, List, [], ◌∷◌, ◌++◌, filter, All, Option, Some, None, Result, Ok, Err}
+use Rattle.std.specs.Prelude.{◌≡◌, ◌≢◌, nat_le, Bool, ◌&&◌, List, [], ◌∷◌, ◌++◌, map, filter, All}
+use Rattle.std.specs.Prelude.{Option, Some, None, Result, Ok, Err}
 use Rattle.guillotiere.specs.declared.error.AtlasError.{AtlasError}
-use Rattle.guillotiere.specs.declared.error.AtlasError.TheVariants.{Memory, Slots, NotLive}
+use Rattle.guillotiere.specs.declared.error.AtlasError.TheVariants.{Memory}
 use Rattle.guillotiere.specs.declared.geometry.Rectangle.{Rectangle}
-use Rattle.guillotiere.specs.Boxes.{Sides, Box, IsPositive, IsNonempty, IsWithin, AreDisjoint, AreSameBoxes, box_at, box_sides, whole_box}
+use Rattle.guillotiere.specs.Boxes.{Sides, Box, box_at, box_sides, whole_box}
+use Rattle.guillotiere.specs.Boxes.{Fits, IsPositive, IsNonempty, IsWithin, AreDisjoint, AreSameBoxes}
 use Rattle.guillotiere.specs.Cuts.{rest_of}
 use Rattle.guillotiere.specs.Choice.{Options, AreValid, rounded, IsPick, HasRoom, HasNoRoom}
 use Rattle.guillotiere.specs.Pixels.{box_of}
+use Rattle.guillotiere.specs.States.{State, live_in, free_in, IsSound}
 
 -- The order of the free boxes has no meaning.
 pub record SimpleState : Type 0 where
@@ -42,28 +45,77 @@ pub record SimplyGrants (old : SimpleState) (s : Sides) (box : Box) (new : Simpl
   pub size : new.size ≡ old.size
   pub options : new.options ≡ old.options
 
+-- what a growth to a new size adds: what is kept of the new size cut for the old one
+abbrev pub added_by : SimpleState → Sides → List Box
+added_by s n = kept_rest s.options (whole_box n) s.size
+
+-- From old to new by a growth: parts are added, and none is merged with another.
+pub record SimplyGrows (old : SimpleState) (n : Sides) (new : SimpleState) : Type 0 where
+  pub free : AreSameBoxes new.free (added_by old n ++ old.free)
+  pub size : new.size ≡ n
+  pub options : new.options ≡ old.options
+
+-- To new by a start from an atlas: each of its free boxes once, its size and its options.
+pub record StartsFrom (source : State) (new : SimpleState) : Type 0 where
+  pub sound : IsSound source
+  pub free : AreSameBoxes new.free (free_in source)
+  pub size : new.size ≡ source.size
+  pub options : new.options ≡ source.options
+
 -- a list of boxes that are held: inside the allocator, and disjoint from each other and from the free boxes
 pub record IsGuarded (s : SimpleState) (held : List Box) : Type 0 where
   pub within : All (λ b. IsWithin s.size b) held
   pub disjoint : AreDisjoint (held ++ s.free)
 
--- the answers to a request
+-- the live boxes of an atlas
+abbrev pub live_boxes : State → List Box
+live_boxes s = map (λ g. g.box) (live_in s)
+
+-- the calls; a start takes over from an atlas in the state `source`
+pub data SimpleAtlasCall : Type 0 where
+  Allocate : (request : Sides) → SimpleAtlasCall
+  Grow : (size : Sides) → SimpleAtlasCall
+  Clear : SimpleAtlasCall
+  Reset : (size : Sides) → (options : Options) → SimpleAtlasCall
+  Start : (source : State) → SimpleAtlasCall
+
+-- the answers to calls
 pub data SimpleAnswer : Type 0 where
   Granted : (box : Box) → SimpleAnswer
   NoRoom : SimpleAnswer
+  Done : SimpleAnswer
   Refused : (error : AtlasError) → SimpleAnswer
+  BadCall : SimpleAnswer
 
--- From old a request may have this answer and lead to new.
-abbrev pub SimpleStep : SimpleState → (request : Sides) → SimpleAnswer → SimpleState → Type 0
-SimpleStep old r NoRoom new = HasNoRoom old.free old.options r × (new ≡ old)
-SimpleStep old r (Granted box) new = SimplyGrants old r box new
+-- From old a call may have this answer and lead to new.
+abbrev pub SimpleStep : SimpleState → SimpleAtlasCall → SimpleAnswer → SimpleState → Type 0
+SimpleStep old (Allocate r) NoRoom new = HasNoRoom old.free old.options r × (new ≡ old)
+SimpleStep old (Allocate r) (Granted box) new = SimplyGrants old r box new
 -- memory is asked for only where there is room
-SimpleStep old r (Refused Memory) new = HasRoom old.free old.options r × (new ≡ old)
-SimpleStep old r (Refused Slots) new = ⊥
-SimpleStep old r (Refused NotLive) new = ⊥
+SimpleStep old (Allocate r) (Refused Memory) new = HasRoom old.free old.options r × (new ≡ old)
+-- no side may shrink
+SimpleStep old (Grow n) BadCall new = (Fits old.size n → ⊥) × (new ≡ old)
+SimpleStep old (Grow n) Done new = Fits old.size n × SimplyGrows old n new
+-- memory is asked for only where a part is added
+SimpleStep old (Grow n) (Refused Memory) new = Fits old.size n × (added_by old n ≢ []) × (new ≡ old)
+SimpleStep old Clear Done new = new ≡ simple_start old.size old.options
+SimpleStep old Clear (Refused Memory) new = new ≡ old
+-- a reset asks for a size that isn't empty and for valid options
+SimpleStep old (Reset n o) BadCall new = (IsPositive n × AreValid o → ⊥) × (new ≡ old)
+SimpleStep old (Reset n o) Done new = IsPositive n × AreValid o × (new ≡ simple_start n o)
+SimpleStep old (Reset n o) (Refused Memory) new = IsPositive n × AreValid o × (new ≡ old)
+SimpleStep old (Start source) Done new = StartsFrom source new
+SimpleStep old (Start source) (Refused Memory) new = new ≡ old
+-- no other answer comes
+SimpleStep old call answer new = ⊥
 
--- what a call answers, as the model sees it
+-- what a request is answered, as the model sees it
 abbrev pub simple_answer : Result (Option Rectangle) AtlasError → SimpleAnswer
 simple_answer (Ok (Some rectangle)) = Granted (box_of rectangle)
 simple_answer (Ok None) = NoRoom
 simple_answer (Err error) = Refused error
+
+-- of a call that gives nothing back
+abbrev pub simple_done : Result (Unit {0}) AtlasError → SimpleAnswer
+simple_done (Ok _) = Done
+simple_done (Err error) = Refused error

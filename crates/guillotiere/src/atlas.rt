@@ -1,17 +1,20 @@
 //! The atlas allocator.
-ghost use Rattle.std.specs.Prelude.{◌≡◌, ◌≤◌, ◌<◌, ◌+◌, ◌-◌, ◌↔◌, List, [], IsTrue, IfOk, IfSome, OnErr, IsOkUnless, OnOk, length, IsSome, option_map, None, Some, Ok, All, map};
-ghost use Rattle.guillotiere.specs.Boxes.{Fits, IsPositive};
+ghost use Rattle.std.specs.Prelude.{◌≡◌, ◌≤◌, ◌<◌, ◌+◌, ◌-◌, ◌*◌, ◌↔◌, List, [], sum_by, IsTrue, IfOk, IfSome, OnErr, IsOkUnless, OnOk, length, IsSome, option_map, None, Some, Ok, All, map};
+ghost use Rattle.guillotiere.specs.Boxes.{area, Fits, IsPositive, IsWithin};
 ghost use Rattle.guillotiere.specs.Choice.{AreValid};
-ghost use Rattle.guillotiere.specs.Pixels.{sides_of, size_of, options_of, rectangle_of};
-ghost use Rattle.guillotiere.specs.States.{live_in, used_in, started, after_freeing, IsSound, IsLive};
+ghost use Rattle.guillotiere.specs.Pixels.{sides_of, size_of, options_of, rectangle_of, box_of, IsMeasurable};
+ghost use Rattle.guillotiere.specs.States.{live_in, free_in, used_in, started, after_freeing, IsSound, IsLive};
 ghost use Rattle.std.specs.List.{FoldsTo};
 ghost use Rattle.std.specs.Fn.{CalledAt};
 ghost use Rattle.guillotiere.specs.declared.geometry.Rectangle.{Rectangle as Area};
 ghost use Rattle.guillotiere.specs.declared.allocation.Allocation.{Allocation as Grant};
-ghost use Rattle.guillotiere.specs.Visits.{AreFreeAreas, AreGrants, CalledAtGrant};
+ghost use Rattle.guillotiere.specs.Visits.{AreFreeAreas, AreGrants, CalledAtGrant, free_areas};
+ghost use Rattle.guillotiere.specs.Slots.{nodes};
+ghost use Rattle.guillotiere.specs.Walks.{IsCallableAlong, IsCallableAlongGrants, IsShownArea, IsShownGrant};
 ghost use Rattle.guillotiere.specs.Changes.{only};
 ghost use Rattle.guillotiere.specs.TreeLaws.{is_among};
 ghost use Rattle.guillotiere.specs.Batches.{AreLiveOnce};
+ghost use Rattle.guillotiere.specs.RunLaws.{IsTiled};
 ghost use Rattle.guillotiere.specs.Steps.{Step};
 ghost use Rattle.guillotiere.specs.Steps.AtlasCall.{Allocate, Deallocate, Grow, Clear, Reset, Rearrange, ResizeAndRearrange};
 ghost use Rattle.guillotiere.specs.Steps.AtlasReply.{Done};
@@ -32,7 +35,9 @@ use crate::slots::{Link, NO_SLOT, NodeKind};
 use crate::store::Store;
 use crate::tree::{free_leaf, slots_needed};
 use crate::turns::Turns;
-use crate::walks::{gather_allocated, gather_free, named_slot, visit_allocated, visit_free};
+use crate::walks::{
+    free_sum, gather_allocated, gather_free, live_sum, named_slot, visit_allocated, visit_free,
+};
 use std::alloc::{Allocator, Global};
 use std::marker::Model;
 use std::ops::Index;
@@ -72,10 +77,11 @@ impl<A: Allocator + Copy> AtlasAllocator<A> {
     ghost use Rattle.guillotiere.specs.Stored.{state_of};
     ghost use Rattle.guillotiere.specs.Generations.{AreFirstGenerations};
     ghost use Rattle.guillotiere.specs.Replies.{allocate_reply, done_reply, grant_of, live_box, IsExact};
-    ghost use Rattle.guillotiere.specs.Rearranging.{change_reply, rearrangement_of, AreExactChanges};
+    ghost use Rattle.guillotiere.specs.Rearranging.{change_reply, rearrangement_of, AreExactChanges, KeepsSides};
     ghost use Rattle.guillotiere.specs.StepLaws.{IsRearrangingStep};
     ghost use Rattle.guillotiere.specs.Refits.{IsRefitOrder};
     ghost use Rattle.guillotiere.specs.Refitted.{HasExactRectangle};
+    ghost use Rattle.guillotiere.specs.Callers.{AreGuarded, KeepsLive, AddsBox, JoinsGuarded, LeavesNoBox, LeavesNoBoxes, KeepsAll, AllLieApart, AllLieWithin};
 
     /// An atlas of this size, in pixels, with the default options: one free rectangle. Asks a size that isn't empty.
     /// `Memory` is the only error.
@@ -84,6 +90,7 @@ impl<A: Allocator + Copy> AtlasAllocator<A> {
         ensures unless { IsOkUnless result AtlasError.Memory }
         ensures state { IfOk result (λ it. state_of it ≡ started (sides_of size) (options_of DEFAULT_OPTIONS) MOST_SLOTS) }
         ensures turns { IfOk result (λ it. it.turns ≡ 0) }
+        ensures sound { IfOk result (λ it. IsSound (state_of it)) }
     {
         AtlasAllocator::with_options(alloc, size, &DEFAULT_OPTIONS)
     }
@@ -99,6 +106,7 @@ impl<A: Allocator + Copy> AtlasAllocator<A> {
         ensures unless { IsOkUnless result AtlasError.Memory }
         ensures state { IfOk result (λ it. state_of it ≡ started (sides_of size) (options_of options.now) MOST_SLOTS) }
         ensures turns { IfOk result (λ it. it.turns ≡ 0) }
+        ensures sound { IfOk result (λ it. IsSound (state_of it)) }
     {
         AtlasAllocator::with_slot_limit(alloc, size, options, MOST_SLOTS)
     }
@@ -118,6 +126,7 @@ impl<A: Allocator + Copy> AtlasAllocator<A> {
         ensures unless { IsOkUnless result AtlasError.Memory }
         ensures state { IfOk result (λ it. state_of it ≡ started (sides_of size) (options_of options.now) limit) }
         ensures turns { IfOk result (λ it. it.turns ≡ 0) }
+        ensures sound { IfOk result (λ it. IsSound (state_of it)) }
     {
         let none = Link { number: NO_SLOT };
         let mut store = Store {
@@ -145,9 +154,22 @@ impl<A: Allocator + Copy> AtlasAllocator<A> {
         self.size
     }
 
+    /// Says what each atlas keeps, and does nothing: it is sound, live and free boxes tile it, the rectangles of live ids lie
+    /// within it and apart from one another, and no held box at all is guarded.
+    pub fn prove_sound(&self)
+        ensures sound { IsSound (state_of self.now) }
+        ensures tiled { IsTiled (state_of self.now) }
+        ensures apart { AllLieApart (state_of self.now) }
+        ensures within { AllLieWithin (state_of self.now) }
+        ensures guarded { AreGuarded (state_of self.now) [] }
+    {
+        self.size();
+    }
+
     /// Whether no id is live.
     pub fn is_empty(&self) -> bool
-        ensures { IsTrue result ↔ (live_in (state_of self.now) ≡ []) }
+        ensures empty { IsTrue result ↔ (live_in (state_of self.now) ≡ []) }
+        ensures count { IsTrue result ↔ (length (live_in (state_of self.now)) ≡ 0) }
     {
         let first = self.store.node(self.first);
         first.kind == NodeKind::Free && first.next.number == NO_SLOT
@@ -168,7 +190,9 @@ impl<A: Allocator + Copy> AtlasAllocator<A> {
 
     /// The rectangle of a live id, in pixels; None for every other id.
     pub fn get(&self, id: AllocId) -> Option<Rectangle>
-        ensures { result ≡ option_map rectangle_of (live_box (state_of self.now) id) }
+        ensures rectangle { result ≡ option_map rectangle_of (live_box (state_of self.now) id) }
+        ensures live { IsSome result ↔ IsLive (state_of self.now) id }
+        ensures within { IfSome result (λ rectangle. IsWithin (state_of self.now).size (box_of rectangle)) }
     {
         let at = named_slot(&self.store.slots, id)?;
         Some(self.store.slots[at].node.area)
@@ -184,6 +208,9 @@ impl<A: Allocator + Copy> AtlasAllocator<A> {
         ensures none { result ≡ Ok None → self.new ≡ self.old }
         ensures refused { OnErr result (self.new ≡ self.old) }
         ensures turns { self.new.turns ≡ self.old.turns }
+        ensures adds { IfOk result (λ granted. IfSome granted (λ a. AddsBox (state_of self.old) (state_of self.new) a.id (box_of a.rectangle))) }
+        ensures guarded { IfOk result (λ granted. IfSome granted (λ a. JoinsGuarded (state_of self.old) (state_of self.new) (box_of a.rectangle))) }
+        ensures keeps { KeepsLive (state_of self.old) (state_of self.new) }
     {
         let Some(size) = rounded(requested_size, &self.store.options) else {
             return Ok(None);
@@ -207,6 +234,9 @@ impl<A: Allocator + Copy> AtlasAllocator<A> {
         ensures refused { OnErr result (self.new ≡ self.old) }
         ensures unless { IsOkUnless result AtlasError.NotLive }
         ensures turns { OnOk result (self.new.turns + used_in (state_of self.new) ≡ self.old.turns + 1 + used_in (state_of self.old)) }
+        ensures ok { (result ≡ Ok tt) ↔ IsLive (state_of self.old) id }
+        ensures leaves { LeavesNoBox (state_of self.old) (state_of self.new) id }
+        ensures count { OnOk result (length (live_in (state_of self.new)) + 1 ≡ length (live_in (state_of self.old))) }
     {
         if !self.is_live(id) {
             return Err(AtlasError::NotLive);
@@ -215,9 +245,9 @@ impl<A: Allocator + Copy> AtlasAllocator<A> {
         Ok(())
     }
 
-    /// Frees the boxes of the ids of a list, in an order that can't be told. `NotLive` if one of them isn't live or stands
-    /// twice, and then nothing changes. Takes no memory, time in proportion to the list, and one turn an id more than there
-    /// are members fewer.
+    /// Frees the boxes of the ids of a list. The tree that is left doesn't tell in which order; the numbers of later ids
+    /// may. `NotLive` if one of them isn't live or stands twice, and then nothing changes. Takes no memory, time in
+    /// proportion to the list, and one turn an id more than there are members fewer.
     pub fn deallocate_all(&mut self, ids: &[AllocId]) -> Result<(), AtlasError>
         ensures freed { OnOk result (state_of self.new ≡ after_freeing (state_of self.old) (is_among ids.now)) }
         ensures ok { (result ≡ Ok tt) ↔ AreLiveOnce (state_of self.old) ids.now }
@@ -225,6 +255,8 @@ impl<A: Allocator + Copy> AtlasAllocator<A> {
         ensures refused { OnErr result (self.new ≡ self.old) }
         ensures none { ids.now ≡ [] → self.new ≡ self.old }
         ensures turns { OnOk result (self.new.turns + used_in (state_of self.new) ≡ self.old.turns + length ids.now + used_in (state_of self.old)) }
+        ensures leaves { OnOk result (LeavesNoBoxes (state_of self.old) (state_of self.new) ids.now) }
+        ensures sound { IsSound (state_of self.new) }
     {
         if !self.are_live_once(ids) {
             return Err(AtlasError::NotLive);
@@ -246,6 +278,7 @@ impl<A: Allocator + Copy> AtlasAllocator<A> {
         ensures step { Step (state_of self.old) (Grow (sides_of new_size)) (done_reply result) (state_of self.new) }
         ensures refused { OnErr result (self.new ≡ self.old) }
         ensures turns { self.new.turns ≡ self.old.turns }
+        ensures keeps { KeepsAll (state_of self.old) (state_of self.new) }
     {
         if self.is_empty() {
             self.grow_box(new_size);
@@ -264,9 +297,11 @@ impl<A: Allocator + Copy> AtlasAllocator<A> {
     pub fn rearrange(&mut self) -> Result<ChangeList<A>, AtlasError>
         ensures step { Step (state_of self.old) Rearrange (change_reply result) (state_of self.new) }
         ensures exact { IfOk result AreExactChanges }
+        ensures sides { IfOk result (λ list. All KeepsSides list.changes.items) }
         ensures moves { IfOk result (λ list. IsRearrangingStep (state_of self.old) (rearrangement_of list) (state_of self.new)) }
         ensures refused { OnErr result (self.new ≡ self.old) }
         ensures turns { self.new.turns ≡ self.old.turns }
+        ensures sound { IsSound (state_of self.new) }
     {
         self.resize_and_rearrange(self.size)
     }
@@ -281,9 +316,11 @@ impl<A: Allocator + Copy> AtlasAllocator<A> {
         requires { IsPositive (sides_of new_size) }
         ensures step { Step (state_of self.old) (ResizeAndRearrange (sides_of new_size)) (change_reply result) (state_of self.new) }
         ensures exact { IfOk result AreExactChanges }
+        ensures sides { IfOk result (λ list. All KeepsSides list.changes.items) }
         ensures moves { IfOk result (λ list. IsRearrangingStep (state_of self.old) (rearrangement_of list) (state_of self.new)) }
         ensures refused { OnErr result (self.new ≡ self.old) }
         ensures turns { self.new.turns ≡ self.old.turns }
+        ensures sound { IsSound (state_of self.new) }
     {
         let order = self.refit_order()?;
         let alloc = *self.store.slots.allocator();
@@ -332,6 +369,8 @@ impl<A: Allocator + Copy> AtlasAllocator<A> {
         ensures step { Step (state_of self.old) Clear (done_reply result) (state_of self.new) }
         ensures anew { AreFirstGenerations self.new }
         ensures turns { self.new.turns ≡ self.old.turns }
+        ensures sound { IsSound (state_of self.new) }
+        ensures idle { live_in (state_of self.new) ≡ [] }
     {
         let size = self.size;
         let options = self.store.options;
@@ -348,6 +387,8 @@ impl<A: Allocator + Copy> AtlasAllocator<A> {
         ensures step { Step (state_of self.old) (Reset (sides_of size) (options_of options.now)) (done_reply result) (state_of self.new) }
         ensures anew { AreFirstGenerations self.new }
         ensures turns { self.new.turns ≡ self.old.turns }
+        ensures sound { IsSound (state_of self.new) }
+        ensures idle { live_in (state_of self.new) ≡ [] }
     {
         self.restart(size, options);
         Ok(())
@@ -378,6 +419,7 @@ impl<A: Allocator + Copy> AtlasAllocator<A> {
         ensures state { state_of self.new ≡ started (sides_of whole) (options_of options.now) (state_of self.old).limit }
         ensures anew { AreFirstGenerations self.new }
         ensures turns { self.new.turns ≡ self.old.turns }
+        ensures sound { IsSound (state_of self.new) }
     {
         self.store.start(whole, options);
         self.first = Link { number: 0 };
@@ -391,6 +433,7 @@ impl<A: Allocator + Copy> AtlasAllocator<A> {
         requires idle { live_in (state_of self.old) ≡ [] }
         ensures step { Step (state_of self.old) (Grow (sides_of size)) Done (state_of self.new) }
         ensures turns { self.new.turns ≡ self.old.turns }
+        ensures keeps { KeepsAll (state_of self.old) (state_of self.new) }
     {
         grow_whole(&mut self.store, self.first, size);
         self.size = size;
@@ -407,7 +450,8 @@ impl<A: Allocator + Copy> AtlasAllocator<A> {
 
     // Whether an id is live.
     fn is_live(&self, id: AllocId) -> bool
-        ensures { IsTrue result ↔ IsLive (state_of self.now) id }
+        ensures live { IsTrue result ↔ IsLive (state_of self.now) id }
+        ensures sound { IsSound (state_of self.now) }
     {
         named_slot(&self.store.slots, id).is_some()
     }
@@ -423,18 +467,44 @@ impl<A: Allocator + Copy> AtlasAllocator<A> {
         self.used -= given;
     }
 
-    /// Calls `visit` on each free rectangle once, in an order that is left open. Asks that `visit` may be called.
+    /// The slots and the options, for a simple allocator that takes over the free rectangles.
+    pub(crate) fn store(&self) -> &Store<A>
+        ensures options { options_of result.now.options ≡ (state_of self.now).options }
+        ensures areas { AreFreeAreas (state_of self.now) (free_areas (nodes result.now.slots.items)) }
+    {
+        &self.store
+    }
+
+    /// The area of all live rectangles together, in unit squares: with `free_area` it is the width times the height of the
+    /// atlas. One pass over the slots, and no memory.
+    pub fn allocated_area(&self) -> u64
+        ensures area { result ≡ sum_by (λ g. area g.box) (live_in (state_of self.now)) }
+        ensures whole { result + sum_by area (free_in (state_of self.now)) ≡ (state_of self.now).size.width * (state_of self.now).size.height }
+    {
+        live_sum(&self.store.slots)
+    }
+
+    /// The area of all free rectangles together, in unit squares. One pass over the slots, and no memory.
+    pub fn free_area(&self) -> u64
+        ensures area { result ≡ sum_by area (free_in (state_of self.now)) }
+        ensures whole { sum_by (λ g. area g.box) (live_in (state_of self.now)) + result ≡ (state_of self.now).size.width * (state_of self.now).size.height }
+    {
+        free_sum(&self.store.slots)
+    }
+
+    /// Calls `visit` on each free rectangle once, in an order that is left open. Asks that `visit` may be called along each
+    /// list that may be shown, and no more: nothing else is called. No coordinate of these rectangles is negative.
     pub fn for_each_free_rectangle<F: FnMut(&Rectangle)>(&self, visit: F)
-        requires { F.IsAlwaysCallable visit }
+        requires { (areas : List Area) → AreFreeAreas (state_of self.now) areas → IsCallableAlong F.FnMut IsShownArea visit areas }
         ensures { (areas : List Area) × AreFreeAreas (state_of self.now) areas × ((last : F) × FoldsTo (λ p x q. CalledAt F.FnMut p x tt q) visit areas last) }
     {
         visit_free(&self.store.slots, visit);
     }
 
     /// Calls `visit` on each live id and its rectangle once, by rising number of the slot, which is the low 24 bits of the
-    /// id. Asks that `visit` may be called.
+    /// id. Asks that `visit` may be called along that list, and no more: nothing else is called.
     pub fn for_each_allocated_rectangle<F: FnMut(AllocId, &Rectangle)>(&self, visit: F)
-        requires { F.IsAlwaysCallable visit }
+        requires { (grants : List Grant) → AreGrants (state_of self.now) grants → IsCallableAlongGrants F.FnMut (IsShownGrant (state_of self.now)) visit grants }
         ensures { (grants : List Grant) × AreGrants (state_of self.now) grants × ((last : F) × FoldsTo (CalledAtGrant F.FnMut) visit grants last) }
     {
         visit_allocated(&self.store.slots, visit);
@@ -444,6 +514,7 @@ impl<A: Allocator + Copy> AtlasAllocator<A> {
     pub fn allocations(&self) -> Result<Vec<Allocation, A>, AtlasError>
         ensures unless { IsOkUnless result AtlasError.Memory }
         ensures list { IfOk result (λ found. AreGrants (state_of self.now) found.items) }
+        ensures measurable { IfOk result (λ found. All (λ a. IsMeasurable a.rectangle) found.items) }
     {
         gather_allocated(*self.store.slots.allocator(), &self.store.slots)
     }
@@ -452,6 +523,7 @@ impl<A: Allocator + Copy> AtlasAllocator<A> {
     pub fn free_rectangles(&self) -> Result<Vec<Rectangle, A>, AtlasError>
         ensures unless { IsOkUnless result AtlasError.Memory }
         ensures list { IfOk result (λ found. AreFreeAreas (state_of self.now) found.items) }
+        ensures measurable { IfOk result (λ found. All IsMeasurable found.items) }
     {
         gather_free(*self.store.slots.allocator(), &self.store.slots)
     }

@@ -17,6 +17,7 @@ ghost use Rattle.guillotiere.specs.Steps.AtlasCall.{Rearrange};
 ghost use Rattle.guillotiere.specs.Steps.AtlasReply.{Changed, Refused};
 ghost use Rattle.guillotiere.specs.TreeLaws.{LeavesTile, AreasAddUp, ReleasesInAnyOrder, GrantsAreUndone, GrowthAndReleaseSwap, NothingLiveIsOneFree, PlacingsKeepTrees, ReleasesKeepTrees, GrowthsKeepTrees, FreedHasRoom, MembersAreCounted};
 ghost use Rattle.guillotiere.specs.StepLaws.{StepsKeep, PicksAreOne, PicksExist, SmallerFits, GrantsLieInside, FreeingsRemoveOne, GrowthsKeepBoxes, RearrangingsLoseNothing, RefusalsChangeNothing, StepsAnswerAsDue};
+ghost use Rattle.guillotiere.specs.SimpleRuns.{GuardedAreDisjoint, SimpleRunsKeepGuard, SimpleStartsGuard};
 ghost use Rattle.guillotiere.specs.RunLaws.{RunsKeepOrder, RunsLeaveNoTrace};
 ghost use Rattle.guillotiere.specs.Existence.{RoundingIsLeast, StartsAreSound, StepsExist};
 ghost use Rattle.guillotiere.specs.Renaming.{RenamingChangesNothing, AnswersWithoutIds, LiveNamesCount};
@@ -280,4 +281,21 @@ pub fn live_boxes_lie_within()
 /// The live boxes are guarded: disjoint from each other and from the free boxes.
 pub fn live_boxes_are_guarded()
     ensures { LiveAreGuarded }
+{}
+
+/// Along each run of a simple allocator, boxes that are held stay within it and disjoint from each other and from the
+/// free boxes, with those granted since.
+pub fn simple_runs_keep_guard()
+    ensures { SimpleRunsKeepGuard }
+{}
+
+/// Boxes that are guarded are disjoint from each other.
+pub fn guarded_are_disjoint()
+    ensures { GuardedAreDisjoint }
+{}
+
+/// After a creation, a clearing and a reset of a simple allocator no box is held, and after a start from an atlas the
+/// boxes that are live there are.
+pub fn simple_starts_guard()
+    ensures { SimpleStartsGuard }
 {}

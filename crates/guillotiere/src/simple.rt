@@ -1,5 +1,5 @@
 //! An allocator that hands out boxes and never takes one back.
-ghost use Rattle.std.specs.Prelude.{◌≡◌, ◌↔◌, Any, Contains, IsTrue, ◌≢◌, ℕ, ◌+◌, ◌<◌, ◌≤◌, ◌++◌, [], ◌∷◌, List, All, length, slice_get, Some, MatchOption, ⊤, IsPermutation, OnOk, OnErr, IfOk, IfSome, IsOkUnless};
+ghost use Rattle.std.specs.Prelude.{◌≡◌, ◌↔◌, Any, Contains, IsTrue, ◌≢◌, ℕ, ◌+◌, ◌<◌, ◌≤◌, ◌++◌, [], ◌∷◌, List, All, length, slice_get, Some, MatchOption, ⊤, IsPermutation, OnOk, OnErr, IfOk, IfSome, IsOkUnless, IsSome};
 ghost use Rattle.guillotiere.specs.Boxes.{AreSameBoxes, Box, IsNonempty, IsPositive, Sides, box_sides};
 ghost use Rattle.guillotiere.specs.Choice.{AreValid, Options};
 ghost use Rattle.guillotiere.specs.FreeLists.{AreInClasses, IsHome, IsPicked, items_at, kept_of, listed, shown_from, spare_at, state_of};
@@ -7,6 +7,9 @@ ghost use Rattle.guillotiere.specs.Pixels.{box_of, options_of, rectangle_of, sid
 ghost use Rattle.guillotiere.specs.Rectangles.{IsUnsigned};
 ghost use Rattle.guillotiere.specs.Searches.{FitsNone, FitsOnlyFrom, IsFound};
 ghost use Rattle.guillotiere.specs.Simple.{IsGuarded, IsSimple, SimpleStep, kept_rest, simple_answer, simple_start};
+ghost use Rattle.guillotiere.specs.Simple.SimpleAtlasCall.{Allocate};
+
+mod changes;
 
 use crate::choice::{Found, Search, class, rounded};
 use crate::cut::{granted, guillotine};
@@ -41,16 +44,19 @@ impl<A: Allocator + Copy> Model for SimpleAtlasAllocator<A> {
 }
 
 impl<A: Allocator + Copy> SimpleAtlasAllocator<A> {
-    /// An allocator of one free box of this size, with `DEFAULT_OPTIONS`. The only error is `Memory`.
+    /// An allocator of one free box of this size, in pixels, with `DEFAULT_OPTIONS`. Asks a size that isn't empty. The only
+    /// error is `Memory`.
     pub fn new(alloc: A, size: Size) -> Result<Self, AtlasError>
         requires { IsPositive (sides_of size) }
         ensures unless { IsOkUnless result AtlasError.Memory }
         ensures start { IfOk result (λ it. it ≡ simple_start (sides_of size) (options_of DEFAULT_OPTIONS)) }
+        ensures guarded { IfOk result (λ it. IsGuarded it []) }
     {
         Self::with_options(alloc, size, &DEFAULT_OPTIONS)
     }
 
-    /// An allocator of one free box of this size. The only error is `Memory`.
+    /// An allocator of one free box of this size, in pixels, with these options. Asks a size that isn't empty and valid
+    /// options. The only error is `Memory`.
     pub fn with_options(
         alloc: A,
         size: Size,
@@ -60,6 +66,7 @@ impl<A: Allocator + Copy> SimpleAtlasAllocator<A> {
         requires valid { AreValid (options_of options.now) }
         ensures unless { IsOkUnless result AtlasError.Memory }
         ensures start { IfOk result (λ it. it ≡ simple_start (sides_of size) (options_of options.now)) }
+        ensures guarded { IfOk result (λ it. IsGuarded it []) }
     {
         let lists = one_box(alloc, class(size, options), Rectangle::from(size))?;
         Ok(SimpleAtlasAllocator {
@@ -74,7 +81,7 @@ impl<A: Allocator + Copy> SimpleAtlasAllocator<A> {
     /// The only error is `Memory`, and after it everything is as before.
     pub fn allocate(&mut self, requested_size: Size) -> Result<Option<Rectangle>, AtlasError>
         ensures unless { IsOkUnless result AtlasError.Memory }
-        ensures step { SimpleStep self.old (sides_of requested_size) (simple_answer result) self.new }
+        ensures step { SimpleStep self.old (Allocate (sides_of requested_size)) (simple_answer result) self.new }
         ensures exact { IfOk result (λ granted. IfSome granted (λ rectangle. rectangle ≡ rectangle_of (box_of rectangle))) }
 
         // Boxes that are held stay apart from each other, from the granted box and from the free boxes.
@@ -84,7 +91,7 @@ impl<A: Allocator + Copy> SimpleAtlasAllocator<A> {
         grant(&mut self.lists, requested_size, &self.options)
     }
 
-    /// The size that the allocator was made with.
+    /// The size of the allocator.
     pub fn size(&self) -> Size
         ensures size { result ≡ size_of self.now.size }
         ensures simple { IsSimple self.now }
@@ -143,6 +150,7 @@ fn make_room<A: Allocator>(
     ensures items { (k : ℕ) → items_at lists.new k ≡ items_at lists.old k }
     ensures room { (k : ℕ) → spare_at lists.old k ≤ spare_at lists.new k }
     ensures ok { OnOk result (MatchOption home ⊤ (λ class. 2 ≤ spare_at lists.new class)) }
+    ensures needed { OnErr result (IsSome home) }
 {
     if let Some(class) = home {
         lists[class].reserve(2)?;
@@ -294,7 +302,7 @@ fn grant<A: Allocator>(
     ensures unsigned { IfOk result (λ granted. IfSome granted IsUnsigned) }
 
     // The lists are those of an atlas of any size that an `i32` can hold.
-    ensures step { (size : Sides) → size.width ≤ 2147483647 → size.height ≤ 2147483647 → IsSimple (state_of lists.old size options.now) → SimpleStep (state_of lists.old size options.now) (sides_of requested_size) (simple_answer result) (state_of lists.new size options.now) }
+    ensures step { (size : Sides) → size.width ≤ 2147483647 → size.height ≤ 2147483647 → IsSimple (state_of lists.old size options.now) → SimpleStep (state_of lists.old size options.now) (Allocate (sides_of requested_size)) (simple_answer result) (state_of lists.new size options.now) }
 {
     let Some(size) = rounded(requested_size, options) else {
         return Ok(None);

@@ -1,10 +1,14 @@
 //! Walks over the slots of an atlas: a look at the slot that an id names, and passes over the leaves.
-ghost use Rattle.std.specs.Prelude.{◌≡◌, ◌<◌, ◌≤◌, ◌%◌, ◌^◌, true, false, IfOk, IfSome, IfNone, IsOkUnless, length};
+ghost use Rattle.std.specs.Prelude.{◌≡◌, ◌<◌, ◌≤◌, ◌%◌, ◌^◌, true, false, IfOk, IfSome, IfNone, IsOkUnless, length, All};
 ghost use Rattle.std.specs.List.{FoldsTo};
 ghost use Rattle.std.specs.Fn.{CalledAt};
 ghost use Rattle.guillotiere.specs.Slots.{nodes};
 ghost use Rattle.guillotiere.specs.Numbered.{id_of};
 ghost use Rattle.guillotiere.specs.Visits.{CalledAtGrant, allocated_from, free_areas, is_named};
+ghost use Rattle.guillotiere.specs.Walks.{IsCallableAlong, IsCallableAlongGrants, IsShownArea};
+ghost use Rattle.guillotiere.specs.Areas.{live_areas, area_sum};
+ghost use Rattle.guillotiere.specs.Boxes.{area};
+ghost use Rattle.guillotiere.specs.Pixels.{box_of};
 
 use crate::allocation::{AllocId, Allocation};
 use crate::error::AtlasError;
@@ -43,7 +47,7 @@ pub fn named_slot(slots: &[Slot], id: AllocId) -> Option<usize>
 /// Calls `visit` on each allocated slot, by rising number.
 pub fn visit_allocated<F: FnMut(AllocId, &Rectangle)>(slots: &[Slot], mut visit: F)
     requires short { length slots.now ≤ SLOT_NUMBERS }
-    requires callable { F.IsAlwaysCallable visit }
+    requires callable { IsCallableAlongGrants F.FnMut (λ _. Unit {0}) visit (allocated_from 0 (nodes slots.now)) }
     ensures { (last : F) × FoldsTo (CalledAtGrant F.FnMut) visit (allocated_from 0 (nodes slots.now)) last }
 {
     for (number, slot) in slots.iter().enumerate() {
@@ -55,7 +59,7 @@ pub fn visit_allocated<F: FnMut(AllocId, &Rectangle)>(slots: &[Slot], mut visit:
 
 /// Calls `visit` on the rectangle of each free slot, by rising number.
 pub fn visit_free<F: FnMut(&Rectangle)>(slots: &[Slot], mut visit: F)
-    requires { F.IsAlwaysCallable visit }
+    requires { IsCallableAlong F.FnMut (λ _. Unit {0}) visit (free_areas (nodes slots.now)) }
     ensures { (last : F) × FoldsTo (λ p x q. CalledAt F.FnMut p x tt q) visit (free_areas (nodes slots.now)) last }
 {
     for slot in slots {
@@ -98,4 +102,42 @@ pub fn gather_free<A: Allocator>(alloc: A, slots: &[Slot]) -> Result<Vec<Rectang
         }
     }
     Ok(found)
+}
+
+// The area of a rectangle, in unit squares.
+fn area_of(rectangle: &Rectangle) -> u64
+    requires { IsShownArea rectangle.now }
+    ensures { result ≡ area (box_of rectangle.now) }
+{
+    rectangle.width() as u64 * rectangle.height() as u64
+}
+
+/// The area of all free slots together, in unit squares.
+pub fn free_sum(slots: &[Slot]) -> u64
+    requires shown { All IsShownArea (free_areas (nodes slots.now)) }
+    requires fits { area_sum (free_areas (nodes slots.now)) < 2 ^ 64 }
+    ensures { result ≡ area_sum (free_areas (nodes slots.now)) }
+{
+    let mut sum = 0;
+    for slot in slots {
+        if slot.node.kind == NodeKind::Free {
+            sum += area_of(&slot.node.area);
+        }
+    }
+    sum
+}
+
+/// The area of all allocated slots together, in unit squares.
+pub fn live_sum(slots: &[Slot]) -> u64
+    requires shown { All IsShownArea (live_areas (nodes slots.now)) }
+    requires fits { area_sum (live_areas (nodes slots.now)) < 2 ^ 64 }
+    ensures { result ≡ area_sum (live_areas (nodes slots.now)) }
+{
+    let mut sum = 0;
+    for slot in slots {
+        if slot.node.kind == NodeKind::Alloc {
+            sum += area_of(&slot.node.area);
+        }
+    }
+    sum
 }

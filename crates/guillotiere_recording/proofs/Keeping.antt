@@ -50,10 +50,10 @@ recorded_more r event mid new h more =
     }
 
 -- which names an event gives
-abbrev names_in : EventValue → List ℕ
+abbrev pub names_in : EventValue → List ℕ
 names_in event = given_names (event ∷ [])
 
-given_more : (events : List EventValue) (event : EventValue) → given_names (events ++ event ∷ []) ≡ given_names events ++ names_in event
+pub given_more : (events : List EventValue) (event : EventValue) → given_names (events ++ event ∷ []) ≡ given_names events ++ names_in event
 given_more [] event = refl
 given_more (Allocate size (Some a) ∷ events) event = ap (λ ns. a.id ∷ ns) (given_more events event)
 given_more (Allocate size None ∷ events) event = given_more events event

@@ -5,6 +5,7 @@ pub mod Sessions
 pub mod Twins
 pub mod Books
 pub mod Names
+pub mod Moves
 pub mod Recordings
 pub mod Replays
 pub mod Standing

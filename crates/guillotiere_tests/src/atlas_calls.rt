@@ -2,14 +2,17 @@
 
 use crate::tables::{Corners, Sides, rectangle, size};
 use guillotiere::{
-    AllocId, Allocation, AllocatorOptions, AtlasAllocator, AtlasError, DEFAULT_OPTIONS, Rectangle,
-    SlotCount,
+    AllocId, Allocation, AllocatorOptions, AtlasAllocator, AtlasError, Change, ChangeList,
+    DEFAULT_OPTIONS, Rectangle, SlotCount,
 };
 use refusing::Refusing;
 use std::alloc::Global;
 use std::process::Abort;
 
 pub type Atlas<'a> = AtlasAllocator<&'a Refusing<Global>>;
+
+/// A serialized id and its box.
+pub type Grant = (u32, Corners);
 
 /// A call, or a question, and its answer; ids are serialized.
 pub enum Call {
@@ -30,6 +33,12 @@ pub enum Call {
     Clear,
     /// `reset` to a size and options.
     Reset(Sides, AllocatorOptions),
+    /// `rearrange`: what moved, each from the first to the second, and what found no room.
+    Rearrange(&'static [(Grant, Grant)], &'static [Grant]),
+    /// `rearrange` that would need more slots than the limit allows.
+    RearrangeBeyondLimit,
+    /// `resize_and_rearrange` to a size: what moved, and what found no room.
+    ResizeAndRearrange(Sides, &'static [(Grant, Grant)], &'static [Grant]),
     Get(u32, Option<Corners>),
     IsEmpty(bool),
     /// What `free_rectangles` lists, in any order.
@@ -195,6 +204,98 @@ fn started(rt: &impl Abort, atlas: &mut Atlas<'_>, call: &Call) {
     assert!(rt; atlas.is_empty());
 }
 
+// `rearrange`, or `resize_and_rearrange` to a size. Where memory is refused, nothing that can be seen has changed, and the
+// call is made again.
+fn rearrange<'a>(
+    rt: &impl Abort,
+    heap: &Refusing<Global>,
+    atlas: &mut Atlas<'a>,
+    sides: Option<Sides>,
+) -> Result<ChangeList<&'a Refusing<Global>>, AtlasError> {
+    let before = look_at(atlas);
+    let mut answer = rearrange_once(rt, atlas, sides);
+    if matches!(&answer, Err(AtlasError::Memory)) {
+        assert!(rt; heap.is_done(), "{sides:?} met a second refusal");
+        assert_eq!(rt; look_at(atlas), before, "{sides:?}");
+        answer = rearrange_once(rt, atlas, sides);
+    }
+    if answer.is_err() {
+        assert_eq!(rt; look_at(atlas), before, "{sides:?}");
+    }
+    answer
+}
+
+fn rearrange_once<'a>(
+    rt: &impl Abort,
+    atlas: &mut Atlas<'a>,
+    sides: Option<Sides>,
+) -> Result<ChangeList<&'a Refusing<Global>>, AtlasError> {
+    let Some(sides) = sides else {
+        return atlas.rearrange();
+    };
+    let new_size = size(sides);
+    assert!(rt; !new_size.is_empty());
+    atlas.resize_and_rearrange(new_size)
+}
+
+fn allocation((id, corners): Grant) -> Allocation {
+    Allocation {
+        id: AllocId::deserialize(id),
+        rectangle: rectangle(corners),
+    }
+}
+
+/// Whether both lists are these, in this order.
+pub fn list_is(
+    rt: &impl Abort,
+    alloc: Global,
+    list: &ChangeList<&Refusing<Global>>,
+    moved: &[(Grant, Grant)],
+    lost: &[Grant],
+) -> Result<(), AtlasError> {
+    let mut changes = Vec::new(alloc);
+    for (old, new) in moved {
+        changes.push(Change {
+            old: allocation(*old),
+            new: allocation(*new),
+        })?;
+    }
+    assert_eq!(rt; list.changes.as_slice(), changes.as_slice());
+    let mut failures = Vec::new(alloc);
+    for grant in lost {
+        failures.push(allocation(*grant))?;
+    }
+    assert_eq!(rt; list.failures.as_slice(), failures.as_slice());
+    Ok(())
+}
+
+// A call that rearranges, and what it answers.
+fn rearranged(
+    rt: &impl Abort,
+    alloc: Global,
+    heap: &Refusing<Global>,
+    atlas: &mut Atlas<'_>,
+    call: &Call,
+) -> Result<(), AtlasError> {
+    match call {
+        Call::Rearrange(moved, lost) => {
+            let list = rearrange(rt, heap, atlas, None)?;
+            list_is(rt, alloc, &list, moved, lost)?;
+        }
+        Call::RearrangeBeyondLimit => {
+            let answer = rearrange(rt, heap, atlas, None);
+            assert!(rt; matches!(&answer, Err(AtlasError::Slots)));
+        }
+        Call::ResizeAndRearrange(sides, moved, lost) => {
+            let list = rearrange(rt, heap, atlas, Some(*sides))?;
+            list_is(rt, alloc, &list, moved, lost)?;
+            assert_eq!(rt; atlas.size(), size(*sides));
+        }
+        _ => {}
+    }
+    Ok(())
+}
+
 // The ids of a list.
 fn ids(alloc: Global, numbers: &[u32]) -> Result<Vec<AllocId>, AtlasError> {
     let mut ids = Vec::new(alloc);
@@ -236,10 +337,7 @@ fn live_is(
 ) -> Result<(), AtlasError> {
     let mut wanted = Vec::new(alloc);
     for (id, corners) in want {
-        wanted.push(Allocation {
-            id: AllocId::deserialize(*id),
-            rectangle: rectangle(*corners),
-        })?;
+        wanted.push(allocation((*id, *corners)))?;
     }
     let mut answer = atlas.allocations();
     if answer.is_err() {
@@ -282,7 +380,40 @@ fn freed(
     Ok(())
 }
 
+// Whether a call asks for no memory, whatever was used before.
+fn is_free_of_requests(call: &Call) -> bool {
+    match call {
+        Call::Allocate(_, want) => want.is_none(),
+        Call::Grow(_)
+        | Call::Rearrange(_, _)
+        | Call::RearrangeBeyondLimit
+        | Call::ResizeAndRearrange(_, _, _)
+        | Call::Free(_)
+        | Call::Live(_) => false,
+        _ => true,
+    }
+}
+
 fn make(
+    rt: &impl Abort,
+    alloc: Global,
+    heap: &Refusing<Global>,
+    atlas: &mut Atlas<'_>,
+    call: &Call,
+) -> Result<(), AtlasError> {
+    let made = heap.requests();
+    make_once(rt, alloc, heap, atlas, call)?;
+    if is_free_of_requests(call) {
+        assert_eq!(rt;
+            heap.requests(),
+            made,
+            "a call that takes no memory asked for some"
+        );
+    }
+    Ok(())
+}
+
+fn make_once(
     rt: &impl Abort,
     alloc: Global,
     heap: &Refusing<Global>,
@@ -316,6 +447,8 @@ fn make(
             assert_eq!(rt; (slots.used, slots.kept), (*used, *kept));
         }
         Call::Clear | Call::Reset(_, _) => started(rt, atlas, call),
+        Call::Rearrange(_, _) | Call::RearrangeBeyondLimit | Call::ResizeAndRearrange(_, _, _) =>
+            rearranged(rt, alloc, heap, atlas, call)?,
         Call::RefuseEvery => heap.refuse_every(),
         Call::RefuseNone => heap.refuse_nth(0),
         _ => freed(rt, alloc, atlas, call)?,
@@ -327,7 +460,10 @@ fn make(
 fn size_after(size: Sides, calls: &[Call]) -> Sides {
     let mut last = size;
     for call in calls {
-        if let Call::Grow(sides) | Call::Reset(sides, _) = call {
+        if let Call::Grow(sides)
+        | Call::Reset(sides, _)
+        | Call::ResizeAndRearrange(sides, _, _) = call
+        {
             last = *sides;
         }
     }

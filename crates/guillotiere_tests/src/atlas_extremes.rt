@@ -11,6 +11,7 @@ use refusing::Refusing;
 use std::test::Fail;
 
 const LARGEST: i32 = 2147483647;
+
 const LEAST: i32 = -2147483648;
 
 // Widths are rounded up to the greatest `i32`.
@@ -77,7 +78,11 @@ fn rows(rt: HostRuntime) -> Result<(), Fail> {
 fn the_least_sizes_have_no_room_in_a_simple_allocator(rt: HostRuntime) -> Result<(), Fail> {
     let mut simple = SimpleAtlasAllocator::new(rt.alloc(), size2(LARGEST, LARGEST))?;
     for (width, height) in [(LEAST, LEAST), (LEAST, 1), (1, LEAST)] {
-        assert_eq!(rt; simple.allocate(size2(width, height))?, None, "{width} {height}");
+        assert_eq!(rt;
+            simple.allocate(size2(width, height))?,
+            None,
+            "{width} {height}"
+        );
     }
     assert!(rt; simple.is_empty());
     Ok(())

@@ -53,6 +53,60 @@ fn a_callback_may_wrap_a_sum(rt: HostRuntime) -> Result<(), Fail> {
 }
 
 #[test]
+fn a_callback_may_measure(rt: HostRuntime) -> Result<(), Fail> {
+    let atlas = filled(rt.alloc())?;
+    let mut live = 0i32;
+    atlas.for_each_allocated_rectangle(|_: AllocId, area: &Rectangle| {
+        live = live.wrapping_add(area.width());
+    });
+    let mut free = Some(0i32);
+    atlas.for_each_free_rectangle(|area: &Rectangle| {
+        let height = area.height();
+        free = free.and_then(|so_far: i32| so_far.checked_add(height));
+    });
+    assert_eq!(rt; (live, free), (500, Some(100)));
+    Ok(())
+}
+
+#[test]
+fn a_callback_may_keep_what_it_is_shown(rt: HostRuntime) -> Result<(), Fail> {
+    let atlas = filled(rt.alloc())?;
+    let mut found = Vec::new(rt.alloc());
+    let mut lost = 0u32;
+    atlas.for_each_allocated_rectangle(|_: AllocId, area: &Rectangle| {
+        if found.push(*area).is_err() {
+            lost = lost.wrapping_add(1);
+        }
+    });
+    let shelf_and_squares = [
+        rectangle((0, 0, 300, 100)),
+        rectangle((100, 100, 200, 200)),
+        rectangle((0, 100, 100, 200)),
+    ];
+    assert_eq!(rt; found.as_slice(), shelf_and_squares.as_slice());
+    assert_eq!(rt; lost, 0);
+    Ok(())
+}
+
+#[test]
+fn areas_are_exact(rt: HostRuntime) -> Result<(), Fail> {
+    let atlas = filled(rt.alloc())?;
+    assert_eq!(rt; (atlas.allocated_area(), atlas.free_area()), (50000, 10000));
+    let most = size2(2147483647, 2147483647);
+    let mut largest = AtlasAllocator::new(rt.alloc(), most)?;
+    assert_eq!(rt;
+        (largest.allocated_area(), largest.free_area()),
+        (0, 4611686014132420609)
+    );
+    let _all = largest.allocate(most)?;
+    assert_eq!(rt;
+        (largest.allocated_area(), largest.free_area()),
+        (4611686014132420609, 0)
+    );
+    Ok(())
+}
+
+#[test]
 fn a_callback_may_look_at_the_atlas(rt: HostRuntime) -> Result<(), Fail> {
     let atlas = filled(rt.alloc())?;
     let mut agree = 0u32;

@@ -17,6 +17,13 @@ mod atlas_growth;
 #[cfg(test)]
 mod atlas_growth_recorded;
 #[cfg(test)]
+mod atlas_rearranging;
+#[cfg(test)]
+mod atlas_rearranging_recorded;
+#[cfg(test)]
+mod atlas_rearranging_sessions;
+mod atlas_memory;
+#[cfg(test)]
 mod atlas_recorded;
 #[cfg(test)]
 mod atlas_sessions;
@@ -24,6 +31,8 @@ mod atlas_sessions;
 mod atlas_starts;
 #[cfg(test)]
 mod atlas_walks;
+#[cfg(test)]
+mod errors;
 #[cfg(test)]
 mod geometry;
 #[cfg(test)]
@@ -37,12 +46,22 @@ mod simple_rows;
 #[cfg(test)]
 mod simple_sessions;
 #[cfg(test)]
+mod simple_starts;
+#[cfg(test)]
+mod simple_starts_recorded;
+#[cfg(test)]
+mod simple_whole;
+#[cfg(test)]
 mod tables;
 #[cfg(test)]
 mod tool_atlas;
+#[cfg(test)]
+mod tool_conversation;
 #[cfg(test)]
 mod tool_devices;
 #[cfg(test)]
 mod tool_faults;
 #[cfg(test)]
 mod tool_rows;
+#[cfg(test)]
+mod tool_whole;

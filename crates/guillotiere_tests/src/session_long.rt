@@ -2,8 +2,10 @@
 
 use guillotiere::session::{Call, Reply, run};
 use guillotiere::{
-    AllocId, AllocatorOptions, AtlasAllocator, AtlasError, DEFAULT_OPTIONS, Size, size2,
+    AllocId, Allocation, AllocatorOptions, AtlasAllocator, AtlasError, ChangeList, DEFAULT_OPTIONS,
+    Size, size2,
 };
+use std::alloc::Global;
 use std::process::Abort;
 use std::test::Fail;
 
@@ -16,7 +18,7 @@ fn next(state: &mut u64) -> u64 {
     z ^ (z >> 31)
 }
 
-// A number below 2^16, from the least to the greatest as often as others.
+// A number below the bound; 0 where that is 0.
 fn below(state: &mut u64, bound: u16) -> u16 {
     if bound == 0 {
         return 0;
@@ -63,34 +65,13 @@ fn call(state: &mut u64, size: Size, live: &[AllocId]) -> Call {
     }
 }
 
-// A call made by hand.
-fn made(atlas: &mut AtlasAllocator, call: Call) -> Reply {
-    let size = atlas.size();
-    match call {
-        Call::Allocate(request) => match atlas.allocate(request) {
-            Ok(Some(allocation)) => Reply::Allocated(allocation),
-            Ok(None) => Reply::NoRoom,
-            Err(error) => Reply::Refused(error),
-        },
-        Call::Deallocate(id) => done(atlas.deallocate(id)),
-        Call::Grow(new) if size.width <= new.width && size.height <= new.height => {
-            done(atlas.grow(new))
-        }
-        Call::Clear => done(atlas.clear()),
-        Call::Reset(new, options) if !new.is_empty() && options.is_valid() => {
-            done(atlas.reset(new, &options))
-        }
-        Call::Rearrange => match atlas.rearrange() {
-            Ok(list) => Reply::Changed(list),
-            Err(error) => Reply::Refused(error),
-        },
-        Call::ResizeAndRearrange(new) if !new.is_empty() => {
-            match atlas.resize_and_rearrange(new) {
-                Ok(list) => Reply::Changed(list),
-                Err(error) => Reply::Refused(error),
-            }
-        }
-        _ => Reply::BadCall,
+// What the calls of an atlas answer, as replies.
+
+fn granted(answer: Result<Option<Allocation>, AtlasError>) -> Reply {
+    match answer {
+        Ok(Some(allocation)) => Reply::Allocated(allocation),
+        Ok(None) => Reply::NoRoom,
+        Err(error) => Reply::Refused(error),
     }
 }
 
@@ -101,6 +82,64 @@ fn done(answer: Result<(), AtlasError>) -> Reply {
     }
 }
 
+fn changed(answer: Result<ChangeList, AtlasError>) -> Reply {
+    match answer {
+        Ok(list) => Reply::Changed(list),
+        Err(error) => Reply::Refused(error),
+    }
+}
+
+fn grown(atlas: &mut AtlasAllocator, size: Size) -> Reply {
+    let old = atlas.size();
+    if old.width > size.width || old.height > size.height {
+        return Reply::BadCall;
+    }
+    done(atlas.grow(size))
+}
+
+fn reset(atlas: &mut AtlasAllocator, size: Size, options: &AllocatorOptions) -> Reply {
+    if size.is_empty() {
+        return Reply::BadCall;
+    }
+    if !options.is_valid() {
+        return Reply::BadCall;
+    }
+    done(atlas.reset(size, options))
+}
+
+fn resized(atlas: &mut AtlasAllocator, size: Size) -> Reply {
+    if size.is_empty() {
+        return Reply::BadCall;
+    }
+    changed(atlas.resize_and_rearrange(size))
+}
+
+// A call made by hand.
+fn made(atlas: &mut AtlasAllocator, call: &Call) -> Reply {
+    match call {
+        Call::Allocate(size) => granted(atlas.allocate(*size)),
+        Call::Deallocate(id) => done(atlas.deallocate(*id)),
+        Call::Grow(size) => grown(atlas, *size),
+        Call::Clear => done(atlas.clear()),
+        Call::Reset(size, options) => reset(atlas, *size, options),
+        Call::Rearrange => changed(atlas.rearrange()),
+        Call::ResizeAndRearrange(size) => resized(atlas, *size),
+    }
+}
+
+// A list of 1 to 50 calls.
+fn list(state: &mut u64, atlas: &AtlasAllocator, alloc: Global) -> Result<Vec<Call>, AtlasError> {
+    let mut live = Vec::new(alloc);
+    for allocation in &atlas.allocations()? {
+        live.push(allocation.id)?;
+    }
+    let mut calls = Vec::new(alloc);
+    for _ in 0..=below(state, 50) {
+        calls.push(call(state, atlas.size(), live.as_slice()))?;
+    }
+    Ok(calls)
+}
+
 // Both atlases look the same.
 fn are_alike(
     rt: &impl Abort,
@@ -109,8 +148,14 @@ fn are_alike(
 ) -> Result<(), AtlasError> {
     assert_eq!(rt; atlas.size(), copy.size());
     assert_eq!(rt; atlas.slots(), copy.slots());
-    assert_eq!(rt; atlas.allocations()?.as_slice(), copy.allocations()?.as_slice());
-    assert_eq!(rt; atlas.free_rectangles()?.as_slice(), copy.free_rectangles()?.as_slice());
+    assert_eq!(rt;
+        atlas.allocations()?.as_slice(),
+        copy.allocations()?.as_slice()
+    );
+    assert_eq!(rt;
+        atlas.free_rectangles()?.as_slice(),
+        copy.free_rectangles()?.as_slice()
+    );
     Ok(())
 }
 
@@ -120,23 +165,21 @@ fn a_list_is_answered_as_its_calls_one_by_one(rt: HostRuntime) -> Result<(), Fai
     let mut atlas = AtlasAllocator::with_options(rt.alloc(), size2(200, 200), &DEFAULT_OPTIONS)?;
     let mut copy = atlas.clone()?;
     let mut count = 0usize;
-    while count < 20000 {
-        let mut live = Vec::new(rt.alloc());
-        for allocation in &atlas.allocations()? {
-            live.push(allocation.id)?;
+    // each list has a call or more
+    for _ in 0..20000u32 {
+        if count >= 20000 {
+            break;
         }
-        let mut calls = Vec::new(rt.alloc());
-        for _ in 0..=below(&mut state, 50) {
-            calls.push(call(&mut state, atlas.size(), live.as_slice()))?;
-        }
+        let calls = list(&mut state, &atlas, rt.alloc())?;
         let mut replies = Vec::new(rt.alloc());
         run(&mut atlas, calls.as_slice(), &mut replies)?;
         assert_eq!(rt; replies.len(), calls.len());
         for (call, reply) in calls.iter().zip(&replies) {
-            assert_eq!(rt; *reply, made(&mut copy, *call), "{call:?} after {count}");
+            assert_eq!(rt; *reply, made(&mut copy, call), "{call:?} after {count}");
         }
         are_alike(&rt, &atlas, &copy)?;
         count = count.saturating_add(calls.len());
     }
+    assert!(rt; count >= 20000);
     Ok(())
 }

@@ -163,7 +163,10 @@ fn is_left(rt: &impl Abort, atlas: &AtlasAllocator, row: &Row) -> Result<(), Atl
     let live = atlas.allocations()?;
     assert_eq!(rt; live.len(), row.live.len());
     for (allocation, (number, corners)) in live.iter().zip(row.live) {
-        assert_eq!(rt; (allocation.id.serialize(), allocation.rectangle), (*number, rectangle(*corners)));
+        assert_eq!(rt;
+            (allocation.id.serialize(), allocation.rectangle),
+            (*number, rectangle(*corners))
+        );
     }
     Ok(())
 }
@@ -243,7 +246,10 @@ fn play(rt: &impl Abort, heap: &Refusing<Global>, row: &Row) -> Result<(), Atlas
     for (line, answer) in row.lines {
         let call = call(line);
         if is_refused(rt, heap, &mut atlas, call, &mut replies) {
-            assert!(rt; !is_refused(rt, heap, &mut atlas, call, &mut replies), "{call:?}");
+            assert!(rt;
+                !is_refused(rt, heap, &mut atlas, call, &mut replies),
+                "{call:?}"
+            );
         }
         let Some(reply) = replies.last() else {
             panic!(rt; "no reply to {call:?}");
@@ -297,8 +303,16 @@ fn replies_are_appended(rt: HostRuntime) -> Result<(), Fail> {
     let mut atlas = AtlasAllocator::new(rt.alloc(), size2(10, 10))?;
     let mut replies = Vec::new(rt.alloc());
     replies.push(Reply::BadCall)?;
-    run(&mut atlas, &[Call::Allocate(size2(11, 1)), Call::Clear], &mut replies)?;
-    run(&mut atlas, &[Call::Deallocate(AllocId::deserialize(0))], &mut replies)?;
+    run(
+        &mut atlas,
+        &[Call::Allocate(size2(11, 1)), Call::Clear],
+        &mut replies,
+    )?;
+    run(
+        &mut atlas,
+        &[Call::Deallocate(AllocId::deserialize(0))],
+        &mut replies,
+    )?;
     let want = [
         Reply::BadCall,
         Reply::NoRoom,

@@ -17,6 +17,8 @@ struct Plan {
     left: u64,
     // How many requests were made, round past 2^64.
     made: u64,
+    // How many blocks were given back, round past 2^64.
+    returned: u64,
 }
 
 const EVERY: u64 = u64::MAX;
@@ -26,23 +28,26 @@ impl<B: Allocator> Refusing<B> {
     pub fn new(inner: B) -> Refusing<B> {
         Refusing {
             inner,
-            plan: Cell::new(Plan { left: 0, made: 0 }),
+            plan: Cell::new(Plan {
+                left: 0,
+                made: 0,
+                returned: 0,
+            }),
         }
     }
 
     /// From now on the request with this number is refused, counted from 1, and no other; none for 0.
     pub fn refuse_nth(&self, number: u32) {
-        let made = self.plan.get().made;
-        self.plan.set(Plan {
-            left: u64::from(number),
-            made,
-        });
+        let mut plan = self.plan.get();
+        plan.left = u64::from(number);
+        self.plan.set(plan);
     }
 
     /// From now on every request is refused.
     pub fn refuse_every(&self) {
-        let made = self.plan.get().made;
-        self.plan.set(Plan { left: EVERY, made });
+        let mut plan = self.plan.get();
+        plan.left = EVERY;
+        self.plan.set(plan);
     }
 
     /// Whether no refusal is still to come.
@@ -54,6 +59,11 @@ impl<B: Allocator> Refusing<B> {
     pub fn requests(&self) -> u64 {
         self.plan.get().made
     }
+
+    /// How many blocks of memory were given back so far; it wraps at 2^64.
+    pub fn returned(&self) -> u64 {
+        self.plan.get().returned
+    }
 }
 
 impl<B: Allocator> Drop for Refusing<B> {
@@ -64,7 +74,11 @@ impl<B: Allocator> Drop for Refusing<B> {
 
 // Counts one request, and says whether it is to be refused.
 fn is_refused(plan: &Cell<Plan>) -> bool {
-    let Plan { left, made } = plan.get();
+    let Plan {
+        left,
+        made,
+        returned,
+    } = plan.get();
     let still = if left == EVERY {
         EVERY
     } else {
@@ -73,8 +87,16 @@ fn is_refused(plan: &Cell<Plan>) -> bool {
     plan.set(Plan {
         left: still,
         made: made.wrapping_add(1),
+        returned,
     });
     left == EVERY || left == 1
+}
+
+// Counts one block that is given back.
+fn count_return(plan: &Cell<Plan>) {
+    let mut next = plan.get();
+    next.returned = next.returned.wrapping_add(1);
+    plan.set(next);
 }
 
 unsafe impl<B: Allocator> Allocator for Refusing<B> {
@@ -88,6 +110,7 @@ unsafe impl<B: Allocator> Allocator for Refusing<B> {
     }
 
     unsafe fn deallocate(&self, ptr: *mut u8, size: usize, align: usize) {
+        count_return(&self.plan);
         self.inner.deallocate(ptr, size, align);
     }
 }

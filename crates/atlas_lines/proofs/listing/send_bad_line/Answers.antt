@@ -1,4 +1,4 @@
-use Rattle.std.proofs.Common.{rules, refl}
+use Rattle.std.proofs.Common.{refl}
 use Rattle.atlas_lines.specs.Replies.{bad_line_text}
 use Rattle.atlas_lines.proofs.Blocks.{gathered_begins}
 use Rattle.atlas_lines.proofs.listing.send_bad_line.Goals as goal

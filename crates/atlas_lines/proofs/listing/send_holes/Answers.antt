@@ -1,4 +1,4 @@
-use Rattle.std.proofs.Common.{rules, refl, sym, pos, get_or, length, codes, take, flat_map}
+use Rattle.std.proofs.Common.{rules, refl, pos, get_or, length, codes, take, flat_map}
 use Rattle.guillotiere.specs.declared.geometry.Point.{Point}
 use Rattle.guillotiere.specs.declared.geometry.Rectangle.{Rectangle}
 use Rattle.atlas_lines.specs.Replies.{hole_line, count_line}

@@ -1,4 +1,4 @@
-use Rattle.std.proofs.Common.{List, ℕ, ◌+◌, ◌++◌, ap, refl, subst}
+use Rattle.std.proofs.Common.{ℕ, ◌+◌, ◌++◌, ap, refl, subst}
 use Rattle.atlas_lines.specs.Devices.{WritesBeginning}
 use Rattle.atlas_lines.specs.Progress.{Place}
 use Rattle.atlas_lines.specs.Replies.{bad_line_text}

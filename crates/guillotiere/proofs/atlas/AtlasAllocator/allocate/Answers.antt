@@ -1,4 +1,4 @@
-use Rattle.std.proofs.Common.{rules, ◌≡◌, refl, arith}
+use Rattle.std.proofs.Common.{rules, ◌≡◌, refl, subst, arith}
 use Rattle.std.specs.Prelude.{vec_capacity, Err}
 use Rattle.guillotiere.specs.Pixels.{box_of, sides_of}
 use Rattle.guillotiere.specs.Holdings.{shelf_of}
@@ -6,6 +6,11 @@ use Rattle.guillotiere.proofs.Observing.{used-IsAtlas}
 use Rattle.guillotiere.proofs.Storing.{natural-fits}
 use Rattle.guillotiere.proofs.CuttingFromLists.{sides_of-size, unsigned-measurable, unsigned_of}
 use Rattle.guillotiere.proofs.GrantedAtlas.{no_room-unrounded, no_room-none, area-unsigned, area-fits, refused-step, some-grantable, grant-done}
+use Rattle.guillotiere.specs.States.{IsSound}
+use Rattle.guillotiere.specs.Stored.{state_of}
+use Rattle.guillotiere.specs.Steps.AtlasReply.{Allocated}
+use Rattle.guillotiere.specs.Replies.{grant_of}
+use Rattle.guillotiere.proofs.CallerSteps.{grant_adds, grant_guarded, request_keeps}
 use Rattle.guillotiere.proofs.atlas.AtlasAllocator.allocate.Goals as goal
 
 pub returns-in_default-clause-step : goal.returns-in_default-clause-step
@@ -64,3 +69,18 @@ pub returns-clause-exact : goal.returns-clause-exact
 returns-clause-exact g c =
     unsigned_of c.granted-rectangle.result _ (c.granted-rectangle.ensures.boxes (box_of c.in-Some-choose.chosen.area)
     (area-unsigned _ c.self.invariant (sides_of c.args.requested_size) c.in-Some.size c.in-Some.ensures c.in-Some-choose.chosen c.in-Some-choose.ensures.some))
+
+pub returns-clause-adds : goal.returns-clause-adds
+returns-clause-adds g c =
+    grant_adds _ _ (subst (λ w. IsSound (state_of w)) c.self.view_is c.self.invariant.sound) (sides_of c.args.requested_size)
+    (grant_of (record { id = c.grant-id.result; rectangle = c.granted-rectangle.result })) (returns-clause-step g c)
+
+pub returns-clause-keeps : goal.returns-clause-keeps
+returns-clause-keeps g c =
+    request_keeps _ _ (subst (λ w. IsSound (state_of w)) c.self.view_is c.self.invariant.sound) (sides_of c.args.requested_size)
+    (Allocated (grant_of (record { id = c.grant-id.result; rectangle = c.granted-rectangle.result }))) (returns-clause-step g c)
+
+pub returns-clause-guarded : goal.returns-clause-guarded
+returns-clause-guarded g c =
+    grant_guarded _ _ (subst (λ w. IsSound (state_of w)) c.self.view_is c.self.invariant.sound) (sides_of c.args.requested_size)
+    (grant_of (record { id = c.grant-id.result; rectangle = c.granted-rectangle.result })) (returns-clause-step g c)

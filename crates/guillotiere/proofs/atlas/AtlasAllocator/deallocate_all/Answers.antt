@@ -3,6 +3,7 @@ use Rattle.guillotiere.specs.States.{used_in}
 use Rattle.guillotiere.specs.Stored.{state_of}
 use Rattle.guillotiere.specs.Batches.{AreLiveOnce}
 use Rattle.guillotiere.proofs.FreedLists.{after_each, each-all, once-after, head-live, each-next, each-none}
+use Rattle.guillotiere.proofs.CallerSteps.{batch_leaves}
 use Rattle.guillotiere.proofs.atlas.AtlasAllocator.deallocate_all.Goals as goal
 
 pub loop-id-init : goal.loop-id-init
@@ -43,3 +44,10 @@ returns-clause-none g c =
 
 pub returns-clause-turns : goal.returns-clause-turns
 returns-clause-turns g c = omega (arith, c.loop-id.invariant.turns, c.loop-id.auto.id-index-end)
+
+pub returns-clause-leaves : goal.returns-clause-leaves
+returns-clause-leaves g c =
+    batch_leaves (state_of c.args.self.now) (state_of c.loop-id.self) c.args.ids.now c.are_live_once.ensures.sound (returns-clause-freed g c)
+
+pub returns-clause-sound : goal.returns-clause-sound
+returns-clause-sound g c = (returns-clause-leaves g c).sound

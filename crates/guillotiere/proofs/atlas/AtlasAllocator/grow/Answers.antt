@@ -8,6 +8,9 @@ use Rattle.guillotiere.specs.Stored.{state_of}
 use Rattle.guillotiere.specs.Holdings.{shelf_of}
 use Rattle.guillotiere.proofs.Observing.{used-IsAtlas}
 use Rattle.guillotiere.proofs.GrownAtlas.{tree-here, some-plan, fits-from, refused-step, some-growable, grow-done}
+use Rattle.guillotiere.specs.States.{IsSound}
+use Rattle.guillotiere.specs.Steps.AtlasReply.{Done}
+use Rattle.guillotiere.proofs.CallerSteps.{growth_keeps}
 use Rattle.guillotiere.proofs.atlas.AtlasAllocator.grow.Goals as goal
 
 pub growth_for-growth-requires-clause-tree : goal.growth_for-growth-requires-clause-tree
@@ -29,7 +32,7 @@ make_room-requires-clause-used g c = omega (arith, used-IsAtlas _ c.self.invaria
 pub returns-in_err-make_room-clause-step : goal.returns-in_err-make_room-clause-step
 returns-in_err-make_room-clause-step g c =
     let larger = subst (λ w. Fits (state_of w).size (sides_of c.args.new_size)) (sym c.self.view_is) c.requires in
-    let busy : live_in (state_of c.args.self.now) ≡ [] → ⊥ = λ none. false≢true (sym c.if-is_empty.false ∙ c.is_empty.ensures.1 none) in
+    let busy : live_in (state_of c.args.self.now) ≡ [] → ⊥ = λ none. false≢true (sym c.if-is_empty.false ∙ c.is_empty.ensures.empty.1 none) in
     let some = subst (λ w. live_in (state_of w) ≡ [] → ⊥) (sym c.self.view_is) busy in
     let same : c.from_residual.result ≡ Err c.in_err-make_room.field-0.0 = search rules in
     rw (← c.self.view_is)
@@ -39,7 +42,7 @@ returns-in_err-make_room-clause-step g c =
 pub grow_tree-self-inside-requires : goal.grow_tree-self-inside-requires
 grow_tree-self-inside-requires g c =
     let larger = subst (λ w. Fits (state_of w).size (sides_of c.args.new_size)) (sym c.self.view_is) c.requires in
-    let busy : live_in (state_of c.args.self.now) ≡ [] → ⊥ = λ none. false≢true (sym c.if-is_empty.false ∙ c.is_empty.ensures.1 none) in
+    let busy : live_in (state_of c.args.self.now) ≡ [] → ⊥ = λ none. false≢true (sym c.if-is_empty.false ∙ c.is_empty.ensures.empty.1 none) in
     let some = subst (λ w. live_in (state_of w) ≡ [] → ⊥) (sym c.self.view_is) busy in
     some-growable _ c.self.invariant c.args.new_size larger c.growth_for-growth.result c.growth_for-growth.ensures some c.slots_for-added.result c.slots_for-added.ensures.need
     (shelf_of c.make_room.new.store) c.make_room.ensures.same (vec_capacity c.make_room.new.store.slots) c.in_ok-make_room.ensures.ok
@@ -47,7 +50,7 @@ grow_tree-self-inside-requires g c =
 pub invariant_of-self-2 : goal.invariant_of-self-2
 invariant_of-self-2 g c =
     let larger = subst (λ w. Fits (state_of w).size (sides_of c.args.new_size)) (sym c.self.view_is) c.requires in
-    let busy : live_in (state_of c.args.self.now) ≡ [] → ⊥ = λ none. false≢true (sym c.if-is_empty.false ∙ c.is_empty.ensures.1 none) in
+    let busy : live_in (state_of c.args.self.now) ≡ [] → ⊥ = λ none. false≢true (sym c.if-is_empty.false ∙ c.is_empty.ensures.empty.1 none) in
     let some = subst (λ w. live_in (state_of w) ≡ [] → ⊥) (sym c.self.view_is) busy in
     (grow-done _ c.self.invariant c.args.new_size larger c.growth_for-growth.result c.growth_for-growth.ensures some c.slots_for-added.result c.slots_for-added.ensures.need
     (shelf_of c.make_room.new.store) c.make_room.ensures.same (vec_capacity c.make_room.new.store.slots) c.in_ok-make_room.ensures.ok
@@ -56,8 +59,12 @@ invariant_of-self-2 g c =
 pub returns-clause-step : goal.returns-clause-step
 returns-clause-step g c =
     let larger = subst (λ w. Fits (state_of w).size (sides_of c.args.new_size)) (sym c.self.view_is) c.requires in
-    let busy : live_in (state_of c.args.self.now) ≡ [] → ⊥ = λ none. false≢true (sym c.if-is_empty.false ∙ c.is_empty.ensures.1 none) in
+    let busy : live_in (state_of c.args.self.now) ≡ [] → ⊥ = λ none. false≢true (sym c.if-is_empty.false ∙ c.is_empty.ensures.empty.1 none) in
     let some = subst (λ w. live_in (state_of w) ≡ [] → ⊥) (sym c.self.view_is) busy in
     rw (← c.self.view_is) ((grow-done _ c.self.invariant c.args.new_size larger c.growth_for-growth.result c.growth_for-growth.ensures some c.slots_for-added.result c.slots_for-added.ensures.need
     (shelf_of c.make_room.new.store) c.make_room.ensures.same (vec_capacity c.make_room.new.store.slots) c.in_ok-make_room.ensures.ok
     (shelf_of c.grow_tree-self-inside.new.store) c.grow_tree-self-inside.result c.grow_tree-self-inside.ensures.grown c.grow_tree-self-inside.ensures.options).step c.grow_tree-self-inside.new.store.turns.count c.self.inside.store.turns.count)
+
+pub returns-clause-keeps : goal.returns-clause-keeps
+returns-clause-keeps g c =
+    growth_keeps _ _ (subst (λ w. IsSound (state_of w)) c.self.view_is c.self.invariant.sound) (sides_of c.args.new_size) Done (returns-clause-step g c)

@@ -5,6 +5,9 @@ use Rattle.guillotiere.specs.States.{live_in}
 use Rattle.guillotiere.specs.Stored.{state_of}
 use Rattle.guillotiere.specs.Holdings.{shelf_of}
 use Rattle.guillotiere.proofs.GrownAtlas.{tree-here, lone-here, box-done}
+use Rattle.guillotiere.specs.States.{IsSound}
+use Rattle.guillotiere.specs.Steps.AtlasReply.{Done}
+use Rattle.guillotiere.proofs.CallerSteps.{growth_keeps}
 use Rattle.guillotiere.proofs.atlas.AtlasAllocator.grow_box.Goals as goal
 
 pub grow_whole-requires-clause-tree : goal.grow_whole-requires-clause-tree
@@ -23,3 +26,7 @@ returns-clause-step g c =
     let larger = subst (λ w. Fits (state_of w).size (sides_of c.args.size)) (sym c.self.view_is) c.requires.larger in
     let none = subst (λ w. live_in (state_of w) ≡ []) (sym c.self.view_is) c.requires.idle in
     rw (← c.self.view_is) ((box-done _ c.self.invariant c.args.size larger none (shelf_of c.grow_whole.new.store) c.grow_whole.ensures.room.options c.grow_whole.ensures.grown).step c.grow_whole.new.store.turns.count c.self.inside.store.turns.count)
+
+pub returns-clause-keeps : goal.returns-clause-keeps
+returns-clause-keeps g c =
+    growth_keeps _ _ (subst (λ w. IsSound (state_of w)) c.self.view_is c.self.invariant.sound) (sides_of c.args.size) Done (returns-clause-step g c)

@@ -4,22 +4,29 @@ use denote.Enum.Bare.{sameb}
 use Rattle.guillotiere.specs.contracts.slots.NodeKind.{the_type}
 use Rattle.guillotiere.specs.declared.slots.NodeKind.TheVariants as kind
 use Rattle.guillotiere.proofs.Observing.{first-IsAtlas, idle-read, none_live-read}
+use Rattle.guillotiere.proofs.CallerLemmas.{empty_count}
 use Rattle.guillotiere.proofs.atlas.AtlasAllocator.is_empty.Goals as goal
 
 pub node-first-requires : goal.node-first-requires
 node-first-requires g c = first-IsAtlas _ c.self.invariant
 
-pub returns-then-eq : goal.returns-then-eq
-returns-then-eq g c =
+pub returns-then-eq-clause-empty : goal.returns-then-eq-clause-empty
+returns-then-eq-clause-empty g c =
     let free : c.node-first.result.kind ≡ kind.Free = search rules in
     rw (← c.self.view_is) (
       λ last. idle-read _ c.self.invariant c.node-first.result c.node-first.ensures free (eqb-true _ _ last),
       λ none. eq-eqb _ _ (none_live-read _ c.self.invariant c.node-first.result c.node-first.ensures none).1,
     )
 
-pub returns-else-eq : goal.returns-else-eq
-returns-else-eq g c =
+pub returns-else-eq-clause-empty : goal.returns-else-eq-clause-empty
+returns-else-eq-clause-empty g c =
     rw (← c.self.view_is) (
       λ yes. absurd (true≢false (sym yes ∙ c.if-eq.false)),
       λ none. c.eq.ensures ∙ ap (λ k. sameb the_type k kind.Free) (none_live-read _ c.self.invariant c.node-first.result c.node-first.ensures none).0,
     )
+
+pub returns-then-eq-clause-count : goal.returns-then-eq-clause-count
+returns-then-eq-clause-count g c = empty_count _ _ (returns-then-eq-clause-empty g c)
+
+pub returns-else-eq-clause-count : goal.returns-else-eq-clause-count
+returns-else-eq-clause-count g c = empty_count _ _ (returns-else-eq-clause-empty g c)

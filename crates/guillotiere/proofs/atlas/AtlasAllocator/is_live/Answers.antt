@@ -2,8 +2,8 @@ use Rattle.std.proofs.Common.{sym, ◌∙◌}
 use Rattle.guillotiere.proofs.FreedAtlas.{live-found}
 use Rattle.guillotiere.proofs.atlas.AtlasAllocator.is_live.Goals as goal
 
-pub returns : goal.returns
-returns g c =
+pub returns-clause-live : goal.returns-clause-live
+returns-clause-live g c =
     let is = live-found _ c.self.invariant c.args.id c.deref.result.now c.named_slot.result c.deref.ensures.value c.named_slot.ensures.named c.named_slot.ensures.none in
     rw (← c.self.view_is) (
       (λ t. is.0 (sym c.is_some.ensures ∙ t)),

@@ -1,9 +1,12 @@
-use Rattle.std.proofs.Common.{ap, subst, ◌∙◌}
+use Rattle.std.proofs.Common.{refl, ap, subst, ◌∙◌}
 use Rattle.guillotiere.specs.Pixels.{sides_of}
 use Rattle.guillotiere.specs.States.{IsSound, started}
 use Rattle.guillotiere.specs.Rearranging.{rearrangement_of}
 use Rattle.guillotiere.specs.Stored.{state_of}
-use Rattle.guillotiere.proofs.RearrangedAtlas.{atlas-rearranged, atlas-moved}
+use Rattle.guillotiere.specs.Steps.AtlasCall.{ResizeAndRearrange}
+use Rattle.guillotiere.specs.Steps.AtlasReply.{Changed}
+use Rattle.guillotiere.proofs.StepKeeping.{steps_keep}
+use Rattle.guillotiere.proofs.RearrangedAtlas.{atlas-rearranged, atlas-moved, atlas-sides}
 use Rattle.guillotiere.proofs.atlas.AtlasAllocator.resize_and_rearrange.Goals as goal
 
 pub returns-clause-step : goal.returns-clause-step
@@ -18,3 +21,16 @@ returns-clause-moves g c =
     atlas-moved c.args.self.now c.in_ok-placed.placed c.refit.new.atlas c.become_like.new.self (sides_of c.args.new_size) c.requires fresh
     _ c.in_ok-order.ensures.order (rearrangement_of c.in_ok-list.list) c.in_ok-list.ensures.refits c.become_like.ensures.stored
     (subst (λ v. IsSound (state_of v)) c.self.view_is c.self.invariant.sound)
+
+pub returns-clause-sides : goal.returns-clause-sides
+returns-clause-sides g c =
+    let fresh = c.in_ok-placed.ensures.state ∙ ap (λ v. started (sides_of c.args.new_size) (state_of v).options (state_of v).limit) c.self.view_is in
+    atlas-sides c.args.self.now c.in_ok-placed.placed c.refit.new.atlas c.become_like.new.self (sides_of c.args.new_size) c.requires fresh
+    _ c.in_ok-order.ensures.order (rearrangement_of c.in_ok-list.list) c.in_ok-list.ensures.refits c.become_like.ensures.stored
+    (subst (λ v. IsSound (state_of v)) c.self.view_is c.self.invariant.sound) c.in_ok-list.list.changes.items refl
+
+pub returns-clause-sound : goal.returns-clause-sound
+returns-clause-sound g c =
+    steps_keep (state_of c.args.self.now) (state_of c.become_like.new.self) (ResizeAndRearrange (sides_of c.args.new_size))
+    (Changed (rearrangement_of c.in_ok-list.list)) (subst (λ v. IsSound (state_of v)) c.self.view_is c.self.invariant.sound)
+    (returns-clause-step g c)

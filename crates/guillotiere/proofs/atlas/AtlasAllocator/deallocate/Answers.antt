@@ -1,0 +1,21 @@
+use Rattle.std.proofs.Common.{refl, sym, ◌∙◌}
+use Rattle.std.proofs.lemmas.Bool.{false≢true}
+use Rattle.guillotiere.specs.Steps.AtlasReply.{Done}
+use Rattle.guillotiere.specs.Stored.{state_of}
+use Rattle.guillotiere.proofs.CallerSteps.{unlive_leaves, freeing_leaves, freeing_count}
+use Rattle.guillotiere.proofs.atlas.AtlasAllocator.deallocate.Goals as goal
+
+pub returns-then-not-is_live-clause-leaves : goal.returns-then-not-is_live-clause-leaves
+returns-then-not-is_live-clause-leaves g c =
+    unlive_leaves (state_of c.args.self.now) (state_of c.args.self.now) c.args.id c.is_live.ensures.sound
+    (λ live. false≢true (sym c.if-not-is_live.true ∙ c.is_live.ensures.live.1 live)) refl
+
+pub returns-clause-leaves : goal.returns-clause-leaves
+returns-clause-leaves g c =
+    freeing_leaves (state_of c.args.self.now) (state_of c.free.new.self) c.is_live.ensures.sound c.args.id Done
+    (c.is_live.ensures.live.0 c.if-not-is_live.false, c.free.ensures.state)
+
+pub returns-clause-count : goal.returns-clause-count
+returns-clause-count g c =
+    freeing_count (state_of c.args.self.now) (state_of c.free.new.self) c.is_live.ensures.sound c.args.id
+    (c.is_live.ensures.live.0 c.if-not-is_live.false, c.free.ensures.state)

@@ -1,0 +1,5 @@
+use Rattle.guillotiere.proofs.SimpleRunning.{guarded_are_disjoint}
+use Rattle.guillotiere.proofs.laws.guarded_are_disjoint.Goals as goal
+
+pub returns : goal.returns
+returns c = guarded_are_disjoint

@@ -1,0 +1,5 @@
+use Rattle.guillotiere.proofs.SimpleRunning.{simple_starts_guard}
+use Rattle.guillotiere.proofs.laws.simple_starts_guard.Goals as goal
+
+pub returns : goal.returns
+returns c = simple_starts_guard

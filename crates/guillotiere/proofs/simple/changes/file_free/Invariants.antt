@@ -1,0 +1,16 @@
+use Rattle.std.proofs.Common.{◌++◌, map, drop}
+use Rattle.std.specs.List.{All}
+use Rattle.guillotiere.specs.Boxes.{AreSameBoxes, IsNonempty}
+use Rattle.guillotiere.specs.FreeLists.{AreInClasses, listed}
+use Rattle.guillotiere.specs.Pixels.{box_of, options_of}
+use Rattle.guillotiere.specs.Rectangles.{IsUnsigned}
+use Rattle.guillotiere.specs.Slots.{nodes}
+use Rattle.guillotiere.specs.Visits.{free_areas}
+use Rattle.guillotiere.proofs.simple.changes.file_free.Given as goal
+
+abbrev pub invariant-loop-slot : goal.invariant-loop-slot
+invariant-loop-slot g l =
+    AreInClasses (options_of l.options) l.lists
+    × All (λ r. IsUnsigned r × IsNonempty (box_of r)) (free_areas (nodes (drop l.slot-index l.slots)))
+    × AreSameBoxes (map box_of (free_areas (nodes (drop l.slot-index l.slots))) ++ listed l.lists)
+        (map box_of (free_areas (nodes l.slots)) ++ listed l.initial.lists)

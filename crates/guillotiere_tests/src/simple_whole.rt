@@ -1,0 +1,512 @@
+//! The simple allocator whole: worked rows of growths and starts, call by call and as lists of calls, with ample memory
+//! and with requests for memory refused.
+
+ghost use Rattle.std.specs.Prelude.{◌∷◌, IfOk, IfSome};
+ghost use Rattle.guillotiere.specs.Boxes.{AreDisjoint};
+ghost use Rattle.guillotiere.specs.Pixels.{box_of};
+ghost use Rattle.guillotiere.specs.Simple.{live_boxes};
+ghost use Rattle.guillotiere.specs.Stored.{state_of};
+
+use crate::tables::{ALIGNED_TO_8, Corners, Sides, rectangle, size};
+use guillotiere::session::{SimpleCall, SimpleReply, run_simple};
+use guillotiere::{
+    AllocId, AllocatorOptions, AtlasAllocator, AtlasError, DEFAULT_OPTIONS, Rectangle,
+    SimpleAtlasAllocator, Size, laws, size2,
+};
+use refusing::Refusing;
+use std::alloc::{Allocator, Global};
+use std::process::Abort;
+use std::test::Fail;
+
+// A call of the simple allocator with its answer.
+#[derive(Clone, Copy, Debug)]
+enum Step {
+    Grant(Sides, Corners),
+    NoRoom(Sides),
+    Grow(Sides),
+    Clear,
+    Reset(Sides, AllocatorOptions),
+    Start,
+    // its answer is `BadCall`
+    Shrink(Sides),
+    // its answer is `BadCall`
+    BadReset(Sides, AllocatorOptions),
+    // not a call: what `size` answers
+    SizeIs(Sides),
+    // not a call: what `is_empty` answers
+    EmptyIs(bool),
+}
+
+// An atlas that was granted some sizes and freed some ids.
+struct Source {
+    size: Sides,
+    options: AllocatorOptions,
+    granted: &'static [Sides],
+    freed: &'static [u32],
+}
+
+struct Row {
+    size: Sides,
+    source: Source,
+    steps: &'static [Step],
+}
+
+// No row starts from it.
+const NO_SOURCE: Source = Source {
+    size: (1, 1),
+    options: DEFAULT_OPTIONS,
+    granted: &[],
+    freed: &[],
+};
+
+// An alignment that isn't above 0.
+const NO_HEIGHT: AllocatorOptions = AllocatorOptions {
+    alignment: Size {
+        width: 0,
+        height: 1,
+    },
+    small_size_threshold: 32,
+    large_size_threshold: 256,
+};
+
+const ROWS: [Row; 9] = [
+    Row {
+        size: (1, 1),
+        source: Source {
+            size: (100, 300),
+            options: DEFAULT_OPTIONS,
+            granted: &[(100, 100), (100, 100), (100, 100)],
+            freed: &[0, 1],
+        },
+        steps: &[
+            Step::Start,
+            Step::SizeIs((100, 300)),
+            Step::Grant((100, 100), (0, 0, 100, 100)),
+            Step::Grant((100, 100), (0, 100, 100, 200)),
+            Step::NoRoom((100, 100)),
+        ],
+    },
+    Row {
+        size: (10, 10),
+        source: NO_SOURCE,
+        steps: &[
+            Step::EmptyIs(true),
+            Step::Grow((20, 30)),
+            Step::SizeIs((20, 30)),
+            Step::EmptyIs(false),
+            Step::Grant((20, 20), (0, 10, 20, 30)),
+            Step::Grant((10, 10), (0, 0, 10, 10)),
+            Step::Grant((10, 10), (10, 0, 20, 10)),
+            Step::NoRoom((1, 1)),
+        ],
+    },
+    Row {
+        size: (10, 10),
+        source: NO_SOURCE,
+        steps: &[
+            Step::Grant((10, 10), (0, 0, 10, 10)),
+            Step::Grow((20, 30)),
+            Step::Grant((20, 20), (0, 10, 20, 30)),
+            Step::Grant((10, 10), (10, 0, 20, 10)),
+            Step::NoRoom((1, 1)),
+        ],
+    },
+    Row {
+        size: (1, 1),
+        source: Source {
+            size: (20, 20),
+            options: ALIGNED_TO_8,
+            granted: &[(16, 16)],
+            freed: &[],
+        },
+        steps: &[
+            Step::Start,
+            Step::SizeIs((20, 20)),
+            Step::NoRoom((1, 1)),
+            Step::EmptyIs(false),
+        ],
+    },
+    Row {
+        size: (1, 1),
+        source: Source {
+            size: (30, 40),
+            options: DEFAULT_OPTIONS,
+            granted: &[],
+            freed: &[],
+        },
+        steps: &[Step::Start, Step::EmptyIs(true), Step::SizeIs((30, 40))],
+    },
+    Row {
+        size: (10, 10),
+        source: Source {
+            size: (100, 300),
+            options: DEFAULT_OPTIONS,
+            granted: &[(100, 100), (100, 100), (100, 100)],
+            freed: &[1],
+        },
+        steps: &[
+            Step::Grant((10, 10), (0, 0, 10, 10)),
+            Step::Start,
+            Step::Grant((100, 100), (0, 100, 100, 200)),
+            Step::NoRoom((1, 1)),
+            Step::Shrink((99, 300)),
+            Step::BadReset((5, 5), NO_HEIGHT),
+            Step::Clear,
+            Step::Grant((100, 300), (0, 0, 100, 300)),
+        ],
+    },
+    // parts beside a request and beside a growth, with an alignment
+    Row {
+        size: (1, 1),
+        source: NO_SOURCE,
+        steps: &[
+            Step::Reset((20, 20), ALIGNED_TO_8),
+            Step::EmptyIs(true),
+            Step::Grant((9, 1), (0, 0, 16, 8)),
+            Step::EmptyIs(false),
+            // both parts of the new size are just as wide or as high as the alignment
+            Step::Grow((28, 28)),
+            Step::Grant((24, 8), (0, 20, 24, 28)),
+            Step::Grant((8, 16), (20, 0, 28, 16)),
+            Step::Clear,
+            Step::SizeIs((28, 28)),
+            Step::EmptyIs(true),
+            // both parts of the new size are lower or narrower than the alignment
+            Step::Grow((35, 35)),
+            Step::EmptyIs(false),
+            Step::NoRoom((25, 1)),
+            Step::Grant((24, 24), (0, 0, 24, 24)),
+            Step::NoRoom((1, 1)),
+        ],
+    },
+    // at an equal size nothing changes; an empty size is a bad reset
+    Row {
+        size: (10, 10),
+        source: NO_SOURCE,
+        steps: &[
+            Step::Grow((10, 10)),
+            Step::EmptyIs(true),
+            Step::Shrink((10, 9)),
+            Step::BadReset((0, 5), DEFAULT_OPTIONS),
+            Step::BadReset((5, -2147483648), DEFAULT_OPTIONS),
+            Step::Grant((10, 10), (0, 0, 10, 10)),
+            Step::Grow((10, 10)),
+            Step::NoRoom((1, 1)),
+            Step::NoRoom((-2147483648, -2147483648)),
+        ],
+    },
+    // the greatest size
+    Row {
+        size: (1, 1),
+        source: NO_SOURCE,
+        steps: &[
+            Step::Grow((2147483647, 2147483647)),
+            Step::Grant((2147483647, 2147483646), (0, 1, 2147483647, 2147483647)),
+            Step::Grant((2147483646, 1), (1, 0, 2147483647, 1)),
+            Step::Grant((1, 1), (0, 0, 1, 1)),
+            Step::NoRoom((1, 1)),
+        ],
+    },
+];
+
+type Atlas<'a> = AtlasAllocator<&'a Refusing<Global>>;
+
+type Simple<'a> = SimpleAtlasAllocator<&'a Refusing<Global>>;
+
+// The call and the reply of a step; None for a look.
+fn call_and_reply(step: Step) -> Option<(SimpleCall, SimpleReply)> {
+    match step {
+        Step::Grant(request, want) => Some((
+            SimpleCall::Allocate(size(request)),
+            SimpleReply::Granted(rectangle(want)),
+        )),
+        Step::NoRoom(request) => Some((SimpleCall::Allocate(size(request)), SimpleReply::NoRoom)),
+        Step::Grow(to) => Some((SimpleCall::Grow(size(to)), SimpleReply::Done)),
+        Step::Clear => Some((SimpleCall::Clear, SimpleReply::Done)),
+        Step::Reset(to, options) => {
+            Some((SimpleCall::Reset(size(to), options), SimpleReply::Done))
+        }
+        Step::Start => Some((SimpleCall::Start, SimpleReply::Done)),
+        Step::Shrink(to) => Some((SimpleCall::Grow(size(to)), SimpleReply::BadCall)),
+        Step::BadReset(to, options) => {
+            Some((SimpleCall::Reset(size(to), options), SimpleReply::BadCall))
+        }
+        Step::SizeIs(_) | Step::EmptyIs(_) => None,
+    }
+}
+
+fn atlas_of<'a>(
+    rt: &impl Abort,
+    heap: &'a Refusing<Global>,
+    source: &Source,
+) -> Result<Atlas<'a>, AtlasError> {
+    let whole = size(source.size);
+    assert!(rt; !whole.is_empty());
+    assert!(rt; source.options.is_valid());
+    let mut atlas = AtlasAllocator::with_options(heap, whole, &source.options)?;
+    for &request in source.granted {
+        let granted = atlas.allocate(size(request))?;
+        assert!(rt; granted.is_some(), "{request:?}");
+    }
+    for &id in source.freed {
+        atlas.deallocate(AllocId::deserialize(id))?;
+    }
+    Ok(atlas)
+}
+
+fn simple_of<'a>(
+    rt: &impl Abort,
+    heap: &'a Refusing<Global>,
+    row: &Row,
+) -> Result<Simple<'a>, AtlasError> {
+    let whole = size(row.size);
+    assert!(rt; !whole.is_empty());
+    SimpleAtlasAllocator::new(heap, whole)
+}
+
+// Both allocators of a row, made again where a request for memory is refused.
+fn both_of<'a>(
+    rt: &impl Abort,
+    heap: &'a Refusing<Global>,
+    row: &Row,
+) -> Result<(Atlas<'a>, Simple<'a>), AtlasError> {
+    let atlas = match atlas_of(rt, heap, &row.source) {
+        Err(AtlasError::Memory) => atlas_of(rt, heap, &row.source)?,
+        first => first?,
+    };
+    let simple = match simple_of(rt, heap, row) {
+        Err(AtlasError::Memory) => simple_of(rt, heap, row)?,
+        first => first?,
+    };
+    Ok((atlas, simple))
+}
+
+fn grow(rt: &impl Abort, simple: &mut Simple<'_>, to: Size) -> Result<(), AtlasError> {
+    let old = simple.size();
+    assert!(rt; old.width <= to.width && old.height <= to.height);
+    simple.grow(to)
+}
+
+fn reset(
+    rt: &impl Abort,
+    simple: &mut Simple<'_>,
+    to: Size,
+    options: &AllocatorOptions,
+) -> Result<(), AtlasError> {
+    assert!(rt; !to.is_empty());
+    assert!(rt; options.is_valid());
+    simple.reset(to, options)
+}
+
+// Takes a step by the allocator's own calls; a bad call is none of them.
+fn take_step<'a>(
+    rt: &impl Abort,
+    simple: &mut Simple<'a>,
+    atlas: &Atlas<'a>,
+    step: Step,
+) -> Result<(), AtlasError> {
+    match step {
+        Step::Grant(request, want) => {
+            let granted = simple.allocate(size(request))?;
+            assert_eq!(rt; granted, Some(rectangle(want)), "{step:?}");
+        }
+        Step::NoRoom(request) => {
+            let granted = simple.allocate(size(request))?;
+            assert_eq!(rt; granted, None, "{step:?}");
+        }
+        Step::Grow(to) => grow(rt, simple, size(to))?,
+        Step::Clear => simple.clear()?,
+        Step::Reset(to, options) => reset(rt, simple, size(to), &options)?,
+        Step::Start => simple.init_from_allocator(atlas)?,
+        Step::SizeIs(want) => assert_eq!(rt; simple.size(), size(want)),
+        Step::EmptyIs(want) => assert_eq!(rt; simple.is_empty(), want),
+        Step::Shrink(_) | Step::BadReset(..) => {}
+    }
+    Ok(())
+}
+
+#[test]
+fn rows_call_by_call(rt: HostRuntime) -> Result<(), Fail> {
+    let heap = Refusing::new(rt.alloc());
+    for row in &ROWS {
+        let (atlas, mut simple) = both_of(&rt, &heap, row)?;
+        for step in row.steps {
+            take_step(&rt, &mut simple, &atlas, *step)?;
+        }
+    }
+    Ok(())
+}
+
+// Takes a step; where a request for memory is refused, nothing has changed, and the step is taken again.
+fn take_step_or_again<'a>(
+    rt: &impl Abort,
+    simple: &mut Simple<'a>,
+    atlas: &Atlas<'a>,
+    step: Step,
+) -> Result<(), AtlasError> {
+    let before = (simple.size(), simple.is_empty());
+    match take_step(rt, simple, atlas, step) {
+        Err(AtlasError::Memory) => {
+            assert_eq!(rt; (simple.size(), simple.is_empty()), before, "{step:?}");
+            take_step(rt, simple, atlas, step)
+        }
+        first => first,
+    }
+}
+
+#[test]
+fn rows_with_each_request_for_memory_refused_in_turn(rt: HostRuntime) -> Result<(), Fail> {
+    let heap = Refusing::new(rt.alloc());
+    for row in &ROWS {
+        let mut refusals = 0;
+        for number in 1..100 {
+            heap.refuse_nth(number);
+            let (atlas, mut simple) = both_of(&rt, &heap, row)?;
+            for step in row.steps {
+                take_step_or_again(&rt, &mut simple, &atlas, *step)?;
+            }
+            if !heap.is_done() {
+                break;
+            }
+            refusals = number;
+        }
+        assert!(rt; 0 < refusals && refusals < 99, "{:?}", row.size);
+    }
+    Ok(())
+}
+
+#[test]
+fn rows_as_lists_of_calls(rt: HostRuntime) -> Result<(), Fail> {
+    let heap = Refusing::new(rt.alloc());
+    for row in &ROWS {
+        let (atlas, mut simple) = both_of(&rt, &heap, row)?;
+        let mut calls = Vec::new(rt.alloc());
+        let mut want = Vec::new(rt.alloc());
+        // a reply that was there before stays
+        let mut replies = Vec::new(&heap);
+        replies.push(SimpleReply::NoRoom)?;
+        want.push(SimpleReply::NoRoom)?;
+        for step in row.steps {
+            if let Some((call, reply)) = call_and_reply(*step) {
+                calls.push(call)?;
+                want.push(reply)?;
+            }
+        }
+        run_simple(&mut simple, &atlas, calls.as_slice(), &mut replies)?;
+        assert_eq!(rt; replies.as_slice(), want.as_slice(), "{:?}", row.size);
+    }
+    Ok(())
+}
+
+// Makes a list of one call; where a request for memory is refused, nothing has changed, and the list is made again.
+fn run_or_again<'a>(
+    rt: &impl Abort,
+    heap: &'a Refusing<Global>,
+    simple: &mut Simple<'a>,
+    atlas: &Atlas<'a>,
+    (call, want): (SimpleCall, SimpleReply),
+) -> Result<(), AtlasError> {
+    let before = (simple.size(), simple.is_empty());
+    let refused = SimpleReply::Refused(AtlasError::Memory);
+    let mut replies = Vec::new(heap);
+    let first = run_simple(simple, atlas, &[call], &mut replies);
+    if first.is_err() {
+        assert_eq!(rt; first, Err(AtlasError::Memory));
+        assert!(rt; replies.is_empty());
+    }
+    if first.is_err() || replies.as_slice() == [refused].as_slice() {
+        assert_eq!(rt; (simple.size(), simple.is_empty()), before, "{call:?}");
+        replies.clear();
+        run_simple(simple, atlas, &[call], &mut replies)?;
+    }
+    assert_eq!(rt; replies.as_slice(), [want].as_slice(), "{call:?}");
+    Ok(())
+}
+
+#[test]
+fn lists_of_one_call_with_each_request_for_memory_refused_in_turn(
+    rt: HostRuntime,
+) -> Result<(), Fail> {
+    let heap = Refusing::new(rt.alloc());
+    for row in &ROWS {
+        let mut refusals = 0;
+        for number in 1..100 {
+            heap.refuse_nth(number);
+            let (atlas, mut simple) = both_of(&rt, &heap, row)?;
+            for step in row.steps {
+                if let Some(made) = call_and_reply(*step) {
+                    run_or_again(&rt, &heap, &mut simple, &atlas, made)?;
+                }
+            }
+            if !heap.is_done() {
+                break;
+            }
+            refusals = number;
+        }
+        assert!(rt; 0 < refusals && refusals < 99, "{:?}", row.size);
+    }
+    Ok(())
+}
+
+// A list whose replies find no memory is not begun.
+#[test]
+fn no_call_is_made_without_memory_for_its_replies(rt: HostRuntime) -> Result<(), Fail> {
+    let heap = Refusing::new(rt.alloc());
+    let (atlas, mut simple) = both_of(&rt, &heap, &ROWS[1])?;
+    let mut replies = Vec::new(&heap);
+    heap.refuse_every();
+    let calls = [SimpleCall::Grow(size((20, 30))), SimpleCall::Start];
+    let made = run_simple(&mut simple, &atlas, &calls, &mut replies);
+    assert_eq!(rt; made, Err(AtlasError::Memory));
+    assert!(rt; replies.is_empty());
+    assert_eq!(rt; simple.size(), size((10, 10)));
+    assert!(rt; simple.is_empty());
+    Ok(())
+}
+
+// A clearing finds room in its lists: no memory is asked for.
+#[test]
+fn a_clearing_asks_for_no_memory_where_its_list_has_room(rt: HostRuntime) -> Result<(), Fail> {
+    let heap = Refusing::new(rt.alloc());
+    let (_, mut simple) = both_of(&rt, &heap, &ROWS[1])?;
+    assert_eq!(rt;
+        simple.allocate(size((3, 4)))?,
+        Some(rectangle((0, 0, 3, 4)))
+    );
+    let made = heap.requests();
+    heap.refuse_every();
+    simple.clear()?;
+    assert_eq!(rt; heap.requests(), made);
+    assert!(rt; simple.is_empty());
+    assert_eq!(rt; simple.size(), size((10, 10)));
+    Ok(())
+}
+
+// A rectangle apart from all that an atlas holds live, or none; the atlas stays as it is.
+fn place_beside<'a, B: Allocator>(
+    alloc: &'a B,
+    atlas: &AtlasAllocator<&'a B>,
+    request: Size,
+) -> Result<Option<Rectangle>, AtlasError>
+    ensures { IfOk result (λ granted. IfSome granted (λ rectangle.
+        AreDisjoint (box_of rectangle ∷ live_boxes (state_of atlas.now)))) }
+{
+    laws::guarded_are_disjoint();
+    let mut simple = SimpleAtlasAllocator::new(alloc, size2(1, 1))?;
+    simple.init_from_allocator(atlas)?;
+    match simple.allocate(request) {
+        Ok(Some(rectangle)) => Ok(Some(rectangle)),
+        Ok(None) => Ok(None),
+        Err(error) => Err(error),
+    }
+}
+
+#[test]
+fn a_rectangle_is_placed_beside_live_ones(rt: HostRuntime) -> Result<(), Fail> {
+    let heap = Refusing::new(rt.alloc());
+    let atlas = atlas_of(&rt, &heap, &ROWS[0].source)?;
+    let placed = place_beside(&heap, &atlas, size((100, 150)));
+    assert_eq!(rt; placed, Ok(Some(rectangle((0, 0, 100, 150)))));
+    assert_eq!(rt; place_beside(&heap, &atlas, size((100, 201))), Ok(None));
+    Ok(())
+}

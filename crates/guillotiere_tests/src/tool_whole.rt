@@ -1,0 +1,172 @@
+//! Runs of all commands of the tool, with each request for memory refused in turn, and lines that are bad.
+
+use crate::tool_devices::{Sink, Source};
+use atlas_lines::{ToolEnd, parse_line, run_lines};
+use refusing::Refusing;
+use std::test::Fail;
+
+// What is read, what is written, and how the run ends.
+type Row = (&'static [u8], &'static [u8], ToolEnd);
+
+const REARRANGED: Row = (
+    b"atlas 100 300\nalloc 100 100\nalloc 100 100\nalloc 100 100\nfree 1\nrearrange\nlive\nholes\nempty\n",
+    b"ok\nid 0 at 0 0 100 100\nid 1 at 0 100 100 200\nid 2 at 0 200 100 300\nok\nmoved 2 0 200 100 300 to 0 0 0 100 100\nmoved 0 0 0 100 100 to 1 0 100 100 200\nchanges 2 failures 0\nbox 0 0 0 100 100\nbox 1 0 100 100 200\nlive 2\nhole 0 200 100 300\nholes 1\nfalse\n",
+    ToolEnd::Done,
+);
+
+const STARTED: Row = (
+    b"atlas 100 300\nalloc 100 100\nalloc 100 100\nalloc 100 100\nfree 0\nfree 1\nfrom-atlas\nsimple 1 1\nfrom-atlas\ntake 100 100\ntake 100 100\ntake 100 100\n",
+    b"ok\nid 0 at 0 0 100 100\nid 1 at 0 100 100 200\nid 2 at 0 200 100 300\nok\nok\nno simple\nok\nok\nat 0 0 100 100\nat 0 100 100 200\nnone\n",
+    ToolEnd::Done,
+);
+
+const ROWS: [Row; 9] = [
+    REARRANGED,
+    STARTED,
+    (
+        b"from-atlas\natlas 100 100\nalloc 20 60\nfrom-atlas\nsimple 1 1\nfrom-atlas\ntake 80 100\ntake 20 40\ntake 1 1\n",
+        b"no atlas\nok\nid 3 at 0 0 20 60\nno simple\nok\nok\nat 20 0 100 100\nat 0 60 20 100\nnone\n",
+        ToolEnd::Done,
+    ),
+    // a simple allocator alone
+    (
+        b"simple 5 5\nfrom-atlas\ntake 5 5\n",
+        b"ok\nno atlas\nat 0 0 5 5\n",
+        ToolEnd::Done,
+    ),
+    (
+        b"alloc 5 5\nfree x\nsize\n",
+        b"no atlas\nbad line 2\n",
+        ToolEnd::BadLine(2),
+    ),
+    (
+        b"atlas 0 5\nsize\natlas 64 64 8 8 32 256\nalloc 9 1\nalloc 2147483647 1\nfree 4294967295\ngrow 63 64\nholes\nsize\nempty\n",
+        b"bad call\nno atlas\nok\nid 2 at 0 0 16 8\nnone\nrefused not live\nbad call\nhole 16 0 64 8\nhole 0 8 64 64\nholes 2\nsize 64 64\nfalse\n",
+        ToolEnd::Done,
+    ),
+    (
+        b"atlas 100 300\nalloc 100 100\nalloc 100 100\nalloc 100 100\nfree 1\nresize 100 150\nresize 0 9\nsize\nclear\nempty\nholes\n",
+        b"ok\nid 0 at 0 0 100 100\nid 1 at 0 100 100 200\nid 2 at 0 200 100 300\nok\nmoved 2 0 200 100 300 to 0 0 0 100 100\nlost 0 0 0 100 100\nchanges 1 failures 1\nbad call\nsize 100 150\nok\ntrue\nhole 0 0 100 150\nholes 1\n",
+        ToolEnd::Done,
+    ),
+    // without an atlas
+    (
+        b"clear\nrearrange\nresize 5 5\nresize 0 0\nsimple 9 9\ntake 9 9\n",
+        b"no atlas\nno atlas\nno atlas\nno atlas\nok\nat 0 0 9 9\n",
+        ToolEnd::Done,
+    ),
+    // with nothing live, and with a side below 0
+    (
+        b"atlas 8 9\nrearrange\nresize -1 9\nresize 9 -2147483648\nresize 9 8\nsize\nclear\nempty\n",
+        b"ok\nchanges 0 failures 0\nbad call\nbad call\nchanges 0 failures 0\nsize 9 8\nok\ntrue\n",
+        ToolEnd::Done,
+    ),
+];
+
+// Each of these is bad, alone and as the second line.
+const BAD_LINES: [&[u8]; 26] = [
+    b" take 1 1",
+    b"take 1 1 ",
+    b"take +1 1",
+    b"take - 1",
+    b"take 1",
+    b"Take 1 1",
+    b"free -1",
+    b"free 4294967296",
+    b"clear ",
+    b" clear",
+    b"clear 1",
+    b"Clear",
+    b"clea",
+    b"clears",
+    b"rearrange 1 1",
+    b"rearrange ",
+    b"resize",
+    b"resize 1",
+    b"resize 1 1 1",
+    b"resize 1 1 ",
+    b"resize 1 2147483648",
+    b"from_atlas",
+    b"from-atlas 1",
+    b"take 1 1\r",
+    b"take 1 1\0",
+    b"take 1 1\xff",
+];
+
+#[test]
+fn rows(rt: HostRuntime) -> Result<(), Fail> {
+    for (text, want, end) in ROWS {
+        for step in [1, 7, 100000] {
+            let mut input = Source::ending(text, step);
+            let mut output = Sink::new(Vec::new(rt.alloc()), 5000, step, true);
+            let got = run_lines(rt.alloc(), &mut input, &mut output);
+            assert_eq!(rt; got, Ok(end), "{text:?} by {step}");
+            assert_eq!(rt; output.held(), want, "{text:?} by {step}");
+        }
+    }
+    Ok(())
+}
+
+#[test]
+fn bad_second_lines(rt: HostRuntime) -> Result<(), Fail> {
+    for line in BAD_LINES {
+        assert_eq!(rt; parse_line(line), None, "{line:?}");
+        let mut text = Vec::new(rt.alloc());
+        text.extend_from_slice(b"simple 10 10\n")?;
+        text.extend_from_slice(line)?;
+        text.extend_from_slice(b"\ntake 1 1\n")?;
+        let mut input = Source::ending(&text, 1000);
+        let mut output = Sink::new(Vec::new(rt.alloc()), 1000, 1000, true);
+        let got = run_lines(rt.alloc(), &mut input, &mut output);
+        assert_eq!(rt; got, Ok(ToolEnd::BadLine(2)), "{line:?}");
+        assert_eq!(rt; output.held(), b"ok\nbad line 2\n".as_slice(), "{line:?}");
+    }
+    Ok(())
+}
+
+// Where two texts begin to differ.
+fn first_difference(got: &[u8], want: &[u8]) -> usize {
+    for (i, (one, other)) in got.iter().zip(want).enumerate() {
+        if one != other {
+            return i;
+        }
+    }
+    got.len().min(want.len())
+}
+
+#[test]
+fn rows_with_each_request_for_memory_refused_in_turn(rt: HostRuntime) {
+    let heap = Refusing::new(rt.alloc());
+    for (text, want, end) in [REARRANGED, STARTED] {
+        let mut refusals = 0;
+        for number in 1..100 {
+            heap.refuse_nth(number);
+            let mut input = Source::ending(text, 1000);
+            let mut output = Sink::new(Vec::new(rt.alloc()), 5000, 1000, true);
+            assert_eq!(rt; run_lines(&heap, &mut input, &mut output), Ok(end), "{number}");
+            if !heap.is_done() {
+                assert_eq!(rt; output.held(), want);
+                break;
+            }
+            refusals = number;
+            let held = output.held();
+            let at = first_difference(held, want);
+            assert!(rt; at < held.len(), "{number}");
+            assert!(rt; held[at..].starts_with(b"refused memory\n"), "{number}: {held:?}");
+            assert!(rt; at == 0 || held[at - 1] == b'\n', "{number}: {held:?}");
+        }
+        assert!(rt; 0 < refusals && refusals < 99, "{text:?}");
+    }
+}
+
+// A line of 121 bytes spells no command, also where one of 120 bytes does.
+#[test]
+fn a_command_has_at_most_120_bytes(rt: HostRuntime) -> Result<(), Fail> {
+    let mut line = Vec::new(rt.alloc());
+    line.extend_from_slice(b"take 1 ")?;
+    line.resize(120, b'0')?;
+    assert!(rt; parse_line(&line).is_some());
+    line.push(b'0')?;
+    assert_eq!(rt; parse_line(&line), None);
+    Ok(())
+}
