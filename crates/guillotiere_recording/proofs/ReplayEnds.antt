@@ -1,5 +1,5 @@
 -- How a replay begins, goes on and ends.
-use Rattle.std.proofs.Common.{◌≡◌, ℕ, ◌+◌, ◌<◌, ◌≤◌, ◌==◌, ◌⊎◌, inl, inr, eqb, Bool, true, false, List, [], ◌∷◌, ◌++◌, length, map, take, get_or, refl, ap, sym, subst, ◌∙◌, zero-add, arith, All, AllPairs, Contains, Option, Some, None, IsSome, option_map, slice_get, cond}
+use Rattle.std.proofs.Common.{◌≡◌, ℕ, suc, drop, remove, ap₂, ◌+◌, ◌<◌, ◌≤◌, ◌==◌, ◌⊎◌, inl, inr, eqb, Bool, true, false, List, [], ◌∷◌, ◌++◌, length, map, take, get_or, refl, ap, sym, subst, ◌∙◌, zero-add, arith, All, AllPairs, Contains, Option, Some, None, IsSome, option_map, slice_get, cond}
 use Rattle.std.specs.List.{count_by, AllByRecursion}
 use Rattle.std.specs.List.Sorted.{IsStrictlySortedBy}
 use Rattle.std.specs.declared.cmp.Ordering.TheVariants.{Less}
@@ -7,10 +7,12 @@ use Rattle.std.specs.Ordering.{nat_cmp, is_eq}
 use Rattle.std.specs.Map.{lookup}
 use Rattle.std.specs.BTreeMap.{get, is_at, IsOrdered, keys}
 use Rattle.std.proofs.lemmas.Bool.{eqb-true, eq-eqb, ne_eqb, false≢true, cases_eq}
-use Rattle.std.proofs.lemmas.List.{get_or-map, get_or_default, length-map, take_more, take_all}
+use Rattle.std.proofs.lemmas.List.{get_or-map, get_or_default, length-map, take_more, take_all, take-map, drop-map}
 use Rattle.std.proofs.lemmas.List.Elements.{All-map, All-contains}
 use Rattle.std.proofs.lemmas.Map.Keys.{sorted_head, sorted_tail, below_from_sorted}
 use Rattle.guillotiere.specs.declared.geometry.Rectangle.{Rectangle}
+use Rattle.guillotiere.specs.declared.geometry.Size.{Size}
+use Rattle.guillotiere.specs.declared.options.AllocatorOptions.{AllocatorOptions}
 use Rattle.guillotiere.specs.declared.allocation.Allocation.{Allocation}
 use Rattle.guillotiere.specs.Boxes.{Sides, Box, IsPositive}
 use Rattle.guillotiere.specs.Choice.{Options, AreValid}
@@ -27,7 +29,8 @@ use Rattle.guillotiere.proofs.TreeBasics.{one_if}
 use Rattle.guillotiere.proofs.TreeIds.{Contains-none}
 use Rattle.guillotiere_recording.specs.declared.steps.EventFault.{EventFault}
 use Rattle.guillotiere_recording.specs.declared.steps.EventFault.TheVariants as stop
-use Rattle.guillotiere_recording.specs.Events.{EventValue}
+use Rattle.guillotiere_recording.specs.declared.event.Event.{Event}
+use Rattle.guillotiere_recording.specs.Events.{EventValue, event_of}
 use Rattle.guillotiere_recording.specs.Logs.{RecordingValue}
 use Rattle.guillotiere_recording.specs.Sessions.{Named, IsNamed, Leads, Recorded, fresh_session}
 use Rattle.guillotiere_recording.specs.Names.{box_or_none}
@@ -243,3 +246,19 @@ pub ends : (r : RecordingValue) (i : ℕ) (a : AtlasValue) (names : Names) (foun
 ends r i a names found whole (s, led, shows) ordered all is =
     let all_led : LeadsTo r s = subst (λ es. LeadsTo (record r { events = es }) s) (take_all i r.events whole) led in
     ((s, all_led), gathered_book r a names s found all_led shows ordered all is)
+
+-- an event less
+
+map_append : {X Y : Type 0} (f : X → Y) (xs ys : List X) → map f (xs ++ ys) ≡ map f xs ++ map f ys
+map_append f [] ys = refl
+map_append f (x ∷ xs) ys = ap (λ zs. f x ∷ zs) (map_append f xs ys)
+
+pub without_event : {A : Type 0} (size : Size) (options : AllocatorOptions) (items left : List (Event A)) (at : ℕ) (v : RecordingValue)
+    → left ≡ remove items at → record { size = size; options = options; events = map event_of items } ≡ v
+    → record { size = size; options = options; events = map event_of left } ≡ record v { events = remove v.events at }
+without_event size options items left at v is whole =
+    let less : map event_of left ≡ remove (map event_of items) at =
+    ap (map event_of) is ∙ map_append event_of (take at items) (drop (suc at) items)
+    ∙ ap₂ (λ xs ys. xs ++ ys) (sym (take-map event_of at items)) (sym (drop-map event_of (suc at) items)) in
+    ap (λ es. let r : RecordingValue = record { size = size; options = options; events = es } in r) less
+    ∙ ap (λ (r : RecordingValue). record r { events = remove r.events at }) whole

@@ -9,3 +9,4 @@ pub mod Moves
 pub mod Recordings
 pub mod Replays
 pub mod Standing
+pub mod Kept
