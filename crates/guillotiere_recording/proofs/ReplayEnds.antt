@@ -125,11 +125,11 @@ none_later k (y ∷ ks) (less, rest) =
     let later = none_later k ks rest in
     omega (arith, e, none, later)
 
-abbrev how_many : Option ℕ → ℕ
+abbrev pub how_many : Option ℕ → ℕ
 how_many None = 0
 how_many (Some id) = 1
 
-keys_counted : (es : Entries) → IsStrictlySortedBy nat_cmp (map (λ e. e.0) es) → (k : ℕ)
+pub keys_counted : (es : Entries) → IsStrictlySortedBy nat_cmp (map (λ e. e.0) es) → (k : ℕ)
     → count_by (λ x. x == k) (map (λ e. e.0) es) ≡ how_many (lookup (is_at (nat_cmp k)) es)
 keys_counted [] sorted k = refl
 keys_counted (e ∷ es) sorted k =

@@ -4,13 +4,15 @@ ghost use Rattle.std.specs.Ordering.{nat_cmp};
 ghost use Rattle.std.specs.BTreeMap.{get, IsOrdered};
 ghost use Rattle.guillotiere.specs.Stored.{state_of};
 ghost use Rattle.guillotiere.specs.Replies.{live_box};
-ghost use Rattle.guillotiere_recording.specs.Events.{event_of};
-ghost use Rattle.guillotiere_recording.specs.Events.EventValue.{Allocate, Deallocate, Grow};
-ghost use Rattle.guillotiere_recording.specs.Standing.{CarriesOut, IsStopped, event_fault, shown_entry};
+ghost use Rattle.guillotiere_recording.specs.Events.{event_of, list_of};
+ghost use Rattle.guillotiere_recording.specs.Sessions.{Named};
+ghost use Rattle.guillotiere_recording.specs.Events.EventValue.{Allocate, Deallocate, Grow, Rearrange, ResizeAndRearrange};
+ghost use Rattle.guillotiere_recording.specs.Standing.{Shows, CarriesOut, IsStopped, event_fault, shown_entry};
 ghost use Rattle.guillotiere_recording.specs.declared.steps.EventFault.TheVariants.{Memory};
 
 use crate::event::Event;
-use guillotiere::{AllocId, Allocation, AtlasAllocator, AtlasError, Rectangle, Size};
+use crate::follow::{follow, list_names};
+use guillotiere::{AllocId, Allocation, AtlasAllocator, AtlasError, ChangeList, Rectangle, Size};
 use std::alloc::{AllocError, AllocFailed, Allocator};
 use std::collections::BTreeMap;
 
@@ -57,6 +59,7 @@ pub fn carry_out<A: Allocator + Copy>(
     names: &mut BTreeMap<u32, AllocId, A>,
     event: &Event<A>,
 ) -> Result<(), EventFault>
+    requires { (s : Named) × Shows atlas.old names.old s }
     ensures ok { OnOk result (CarriesOut atlas.old names.old (event_of event.now) atlas.new names.new) }
     ensures fault { IfErr result (IsStopped atlas.old names.old (event_of event.now)) }
 {
@@ -64,8 +67,8 @@ pub fn carry_out<A: Allocator + Copy>(
         Event::Allocate(size, answer) => request_again(atlas, names, *size, answer),
         Event::Deallocate(name) => free_again(atlas, names, *name),
         Event::Grow(size) => grow_again(atlas, names, *size),
-        Event::Rearrange(_) => Err(EventFault::Memory),
-        Event::ResizeAndRearrange(_, _) => Err(EventFault::Memory),
+        Event::Rearrange(recorded) => rearrange_again(atlas, names, recorded),
+        Event::ResizeAndRearrange(size, recorded) => resize_again(atlas, names, *size, recorded),
     }
 }
 
@@ -165,6 +168,45 @@ fn grow_again<A: Allocator + Copy>(
         return Err(EventFault::Bad);
     }
     atlas.grow(size)?;
+    Ok(())
+}
+
+// A rearranging.
+fn rearrange_again<A: Allocator + Copy>(
+    atlas: &mut AtlasAllocator<A>,
+    names: &mut BTreeMap<u32, AllocId, A>,
+    recorded: &ChangeList<A>,
+) -> Result<(), EventFault>
+    requires { (s : Named) × Shows atlas.old names.old s }
+    ensures ok { OnOk result (CarriesOut atlas.old names.old (Rearrange (list_of recorded.now)) atlas.new names.new) }
+    ensures fault { IfErr result (IsStopped atlas.old names.old (Rearrange (list_of recorded.now))) }
+{
+    let alloc = *recorded.changes.allocator();
+    let entries = list_names(alloc, names)?;
+    let list = atlas.rearrange()?;
+    *names = follow(alloc, &entries, &list, recorded)?;
+    Ok(())
+}
+
+// A rearranging into another size.
+fn resize_again<A: Allocator + Copy>(
+    atlas: &mut AtlasAllocator<A>,
+    names: &mut BTreeMap<u32, AllocId, A>,
+    size: Size,
+    recorded: &ChangeList<A>,
+) -> Result<(), EventFault>
+    requires { (s : Named) × Shows atlas.old names.old s }
+    ensures ok { OnOk result (CarriesOut atlas.old names.old (ResizeAndRearrange size (list_of recorded.now))
+        atlas.new names.new) }
+    ensures fault { IfErr result (IsStopped atlas.old names.old (ResizeAndRearrange size (list_of recorded.now))) }
+{
+    if size.is_empty() {
+        return Err(EventFault::Bad);
+    }
+    let alloc = *recorded.changes.allocator();
+    let entries = list_names(alloc, names)?;
+    let list = atlas.resize_and_rearrange(size)?;
+    *names = follow(alloc, &entries, &list, recorded)?;
     Ok(())
 }
 
