@@ -1,10 +1,10 @@
 -- What a rearranging in a replay makes of the atlas and of the names that it keeps.
-use Rattle.std.proofs.Common.{◌≡◌, ℕ, ◌+◌, ◌<◌, ◌≤◌, ◌==◌, ◌↔◌, List, ◌++◌, length, map, get_or, refl, ap, ap₂, sym, subst, ◌∙◌, arith, All, Contains, Some}
+use Rattle.std.proofs.Common.{◌≡◌, ℕ, Bool, ◌+◌, ◌<◌, ◌≤◌, ◌==◌, ◌↔◌, List, ◌++◌, length, map, get_or, refl, ap, ap₂, sym, subst, ◌∙◌, arith, All, Contains, Some}
 use Rattle.std.specs.List.{count_by}
 use Rattle.std.specs.Ordering.{nat_cmp}
 use Rattle.std.specs.BTreeMap.{get, IsOrdered}
 use Rattle.std.proofs.lemmas.Bool.{eq-eqb}
-use Rattle.std.proofs.lemmas.List.{get_or_default}
+use Rattle.std.proofs.lemmas.List.{get_or_default, get_or-map, length-map}
 use Rattle.std.proofs.lemmas.List.Elements.{All-contains}
 use Rattle.guillotiere.specs.declared.geometry.Rectangle.{Rectangle}
 use Rattle.guillotiere.specs.declared.geometry.Size.{Size}
@@ -15,7 +15,7 @@ use Rattle.guillotiere.specs.declared.error.AtlasError.{AtlasError}
 use Rattle.guillotiere.specs.declared.error.AtlasError.TheVariants as refusal
 use Rattle.guillotiere.specs.Boxes.{IsPositive}
 use Rattle.guillotiere.specs.Pixels.{sides_of, rectangle_of, box_of}
-use Rattle.guillotiere.specs.Trees.{Grant}
+use Rattle.guillotiere.specs.Trees.{Grant, grant}
 use Rattle.guillotiere.specs.States.{State, IsLive, live_in}
 use Rattle.guillotiere.specs.Refits.{Transfer, Rearrangement}
 use Rattle.guillotiere.specs.Renaming.{renamed_grant}
@@ -28,10 +28,12 @@ use Rattle.guillotiere.specs.Stored.{AtlasValue, state_of}
 use Rattle.guillotiere.proofs.Counting.{count_by-append, count_some}
 use Rattle.guillotiere.proofs.StepEffects.{rearrangings_lose_nothing}
 use Rattle.guillotiere_recording.specs.declared.moves.Moved.{Moved}
+use Rattle.guillotiere_recording.specs.declared.steps.EventFault.{EventFault}
+use Rattle.guillotiere_recording.specs.declared.steps.EventFault.TheVariants as stop
 use Rattle.guillotiere_recording.specs.declared.names.LiveName.{LiveName as Entry}
 use Rattle.guillotiere_recording.specs.Events.{EventValue, ListValue, list_of}
 use Rattle.guillotiere_recording.specs.Events.EventValue.{Rearrange, ResizeAndRearrange}
-use Rattle.guillotiere_recording.specs.Kept.{IsKept, entry_in, entries_in, HasEntries, IsRearranged, IsFollowed, IsOther}
+use Rattle.guillotiere_recording.specs.Kept.{IsKept, entry_in, entries_in, HasEntries, IsFollowed, IsOther, IsUnlike}
 use Rattle.guillotiere_recording.specs.Moves.{change_under, failure_under, IsMoved}
 use Rattle.guillotiere_recording.specs.Names.{entries_of, name_among}
 use Rattle.guillotiere_recording.specs.Recordings.{session_of}
@@ -45,6 +47,28 @@ use Rattle.guillotiere_recording.proofs.Rearranged.{map_twice, entered_anew, rea
 use Rattle.guillotiere_recording.proofs.ReplayEnds.{IsFound}
 use Rattle.guillotiere_recording.proofs.Following.{value_of, named_alike, names_kept}
 
+-- what was moved or found no room was live
+
+live_old : (old new : State) (answer : Rearrangement) → IsRearrangingStep old answer new → (t : Transfer) → Contains answer.changes t
+    → IsLive old t.old.id
+live_old old new answer moves t at =
+    let few = moved_from old new answer moves t.old.id in
+    let some = count_some (λ (x : Transfer). x.old.id == t.old.id) answer.changes t at (eq-eqb _ _ refl) in
+    counted_is_live old t.old.id (omega (arith, few, some))
+
+live_failed : (old new : State) (answer : Rearrangement) → IsRearrangingStep old answer new → (x : Grant) → Contains answer.failures x
+    → IsLive old x.id
+live_failed old new answer moves x at =
+    let p : Grant → Bool = λ g. g.id == x.id in
+    let i = count_permuted p (live_in old) (map (λ (t : Transfer). t.old) answer.changes ++ answer.failures) moves.before in
+    let j = count_by-append p (map (λ (t : Transfer). t.old) answer.changes) answer.failures in
+    let some = count_some p answer.failures x at (eq-eqb _ _ refl) in
+    counted_is_live old x.id (omega (arith, i, j, some))
+
+contains_mapped : {X Y : Type 0} (f : X → Y) (xs : List X) (x : X) → Contains xs x → Contains (map f xs) (f x)
+contains_mapped f xs x (k, below, is) =
+    (k, subst (λ n. k < n) (sym (length-map xs f)) below, get_or-map f xs k x (f x) below ∙ ap f is)
+
 module _ {A : Type 0} (a b : AtlasValue) (names : Names) (asked : AtlasCall) (list : ChangeList A)
     (stepped : Step (state_of a) asked (atlas.Changed (rearrangement_of list)) (state_of b)) (exact : AreExactChanges list)
     (ordered : IsOrdered nat_cmp names) (all : All (IsFound names) names.entries) (s : Named) (h : Shows a names s)
@@ -55,26 +79,10 @@ module _ {A : Type 0} (a b : AtlasValue) (names : Names) (asked : AtlasCall) (li
     moves : IsRearrangingStep s.state (rearrangement_of list) (state_of b)
     moves = rearrangings_lose_nothing s.state (state_of b) asked (rearrangement_of list) h.named.sound step
 
-    live_change : (c : Change) → Contains list.changes.items c → IsLive s.state c.old.id
-    live_change c at =
-        let few = moved_from s.state (state_of b) (rearrangement_of list) moves c.old.id in
-        let mapped = count_map transfer_of (λ (t : Transfer). t.old.id == c.old.id) list.changes.items in
-        let some = count_some (λ (x : Change). x.old.id == c.old.id) list.changes.items c at (eq-eqb _ _ refl) in
-        counted_is_live s.state c.old.id (omega (arith, few, mapped, some))
-
-    live_failure : (x : Allocation) → Contains list.failures.items x → IsLive s.state x.id
-    live_failure x at =
-        let p : Grant → Bool = λ g. g.id == x.id in
-        let i = count_permuted p (live_in s.state) (map (λ (t : Transfer). t.old) (rearrangement_of list).changes ++ (rearrangement_of list).failures) moves.before in
-        let j = count_by-append p (map (λ (t : Transfer). t.old) (rearrangement_of list).changes) (rearrangement_of list).failures in
-        let k = count_map grant_of p list.failures.items in
-        let some = count_some (λ (y : Allocation). y.id == x.id) list.failures.items x at (eq-eqb _ _ refl) in
-        counted_is_live s.state x.id (omega (arith, i, j, k, some))
-
     said_change : (c : Change) → Contains list.changes.items c
         → change_under (name_among (entries_in names)) c ≡ shown_change s.name (transfer_of c)
     said_change c at =
-        let named = named_alike a names s h ordered all c.old.id (live_change c at) in
+        let named = named_alike a names s h ordered all c.old.id (live_old s.state (state_of b) (rearrangement_of list) moves (transfer_of c) (contains_mapped transfer_of list.changes.items c at)) in
         let its = All-contains IsExactChange list.changes.items c exact.changes at in
         λ i. record {
           old = record { id = named i; rectangle = its.0 i };
@@ -84,7 +92,7 @@ module _ {A : Type 0} (a b : AtlasValue) (names : Names) (asked : AtlasCall) (li
     said_failure : (x : Allocation) → Contains list.failures.items x
         → failure_under (name_among (entries_in names)) x ≡ shown_grant s.name (grant_of x)
     said_failure x at =
-        let named = named_alike a names s h ordered all x.id (live_failure x at) in
+        let named = named_alike a names s h ordered all x.id (live_failed s.state (state_of b) (rearrangement_of list) moves (grant_of x) (contains_mapped grant_of list.failures.items x at)) in
         let its = All-contains (λ (y : Allocation). IsExact y.rectangle) list.failures.items x exact.failures at in
         λ i. record { id = named i; rectangle = its i }
 
@@ -103,12 +111,6 @@ module _ {A : Type 0} (a b : AtlasValue) (names : Names) (asked : AtlasCall) (li
 
     -- the names after it
     module _ (said : ListValue) (left : Names) (followed : IsFollowed (entries_in names) list said left) where
-      kept : IsKept (value_of a names)
-      kept = names_kept a names s h ordered all
-
-      after : Named
-      after = record { state = state_of b; name = name_among followed.moved.names.items }
-
       counts : (id : ℕ) → entries_of id followed.moved.names.items ≡ live_count id (state_of b)
       counts = entered_anew (value_of a names) (state_of b) list followed.moved asked (names_kept a names s h ordered all) stepped followed.is
 
@@ -119,15 +121,35 @@ module _ {A : Type 0} (a b : AtlasValue) (names : Names) (asked : AtlasCall) (li
           (record { state = state_of b; name = name_among followed.moved.names.items })
       under = rearranges_under (value_of a names) b list followed.moved asked (names_kept a names s h ordered all) stepped exact followed.is once
 
-      shown : said ≡ shown_list s.name (rearrangement_of list)
-      shown = sym followed.same ∙ said_list followed.moved followed.is
+      under_step : Step s.state asked (atlas.Changed under.answer) (state_of b)
+      under_step = subst (λ t. Step t asked (atlas.Changed under.answer) (state_of b)) (sym h.state) under.step
 
-      renamed_kept : (k : ℕ) (d : Transfer) → k < length (rearrangement_of list).changes
-          → name_among followed.moved.names.items (get_or (rearrangement_of list).changes k d).new.id ≡ s.name (get_or (rearrangement_of list).changes k d).old.id
-      renamed_kept k d below = ?
+      under_moves : IsRearrangingStep s.state under.answer (state_of b)
+      under_moves = rearrangings_lose_nothing s.state (state_of b) asked under.answer h.named.sound under_step
 
-      pub rearranged_under : RearrangesUnder s asked said (record { state = state_of b; name = name_among followed.moved.names.items })
-      rearranged_under = ?
+      old_named : (t : Transfer) → Contains under.answer.changes t → name_among (entries_in names) t.old.id ≡ s.name t.old.id
+      old_named t at = named_alike a names s h ordered all t.old.id (live_old s.state (state_of b) under.answer under_moves t at)
+
+      failed_named : (x : Grant) → Contains under.answer.failures x → name_among (entries_in names) x.id ≡ s.name x.id
+      failed_named x at = named_alike a names s h ordered all x.id (live_failed s.state (state_of b) under.answer under_moves x at)
+
+      rearranged_under : RearrangesUnder s asked said (record { state = state_of b; name = name_among followed.moved.names.items })
+      rearranged_under = record {
+        answer = under.answer;
+        step = under_step;
+        exact_changes = subst (λ (l : ListValue). All IsExactChange l.changes) followed.same under.exact_changes;
+        exact_failures = subst (λ (l : ListValue). All (λ (x : Allocation). IsExact x.rectangle) l.failures) followed.same under.exact_failures;
+        changes = ap (λ (l : ListValue). map transfer_of l.changes) (sym followed.same) ∙ under.changes
+            ∙ map_alike (renamed_transfer (name_among (entries_in names))) (renamed_transfer s.name) under.answer.changes
+            (λ t at. ap (λ n. let x : Transfer = record { old = grant n t.old.box; new = grant n t.new.box } in x) (old_named t at));
+        failures = ap (λ (l : ListValue). map grant_of l.failures) (sym followed.same) ∙ under.failures
+            ∙ map_alike (renamed_grant (name_among (entries_in names))) (renamed_grant s.name) under.answer.failures
+            (λ x at. ap (λ n. grant n x.box) (failed_named x at));
+        kept = λ k d below.
+            under.kept k d below
+            ∙ old_named (get_or under.answer.changes k d)
+            (k, below, get_or_default under.answer.changes k (get_or under.answer.changes k d) d below);
+      }
 
       finds : Finds left (record { state = state_of b; name = name_among followed.moved.names.items })
       finds name id = (
@@ -146,3 +168,54 @@ module _ {A : Type 0} (a b : AtlasValue) (names : Names) (asked : AtlasCall) (li
             let whole : r.0 ≡ entry_in (name, id) = λ i. record { name = (sym r.3 ∙ is) i; id = r.2 i } in
             (followed.has name id).1 (subst (Contains followed.moved.names.items) whole r.1),
       )
+
+      pub rearranged_on : (event : EventValue) → ((t : Named) → RearrangesUnder s asked said t → Leads s event t)
+          → (t : Named) × Leads s event t × Shows b left t
+      rearranged_on event leads =
+          let led = leads (record { state = state_of b; name = name_among followed.moved.names.items }) rearranged_under in
+          (record { state = state_of b; name = name_among followed.moved.names.items }, led, record {
+            state = refl;
+            finds = finds;
+            named = events_keep_names s (record { state = state_of b; name = name_among followed.moved.names.items }) event h.named led;
+          })
+
+    -- a list that isn't the recorded one
+
+    pub other_rearranging : (said : ListValue) → IsOther (entries_in names) list said → asked ≡ atlas.Rearrange
+        → AnswersOtherwise s (Rearrange said)
+    other_rearranging said o is = record {
+      good = λ bad. bad;
+      call = asked;
+      asked = is;
+      reply = atlas.Changed (rearrangement_of list);
+      new = state_of b;
+      step = step;
+      met = refl;
+      other = λ (answer, its, same).
+          let one : rearrangement_of list ≡ answer = cc in
+          o.other (said_list o.moved o.is ∙ ap (shown_list s.name) one ∙ sym same);
+    }
+
+    pub other_resizing : (size : Size) (said : ListValue) → IsPositive (sides_of size) → IsOther (entries_in names) list said
+        → asked ≡ atlas.ResizeAndRearrange (sides_of size) → AnswersOtherwise s (ResizeAndRearrange size said)
+    other_resizing size said positive o is = record {
+      good = λ bad. bad positive;
+      call = asked;
+      asked = is;
+      reply = atlas.Changed (rearrangement_of list);
+      new = state_of b;
+      step = step;
+      met = refl;
+      other = λ (answer, its, same).
+          let one : rearrangement_of list ≡ answer = cc in
+          o.other (said_list o.moved o.is ∙ ap (shown_list s.name) one ∙ sym same);
+    }
+
+-- why a list that isn't followed stops a replay
+pub unlike_stops : {A : Type 0} (a : AtlasValue) (names : Names) (list : ChangeList A) (said : ListValue) (event : EventValue) (e : EventFault)
+    → ((s : Named) → Shows a names s → IsOther (entries_in names) list said → AnswersOtherwise s event)
+    → IsUnlike (entries_in names) list said e → IsStopped a names event e
+unlike_stops a names list said event stop.Memory other unlike = tt
+unlike_stops a names list said event stop.Differs other unlike = λ s h. other s h unlike
+unlike_stops a names list said event stop.Slots other unlike = absurd unlike
+unlike_stops a names list said event stop.Bad other unlike = absurd unlike

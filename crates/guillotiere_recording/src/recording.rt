@@ -30,7 +30,7 @@ impl<A: Allocator + Copy> Model for Recording<A> {
 }
 
 impl<A: Allocator + Copy> Recording<A> {
-    ghost use Rattle.guillotiere_recording.specs.Replays.{IsReplayed, IsFaultOf};
+    ghost use Rattle.guillotiere_recording.specs.Replays.{IsRecorded, IsReplayed, IsFaultOf, MayFail};
 
     // The recording of a log.
     pub(crate) fn from_log(log: Log<A>) -> Recording<A>
@@ -54,6 +54,7 @@ impl<A: Allocator + Copy> Recording<A> {
     pub fn replay(&self) -> Result<ReplayStats<A>, ReplayFault>
         ensures replayed { IfOk result (IsReplayed self.now) }
         ensures fault { IfErr result (IsFaultOf self.now) }
+        ensures recorded { IsRecorded self.now → IfErr result (MayFail self.now) }
     {
         self.log.replay()
     }

@@ -62,3 +62,6 @@ returns-clause-replayed g c =
       deallocations = c.freeings.ensures ∙ sym (count_map event_of is_freeing log.events.items);
       failed = c.failed_requests.ensures ∙ sym (count_map event_of is_failed_request log.events.items);
     }
+
+pub carry_out-requires : goal.carry_out-requires
+carry_out-requires g c = let stands = c.loop-at.invariant in (stands.0, stands.2)
