@@ -1,5 +1,5 @@
 -- What `==` answers at rectangles and at change lists.
-use Rattle.std.proofs.Common.{◌≡◌, ℕ, ◌==◌, Bool, true, ◌&&◌, List, refl, ap}
+use Rattle.std.proofs.Common.{◌≡◌, ◌==◌, Bool, ◌&&◌, refl, ap}
 use Rattle.std.specs.Bool.{Decides}
 use Rattle.std.specs.Cmp.Lexicographic.{pointwise}
 use Rattle.std.specs.Ordering.{int_eq}

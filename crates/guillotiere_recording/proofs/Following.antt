@@ -1,49 +1,39 @@
 -- A rearranging in a replay: the names that a map keeps, before and after it.
-use Rattle.std.proofs.Common.{◌≡◌, ℕ, ◌+◌, ◌<◌, ◌≤◌, ◌==◌, ◌⊎◌, inl, inr, ◌↔◌, eqb, Bool, true, false, cond, List, [], ◌∷◌, ◌++◌, length, map, take, get_or, refl, ap, sym, subst, ◌∙◌, zero-add, arith, All, Contains, Option, Some, None, pos}
+use Rattle.std.proofs.Common.{◌≡◌, ℕ, ◌+◌, ◌<◌, ◌≤◌, ◌==◌, ◌⊎◌, inl, inr, false, List, [], ◌∷◌, ◌++◌, length, take, get_or, refl, ap, sym, subst, ◌∙◌, zero-add, arith, All, Contains, Some, None, pos}
 use Rattle.std.specs.List.{count_by}
 use Rattle.std.specs.Ordering.{nat_cmp}
 use Rattle.std.specs.Map.{lookup}
 use Rattle.std.specs.BTreeMap.{get, is_at, Updates, IsOrdered}
 use Rattle.std.proofs.lemmas.Bool.{eq-eqb, ne_eqb, cases_eq, cases_lt}
-use Rattle.std.proofs.lemmas.List.{take_more, get_or-take, get_or_default, length-take-le, take_all, length-map}
+use Rattle.std.proofs.lemmas.List.{take_more, get_or-take, get_or_default, length-take-le}
 use Rattle.std.proofs.lemmas.List.Elements.{All-contains, All-map, Contains-push, Contains-push_cases, Contains-append_left}
 use Rattle.guillotiere.specs.declared.geometry.Size.{Size}
-use Rattle.guillotiere.specs.declared.allocation.Allocation.{Allocation}
-use Rattle.guillotiere.specs.declared.change.Change.{Change}
-use Rattle.guillotiere.specs.declared.change.ChangeList.{ChangeList}
 use Rattle.guillotiere.specs.declared.options.AllocatorOptions.{AllocatorOptions}
-use Rattle.guillotiere.specs.Pixels.{rectangle_of, box_of}
-use Rattle.guillotiere.specs.Trees.{Grant, ids}
 use Rattle.guillotiere.specs.States.{State, IsLive, IsSound}
-use Rattle.guillotiere.specs.Steps as atlas
-use Rattle.guillotiere.specs.Steps.{AtlasCall, Step}
 use Rattle.guillotiere.specs.StepLaws.{live_count}
-use Rattle.guillotiere.specs.Stored.{AtlasValue, state_of}
-use Rattle.guillotiere.specs.Rearranging.{rearrangement_of, transfer_of, AreExactChanges}
-use Rattle.guillotiere.proofs.Counting.{count_by-cons, count_some}
-use Rattle.guillotiere_recording.specs.declared.moves.Moved.{Moved}
+use Rattle.guillotiere.specs.Stored.{AtlasValue}
+use Rattle.guillotiere.proofs.Counting.{count_by-cons}
 use Rattle.guillotiere_recording.specs.declared.names.LiveName.{LiveName as Entry}
 use Rattle.guillotiere_recording.specs.Logs.{RecordingValue}
-use Rattle.guillotiere_recording.specs.Moves.{AreEntered, IsMoved}
 use Rattle.guillotiere_recording.specs.Names.{AreRising, entries_of, name_among}
-use Rattle.guillotiere_recording.specs.Kept.{IsKept, entry_in, entries_in, HasEntries, IsRearranged}
-use Rattle.guillotiere_recording.specs.Recordings.{SessionValue, session_of}
-use Rattle.guillotiere_recording.specs.Sessions.{Named, IsNamed}
-use Rattle.guillotiere_recording.specs.Standing.{Names, Shows, Finds}
+use Rattle.guillotiere_recording.specs.Kept.{IsKept, entry_in, entries_in, HasEntries}
+use Rattle.guillotiere_recording.specs.Recordings.{SessionValue}
+use Rattle.guillotiere_recording.specs.Sessions.{Named}
+use Rattle.guillotiere_recording.specs.Standing.{Names, Shows}
 use Rattle.guillotiere_recording.proofs.Counts.{count_map, count_alike}
 use Rattle.guillotiere_recording.proofs.Entries.{live_is_counted, counted_is_live, entry_of}
 use Rattle.guillotiere_recording.proofs.Naming.{live_at_most_once}
-use Rattle.guillotiere_recording.proofs.Rearranged.{all_entered, entered_anew, strictly, names_apart}
-use Rattle.guillotiere_recording.proofs.Replaying.{at_same, at_other, one_id}
+use Rattle.guillotiere_recording.proofs.Replaying.{at_other, one_id}
 use Rattle.guillotiere_recording.proofs.ReplayEnds.{IsFound, keys_counted, how_many}
 
 -- one entry more in a map
 
 pub has_more : (es : List Entry) (i : ℕ) (n : Entry) (names left : Names) → AreRising es → i < length es → n ≡ get_or es i n
     → HasEntries (take i es) names → Updates nat_cmp names left n.name (Some n.id) → HasEntries (take (i + 1) es) left
-has_more es i n names left rising low is has updates name id =
-    (λ found. subst (λ xs. Contains xs (entry_in (name, id))) (sym next) (by_name (cases_eq name n.name) found),
-    λ at. by_place (Contains-push_cases (take i es) n (entry_in (name, id)) (subst (λ xs. Contains xs (entry_in (name, id))) next at)))
+has_more es i n names left rising low is has updates name id = (
+  λ found. subst (λ xs. Contains xs (entry_in (name, id))) (sym next) (by_name (cases_eq name n.name) found),
+  λ at. by_place (Contains-push_cases (take i es) n (entry_in (name, id)) (subst (λ xs. Contains xs (entry_in (name, id))) next at)),
+)
   where
     next : take (i + 1) es ≡ take i es ++ n ∷ []
     next = take_more es i n low ∙ ap (λ e. take i es ++ e ∷ []) (sym is)

@@ -1,5 +1,5 @@
 -- A rearranging under names keeps a session.
-use Rattle.std.proofs.Common.{◌≡◌, ℕ, zero, suc, append-nil, ◌+◌, ◌<◌, ◌≤◌, ◌==◌, ◌⊎◌, inl, inr, eqb, Bool, true, false, get_or, List, [], ◌∷◌, ◌++◌, length, map, refl, ap, ap₂, sym, subst, ◌∙◌, arith, All, AllPairs, Contains, IsPermutation}
+use Rattle.std.proofs.Common.{◌≡◌, ℕ, zero, suc, append-nil, ◌<◌, ◌≤◌, ◌==◌, ◌⊎◌, inl, inr, Bool, true, false, get_or, List, [], ◌∷◌, ◌++◌, length, map, refl, ap, sym, subst, ◌∙◌, arith, All, Contains}
 use Rattle.std.specs.List.{count_by}
 use Rattle.std.specs.List.Sorted.{IsNonDecreasingBy}
 use Rattle.std.proofs.lemmas.Bool.{eqb-true, eq-eqb, cases_lt}
@@ -28,12 +28,12 @@ use Rattle.guillotiere_recording.specs.declared.names.LiveName.{LiveName as Entr
 use Rattle.guillotiere_recording.specs.declared.moves.Moved.{Moved}
 use Rattle.guillotiere_recording.specs.Events.{EventValue, list_of, given_names}
 use Rattle.guillotiere_recording.specs.Logs.{RecordingValue, with_event}
-use Rattle.guillotiere_recording.specs.Sessions.{Named, renamed_transfer, RearrangesUnder, Leads}
+use Rattle.guillotiere_recording.specs.Sessions.{renamed_transfer, RearrangesUnder, Leads}
 use Rattle.guillotiere_recording.specs.Names.{AreRising, entries_of, name_among}
 use Rattle.guillotiere_recording.specs.Moves.{change_under, failure_under, entry_under, AreEntered, IsMoved}
 use Rattle.guillotiere_recording.specs.Recordings.{SessionValue, session_of, IsSession}
 use Rattle.guillotiere_recording.specs.Kept.{IsKept}
-use Rattle.guillotiere_recording.proofs.Counts.{count_map, count_permuted, count_alike}
+use Rattle.guillotiere_recording.proofs.Counts.{count_map, count_permuted}
 use Rattle.guillotiere_recording.proofs.Entries.{entry_of, name_of, counted_is_live}
 use Rattle.guillotiere_recording.proofs.Naming.{live_at_most_once, moved_from}
 use Rattle.guillotiere_recording.proofs.Keeping.{session_named, recorded_more, given_more, names_in}

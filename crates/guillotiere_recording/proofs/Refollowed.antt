@@ -1,20 +1,16 @@
 -- What a rearranging in a replay makes of the atlas and of the names that it keeps.
-use Rattle.std.proofs.Common.{◌≡◌, ℕ, Bool, ◌+◌, ◌<◌, ◌≤◌, ◌==◌, ◌↔◌, List, ◌++◌, length, map, get_or, refl, ap, ap₂, sym, subst, ◌∙◌, arith, All, Contains, Some}
-use Rattle.std.specs.List.{count_by}
+use Rattle.std.proofs.Common.{◌≡◌, ℕ, Bool, ◌<◌, ◌≤◌, ◌==◌, List, ◌++◌, map, get_or, refl, ap, sym, subst, ◌∙◌, arith, All, Contains}
 use Rattle.std.specs.Ordering.{nat_cmp}
-use Rattle.std.specs.BTreeMap.{get, IsOrdered}
+use Rattle.std.specs.BTreeMap.{IsOrdered}
 use Rattle.std.proofs.lemmas.Bool.{eq-eqb}
 use Rattle.std.proofs.lemmas.List.{get_or_default, get_or-map, length-map}
 use Rattle.std.proofs.lemmas.List.Elements.{All-contains}
-use Rattle.guillotiere.specs.declared.geometry.Rectangle.{Rectangle}
 use Rattle.guillotiere.specs.declared.geometry.Size.{Size}
 use Rattle.guillotiere.specs.declared.allocation.Allocation.{Allocation}
 use Rattle.guillotiere.specs.declared.change.Change.{Change}
 use Rattle.guillotiere.specs.declared.change.ChangeList.{ChangeList}
-use Rattle.guillotiere.specs.declared.error.AtlasError.{AtlasError}
-use Rattle.guillotiere.specs.declared.error.AtlasError.TheVariants as refusal
 use Rattle.guillotiere.specs.Boxes.{IsPositive}
-use Rattle.guillotiere.specs.Pixels.{sides_of, rectangle_of, box_of}
+use Rattle.guillotiere.specs.Pixels.{sides_of}
 use Rattle.guillotiere.specs.Trees.{Grant, grant}
 use Rattle.guillotiere.specs.States.{State, IsLive, live_in}
 use Rattle.guillotiere.specs.Refits.{Transfer, Rearrangement}
@@ -33,16 +29,16 @@ use Rattle.guillotiere_recording.specs.declared.steps.EventFault.TheVariants as 
 use Rattle.guillotiere_recording.specs.declared.names.LiveName.{LiveName as Entry}
 use Rattle.guillotiere_recording.specs.Events.{EventValue, ListValue, list_of}
 use Rattle.guillotiere_recording.specs.Events.EventValue.{Rearrange, ResizeAndRearrange}
-use Rattle.guillotiere_recording.specs.Kept.{IsKept, entry_in, entries_in, HasEntries, IsFollowed, IsOther, IsUnlike}
+use Rattle.guillotiere_recording.specs.Kept.{entry_in, entries_in, IsFollowed, IsOther, IsUnlike}
 use Rattle.guillotiere_recording.specs.Moves.{change_under, failure_under, IsMoved}
 use Rattle.guillotiere_recording.specs.Names.{entries_of, name_among}
 use Rattle.guillotiere_recording.specs.Recordings.{session_of}
-use Rattle.guillotiere_recording.specs.Replays.{IsBad, IsCall, IsAnswer, AnswersOtherwise, shown_grant, shown_change, shown_list}
+use Rattle.guillotiere_recording.specs.Replays.{AnswersOtherwise, shown_grant, shown_change, shown_list}
 use Rattle.guillotiere_recording.specs.Sessions.{Named, renamed_transfer, RearrangesUnder, Leads}
-use Rattle.guillotiere_recording.specs.Standing.{Names, Shows, Finds, IsStopped, event_fault}
-use Rattle.guillotiere_recording.proofs.Counts.{count_map, count_permuted, map_alike}
+use Rattle.guillotiere_recording.specs.Standing.{Names, Shows, Finds, IsStopped}
+use Rattle.guillotiere_recording.proofs.Counts.{count_permuted, map_alike}
 use Rattle.guillotiere_recording.proofs.Entries.{live_is_counted, counted_is_live, entry_of, name_of}
-use Rattle.guillotiere_recording.proofs.Naming.{live_at_most_once, moved_from, events_keep_names}
+use Rattle.guillotiere_recording.proofs.Naming.{moved_from, events_keep_names}
 use Rattle.guillotiere_recording.proofs.Rearranged.{map_twice, entered_anew, rearranges_under, once_after}
 use Rattle.guillotiere_recording.proofs.ReplayEnds.{IsFound}
 use Rattle.guillotiere_recording.proofs.Following.{value_of, named_alike, names_kept}
@@ -158,9 +154,10 @@ module _ {A : Type 0} (a b : AtlasValue) (names : Names) (asked : AtlasCall) (li
             let some : 1 ≤ entries_of id followed.moved.names.items =
             count_some (λ (n : Entry). n.id == id) followed.moved.names.items (entry_in (name, id)) at (eq-eqb id id refl) in
             let e = counts id in
-            let one = once id in
-            (counted_is_live (state_of b) id (omega (arith, some, e)),
-            name_of id followed.moved.names.items (entry_in (name, id)) (omega (arith, e, one)) at refl),
+            let one = once id in (
+              counted_is_live (state_of b) id (omega (arith, some, e)),
+              name_of id followed.moved.names.items (entry_in (name, id)) (omega (arith, e, one)) at refl,
+            ),
         λ (live, is).
             let some = live_is_counted (state_of b) id live in
             let e = counts id in
@@ -172,12 +169,15 @@ module _ {A : Type 0} (a b : AtlasValue) (names : Names) (asked : AtlasCall) (li
       pub rearranged_on : (event : EventValue) → ((t : Named) → RearrangesUnder s asked said t → Leads s event t)
           → (t : Named) × Leads s event t × Shows b left t
       rearranged_on event leads =
-          let led = leads (record { state = state_of b; name = name_among followed.moved.names.items }) rearranged_under in
-          (record { state = state_of b; name = name_among followed.moved.names.items }, led, record {
-            state = refl;
-            finds = finds;
-            named = events_keep_names s (record { state = state_of b; name = name_among followed.moved.names.items }) event h.named led;
-          })
+          let led = leads (record { state = state_of b; name = name_among followed.moved.names.items }) rearranged_under in (
+            record { state = state_of b; name = name_among followed.moved.names.items },
+            led,
+            record {
+              state = refl;
+              finds = finds;
+              named = events_keep_names s (record { state = state_of b; name = name_among followed.moved.names.items }) event h.named led;
+            },
+          )
 
     -- a list that isn't the recorded one
 

@@ -1,23 +1,23 @@
 -- How a replay begins, goes on and ends.
-use Rattle.std.proofs.Common.{◌≡◌, ℕ, suc, drop, remove, ap₂, ◌+◌, ◌<◌, ◌≤◌, ◌==◌, ◌⊎◌, inl, inr, eqb, Bool, true, false, List, [], ◌∷◌, ◌++◌, length, map, take, get_or, refl, ap, sym, subst, ◌∙◌, zero-add, arith, All, AllPairs, Contains, Option, Some, None, IsSome, option_map, slice_get, cond}
+use Rattle.std.proofs.Common.{◌≡◌, ℕ, suc, drop, remove, ap₂, ◌+◌, ◌<◌, ◌≤◌, ◌==◌, ◌⊎◌, inl, inr, false, List, [], ◌∷◌, ◌++◌, length, map, take, get_or, refl, ap, sym, subst, ◌∙◌, zero-add, arith, All, AllPairs, Contains, Option, Some, None, IsSome, option_map, slice_get, cond}
 use Rattle.std.specs.List.{count_by, AllByRecursion}
 use Rattle.std.specs.List.Sorted.{IsStrictlySortedBy}
 use Rattle.std.specs.declared.cmp.Ordering.TheVariants.{Less}
 use Rattle.std.specs.Ordering.{nat_cmp, is_eq}
 use Rattle.std.specs.Map.{lookup}
-use Rattle.std.specs.BTreeMap.{get, is_at, IsOrdered, keys}
-use Rattle.std.proofs.lemmas.Bool.{eqb-true, eq-eqb, ne_eqb, false≢true, cases_eq}
-use Rattle.std.proofs.lemmas.List.{get_or-map, get_or_default, length-map, take_more, take_all, take-map, drop-map}
+use Rattle.std.specs.BTreeMap.{get, is_at, IsOrdered}
+use Rattle.std.proofs.lemmas.Bool.{eq-eqb, ne_eqb, false≢true, cases_eq}
+use Rattle.std.proofs.lemmas.List.{get_or-map, length-map, take_more, take_all, take-map, drop-map}
 use Rattle.std.proofs.lemmas.List.Elements.{All-map, All-contains}
 use Rattle.std.proofs.lemmas.Map.Keys.{sorted_head, sorted_tail, below_from_sorted}
 use Rattle.guillotiere.specs.declared.geometry.Rectangle.{Rectangle}
 use Rattle.guillotiere.specs.declared.geometry.Size.{Size}
 use Rattle.guillotiere.specs.declared.options.AllocatorOptions.{AllocatorOptions}
 use Rattle.guillotiere.specs.declared.allocation.Allocation.{Allocation}
-use Rattle.guillotiere.specs.Boxes.{Sides, Box, IsPositive}
-use Rattle.guillotiere.specs.Choice.{Options, AreValid}
+use Rattle.guillotiere.specs.Boxes.{Box, IsPositive}
+use Rattle.guillotiere.specs.Choice.{AreValid}
 use Rattle.guillotiere.specs.Pixels.{sides_of, options_of, rectangle_of}
-use Rattle.guillotiere.specs.Trees.{Grant, grant, ids}
+use Rattle.guillotiere.specs.Trees.{Grant, grant}
 use Rattle.guillotiere.specs.States.{State, IsLive, live_in, started}
 use Rattle.guillotiere.specs.Renaming.{renamed_grant}
 use Rattle.guillotiere.specs.Replies.{live_box, grant_of, IsExact}
@@ -32,12 +32,12 @@ use Rattle.guillotiere_recording.specs.declared.steps.EventFault.TheVariants as 
 use Rattle.guillotiere_recording.specs.declared.event.Event.{Event}
 use Rattle.guillotiere_recording.specs.Events.{EventValue, event_of}
 use Rattle.guillotiere_recording.specs.Logs.{RecordingValue}
-use Rattle.guillotiere_recording.specs.Sessions.{Named, IsNamed, Leads, Recorded, fresh_session}
+use Rattle.guillotiere_recording.specs.Sessions.{Named, fresh_session}
 use Rattle.guillotiere_recording.specs.Names.{box_or_none}
 use Rattle.guillotiere_recording.specs.Books.{AreSameGrants, book}
 use Rattle.guillotiere_recording.specs.Recordings.{LeadsTo, AreBooked}
-use Rattle.guillotiere_recording.specs.Replays.{first_events, StopsAt, IsFaultOf, IsRecorded}
-use Rattle.guillotiere_recording.specs.Standing.{Names, Shows, Finds, CarriesOut, IsStopped, fault_of, shown_entry}
+use Rattle.guillotiere_recording.specs.Replays.{first_events, IsFaultOf, IsRecorded}
+use Rattle.guillotiere_recording.specs.Standing.{Names, Shows, CarriesOut, IsStopped, fault_of, shown_entry}
 use Rattle.guillotiere_recording.proofs.Booking.{sessions_are_named, books_are_true, listed_is_live}
 use Rattle.guillotiere_recording.proofs.Counts.{count_map, count_alike}
 use Rattle.guillotiere_recording.proofs.Entries.{live_is_counted}
@@ -72,12 +72,15 @@ nothing_found names name id empty is =
 
 pub begins : (r : RecordingValue) (a : AtlasValue) (names : Names) → IsPositive (sides_of r.size) → AreValid (options_of r.options)
     → state_of a ≡ started (sides_of r.size) (options_of r.options) 16777216 → names.entries ≡ [] → StandsAt r 0 a names
-begins r a names nonempty valid is empty =
-    (s, led, record {
-      state = sym is;
-      finds = λ name id. ((λ found. absurd (nothing_found names name id empty found)), λ (live, named). absurd (Contains-none id live));
-      named = sessions_are_named (sides_of r.size) (options_of r.options) [] (fresh_session (sides_of r.size) (options_of r.options) (λ id. id)) led;
-    })
+begins r a names nonempty valid is empty = (
+  s,
+  led,
+  record {
+    state = sym is;
+    finds = λ name id. ((λ found. absurd (nothing_found names name id empty found)), λ (live, named). absurd (Contains-none id live));
+    named = sessions_are_named (sides_of r.size) (options_of r.options) [] (fresh_session (sides_of r.size) (options_of r.options) (λ id. id)) led;
+  },
+)
   where
     s : Named
     s = fresh_session (sides_of r.size) (options_of r.options) (λ id. id)

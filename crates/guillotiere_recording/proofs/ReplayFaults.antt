@@ -1,34 +1,29 @@
 -- Which faults the replay of a recorded session may have.
-use Rattle.std.proofs.Common.{◌≡◌, ℕ, zero, suc, add-one, ◌+◌, ◌<◌, ◌≤◌, ◌==◌, ◌⊎◌, inl, inr, Bool, true, false, List, [], ◌∷◌, ◌++◌, length, map, take, get_or, refl, ap, sym, subst, subst₂, ◌∙◌, arith, All, Any, Contains, Option, Some, None, Result, Ok, Err, IfErr, slice_get}
+use Rattle.std.proofs.Common.{◌≡◌, ℕ, zero, suc, add-one, ◌+◌, ◌<◌, ◌≤◌, ◌==◌, ◌⊎◌, inl, inr, Bool, true, false, List, [], ◌∷◌, ◌++◌, length, take, refl, ap, sym, subst, ◌∙◌, arith, All, Contains, Some, None, Result, Ok, Err, IfErr, slice_get}
 use Rattle.std.specs.List.{count_by}
 use Rattle.std.proofs.lemmas.Bool.{eqb-true, eq-eqb, false≢true}
 use Rattle.std.proofs.lemmas.List.{take_more, get_or_append_left, length-append}
 use Rattle.std.proofs.lemmas.List.Elements.{All-take, All-contains, All-cons, Contains-push, Contains-append_right}
 use Rattle.std.proofs.lemmas.Option.{get_or_from_slice_get, slice_get_within}
-use Rattle.guillotiere.specs.declared.geometry.Size.{Size}
-use Rattle.guillotiere.specs.declared.allocation.Allocation.{Allocation}
-use Rattle.guillotiere.specs.declared.error.AtlasError.{AtlasError}
 use Rattle.guillotiere.specs.declared.error.AtlasError.TheVariants as refusal
-use Rattle.guillotiere.specs.Boxes.{Sides, Fits, IsPositive}
-use Rattle.guillotiere.specs.Pixels.{sides_of, options_of, rectangle_of, box_of}
+use Rattle.guillotiere.specs.Boxes.{Sides, Fits}
+use Rattle.guillotiere.specs.Pixels.{sides_of, options_of, rectangle_of}
 use Rattle.guillotiere.specs.Trees.{Grant}
-use Rattle.guillotiere.specs.States.{State, IsLive, live_in}
-use Rattle.guillotiere.specs.Steps as atlas
+use Rattle.guillotiere.specs.States.{State, live_in}
 use Rattle.guillotiere.specs.Steps.{AtlasCall, AtlasReply, Step}
 use Rattle.guillotiere.specs.Steps.AtlasReply.{Allocated, NoRoom, Done, Changed, Refused, BadCall}
 use Rattle.guillotiere.specs.Renaming.{renamed_grant, is_out_of_memory}
-use Rattle.guillotiere.proofs.Counting.{count_by-weaker, count_some, split_at}
-use Rattle.guillotiere.proofs.TreeIds.{Contains-first, Contains-later}
+use Rattle.guillotiere.proofs.Counting.{count_by-weaker, split_at}
+use Rattle.guillotiere.proofs.TreeIds.{Contains-first}
 use Rattle.guillotiere_recording.specs.declared.replay.ReplayFault.{ReplayFault}
 use Rattle.guillotiere_recording.specs.declared.replay.ReplayFault.TheVariants as fault
 use Rattle.guillotiere_recording.specs.Events.{EventValue}
 use Rattle.guillotiere_recording.specs.Events.EventValue.{Allocate, Deallocate, Grow, Rearrange, ResizeAndRearrange}
 use Rattle.guillotiere_recording.specs.Logs.{RecordingValue}
-use Rattle.guillotiere_recording.specs.Sessions.{Named, named_boxes, IsLiveName, IsNamed, Leads, LeadOn, Recorded, fresh_session}
-use Rattle.guillotiere_recording.specs.Books.{book}
+use Rattle.guillotiere_recording.specs.Sessions.{Named, named_boxes, IsLiveName, Leads, LeadOn, Recorded, fresh_session}
 use Rattle.guillotiere_recording.specs.Recordings.{LeadsTo}
-use Rattle.guillotiere_recording.specs.Replays.{IsRecorded, IsBad, IsCall, IsAnswer, is_refused, AnswersOtherwise, LacksSlots, StopsAt, IsFaultOf, HasRearranging, MayFail, first_events}
-use Rattle.guillotiere_recording.specs.Twins.{AreTwins, is_plain, Asks, Says}
+use Rattle.guillotiere_recording.specs.Replays.{IsRecorded, IsBad, IsCall, IsAnswer, is_refused, AnswersOtherwise, LacksSlots, IsFaultOf, HasRearranging, MayFail, first_events}
+use Rattle.guillotiere_recording.specs.Twins.{is_plain, Asks, Says}
 use Rattle.guillotiere_recording.proofs.Booking.{sessions_are_named, books_are_true, listed_is_live}
 use Rattle.guillotiere_recording.proofs.Counts.{count_map}
 use Rattle.guillotiere_recording.proofs.Entries.{live_is_counted}
@@ -93,10 +88,11 @@ counted_name s name some =
     let mapped = count_map (renamed_grant s.name) (has_name name) (live_in s.state) in
     let at = split_at (λ (g : Grant). s.name g.id == name) (live_in s.state) (omega (arith, some, mapped)) in
     let there : Contains (at.before ++ at.here ∷ at.after) at.here =
-    Contains-append_right at.before (at.here ∷ at.after) at.here (Contains-first at.here at.after) in
-    (at.here.id,
-    listed_is_live s.state at.here (subst (λ gs. Contains gs at.here) (sym at.is) there),
-    eqb-true (s.name at.here.id) name at.passes)
+    Contains-append_right at.before (at.here ∷ at.after) at.here (Contains-first at.here at.after) in (
+      at.here.id,
+      listed_is_live s.state at.here (subst (λ gs. Contains gs at.here) (sym at.is) there),
+      eqb-true (s.name at.here.id) name at.passes,
+    )
 
 same_names : (r : RecordingValue) (s t : Named) (name : ℕ) → LeadsTo r s → LeadsTo r t → IsLiveName s name → IsLiveName t name
 same_names r s t name led led' live =

@@ -1,20 +1,19 @@
 -- What one event of a replay makes of the atlas and of the names that it keeps.
-use Rattle.std.proofs.Common.{◌≡◌, ℕ, ◌+◌, ◌<◌, ◌≤◌, ◌==◌, ◌⊎◌, inl, inr, ◌↔◌, eqb, Bool, true, false, cond, refl, ap, sym, subst, ◌∙◌, arith, Contains, Option, Some, None, Result, Ok, Err}
+use Rattle.std.proofs.Common.{◌≡◌, ℕ, ◌<◌, ◌≤◌, ◌==◌, ◌⊎◌, inl, inr, true, false, refl, ap, sym, subst, ◌∙◌, arith, Option, Some, None, Result, Ok, Err}
 use Rattle.std.specs.Cmp.{nat_cmp_is}
 use Rattle.std.specs.Ordering.{nat_cmp, is_eq}
 use Rattle.std.specs.declared.cmp.Ordering.TheVariants.{Less, Equal, Greater}
 use Rattle.std.specs.BTreeMap.{get, Updates}
 use Rattle.std.specs.Option.{is_some}
 use Rattle.std.specs.Result.{IsErrAnd, IfErr}
-use Rattle.std.proofs.lemmas.Bool.{eqb-true, eq-eqb, ne_eqb, false≢true, cases_eq, cases_order}
+use Rattle.std.proofs.lemmas.Bool.{eq-eqb, ne_eqb, false≢true, cases_eq, cases_order}
 use Rattle.guillotiere.specs.declared.geometry.Size.{Size}
-use Rattle.guillotiere.specs.declared.geometry.Rectangle.{Rectangle}
 use Rattle.guillotiere.specs.declared.allocation.Allocation.{Allocation}
 use Rattle.guillotiere.specs.declared.error.AtlasError.{AtlasError}
 use Rattle.guillotiere.specs.declared.error.AtlasError.TheVariants as refusal
 use Rattle.guillotiere.specs.Boxes.{Fits}
 use Rattle.guillotiere.specs.Pixels.{sides_of, box_of, rectangle_of}
-use Rattle.guillotiere.specs.Trees.{Grant, grant, ids}
+use Rattle.guillotiere.specs.Trees.{Grant, grant}
 use Rattle.guillotiere.specs.States.{State, IsLive}
 use Rattle.guillotiere.specs.Renaming.{with_name}
 use Rattle.guillotiere.specs.Replies.{grant_of, IsExact}
@@ -26,11 +25,9 @@ use Rattle.guillotiere.proofs.Renaming.{with_name-itself, with_name-other}
 use Rattle.guillotiere.proofs.StepEffects.{grants_lie_inside, freeings_remove_one, growths_keep_boxes}
 use Rattle.guillotiere.proofs.TreeBasics.{one_if}
 use Rattle.guillotiere_recording.specs.declared.steps.EventFault.{EventFault}
-use Rattle.guillotiere_recording.specs.declared.steps.EventFault.TheVariants as stop
-use Rattle.guillotiere_recording.specs.Events.{EventValue}
-use Rattle.guillotiere_recording.specs.Events.EventValue.{Allocate, Deallocate, Grow, Rearrange, ResizeAndRearrange}
-use Rattle.guillotiere_recording.specs.Sessions.{Named, IsLiveName, IsNamed, GrantsUnder, FreesUnder, Leads}
-use Rattle.guillotiere_recording.specs.Replays.{IsBad, IsCall, IsAnswer, AnswersOtherwise, LacksSlots}
+use Rattle.guillotiere_recording.specs.Events.EventValue.{Allocate, Deallocate, Grow}
+use Rattle.guillotiere_recording.specs.Sessions.{Named, IsLiveName, GrantsUnder, FreesUnder, Leads}
+use Rattle.guillotiere_recording.specs.Replays.{IsBad, AnswersOtherwise}
 use Rattle.guillotiere_recording.specs.Standing.{Names, Finds, Shows, CarriesOut, IsStopped, event_fault}
 use Rattle.guillotiere_recording.proofs.Entries.{live_is_counted, counted_is_live}
 use Rattle.guillotiere_recording.proofs.Naming.{grant_counts, growth_counts, freeing_less, freed_is_gone, others_stay, events_keep_names}
@@ -134,9 +131,10 @@ module _ (a b : AtlasValue) (names left : Names) (size : Size) (recorded granted
             → IsLive (state_of b) id × (with_name s.name granted.id recorded.id id ≡ name)
         by_name (inl its) is =
             let one : granted.id ≡ id =
-            one_id (get nat_cmp left recorded.id) granted.id id updates.1 (ap (get nat_cmp left) (sym its) ∙ is) in
-            (subst (IsLive (state_of b)) one new_live,
-            ap (with_name s.name granted.id recorded.id) (sym one) ∙ with_name-itself s.name granted.id recorded.id ∙ sym its)
+            one_id (get nat_cmp left recorded.id) granted.id id updates.1 (ap (get nat_cmp left) (sym its) ∙ is) in (
+              subst (IsLive (state_of b)) one new_live,
+              ap (with_name s.name granted.id recorded.id) (sym one) ∙ with_name-itself s.name granted.id recorded.id ∙ sym its,
+            )
         by_name (inr other) is =
             let was = (h.finds name id).0 (sym (updates.2 name (at_other recorded.id name other)) ∙ is) in
             (grown_live id was.0, with_name-other s.name granted.id recorded.id id (still_other id was.0) ∙ was.1)
@@ -154,15 +152,16 @@ module _ (a b : AtlasValue) (names left : Names) (size : Size) (recorded granted
             ∙ (h.finds name id).1 (was, named)
 
     pub granted_on : (t : Named) × Leads s (Allocate size (Some recorded)) t × Shows b left t
-    granted_on =
-        (record { state = state_of b; name = with_name s.name granted.id recorded.id },
-        granted_leads,
-        record {
-          state = refl;
-          finds = granted_finds;
-          named = events_keep_names s (record { state = state_of b; name = with_name s.name granted.id recorded.id })
-              (Allocate size (Some recorded)) h.named granted_leads;
-        })
+    granted_on = (
+      record { state = state_of b; name = with_name s.name granted.id recorded.id },
+      granted_leads,
+      record {
+        state = refl;
+        finds = granted_finds;
+        named = events_keep_names s (record { state = state_of b; name = with_name s.name granted.id recorded.id })
+            (Allocate size (Some recorded)) h.named granted_leads;
+      },
+    )
 
 -- a grant that differs
 
@@ -216,25 +215,30 @@ a_grant a b names size granted stepped s h = record {
 pub denied_on : (a b : AtlasValue) (names : Names) (size : Size)
     → Step (state_of a) (atlas.Allocate (sides_of size)) atlas.NoRoom (state_of b) → b ≡ a
     → CarriesOut a names (Allocate size None) b names
-denied_on a b names size stepped same s h =
-    (s,
-    ((step_of a names s (atlas.Allocate (sides_of size)) atlas.NoRoom s.state h
-    (subst (λ t. Step (state_of a) (atlas.Allocate (sides_of size)) atlas.NoRoom t) (ap state_of same ∙ sym h.state) stepped)), λ id _ _. refl),
-    record { state = h.state ∙ sym (ap state_of same); finds = h.finds; named = h.named })
+denied_on a b names size stepped same s h = (
+  s,
+  (
+    (step_of a names s (atlas.Allocate (sides_of size)) atlas.NoRoom s.state h
+        (subst (λ t. Step (state_of a) (atlas.Allocate (sides_of size)) atlas.NoRoom t) (ap state_of same ∙ sym h.state) stepped)),
+    λ id _ _. refl,
+  ),
+  record { state = h.state ∙ sym (ap state_of same); finds = h.finds; named = h.named },
+)
 
 -- a freeing
 
 pub freed_on : (a b : AtlasValue) (names left : Names) (name id : ℕ) → get nat_cmp names name ≡ Some id
     → Step (state_of a) (atlas.Deallocate id) atlas.Done (state_of b) → Updates nat_cmp names left name None
     → CarriesOut a names (Deallocate name) b left
-freed_on a b names left name id its stepped updates s h =
-    (record { state = state_of b; name = s.name },
-    leads,
-    record {
-      state = refl;
-      finds = finds;
-      named = events_keep_names s (record { state = state_of b; name = s.name }) (Deallocate name) h.named leads;
-    })
+freed_on a b names left name id its stepped updates s h = (
+  record { state = state_of b; name = s.name },
+  leads,
+  record {
+    state = refl;
+    finds = finds;
+    named = events_keep_names s (record { state = state_of b; name = s.name }) (Deallocate name) h.named leads;
+  },
+)
   where
     step : Step s.state (atlas.Deallocate id) atlas.Done (state_of b)
     step = step_of a names s (atlas.Deallocate id) atlas.Done (state_of b) h stepped
@@ -281,14 +285,15 @@ freed_on a b names left name id its stepped updates s h =
 
 pub grown_on : (a b : AtlasValue) (names : Names) (size : Size)
     → Step (state_of a) (atlas.Grow (sides_of size)) atlas.Done (state_of b) → CarriesOut a names (Grow size) b names
-grown_on a b names size stepped s h =
-    (record { state = state_of b; name = s.name },
-    (step, λ id _ _. refl),
-    record {
-      state = refl;
-      finds = finds;
-      named = events_keep_names s (record { state = state_of b; name = s.name }) (Grow size) h.named (step, λ id _ _. refl);
-    })
+grown_on a b names size stepped s h = (
+  record { state = state_of b; name = s.name },
+  (step, λ id _ _. refl),
+  record {
+    state = refl;
+    finds = finds;
+    named = events_keep_names s (record { state = state_of b; name = s.name }) (Grow size) h.named (step, λ id _ _. refl);
+  },
+)
   where
     step : Step s.state (atlas.Grow (sides_of size)) atlas.Done (state_of b)
     step = step_of a names s (atlas.Grow (sides_of size)) atlas.Done (state_of b) h stepped

@@ -1,5 +1,5 @@
 -- What a replay of a recording answers: how the session ends, or the first event that can't be carried out as it says.
-use Rattle.std.specs.Prelude.{◌≡◌, ℕ, suc, Bool, true, false, List, map, take, count_by, Any, Option, Some, None, slice_get}
+use Rattle.std.specs.Prelude.{◌≡◌, ℕ, suc, Bool, true, false, List, map, take, count_by, Any, Some, None, slice_get}
 use Rattle.guillotiere.specs.declared.allocation.Allocation.{Allocation}
 use Rattle.guillotiere.specs.declared.change.Change.{Change}
 use Rattle.guillotiere.specs.declared.error.AtlasError.TheVariants as error

@@ -1,5 +1,5 @@
 -- A replay on its way: its atlas, and the live ids by name. No public clause cites this module.
-use Rattle.std.specs.Prelude.{◌≡◌, ℕ, ◌↔◌, Option, Some, None}
+use Rattle.std.specs.Prelude.{◌≡◌, ℕ, ◌↔◌, Some}
 use Rattle.std.specs.Ordering.{nat_cmp}
 use Rattle.std.specs.BTreeMap.{BTreeMap, get}
 use Rattle.guillotiere.specs.declared.allocation.Allocation.{Allocation}

@@ -41,7 +41,8 @@ impl<A: Allocator + Copy> Recording<A> {
 
     /// The events, in order.
     pub fn events(&self) -> &[Event<A>]
-        ensures { map event_of result.now ≡ self.now.events }
+        ensures events { map event_of result.now ≡ self.now.events }
+        ensures count { length result.now ≡ length self.now.events }
     {
         &self.log.events
     }

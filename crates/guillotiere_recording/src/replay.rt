@@ -114,21 +114,30 @@ impl<A: Allocator + Copy> Log<A> {
     fn grants(&self) -> u64
         ensures { result ≡ count_by (λ event. is_grant (event_of event)) self.now.events.items }
     {
-        self.events.iter().filter(|event| event.is_a_grant()).count() as u64
+        self.events
+            .iter()
+            .filter(|event| event.is_a_grant())
+            .count() as u64
     }
 
     // How many boxes were freed.
     fn freeings(&self) -> u64
         ensures { result ≡ count_by (λ event. is_freeing (event_of event)) self.now.events.items }
     {
-        self.events.iter().filter(|event| event.is_a_freeing()).count() as u64
+        self.events
+            .iter()
+            .filter(|event| event.is_a_freeing())
+            .count() as u64
     }
 
     // How many requests had no room.
     fn failed_requests(&self) -> u64
         ensures { result ≡ count_by (λ event. is_failed_request (event_of event)) self.now.events.items }
     {
-        self.events.iter().filter(|event| event.is_a_failed_request()).count() as u64
+        self.events
+            .iter()
+            .filter(|event| event.is_a_failed_request())
+            .count() as u64
     }
 
     /// Carries out the events in a new atlas, in order. The first fault ends it.

@@ -1,4 +1,4 @@
-use Rattle.std.proofs.Common.{◌≡◌, sym, subst, ◌∙◌}
+use Rattle.std.proofs.Common.{sym, subst, ◌∙◌}
 use Rattle.std.proofs.lemmas.Bool.{false≢true}
 use Rattle.guillotiere_recording.specs.Kept.{HasEntries}
 use Rattle.guillotiere_recording.specs.Moves.{AreEntered, IsMoved}

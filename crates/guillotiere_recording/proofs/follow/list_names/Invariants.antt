@@ -1,5 +1,4 @@
-use Rattle.std.proofs.Common.{◌≡◌, ◌++◌, All, Some, map, nat_cmp}
-use Rattle.std.specs.BTreeMap.{get}
+use Rattle.std.proofs.Common.{◌≡◌, ◌++◌, map}
 use Rattle.guillotiere_recording.specs.Kept.{entry_in, entries_in}
 use Rattle.guillotiere_recording.proofs.follow.list_names.Given as goal
 

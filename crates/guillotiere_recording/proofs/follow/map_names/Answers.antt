@@ -1,4 +1,4 @@
-use Rattle.std.proofs.Common.{◌≡◌, ◌≤◌, length, take, subst, arith}
+use Rattle.std.proofs.Common.{subst, arith}
 use Rattle.std.proofs.lemmas.List.{take_all}
 use Rattle.guillotiere_recording.specs.Kept.{HasEntries}
 use Rattle.guillotiere_recording.proofs.Following.{has_more}

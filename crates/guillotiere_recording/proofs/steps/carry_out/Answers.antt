@@ -1,4 +1,4 @@
-use Rattle.std.proofs.Common.{◌≡◌, OnOk, IfErr, ap, sym, subst}
+use Rattle.std.proofs.Common.{OnOk, IfErr, ap, sym, subst}
 use Rattle.guillotiere_recording.specs.Events.{EventValue, event_of}
 use Rattle.guillotiere_recording.specs.Standing.{CarriesOut, IsStopped}
 use Rattle.guillotiere_recording.proofs.steps.carry_out.Goals as goal

@@ -1,4 +1,4 @@
-use Rattle.std.proofs.Common.{◌≡◌, sym, subst, refl, ◌∙◌}
+use Rattle.std.proofs.Common.{sym, subst, refl, ◌∙◌}
 use Rattle.guillotiere.specs.Steps as atlas
 use Rattle.guillotiere.specs.Stored.{state_of}
 use Rattle.guillotiere_recording.specs.Events.{list_of}

@@ -1,4 +1,4 @@
-use Rattle.std.proofs.Common.{◌≡◌, OnOk, ap, sym, subst, Option}
+use Rattle.std.proofs.Common.{OnOk, sym, subst, Option}
 use Rattle.guillotiere.specs.declared.allocation.Allocation.{Allocation}
 use Rattle.guillotiere_recording.specs.Events.EventValue.{Allocate}
 use Rattle.guillotiere_recording.specs.Standing.{CarriesOut}

@@ -1,4 +1,4 @@
-use Rattle.std.proofs.Common.{◌≡◌, sym, subst, refl, ◌∙◌}
+use Rattle.std.proofs.Common.{sym, subst, refl, ◌∙◌}
 use Rattle.guillotiere.specs.Steps as atlas
 use Rattle.guillotiere.specs.Pixels.{sides_of}
 use Rattle.guillotiere.specs.Stored.{state_of}

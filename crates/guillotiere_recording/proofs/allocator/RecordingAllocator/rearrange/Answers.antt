@@ -1,15 +1,13 @@
 use Rattle.std.proofs.Common.{◌≡◌, refl, ap, ap₂, sym, subst, ◌∙◌}
 use Rattle.guillotiere.specs.declared.error.AtlasError.TheVariants.{Slots}
-use Rattle.guillotiere.specs.Pixels.{sides_of}
 use Rattle.guillotiere.specs.Rearranging.{rearrangement_of}
 use Rattle.guillotiere.specs.States.{State}
 use Rattle.guillotiere.specs.Steps as atlas
 use Rattle.guillotiere.specs.Steps.{Step}
-use Rattle.guillotiere.specs.Stored.{AtlasValue, Stored, state_of}
-use Rattle.guillotiere_recording.specs.declared.names.LiveName.{LiveName as Entry}
-use Rattle.guillotiere_recording.specs.Events.{EventValue, ListValue, list_of}
-use Rattle.guillotiere_recording.specs.Events.EventValue.{Rearrange, ResizeAndRearrange}
-use Rattle.guillotiere_recording.specs.Logs.{RecordingValue, with_event, recording_of}
+use Rattle.guillotiere.specs.Stored.{Stored, state_of}
+use Rattle.guillotiere_recording.specs.Events.{list_of}
+use Rattle.guillotiere_recording.specs.Events.EventValue.{Rearrange}
+use Rattle.guillotiere_recording.specs.Logs.{with_event, recording_of}
 use Rattle.guillotiere_recording.specs.Moves.{AreEntered, IsMoved}
 use Rattle.guillotiere_recording.specs.Names.{name_among}
 use Rattle.guillotiere_recording.specs.Recordings.{SessionValue, session_of}

@@ -1,4 +1,3 @@
-use Rattle.std.proofs.Common.{ℕ}
 use Rattle.guillotiere_recording.specs.Logs.{recording_of}
 use Rattle.guillotiere_recording.specs.Sessions.{Named}
 use Rattle.guillotiere_recording.specs.Recordings.{LeadsTo}
