@@ -298,7 +298,8 @@ impl<A: Allocator + Copy> AtlasAllocator<A> {
         ensures step { Step (state_of self.old) Rearrange (change_reply result) (state_of self.new) }
         ensures exact { IfOk result AreExactChanges }
         ensures sides { IfOk result (λ list. All KeepsSides list.changes.items) }
-        ensures moves { IfOk result (λ list. IsRearrangingStep (state_of self.old) (rearrangement_of list) (state_of self.new)) }
+        ensures moves { IfOk result (λ list. IsRearrangingStep (state_of self.old) (rearrangement_of list)
+            (state_of self.new)) }
         ensures refused { OnErr result (self.new ≡ self.old) }
         ensures turns { self.new.turns ≡ self.old.turns }
         ensures sound { IsSound (state_of self.new) }
@@ -314,10 +315,12 @@ impl<A: Allocator + Copy> AtlasAllocator<A> {
     /// turns.
     pub fn resize_and_rearrange(&mut self, new_size: Size) -> Result<ChangeList<A>, AtlasError>
         requires { IsPositive (sides_of new_size) }
-        ensures step { Step (state_of self.old) (ResizeAndRearrange (sides_of new_size)) (change_reply result) (state_of self.new) }
+        ensures step { Step (state_of self.old) (ResizeAndRearrange (sides_of new_size)) (change_reply result)
+            (state_of self.new) }
         ensures exact { IfOk result AreExactChanges }
         ensures sides { IfOk result (λ list. All KeepsSides list.changes.items) }
-        ensures moves { IfOk result (λ list. IsRearrangingStep (state_of self.old) (rearrangement_of list) (state_of self.new)) }
+        ensures moves { IfOk result (λ list. IsRearrangingStep (state_of self.old) (rearrangement_of list)
+            (state_of self.new)) }
         ensures refused { OnErr result (self.new ≡ self.old) }
         ensures turns { self.new.turns ≡ self.old.turns }
         ensures sound { IsSound (state_of self.new) }
