@@ -12,14 +12,13 @@ ghost use Rattle.guillotiere.specs.Sessions.{call_of, reply_of, IsExactReply, Ta
 
 mod simple;
 
-pub use simple::{SimpleCall, SimpleReply, run_simple};
-
 use crate::allocation::{AllocId, Allocation};
 use crate::atlas::AtlasAllocator;
 use crate::change::ChangeList;
 use crate::error::AtlasError;
 use crate::geometry::Size;
 use crate::options::AllocatorOptions;
+pub use simple::{SimpleCall, SimpleReply, run_simple};
 use std::alloc::{Allocator, Global};
 
 /// A call of an atlas, as data.

@@ -22,15 +22,15 @@ returns-clause-moves g c =
     _ c.in_ok-order.ensures.order (rearrangement_of c.in_ok-list.list) c.in_ok-list.ensures.refits c.become_like.ensures.stored
     (subst (λ v. IsSound (state_of v)) c.self.view_is c.self.invariant.sound)
 
-pub returns-clause-sound : goal.returns-clause-sound
-returns-clause-sound g c =
-    steps_keep (state_of c.args.self.now) (state_of c.become_like.new.self) (ResizeAndRearrange (sides_of c.args.new_size))
-    (Changed (rearrangement_of c.in_ok-list.list)) (subst (λ v. IsSound (state_of v)) c.self.view_is c.self.invariant.sound)
-    (returns-clause-step g c)
-
 pub returns-clause-sides : goal.returns-clause-sides
 returns-clause-sides g c =
     let fresh = c.in_ok-placed.ensures.state ∙ ap (λ v. started (sides_of c.args.new_size) (state_of v).options (state_of v).limit) c.self.view_is in
     atlas-sides c.args.self.now c.in_ok-placed.placed c.refit.new.atlas c.become_like.new.self (sides_of c.args.new_size) c.requires fresh
     _ c.in_ok-order.ensures.order (rearrangement_of c.in_ok-list.list) c.in_ok-list.ensures.refits c.become_like.ensures.stored
     (subst (λ v. IsSound (state_of v)) c.self.view_is c.self.invariant.sound) c.in_ok-list.list.changes.items refl
+
+pub returns-clause-sound : goal.returns-clause-sound
+returns-clause-sound g c =
+    steps_keep (state_of c.args.self.now) (state_of c.become_like.new.self) (ResizeAndRearrange (sides_of c.args.new_size))
+    (Changed (rearrangement_of c.in_ok-list.list)) (subst (λ v. IsSound (state_of v)) c.self.view_is c.self.invariant.sound)
+    (returns-clause-step g c)
