@@ -5,6 +5,8 @@
 mod apart;
 mod boxes;
 mod keep;
+mod lists;
+mod moves;
 mod sheet;
 mod shown;
 mod tiled;
