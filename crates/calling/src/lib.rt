@@ -4,6 +4,7 @@
 
 mod apart;
 mod boxes;
+mod first;
 mod keep;
 mod lists;
 mod moves;
