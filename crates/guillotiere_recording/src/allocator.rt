@@ -1,5 +1,5 @@
 //! The recording allocator: an atlas that hands out names in place of ids, and records its calls.
-ghost use Rattle.std.specs.Prelude.{◌≡◌, ◌+◌, ◌<◌, ◌^◌, ◌↔◌, [], OnErr, OnOk, IfErr, IfOk, IfSome, IsSome, OnSome, IsOkUnless, List, if◌then◌else◌, None, Some, Ok, Err};
+ghost use Rattle.std.specs.Prelude.{◌≡◌, ◌+◌, ◌<◌, ◌^◌, ◌↔◌, ◌⊎◌, [], OnErr, OnOk, IfErr, IfOk, IfSome, IsSome, OnSome, IsOkUnless, List, if◌then◌else◌, None, Some, Ok, Err};
 ghost use Rattle.std.specs.List.{FoldsTo};
 ghost use Rattle.std.specs.Fn.{CalledAt};
 ghost use Rattle.guillotiere.specs.declared.geometry.Rectangle.{Rectangle as Area};
@@ -25,7 +25,8 @@ use crate::names::{LiveName, append, find, under_name};
 use crate::recording::Recording;
 use crate::walks::{gather_names, visit_names};
 use guillotiere::{
-    AllocId, Allocation, AllocatorOptions, AtlasAllocator, ChangeList, DEFAULT_OPTIONS, Rectangle, Size,
+    AllocId, Allocation, AllocatorOptions, AtlasAllocator, ChangeList, DEFAULT_OPTIONS, Rectangle,
+    Size,
 };
 use std::alloc::{Allocator, Global};
 use std::marker::Model;
@@ -107,6 +108,8 @@ impl<A: Allocator + Copy> RecordingAllocator<A> {
         ensures given { IfOk result (λ answer. IfSome answer (λ granted. granted.id ≡ self.old.given)) }
         ensures names { (result ≡ Err RecordingError.Names) ↔ (self.old.given ≡ 2 ^ 32) }
         ensures slots { result ≡ Err RecordingError.Slots → Step (state_of self.old.atlas) (atlas.Allocate (sides_of requested_size)) (atlas.Refused AtlasError.Slots) (state_of self.old.atlas) }
+        ensures only { IfErr result (λ e. (e ≡ RecordingError.Names) ⊎ ((e ≡ RecordingError.Slots)
+            ⊎ (e ≡ RecordingError.Memory))) }
         ensures refused { OnErr result (self.new ≡ self.old) }
     {
         if self.given == NAMES {
@@ -141,6 +144,7 @@ impl<A: Allocator + Copy> RecordingAllocator<A> {
         ensures recorded { OnOk result (self.new.recording ≡ with_event (Deallocate id) self.old.recording) }
         ensures led { OnOk result (Leads (session_of self.old) (Deallocate id) (session_of self.new)) }
         ensures not_live { (result ≡ Err RecordingError.NotLive) ↔ (IsLiveName (session_of self.old) id → ⊥) }
+        ensures only { IfErr result (λ e. (e ≡ RecordingError.NotLive) ⊎ (e ≡ RecordingError.Memory)) }
         ensures refused { OnErr result (self.new ≡ self.old) }
     {
         let Some(found) = find(&self.names, id.serialize()) else {
@@ -160,6 +164,7 @@ impl<A: Allocator + Copy> RecordingAllocator<A> {
         ensures recorded { OnOk result (self.new.recording ≡ with_event (Grow new_size) self.old.recording) }
         ensures led { OnOk result (Leads (session_of self.old) (Grow new_size) (session_of self.new)) }
         ensures slots { result ≡ Err RecordingError.Slots → Step (state_of self.old.atlas) (atlas.Grow (sides_of new_size)) (atlas.Refused AtlasError.Slots) (state_of self.old.atlas) }
+        ensures only { IfErr result (λ e. (e ≡ RecordingError.Slots) ⊎ (e ≡ RecordingError.Memory)) }
         ensures refused { OnErr result (self.new ≡ self.old) }
     {
         self.log.make_room()?;
@@ -174,6 +179,7 @@ impl<A: Allocator + Copy> RecordingAllocator<A> {
         ensures recorded { IfOk result (λ list. self.new.recording ≡ with_event (Rearrange (list_of list)) self.old.recording) }
         ensures led { IfOk result (λ list. Leads (session_of self.old) (Rearrange (list_of list)) (session_of self.new)) }
         ensures slots { result ≡ Err RecordingError.Slots → Step (state_of self.old.atlas) atlas.Rearrange (atlas.Refused AtlasError.Slots) (state_of self.old.atlas) }
+        ensures only { IfErr result (λ e. (e ≡ RecordingError.Slots) ⊎ (e ≡ RecordingError.Memory)) }
         ensures refused { OnErr result (self.new ≡ self.old) }
     {
         let mut atlas = self.atlas.clone()?;
@@ -195,6 +201,7 @@ impl<A: Allocator + Copy> RecordingAllocator<A> {
         ensures recorded { IfOk result (λ list. self.new.recording ≡ with_event (ResizeAndRearrange new_size (list_of list)) self.old.recording) }
         ensures led { IfOk result (λ list. Leads (session_of self.old) (ResizeAndRearrange new_size (list_of list)) (session_of self.new)) }
         ensures slots { result ≡ Err RecordingError.Slots → Step (state_of self.old.atlas) (atlas.ResizeAndRearrange (sides_of new_size)) (atlas.Refused AtlasError.Slots) (state_of self.old.atlas) }
+        ensures only { IfErr result (λ e. (e ≡ RecordingError.Slots) ⊎ (e ≡ RecordingError.Memory)) }
         ensures refused { OnErr result (self.new ≡ self.old) }
     {
         let mut atlas = self.atlas.clone()?;
