@@ -4,7 +4,10 @@
 
 mod apart;
 mod boxes;
+mod first;
 mod keep;
+mod lists;
+mod moves;
 mod sheet;
 mod shown;
 mod tiled;
