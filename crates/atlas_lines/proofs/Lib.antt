@@ -9,3 +9,4 @@ pub mod Outcomes
 pub mod Readings
 pub mod Blocks
 pub mod Lists
+pub mod Holes

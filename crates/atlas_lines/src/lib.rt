@@ -11,12 +11,14 @@ mod listing;
 mod replies;
 mod run;
 mod standard;
+mod standard_output;
 mod tool;
 mod words;
 
 pub use commands::{Command, parse_line};
 pub use devices::{ToolInput, ToolOutput};
 pub use run::{ToolEnd, ToolFault, run_lines};
-pub use standard::{StdInput, StdOutput};
+pub use standard::StdInput;
+pub use standard_output::StdOutput;
 // The words and numbers of lines, for other programs that read lines.
 pub use words::{first_word, unsigned};
