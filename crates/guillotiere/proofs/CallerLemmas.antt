@@ -1,5 +1,5 @@
 -- Lists as callers meet them: counts and searches under a permutation, a filter and a map.
-use Rattle.std.proofs.Common.{◌≡◌, ◌↔◌, ℕ, zero, suc, ◌+◌, ◌≤◌, Bool, true, false, cond, List, [], ◌∷◌, map, length, refl, ap, subst, sym, ◌∙◌, arith, Contains, IsPermutation, inl, inr, Option, Some, None}
+use Rattle.std.proofs.Common.{◌≡◌, ◌↔◌, zero, suc, ◌+◌, ◌≤◌, Bool, true, false, cond, List, [], ◌∷◌, map, length, refl, ap, subst, sym, ◌∙◌, arith, Contains, IsPermutation, inl, inr, Option, Some, None}
 use Rattle.std.specs.List.{count_by, filter, find}
 use Rattle.std.proofs.lemmas.List.Sorted.{sum_by-IsPermutation, Contains-permutation}
 use Rattle.guillotiere.proofs.TreeBasics.{one_if}

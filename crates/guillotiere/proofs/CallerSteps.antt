@@ -1,19 +1,17 @@
 -- What each call does to the boxes that callers hold.
-use Rattle.std.proofs.Common.{◌≡◌, ℕ, ◌+◌, ◌==◌, true, false, not, List, length, refl, ap, subst, sym, ◌∙◌, Option, Some, None, IsSome, option_map}
+use Rattle.std.proofs.Common.{◌≡◌, ℕ, ◌+◌, ◌==◌, true, false, not, List, length, refl, ap, subst, sym, ◌∙◌, Some, None, IsSome, option_map}
 use Rattle.std.specs.List.{filter, find}
 use Rattle.std.proofs.lemmas.Bool.{false≢true, eqb-true}
 use Rattle.guillotiere.specs.declared.error.AtlasError.{AtlasError}
 use Rattle.guillotiere.specs.declared.error.AtlasError.TheVariants.{Memory, Slots, NotLive}
 use Rattle.guillotiere.specs.Boxes.{Box, Sides, Fits}
 use Rattle.guillotiere.specs.Trees.{Grant}
-use Rattle.guillotiere.specs.Changes.{only}
 use Rattle.guillotiere.specs.States.{State, live_in, IsLive, IsSound, after_freeing}
 use Rattle.guillotiere.specs.Steps.{AtlasReply, Step}
 use Rattle.guillotiere.specs.Steps.AtlasCall.{Allocate, Deallocate, Grow}
 use Rattle.guillotiere.specs.Steps.AtlasReply.{Allocated, NoRoom, Done, Changed, Refused, BadCall}
 use Rattle.guillotiere.specs.TreeLaws.{is_among}
 use Rattle.guillotiere.specs.Replies.{live_box}
-use Rattle.guillotiere.specs.StepLaws.{is_refusal}
 use Rattle.guillotiere.specs.Callers.{AreGuarded, KeepsLive, AddsBox, JoinsGuarded, LeavesNoBox, LeavesNoBoxes, KeepsAll}
 use Rattle.guillotiere.proofs.StepEffects.{grants_lie_inside, freeings_remove_one, growths_keep_boxes, refusals_change_nothing}
 use Rattle.guillotiere.proofs.StepKeeping.{steps_keep, freeing_sound}

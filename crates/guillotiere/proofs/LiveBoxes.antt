@@ -12,7 +12,6 @@ use Rattle.guillotiere.specs.Trees.{Grant, ids}
 use Rattle.guillotiere.specs.States.{State, live_in, IsLive, IsSound}
 use Rattle.guillotiere.specs.Replies.{live_box}
 use Rattle.guillotiere.specs.StepLaws.{live_count, IsGrantStep, IsFreeingStep}
-use Rattle.guillotiere.specs.RunLaws.{IsTiled}
 use Rattle.guillotiere.specs.Callers.{SoundIsTiled, LiveHaveBoxes}
 use Rattle.guillotiere.proofs.TreeIds.{Contains-first}
 use Rattle.guillotiere.proofs.Counting.{count_some, split_at, IsSplitAt}

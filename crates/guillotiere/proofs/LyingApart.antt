@@ -1,5 +1,5 @@
 -- Live boxes of different ids share no unit square, and lie apart.
-use Rattle.std.proofs.Common.{◌≡◌, ℕ, zero, suc, ◌+◌, ◌≤◌, ◌<◌, ◌&&◌, ◌⊎◌, ◌≤ℤ◌, pos, subst₂, Bool, true, false, List, ◌++◌, map, refl, ap, subst, sym, ◌∙◌, arith, Contains, inl, inr, Option, Some, None, IsSome, IfSome, ◌↔◌, option_map, nat_le, nat_lt}
+use Rattle.std.proofs.Common.{◌≡◌, ℕ, zero, suc, ◌+◌, ◌≤◌, ◌<◌, ◌&&◌, ◌⊎◌, ◌≤ℤ◌, pos, subst₂, Bool, true, false, map, refl, ap, subst, sym, ◌∙◌, arith, Contains, inl, inr, Option, Some, None, IsSome, IfSome, ◌↔◌, option_map, nat_le, nat_lt}
 use Rattle.std.specs.List.{count_by, find}
 use Rattle.std.proofs.lemmas.Bool.{eqb-true, false≢true, ltb-true, lt-ltb, le-leb, and_parts, and_from, cases_lt}
 use Rattle.std.proofs.lemmas.List.Elements.{All-contains, Contains-append_left}
@@ -12,7 +12,7 @@ use Rattle.guillotiere.specs.States.{State, live_in, free_in, IsSound, IsLive}
 use Rattle.guillotiere.specs.Replies.{live_box}
 use Rattle.guillotiere.specs.RunLaws.{boxes_in}
 use Rattle.guillotiere.specs.Callers.{ShareNothing, BoxesLieApart, RectanglesLieApart, AllLieApart, AllLieWithin, rectangle_in, LiveShareNothing, LiveLieWithin}
-use Rattle.guillotiere.proofs.Counting.{count_by-append, counted_once, count_some}
+use Rattle.guillotiere.proofs.Counting.{count_by-append, counted_once}
 use Rattle.guillotiere.proofs.LiveBoxes.{sound_is_tiled, is_for, live_have_boxes}
 use Rattle.guillotiere.proofs.CallerLemmas.{Contains-find, Contains-map, count_by-map, find-counted}
 

@@ -1,7 +1,6 @@
 -- The rectangles that lists show can be measured.
-use Rattle.std.proofs.Common.{◌≡◌, ℕ, ◌+◌, ◌^◌, ◌≤◌, ◌<◌, Bool, true, List, [], ◌∷◌, map, refl, ap, subst, sym, ◌∙◌, arith, Contains, All, Result, Ok, Err, IfOk, pos, FitsSigned}
+use Rattle.std.proofs.Common.{◌≡◌, ◌^◌, ◌≤◌, ◌<◌, Bool, true, List, [], ◌∷◌, map, ap, subst, sym, arith, Contains, All, Result, Ok, Err, IfOk, pos}
 use Rattle.std.specs.List.{count_by}
-use Rattle.std.specs.Int.{w32}
 use Rattle.std.proofs.lemmas.Int.{ints}
 use Rattle.std.proofs.lemmas.List.Elements.{All-nil, All-cons, All-head, All-tail, All-contains, All-contains_itself, All-weaker}
 use Rattle.guillotiere.specs.declared.allocation.Allocation.{Allocation}

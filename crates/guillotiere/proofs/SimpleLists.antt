@@ -1,9 +1,7 @@
 -- The lists of a simple allocator that grows or begins anew.
-use Rattle.std.proofs.Common.{◌≡◌, ◌≢◌, ℕ, suc, zero, ◌+◌, ◌-◌, ◌<◌, ◌≤◌, Bool, true, false, cond, List, [], ◌∷◌, ◌++◌, map, drop, get_or, length, Vec, Option, Some, None, Result, Ok, Err, ℤ, pos, negsuc, ◌-ℤ◌, ◌≤ℤ◌, refl, ap, sym, ◌∙◌, inl, inr, subst, arith}
-use Rattle.std.specs.Bool.{⊤}
-use Rattle.std.specs.List.{All, count_by, filter}
+use Rattle.std.proofs.Common.{◌≡◌, ◌≢◌, ℕ, ◌+◌, ◌-◌, ◌<◌, ◌≤◌, Bool, true, false, cond, List, [], ◌∷◌, ◌++◌, map, drop, get_or, length, Vec, Option, Some, None, pos, ◌-ℤ◌, ap, sym, ◌∙◌, inl, inr, subst, arith}
+use Rattle.std.specs.List.{All, count_by}
 use Rattle.std.specs.Option.{IsSome}
-use Rattle.std.specs.Result.{OnErr}
 use Rattle.std.proofs.lemmas.Bool.{cases_eq, false≢true}
 use Rattle.std.proofs.lemmas.Int.{ints}
 use Rattle.std.proofs.lemmas.List.{at_drop_more}
@@ -16,24 +14,18 @@ use Rattle.guillotiere.specs.declared.slots.Slot.{Slot}
 use Rattle.guillotiere.specs.declared.slots.NodeKind.TheVariants as kind
 use Rattle.guillotiere.specs.contracts.slots.NodeKind.{the_type}
 use denote.Enum.Bare.{sameb}
-use Rattle.guillotiere.specs.declared.error.AtlasError.{AtlasError}
-use Rattle.guillotiere.specs.declared.options.AllocatorOptions.{AllocatorOptions}
 use Rattle.guillotiere.specs.Boxes.{Box, Sides, box_sides, whole_box, Fits, IsPositive, IsNonempty, AreSameBoxes}
-use Rattle.guillotiere.specs.Cuts.{cut_axis, split_along, leftover_along}
-use Rattle.guillotiere.specs.Choice.{Options, AreValid, class_of}
-use Rattle.guillotiere.specs.Pixels.{natural, box_of, rectangle_of, sides_of, options_of}
+use Rattle.guillotiere.specs.Choice.{Options, class_of}
+use Rattle.guillotiere.specs.Pixels.{natural, box_of, rectangle_of, sides_of}
 use Rattle.guillotiere.specs.Rectangles.{FitsInto, IsRestOf, IsUnsigned, measured}
 use Rattle.guillotiere.specs.Slots.{nodes}
 use Rattle.guillotiere.specs.Lists.{is_free}
 use Rattle.guillotiere.specs.Visits.{free_areas}
-use Rattle.guillotiere.specs.Simple.SimpleAtlasCall.{Grow}
-use Rattle.guillotiere.specs.Simple.SimpleAnswer.{Done, Refused}
-use Rattle.guillotiere.specs.Simple.{SimpleState, SimplyGrows, SimpleStep, is_kept, kept_rest, added_by}
-use Rattle.guillotiere.specs.FreeLists.{items_at, listed, kept_of, IsStoredIn, AreInClasses, IsHome, IsStoredState, state_of}
+use Rattle.guillotiere.specs.Simple.{is_kept, kept_rest}
+use Rattle.guillotiere.specs.FreeLists.{items_at, listed, kept_of, IsStoredIn, AreInClasses, IsHome}
 use Rattle.guillotiere.proofs.CuttingFromLists.{count-kept_rest, same-listed, unsigned-fits}
-use Rattle.guillotiere.proofs.ListedBoxes.{added-boxes}
 use Rattle.guillotiere.proofs.WalkSteps.{not_free}
-use Rattle.guillotiere.proofs.Storing.{whole_rectangle, whole-sides, whole-box, whole-unsigned}
+use Rattle.guillotiere.proofs.Storing.{whole_rectangle, whole-box, whole-unsigned}
 use Rattle.guillotiere.proofs.SimpleSteps.{whole-fits, whole-positive}
 
 -- a rectangle is filed by its class

@@ -1,5 +1,5 @@
 -- Each run of the simple allocator keeps what is held guarded.
-use Rattle.std.proofs.Common.{◌≡◌, ◌≤◌, arith, Bool, true, false, List, [], ◌∷◌, ◌++◌, append_assoc, refl, ap, sym, ◌∙◌, subst}
+use Rattle.std.proofs.Common.{◌≡◌, ◌≤◌, arith, false, List, [], ◌∷◌, ◌++◌, append_assoc, refl, sym, ◌∙◌, subst}
 use Rattle.std.proofs.lemmas.Bool.{or_parts, false≢true}
 use Rattle.std.specs.List.{count_by}
 use Rattle.std.proofs.lemmas.List.{append-nil}
@@ -9,7 +9,7 @@ use Rattle.guillotiere.specs.Boxes.{Box, covers}
 use Rattle.guillotiere.specs.Simple.SimpleAtlasCall.{Allocate, Grow, Clear, Reset, Start}
 use Rattle.guillotiere.specs.Simple.SimpleAnswer.{Granted, NoRoom, Done, Refused, BadCall}
 use Rattle.guillotiere.specs.Simple.{SimpleState, IsSimple, IsGuarded, SimpleAtlasCall, SimpleAnswer, SimpleStep}
-use Rattle.guillotiere.specs.SimpleRuns.{SimpleRun, held_after, held_along, granted_boxes, is_start, has_start, KeepsGuard, SimpleRunsKeepGuard, SimpleStartsGuard, GuardedAreDisjoint}
+use Rattle.guillotiere.specs.SimpleRuns.{SimpleRun, held_after, held_along, granted_boxes, is_start, has_start, SimpleRunsKeepGuard, SimpleStartsGuard, GuardedAreDisjoint}
 use Rattle.guillotiere.proofs.SimpleGrants.{one_if, start-simple}
 use Rattle.guillotiere.proofs.SimpleSteps.{step-simple, step-held, starts-guarded, none-guarded}
 

@@ -1,5 +1,5 @@
 -- Each step of the simple allocator keeps what it keeps, and the boxes that are held.
-use Rattle.std.proofs.Common.{◌≡◌, ℕ, ◌+◌, ◌≤◌, ◌<◌, Bool, true, false, cond, ltb, List, [], ◌∷◌, ◌++◌, map, Result, Ok, refl, ap, sym, ◌∙◌, subst, arith}
+use Rattle.std.proofs.Common.{◌≡◌, ℕ, ◌+◌, ◌≤◌, ◌<◌, Bool, true, false, ltb, List, [], ◌∷◌, ◌++◌, map, refl, ap, sym, ◌∙◌, subst, arith}
 use Rattle.std.specs.List.{All, count_by}
 use Rattle.std.proofs.lemmas.Bool.{ltb-true}
 use Rattle.std.proofs.lemmas.Bool.Decides.{nat_tests}
@@ -8,12 +8,12 @@ use Rattle.std.proofs.lemmas.List.Sums.{sum_by-cons, sum_by-append}
 use Rattle.guillotiere.specs.declared.error.AtlasError.TheVariants.{Memory}
 use Rattle.guillotiere.specs.Boxes.{Sides, Box, box_sides, whole_box, covers, Fits, IsPositive, IsNonempty, IsWithin}
 use Rattle.guillotiere.specs.Cuts.{cut_axis, split_along, leftover_along}
-use Rattle.guillotiere.specs.Choice.{Options, AreValid}
+use Rattle.guillotiere.specs.Choice.{AreValid}
 use Rattle.guillotiere.specs.Trees.{Grant}
 use Rattle.guillotiere.specs.States.{State, live_in, free_in}
 use Rattle.guillotiere.specs.Simple.SimpleAtlasCall.{Allocate, Grow, Clear, Reset, Start}
 use Rattle.guillotiere.specs.Simple.SimpleAnswer.{Granted, NoRoom, Done, Refused, BadCall}
-use Rattle.guillotiere.specs.Simple.{SimpleState, IsSimple, SimplyGrows, StartsFrom, IsGuarded, is_kept, added_by, live_boxes, simple_start, SimpleAtlasCall, SimpleAnswer, SimpleStep}
+use Rattle.guillotiere.specs.Simple.{SimpleState, IsSimple, SimplyGrows, StartsFrom, IsGuarded, is_kept, added_by, live_boxes, SimpleAtlasCall, SimpleAnswer, SimpleStep}
 use Rattle.guillotiere.specs.SimpleRuns.{held_after}
 use Rattle.guillotiere.proofs.BoxLists.{squares_in_one, boxes_in_place}
 use Rattle.guillotiere.proofs.SimpleGrants.{one_if, squares_of_cut, kept_le, count-none, none-count, misplaced, well_placed, not_misplaced, kept-placed, grant-simple, grant-guarded, start-simple}

@@ -1,5 +1,5 @@
 -- the rectangle that a used slot stores may be measured, and has a square
-use Rattle.std.proofs.Common.{ℕ, pos, ◌+◌, ◌<◌, ◌≤◌, ◌^◌, ◌≡◌, List, refl, inl, inr, arith}
+use Rattle.std.proofs.Common.{ℕ, ◌+◌, ◌<◌, ◌^◌, List, inl, inr, arith}
 use Rattle.std.proofs.lemmas.Bool.{cases_eq}
 use Rattle.std.proofs.lemmas.Int.{ints}
 use Rattle.guillotiere.specs.declared.slots.Node.{Node}
@@ -10,7 +10,7 @@ use Rattle.guillotiere.specs.Pixels.{rectangle_of, box_of, IsMeasurable}
 use Rattle.guillotiere.specs.Slots.{nodes, node_at, use_count, no_slot}
 use Rattle.guillotiere.specs.Trees.{IsCut, total}
 use Rattle.guillotiere.specs.Numbered.{Numbered, erase, tally, End, Free, Alloc, Seq}
-use Rattle.guillotiere.specs.Standing.{Sequence, Standing, Stands, inside, spot, member_box}
+use Rattle.guillotiere.specs.Standing.{Sequence, Standing, inside, spot, member_box}
 use Rattle.guillotiere.specs.Stored.{Shelf, Holding, Holds}
 use Rattle.guillotiere.proofs.Frames.{same-ne}
 use Rattle.guillotiere.proofs.Joining.{split_pos}

@@ -2,10 +2,10 @@
 use Rattle.std.specs.Prelude.{◌≡◌, ℕ, ℤ, zero, suc, Bool, true, false, List, [], ◌∷◌, refl}
 use Rattle.std.specs.Coded.{Coded, code_by, coded×, coded_ℕ, coded_ℤ, coded_bool, coded_list}
 use Rattle.std.proofs.Common.{ap, ◌∙◌}
-use Rattle.guillotiere.specs.Boxes.{Axis, Position, Sides, Box}
+use Rattle.guillotiere.specs.Boxes.{Axis, Sides}
 use Rattle.guillotiere.specs.Boxes.Axis.{Horizontal, Vertical}
 use Rattle.guillotiere.specs.Choice.{Options}
-use Rattle.guillotiere.specs.Trees.{Members, Tree, Grant}
+use Rattle.guillotiere.specs.Trees.{Members, Tree}
 use Rattle.guillotiere.specs.Trees.Members.{End, Free, Alloc, Seq}
 use Rattle.guillotiere.specs.States.{State}
 

@@ -23,6 +23,7 @@ pub enum AtlasError {
 impl From<AllocError> for AtlasError {
     ghost from_gives = { λ _ e. e ≡ Memory };
 
+    /// `Memory`, whatever was asked for.
     fn from(_error: AllocError) -> AtlasError {
         AtlasError::Memory
     }
@@ -31,6 +32,7 @@ impl From<AllocError> for AtlasError {
 impl<T: Drop> From<AllocFailed<T>> for AtlasError {
     ghost from_gives = { λ _ e. e ≡ Memory };
 
+    /// `Memory`; what couldn't be stored is dropped.
     fn from(_error: AllocFailed<T>) -> AtlasError {
         AtlasError::Memory
     }

@@ -44,7 +44,8 @@ impl<A: Allocator + Copy> Model for SimpleAtlasAllocator<A> {
 }
 
 impl<A: Allocator + Copy> SimpleAtlasAllocator<A> {
-    /// An allocator of one free box of this size, with `DEFAULT_OPTIONS`. The only error is `Memory`.
+    /// An allocator of one free box of this size, in pixels, with `DEFAULT_OPTIONS`. Asks a size that isn't empty. The only
+    /// error is `Memory`.
     pub fn new(alloc: A, size: Size) -> Result<Self, AtlasError>
         requires { IsPositive (sides_of size) }
         ensures unless { IsOkUnless result AtlasError.Memory }
@@ -54,7 +55,8 @@ impl<A: Allocator + Copy> SimpleAtlasAllocator<A> {
         Self::with_options(alloc, size, &DEFAULT_OPTIONS)
     }
 
-    /// An allocator of one free box of this size. The only error is `Memory`.
+    /// An allocator of one free box of this size, in pixels, with these options. Asks a size that isn't empty and valid
+    /// options. The only error is `Memory`.
     pub fn with_options(
         alloc: A,
         size: Size,

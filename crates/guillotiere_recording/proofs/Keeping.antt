@@ -39,7 +39,7 @@ lead_more : (events : List EventValue) (event : EventValue) (old mid new : Named
 lead_more [] event old mid new h more = (new, subst (λ s. Leads s event new) h more, refl)
 lead_more (e ∷ events) event old mid new (next, first, rest) more = (next, first, lead_more events event next mid new rest more)
 
-recorded_more : (r : RecordingValue) (event : EventValue) (mid new : Named) → LeadsTo r mid → Leads mid event new
+pub recorded_more : (r : RecordingValue) (event : EventValue) (mid new : Named) → LeadsTo r mid → Leads mid event new
     → LeadsTo (with_event event r) new
 recorded_more r event mid new h more =
     record {
@@ -50,10 +50,10 @@ recorded_more r event mid new h more =
     }
 
 -- which names an event gives
-abbrev names_in : EventValue → List ℕ
+abbrev pub names_in : EventValue → List ℕ
 names_in event = given_names (event ∷ [])
 
-given_more : (events : List EventValue) (event : EventValue) → given_names (events ++ event ∷ []) ≡ given_names events ++ names_in event
+pub given_more : (events : List EventValue) (event : EventValue) → given_names (events ++ event ∷ []) ≡ given_names events ++ names_in event
 given_more [] event = refl
 given_more (Allocate size (Some a) ∷ events) event = ap (λ ns. a.id ∷ ns) (given_more events event)
 given_more (Allocate size None ∷ events) event = given_more events event

@@ -144,7 +144,7 @@ moved_to old new asked list h id live =
     (at.here, subst (λ ts. Contains ts at.here) (sym at.is) there, eqb-true at.here.new.id id at.passes)
 
 -- among the changes an old id stands at most as often as it was live
-moved_from : (old new : State) (list : _) → IsRearrangingStep old list new → (id : ℕ)
+pub moved_from : (old new : State) (list : _) → IsRearrangingStep old list new → (id : ℕ)
     → count_by (λ t. t.old.id == id) list.changes ≤ live_count id old
 moved_from old new list h id =
     let p : Grant → Bool = λ g. g.id == id in

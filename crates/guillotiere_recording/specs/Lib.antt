@@ -4,4 +4,5 @@ pub mod Logs
 pub mod Sessions
 pub mod Books
 pub mod Names
+pub mod Moves
 pub mod Recordings

@@ -12,18 +12,20 @@ ghost use Rattle.guillotiere.specs.Pixels.{sides_of, size_of, options_of};
 ghost use Rattle.guillotiere.specs.Visits.{AreFreeAreas, CalledAtGrant};
 ghost use Rattle.guillotiere.specs.Steps as atlas;
 ghost use Rattle.guillotiere.specs.Steps.{Step};
-ghost use Rattle.guillotiere_recording.specs.Events.EventValue.{Allocate, Deallocate, Grow};
+ghost use Rattle.guillotiere_recording.specs.Events.EventValue.{Allocate, Deallocate, Grow, Rearrange, ResizeAndRearrange};
+ghost use Rattle.guillotiere_recording.specs.Events.{list_of};
 ghost use Rattle.guillotiere_recording.specs.Sessions.{IsLiveName, Leads};
 ghost use Rattle.guillotiere_recording.specs.Logs.{with_event};
 
 use crate::error::RecordingError;
 use crate::event::Event;
 use crate::log::Log;
-use crate::names::{LiveName, append, find};
+use crate::moves::{Moved, under_names};
+use crate::names::{LiveName, append, find, under_name};
 use crate::recording::Recording;
 use crate::walks::{gather_names, visit_names};
 use guillotiere::{
-    AllocId, Allocation, AllocatorOptions, AtlasAllocator, DEFAULT_OPTIONS, Rectangle, Size,
+    AllocId, Allocation, AllocatorOptions, AtlasAllocator, ChangeList, DEFAULT_OPTIONS, Rectangle, Size,
 };
 use std::alloc::{Allocator, Global};
 use std::marker::Model;
@@ -166,6 +168,46 @@ impl<A: Allocator + Copy> RecordingAllocator<A> {
         Ok(())
     }
 
+    /// Places what is allocated anew, as the atlas's `rearrange` does. Each change has one name in `old` and `new`; the name
+    /// of a failure is live no more. `Memory` if memory is refused; `Slots` as the atlas's.
+    pub fn rearrange(&mut self) -> Result<ChangeList<A>, RecordingError>
+        ensures recorded { IfOk result (λ list. self.new.recording ≡ with_event (Rearrange (list_of list)) self.old.recording) }
+        ensures led { IfOk result (λ list. Leads (session_of self.old) (Rearrange (list_of list)) (session_of self.new)) }
+        ensures slots { result ≡ Err RecordingError.Slots → Step (state_of self.old.atlas) atlas.Rearrange (atlas.Refused AtlasError.Slots) (state_of self.old.atlas) }
+        ensures refused { OnErr result (self.new ≡ self.old) }
+    {
+        let mut atlas = self.atlas.clone()?;
+        let answer = atlas.rearrange()?;
+        let Moved { list, names } = under_names(*self.names.allocator(), &self.names, &answer)?;
+        let event = Event::Rearrange(list.clone()?);
+        self.log.make_room()?;
+        self.atlas = atlas;
+        self.names = names;
+        self.log.note(event);
+        Ok(list)
+    }
+
+    /// Places what is allocated anew in an empty atlas of this size, in pixels, as the atlas's `resize_and_rearrange` does.
+    /// Asks a size that isn't empty. Each change has one name in `old` and `new`; the name of a failure is live no more.
+    /// `Memory` if memory is refused; `Slots` as the atlas's.
+    pub fn resize_and_rearrange(&mut self, new_size: Size) -> Result<ChangeList<A>, RecordingError>
+        requires { IsPositive (sides_of new_size) }
+        ensures recorded { IfOk result (λ list. self.new.recording ≡ with_event (ResizeAndRearrange new_size (list_of list)) self.old.recording) }
+        ensures led { IfOk result (λ list. Leads (session_of self.old) (ResizeAndRearrange new_size (list_of list)) (session_of self.new)) }
+        ensures slots { result ≡ Err RecordingError.Slots → Step (state_of self.old.atlas) (atlas.ResizeAndRearrange (sides_of new_size)) (atlas.Refused AtlasError.Slots) (state_of self.old.atlas) }
+        ensures refused { OnErr result (self.new ≡ self.old) }
+    {
+        let mut atlas = self.atlas.clone()?;
+        let answer = atlas.resize_and_rearrange(new_size)?;
+        let Moved { list, names } = under_names(*self.names.allocator(), &self.names, &answer)?;
+        let event = Event::ResizeAndRearrange(new_size, list.clone()?);
+        self.log.make_room()?;
+        self.atlas = atlas;
+        self.names = names;
+        self.log.note(event);
+        Ok(list)
+    }
+
     /// Calls `visit` on each free rectangle once, in an order that is left open. Asks that `visit` may be called. Takes no
     /// memory.
     pub fn for_each_free_rectangle<F: FnMut(&Rectangle)>(&self, visit: F)
@@ -205,15 +247,5 @@ impl<A: Allocator + Copy> RecordingAllocator<A> {
         ensures { result ≡ self.recording }
     {
         Recording::from_log(self.log)
-    }
-}
-
-// A grant under a name.
-fn under_name(name: u32, granted: &Allocation) -> Allocation
-    ensures { result ≡ record { id = name; rectangle = granted.now.rectangle } }
-{
-    Allocation {
-        id: AllocId::deserialize(name),
-        rectangle: granted.rectangle,
     }
 }

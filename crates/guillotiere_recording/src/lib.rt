@@ -6,6 +6,7 @@ mod error;
 mod event;
 pub mod laws;
 mod log;
+mod moves;
 mod names;
 mod recording;
 mod walks;

@@ -4,7 +4,7 @@ ghost use Rattle.std.specs.List.{HoldsAt};
 ghost use Rattle.guillotiere_recording.specs.Names.{AreRising};
 ghost use Rattle.guillotiere_recording.specs.declared.names.LiveName.{LiveName as Entry};
 
-use guillotiere::AllocId;
+use guillotiere::{AllocId, Allocation};
 use std::alloc::Allocator;
 
 /// A live id and its name.
@@ -57,5 +57,15 @@ pub fn append<T: Drop, A: Allocator>(items: &mut Vec<T, A>, item: T)
 {
     if items.push(item).is_err() {
         unreachable!();
+    }
+}
+
+/// A grant under a name.
+pub fn under_name(name: u32, granted: &Allocation) -> Allocation
+    ensures { result ≡ record { id = name; rectangle = granted.now.rectangle } }
+{
+    Allocation {
+        id: AllocId::deserialize(name),
+        rectangle: granted.rectangle,
     }
 }

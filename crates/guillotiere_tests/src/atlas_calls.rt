@@ -384,7 +384,12 @@ fn freed(
 fn is_free_of_requests(call: &Call) -> bool {
     match call {
         Call::Allocate(_, want) => want.is_none(),
-        Call::Grow(_) | Call::Free(_) | Call::Live(_) => false,
+        Call::Grow(_)
+        | Call::Rearrange(_, _)
+        | Call::RearrangeBeyondLimit
+        | Call::ResizeAndRearrange(_, _, _)
+        | Call::Free(_)
+        | Call::Live(_) => false,
         _ => true,
     }
 }

@@ -1,6 +1,6 @@
 //! Rows of calls of a recording allocator, played with ample memory and with each request for memory refused in turn.
 
-use guillotiere::{AllocId, Allocation, DEFAULT_OPTIONS, Point, Rectangle, Size};
+use guillotiere::{AllocId, Allocation, ChangeList, DEFAULT_OPTIONS, Point, Rectangle, Size};
 use guillotiere_recording::{Event, Recorder, RecordingAllocator, RecordingError};
 use refusing::Refusing;
 use std::alloc::Global;
@@ -13,6 +13,9 @@ type Sides = (i32, i32);
 
 type Corners = (i32, i32, i32, i32);
 
+/// A name, its old box and its new one.
+type Moved = (u32, Corners, Corners);
+
 /// A call and its answer; names are numbers.
 enum Call {
     /// `allocate`: the name and the box, or none.
@@ -21,6 +24,10 @@ enum Call {
     /// `deallocate` of a name that is not live: refused, and not recorded.
     DeallocateDead(u32),
     Grow(Sides),
+    /// `rearrange`: the names that were moved, with their old and their new boxes, and the names that found no room.
+    Rearrange(&'static [Moved], &'static [(u32, Corners)]),
+    /// The same of `resize_and_rearrange`.
+    Resize(Sides, &'static [Moved], &'static [(u32, Corners)]),
     /// What `allocations` lists.
     Live(&'static [(u32, Corners)]),
     /// What `free_rectangles` lists, where it is one box or none.
@@ -58,6 +65,32 @@ const COLUMN: &[Call] = &[
     ]),
     Call::DeallocateDead(1),
     Call::DeallocateDead(4294967295),
+];
+
+// Two boxes are placed anew, the one below first; then neither has room.
+const REARRANGED: &[Call] = &[
+    Call::Allocate((100, 100), Some((0, (0, 0, 100, 100)))),
+    Call::Allocate((100, 100), Some((1, (0, 100, 100, 200)))),
+    Call::Allocate((100, 100), Some((2, (0, 200, 100, 300)))),
+    Call::Allocate((1, 1), None),
+    Call::Deallocate(1),
+    Call::Rearrange(
+        &[
+            (2, (0, 200, 100, 300), (0, 0, 100, 100)),
+            (0, (0, 0, 100, 100), (0, 100, 100, 200)),
+        ],
+        &[],
+    ),
+    Call::Live(&[(0, (0, 100, 100, 200)), (2, (0, 0, 100, 100))]),
+    Call::DeallocateDead(1),
+    Call::Resize(
+        (50, 50),
+        &[],
+        &[(0, (0, 100, 100, 200)), (2, (0, 0, 100, 100))],
+    ),
+    Call::Live(&[]),
+    Call::DeallocateDead(0),
+    Call::Allocate((50, 50), Some((3, (0, 0, 50, 50)))),
 ];
 
 fn size((width, height): Sides) -> Size {
@@ -140,6 +173,17 @@ fn made(rt: &impl Abort, session: &mut Session<'_>, call: &Call) -> bool {
             true
         }
         Call::Grow(sides) => grew(rt, session, *sides),
+        Call::Rearrange(changes, failures) => { told(rt, session.rearrange(), changes, failures) }
+        Call::Resize(sides, changes, failures) => {
+            let new_size = size(*sides);
+            assert!(rt; !new_size.is_empty());
+            told(
+                rt,
+                session.resize_and_rearrange(new_size),
+                changes,
+                failures,
+            )
+        }
         Call::Live(boxes) => shows_live(rt, session, boxes),
         Call::Free(boxes) => shows_free(rt, session, boxes),
     }
@@ -151,6 +195,41 @@ fn grew(rt: &impl Abort, session: &mut Session<'_>, sides: Sides) -> bool {
     assert!(rt; session.size().height <= new_size.height);
     match session.grow(new_size) {
         Ok(()) => true,
+        Err(error) => {
+            assert_eq!(rt; error, RecordingError::Memory);
+            false
+        }
+    }
+}
+
+fn is_list(
+    list: &ChangeList<&Refusing<Global>>,
+    changes: &[Moved],
+    failures: &[(u32, Corners)],
+) -> bool {
+    let moved = list.changes.iter().zip(changes).all(|(change, moved)| {
+        change.old == allocation((moved.0, moved.1)) && change.new == allocation((moved.0, moved.2))
+    });
+    let lost = list
+        .failures
+        .iter()
+        .zip(failures)
+        .all(|(failure, lost)| *failure == allocation(*lost));
+    let counted = list.changes.len() == changes.len() && list.failures.len() == failures.len();
+    moved && lost && counted
+}
+
+fn told(
+    rt: &impl Abort,
+    answer: Result<ChangeList<&Refusing<Global>>, RecordingError>,
+    changes: &[Moved],
+    failures: &[(u32, Corners)],
+) -> bool {
+    match answer {
+        Ok(list) => {
+            assert!(rt; is_list(&list, changes, failures), "{list:?}");
+            true
+        }
         Err(error) => {
             assert_eq!(rt; error, RecordingError::Memory);
             false
@@ -188,6 +267,12 @@ fn is_event(event: &Event<&Refusing<Global>>, call: &Call) -> bool {
         }
         (Event::Deallocate(name), Call::Deallocate(expected)) => name.serialize() == *expected,
         (Event::Grow(new_size), Call::Grow(sides)) => *new_size == size(*sides),
+        (Event::Rearrange(list), Call::Rearrange(changes, failures)) => {
+            is_list(list, changes, failures)
+        }
+        (Event::ResizeAndRearrange(new_size, list), Call::Resize(sides, changes, failures)) => {
+            *new_size == size(*sides) && is_list(list, changes, failures)
+        }
         _ => false,
     }
 }
@@ -195,7 +280,11 @@ fn is_event(event: &Event<&Refusing<Global>>, call: &Call) -> bool {
 fn is_recorded(call: &Call) -> bool {
     matches!(
         call,
-        Call::Allocate(_, _) | Call::Deallocate(_) | Call::Grow(_)
+        Call::Allocate(_, _)
+            | Call::Deallocate(_)
+            | Call::Grow(_)
+            | Call::Rearrange(_, _)
+            | Call::Resize(_, _, _)
     )
 }
 
@@ -206,9 +295,10 @@ fn play(
     sides: Sides,
     calls: &[Call],
 ) -> Result<(), Fail> {
-    assert!(rt; !size(sides).is_empty());
-    let created = match RecordingAllocator::new(heap, size(sides)) {
-        Err(RecordingError::Memory) => RecordingAllocator::new(heap, size(sides)),
+    let whole = size(sides);
+    assert!(rt; !whole.is_empty());
+    let created = match RecordingAllocator::new(heap, whole) {
+        Err(RecordingError::Memory) => RecordingAllocator::new(heap, whole),
         first => first,
     };
     let mut session = created?;
@@ -239,7 +329,11 @@ fn play(
 #[test]
 fn rows(rt: HostRuntime) -> Result<(), Fail> {
     let heap = Refusing::new(rt.alloc());
-    for (sides, calls) in [((100, 100), NAMES), ((100, 300), COLUMN)] {
+    for (sides, calls) in [
+        ((100, 100), NAMES),
+        ((100, 300), COLUMN),
+        ((100, 300), REARRANGED),
+    ] {
         heap.refuse_nth(0);
         play(&rt, &heap, sides, calls)?;
         let mut refusals = 0u32;
