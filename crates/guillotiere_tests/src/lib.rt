@@ -40,6 +40,8 @@ mod session_long;
 #[cfg(test)]
 mod session_rows;
 #[cfg(test)]
+mod simple_beside;
+#[cfg(test)]
 mod simple_recorded;
 #[cfg(test)]
 mod simple_rows;
