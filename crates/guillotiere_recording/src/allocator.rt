@@ -10,6 +10,7 @@ ghost use Rattle.guillotiere.specs.Boxes.{Fits, IsPositive};
 ghost use Rattle.guillotiere.specs.Choice.{AreValid};
 ghost use Rattle.guillotiere.specs.Pixels.{sides_of, size_of, options_of};
 ghost use Rattle.guillotiere.specs.Visits.{AreFreeAreas, CalledAtGrant};
+ghost use Rattle.guillotiere.specs.States.{IsSound};
 ghost use Rattle.guillotiere.specs.Steps as atlas;
 ghost use Rattle.guillotiere.specs.Steps.{Step};
 ghost use Rattle.guillotiere_recording.specs.Events.EventValue.{Allocate, Deallocate, Grow, Rearrange, ResizeAndRearrange};
@@ -93,6 +94,7 @@ impl<A: Allocator + Copy> RecordingAllocator<A> {
     pub fn size(&self) -> Size
         ensures size { result ≡ size_of (state_of self.now.atlas).size }
         ensures faithful { IsFaithful self.now }
+        ensures sound { IsSound (state_of self.now.atlas) }
     {
         let _log = &self.log;
         self.atlas.size()
@@ -107,6 +109,7 @@ impl<A: Allocator + Copy> RecordingAllocator<A> {
         ensures given { IfOk result (λ answer. IfSome answer (λ granted. granted.id ≡ self.old.given)) }
         ensures names { (result ≡ Err RecordingError.Names) ↔ (self.old.given ≡ 2 ^ 32) }
         ensures slots { result ≡ Err RecordingError.Slots → Step (state_of self.old.atlas) (atlas.Allocate (sides_of requested_size)) (atlas.Refused AtlasError.Slots) (state_of self.old.atlas) }
+        ensures live { result ≡ Err RecordingError.NotLive → ⊥ }
         ensures refused { OnErr result (self.new ≡ self.old) }
     {
         if self.given == NAMES {
@@ -141,6 +144,7 @@ impl<A: Allocator + Copy> RecordingAllocator<A> {
         ensures recorded { OnOk result (self.new.recording ≡ with_event (Deallocate id) self.old.recording) }
         ensures led { OnOk result (Leads (session_of self.old) (Deallocate id) (session_of self.new)) }
         ensures not_live { (result ≡ Err RecordingError.NotLive) ↔ (IsLiveName (session_of self.old) id → ⊥) }
+        ensures named { result ≡ Err RecordingError.Names → ⊥ }
         ensures refused { OnErr result (self.new ≡ self.old) }
     {
         let Some(found) = find(&self.names, id.serialize()) else {
@@ -160,6 +164,7 @@ impl<A: Allocator + Copy> RecordingAllocator<A> {
         ensures recorded { OnOk result (self.new.recording ≡ with_event (Grow new_size) self.old.recording) }
         ensures led { OnOk result (Leads (session_of self.old) (Grow new_size) (session_of self.new)) }
         ensures slots { result ≡ Err RecordingError.Slots → Step (state_of self.old.atlas) (atlas.Grow (sides_of new_size)) (atlas.Refused AtlasError.Slots) (state_of self.old.atlas) }
+        ensures named { result ≡ Err RecordingError.Names → ⊥ }
         ensures refused { OnErr result (self.new ≡ self.old) }
     {
         self.log.make_room()?;
@@ -174,6 +179,7 @@ impl<A: Allocator + Copy> RecordingAllocator<A> {
         ensures recorded { IfOk result (λ list. self.new.recording ≡ with_event (Rearrange (list_of list)) self.old.recording) }
         ensures led { IfOk result (λ list. Leads (session_of self.old) (Rearrange (list_of list)) (session_of self.new)) }
         ensures slots { result ≡ Err RecordingError.Slots → Step (state_of self.old.atlas) atlas.Rearrange (atlas.Refused AtlasError.Slots) (state_of self.old.atlas) }
+        ensures named { result ≡ Err RecordingError.Names → ⊥ }
         ensures refused { OnErr result (self.new ≡ self.old) }
     {
         let mut atlas = self.atlas.clone()?;
@@ -195,6 +201,7 @@ impl<A: Allocator + Copy> RecordingAllocator<A> {
         ensures recorded { IfOk result (λ list. self.new.recording ≡ with_event (ResizeAndRearrange new_size (list_of list)) self.old.recording) }
         ensures led { IfOk result (λ list. Leads (session_of self.old) (ResizeAndRearrange new_size (list_of list)) (session_of self.new)) }
         ensures slots { result ≡ Err RecordingError.Slots → Step (state_of self.old.atlas) (atlas.ResizeAndRearrange (sides_of new_size)) (atlas.Refused AtlasError.Slots) (state_of self.old.atlas) }
+        ensures named { result ≡ Err RecordingError.Names → ⊥ }
         ensures refused { OnErr result (self.new ≡ self.old) }
     {
         let mut atlas = self.atlas.clone()?;

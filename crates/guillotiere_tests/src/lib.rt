@@ -64,6 +64,8 @@ mod tool_devices;
 #[cfg(test)]
 mod tool_faults;
 #[cfg(test)]
+mod tool_recording;
+#[cfg(test)]
 mod tool_rows;
 #[cfg(test)]
 mod tool_whole;
