@@ -180,9 +180,10 @@ pub record Records (old : Session) (event : EventValue) (new : Session) : Type 0
   pub led : Leads old.named event new.named
   pub recorded : new.recording ≡ with_event event old.recording
 
--- a refusal of a call to a session, for slots only where its atlas may refuse it so; nothing changes
+-- a refusal of a call to a session, for memory, or for slots where its atlas may refuse it so; nothing changes
 pub record Refuses (old : Session) (call : AtlasCall) (error : AtlasError) (new : Session) : Type 0 where
   pub slots : error ≡ refusal.Slots → Step old.named.state call (AtlasReply.Refused error) old.named.state
+  pub live : error ≡ refusal.NotLive → ⊥
   pub kept : new ≡ old
 
 -- a request to a session: granted under the next name, or without room; refused for names once all were given
@@ -198,7 +199,8 @@ RecordsRequest old size _ new = ⊥
 -- a freeing in a session, by name
 abbrev pub RecordsFreeing : Session → (name : ℕ) → Reply → Session → Type 0
 RecordsFreeing old name Completed new = Records old (EventValue.Deallocate name) new
-RecordsFreeing old name (Declined error) new = ((error ≡ refusal.NotLive) ↔ (IsLiveName old.named name → ⊥)) × (new ≡ old)
+RecordsFreeing old name (Declined error) new =
+    ((error ≡ refusal.NotLive) ↔ (IsLiveName old.named name → ⊥)) × (error ≡ refusal.Slots → ⊥) × (new ≡ old)
 -- no other reply comes
 RecordsFreeing old name _ new = ⊥
 

@@ -18,12 +18,14 @@ placed_id ns at id order some point =
     let its : (get_or ns k r.0).id ≡ id = ap (λ (n : Entry). n.id) r.1.2 ∙ r.2 in
     let not_before : (k < at) ⊎ (at ≤ k) → at ≤ k = λ h. elim h [ inl less ↦ (let l : (get_or ns k r.0).id < id = ltb-true _ _ (point.0 k r.0 (omega arith) less) in absurd (omega arith)) | inr more ↦ more ] in
     let reach : at ≤ k = not_before (cases_lt k at) in
-    let inside : at < length ns = omega arith in
-    (inside, λ d.
-    let up : (get_or ns at r.0).id ≤ (get_or ns k r.0).id = order at k r.0 reach low in
-    let down : id ≤ (get_or ns at r.0).id = ltb-false _ _ (point.1 at r.0 (omega arith) inside) in
-    let same : (get_or ns at d).id ≡ (get_or ns at r.0).id = ap (λ (n : Entry). n.id) (get_or_default ns at d r.0 inside) in
-    omega arith)
+    let inside : at < length ns = omega arith in (
+      inside,
+      λ d.
+          let up : (get_or ns at r.0).id ≤ (get_or ns k r.0).id = order at k r.0 reach low in
+          let down : id ≤ (get_or ns at r.0).id = ltb-false _ _ (point.1 at r.0 (omega arith) inside) in
+          let same : (get_or ns at d).id ≡ (get_or ns at r.0).id = ap (λ (n : Entry). n.id) (get_or_default ns at d r.0 inside) in
+          omega arith,
+    )
 
 abbrev pub entry_with : ℕ → ℕ → Entry
 entry_with name k = record { name = name; id = k }

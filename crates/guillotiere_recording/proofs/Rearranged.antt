@@ -145,19 +145,19 @@ pub rearranges_under : {A : Type 0} (v : SessionValue) (a : AtlasValue) (answer 
     → IsMoved v.names answer m → ((id : ℕ) → live_count id (state_of a) ≤ 1)
     → RearrangesUnder (session_of v) asked (list_of m.list) (record { state = state_of a; name = name_among m.names.items })
 rearranges_under v a answer m asked h step exact moved few =
-  let f = name_among v.names in
-  record {
-  answer = rearrangement_of answer;
-  step = step;
-  exact_changes = subst (λ xs. All IsExactChange xs) (sym moved.changes) (All-map IsExactChange (change_under f) answer.changes.items exact.changes);
-  exact_failures = subst (λ xs. All (λ (x : Allocation). IsExact x.rectangle) xs) (sym moved.failures)
-      (All-map (λ (x : Allocation). IsExact x.rectangle) (failure_under f) answer.failures.items exact.failures);
-  changes = ap (map transfer_of) moved.changes ∙ map_twice transfer_of (change_under f) answer.changes.items
-      ∙ sym (map_twice (renamed_transfer f) transfer_of answer.changes.items);
-  failures = ap (map grant_of) moved.failures ∙ map_twice grant_of (failure_under f) answer.failures.items
-      ∙ sym (map_twice (renamed_grant f) grant_of answer.failures.items);
-  kept = All-map (λ (t : Transfer). name_among m.names.items t.new.id ≡ name_among v.names t.old.id) transfer_of answer.changes.items kept;
-}
+    let f = name_among v.names in
+    record {
+      answer = rearrangement_of answer;
+      step = step;
+      exact_changes = subst (λ xs. All IsExactChange xs) (sym moved.changes) (All-map IsExactChange (change_under f) answer.changes.items exact.changes);
+      exact_failures = subst (λ xs. All (λ (x : Allocation). IsExact x.rectangle) xs) (sym moved.failures)
+          (All-map (λ (x : Allocation). IsExact x.rectangle) (failure_under f) answer.failures.items exact.failures);
+      changes = ap (map transfer_of) moved.changes ∙ map_twice transfer_of (change_under f) answer.changes.items
+          ∙ sym (map_twice (renamed_transfer f) transfer_of answer.changes.items);
+      failures = ap (map grant_of) moved.failures ∙ map_twice grant_of (failure_under f) answer.failures.items
+          ∙ sym (map_twice (renamed_grant f) grant_of answer.failures.items);
+      kept = All-map (λ (t : Transfer). name_among m.names.items t.new.id ≡ name_among v.names t.old.id) transfer_of answer.changes.items kept;
+    }
   where
     kept : (k : ℕ) (d : Change) → k < length answer.changes.items
         → name_among m.names.items (get_or answer.changes.items k d).new.id ≡ name_among v.names (get_or answer.changes.items k d).old.id

@@ -72,7 +72,8 @@ pub record RearrangesUnder (old : Named) (asked : AtlasCall) (list : ListValue) 
 
 -- From old, the call of the event may have the answer of the event, under names, and lead to new.
 abbrev pub Leads : Named → EventValue → Named → Type 0
-Leads old (Allocate size None) new = Step old.state (atlas.Allocate (sides_of size)) NoRoom new.state × KeepsNames old new
+Leads old (Allocate size None) new =
+    Step old.state (atlas.Allocate (sides_of size)) NoRoom new.state × KeepsNames old new
 Leads old (Allocate size (Some a)) new = GrantsUnder old size a new
 Leads old (Deallocate name) new = FreesUnder old name new
 Leads old (Grow size) new = Step old.state (atlas.Grow (sides_of size)) Done new.state × KeepsNames old new

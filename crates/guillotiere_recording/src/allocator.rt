@@ -26,7 +26,8 @@ use crate::names::{LiveName, append, find, under_name};
 use crate::recording::Recording;
 use crate::walks::{gather_names, visit_names};
 use guillotiere::{
-    AllocId, Allocation, AllocatorOptions, AtlasAllocator, ChangeList, DEFAULT_OPTIONS, Rectangle, Size,
+    AllocId, Allocation, AllocatorOptions, AtlasAllocator, ChangeList, DEFAULT_OPTIONS, Rectangle,
+    Size,
 };
 use std::alloc::{Allocator, Global};
 use std::marker::Model;
@@ -104,11 +105,14 @@ impl<A: Allocator + Copy> RecordingAllocator<A> {
     /// given; None as the atlas's, and recorded; `Memory` if memory for the event, for the name or for slots is refused,
     /// also where the answer would be `Slots` or None; `Slots` as the atlas's.
     pub fn allocate(&mut self, requested_size: Size) -> Result<Option<Allocation>, RecordingError>
-        ensures recorded { IfOk result (λ answer. self.new.recording ≡ with_event (Allocate requested_size answer) self.old.recording) }
+        ensures recorded { IfOk result (λ answer. self.new.recording
+            ≡ with_event (Allocate requested_size answer) self.old.recording) }
         ensures led { IfOk result (λ answer. Leads (session_of self.old) (Allocate requested_size answer) (session_of self.new)) }
         ensures given { IfOk result (λ answer. IfSome answer (λ granted. granted.id ≡ self.old.given)) }
         ensures names { (result ≡ Err RecordingError.Names) ↔ (self.old.given ≡ 2 ^ 32) }
-        ensures slots { result ≡ Err RecordingError.Slots → Step (state_of self.old.atlas) (atlas.Allocate (sides_of requested_size)) (atlas.Refused AtlasError.Slots) (state_of self.old.atlas) }
+        ensures slots { result ≡ Err RecordingError.Slots
+            → Step (state_of self.old.atlas) (atlas.Allocate (sides_of requested_size))
+            (atlas.Refused AtlasError.Slots) (state_of self.old.atlas) }
         ensures live { result ≡ Err RecordingError.NotLive → ⊥ }
         ensures refused { OnErr result (self.new ≡ self.old) }
     {
@@ -144,7 +148,8 @@ impl<A: Allocator + Copy> RecordingAllocator<A> {
         ensures recorded { OnOk result (self.new.recording ≡ with_event (Deallocate id) self.old.recording) }
         ensures led { OnOk result (Leads (session_of self.old) (Deallocate id) (session_of self.new)) }
         ensures not_live { (result ≡ Err RecordingError.NotLive) ↔ (IsLiveName (session_of self.old) id → ⊥) }
-        ensures named { result ≡ Err RecordingError.Names → ⊥ }
+        ensures slots { result ≡ Err RecordingError.Slots → ⊥ }
+        ensures names { result ≡ Err RecordingError.Names → ⊥ }
         ensures refused { OnErr result (self.new ≡ self.old) }
     {
         let Some(found) = find(&self.names, id.serialize()) else {
@@ -163,8 +168,11 @@ impl<A: Allocator + Copy> RecordingAllocator<A> {
         requires { Fits (state_of self.old.atlas).size (sides_of new_size) }
         ensures recorded { OnOk result (self.new.recording ≡ with_event (Grow new_size) self.old.recording) }
         ensures led { OnOk result (Leads (session_of self.old) (Grow new_size) (session_of self.new)) }
-        ensures slots { result ≡ Err RecordingError.Slots → Step (state_of self.old.atlas) (atlas.Grow (sides_of new_size)) (atlas.Refused AtlasError.Slots) (state_of self.old.atlas) }
-        ensures named { result ≡ Err RecordingError.Names → ⊥ }
+        ensures slots { result ≡ Err RecordingError.Slots
+            → Step (state_of self.old.atlas) (atlas.Grow (sides_of new_size))
+            (atlas.Refused AtlasError.Slots) (state_of self.old.atlas) }
+        ensures live { result ≡ Err RecordingError.NotLive → ⊥ }
+        ensures names { result ≡ Err RecordingError.Names → ⊥ }
         ensures refused { OnErr result (self.new ≡ self.old) }
     {
         self.log.make_room()?;
@@ -176,10 +184,14 @@ impl<A: Allocator + Copy> RecordingAllocator<A> {
     /// Places what is allocated anew, as the atlas's `rearrange` does. Each change has one name in `old` and `new`; the name
     /// of a failure is live no more. `Memory` if memory is refused; `Slots` as the atlas's.
     pub fn rearrange(&mut self) -> Result<ChangeList<A>, RecordingError>
-        ensures recorded { IfOk result (λ list. self.new.recording ≡ with_event (Rearrange (list_of list)) self.old.recording) }
+        ensures recorded { IfOk result (λ list. self.new.recording
+            ≡ with_event (Rearrange (list_of list)) self.old.recording) }
         ensures led { IfOk result (λ list. Leads (session_of self.old) (Rearrange (list_of list)) (session_of self.new)) }
-        ensures slots { result ≡ Err RecordingError.Slots → Step (state_of self.old.atlas) atlas.Rearrange (atlas.Refused AtlasError.Slots) (state_of self.old.atlas) }
-        ensures named { result ≡ Err RecordingError.Names → ⊥ }
+        ensures slots { result ≡ Err RecordingError.Slots
+            → Step (state_of self.old.atlas) atlas.Rearrange
+            (atlas.Refused AtlasError.Slots) (state_of self.old.atlas) }
+        ensures live { result ≡ Err RecordingError.NotLive → ⊥ }
+        ensures names { result ≡ Err RecordingError.Names → ⊥ }
         ensures refused { OnErr result (self.new ≡ self.old) }
     {
         let mut atlas = self.atlas.clone()?;
@@ -198,10 +210,14 @@ impl<A: Allocator + Copy> RecordingAllocator<A> {
     /// `Memory` if memory is refused; `Slots` as the atlas's.
     pub fn resize_and_rearrange(&mut self, new_size: Size) -> Result<ChangeList<A>, RecordingError>
         requires { IsPositive (sides_of new_size) }
-        ensures recorded { IfOk result (λ list. self.new.recording ≡ with_event (ResizeAndRearrange new_size (list_of list)) self.old.recording) }
+        ensures recorded { IfOk result (λ list. self.new.recording
+            ≡ with_event (ResizeAndRearrange new_size (list_of list)) self.old.recording) }
         ensures led { IfOk result (λ list. Leads (session_of self.old) (ResizeAndRearrange new_size (list_of list)) (session_of self.new)) }
-        ensures slots { result ≡ Err RecordingError.Slots → Step (state_of self.old.atlas) (atlas.ResizeAndRearrange (sides_of new_size)) (atlas.Refused AtlasError.Slots) (state_of self.old.atlas) }
-        ensures named { result ≡ Err RecordingError.Names → ⊥ }
+        ensures slots { result ≡ Err RecordingError.Slots
+            → Step (state_of self.old.atlas) (atlas.ResizeAndRearrange (sides_of new_size))
+            (atlas.Refused AtlasError.Slots) (state_of self.old.atlas) }
+        ensures live { result ≡ Err RecordingError.NotLive → ⊥ }
+        ensures names { result ≡ Err RecordingError.Names → ⊥ }
         ensures refused { OnErr result (self.new ≡ self.old) }
     {
         let mut atlas = self.atlas.clone()?;
@@ -219,7 +235,8 @@ impl<A: Allocator + Copy> RecordingAllocator<A> {
     /// memory.
     pub fn for_each_free_rectangle<F: FnMut(&Rectangle)>(&self, visit: F)
         requires { F.IsAlwaysCallable visit }
-        ensures { (areas : List Area) × AreFreeAreas (state_of self.now.atlas) areas × ((last : F) × FoldsTo (λ p x q. CalledAt F.FnMut p x tt q) visit areas last) }
+        ensures { (areas : List Area) × AreFreeAreas (state_of self.now.atlas) areas × ((last : F)
+            × FoldsTo (λ p x q. CalledAt F.FnMut p x tt q) visit areas last) }
     {
         self.atlas.for_each_free_rectangle(visit);
     }
@@ -228,7 +245,8 @@ impl<A: Allocator + Copy> RecordingAllocator<A> {
     /// memory.
     pub fn for_each_allocated_rectangle<F: FnMut(AllocId, &Rectangle)>(&self, visit: F)
         requires { F.IsAlwaysCallable visit }
-        ensures { (grants : List Grant) × AreBooked self.now.recording.events grants × ((last : F) × FoldsTo (CalledAtGrant F.FnMut) visit grants last) }
+        ensures { (grants : List Grant) × AreBooked self.now.recording.events grants × ((last : F)
+            × FoldsTo (CalledAtGrant F.FnMut) visit grants last) }
     {
         visit_names(&self.atlas, &self.names, visit);
     }

@@ -40,7 +40,8 @@ pub struct Found {
 pub fn find<A: Allocator>(names: &Vec<LiveName, A>, name: u32) -> Option<Found>
     requires { AreRising names.now.items }
     ensures inside { IfSome result (λ found. found.at < length names.now.items) }
-    ensures found { IfSome result (λ found. HoldsAt (λ (n : Entry). n ≡ record { name = name; id = found.id }) names.now.items found.at) }
+    ensures found { IfSome result (λ found. HoldsAt (λ (n : Entry). n
+        ≡ record { name = name; id = found.id }) names.now.items found.at) }
     ensures none { IfNone result (All (λ (n : Entry). n.name ≡ name → ⊥) names.now.items) }
 {
     let at = place_of(names, name)?;
