@@ -10,6 +10,7 @@ ghost use Rattle.guillotiere.specs.Boxes.{Fits, IsPositive};
 ghost use Rattle.guillotiere.specs.Choice.{AreValid};
 ghost use Rattle.guillotiere.specs.Pixels.{sides_of, size_of, options_of};
 ghost use Rattle.guillotiere.specs.Visits.{AreFreeAreas, CalledAtGrant};
+ghost use Rattle.guillotiere.specs.States.{IsSound};
 ghost use Rattle.guillotiere.specs.Steps as atlas;
 ghost use Rattle.guillotiere.specs.Steps.{Step};
 ghost use Rattle.guillotiere_recording.specs.Events.EventValue.{Allocate, Deallocate, Grow, Rearrange, ResizeAndRearrange};
@@ -94,6 +95,7 @@ impl<A: Allocator + Copy> RecordingAllocator<A> {
     pub fn size(&self) -> Size
         ensures size { result ≡ size_of (state_of self.now.atlas).size }
         ensures faithful { IsFaithful self.now }
+        ensures sound { IsSound (state_of self.now.atlas) }
     {
         let _log = &self.log;
         self.atlas.size()
