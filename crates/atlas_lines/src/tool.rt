@@ -8,14 +8,13 @@ ghost use Rattle.atlas_lines.specs.declared.standing.Standing.TheVariants.{Nothi
 ghost use Rattle.atlas_lines.specs.Answers.{shown_by, Replies, BeginsToReply};
 ghost use Rattle.atlas_lines.specs.Machine.{ToolReply, ToolStep, CreatesSimple, RequestsSimple, StartsSimple, CreatesAtlas, BeginsSession, CallsStanding, RearrangesStanding, LooksAtStanding, HasNoAtlas, RecordsRequest, RecordsFreeing, RecordsGrowth, RecordsRearranging, IsLine, ShowsLive, ShowsNames, ShowsHoles, ShowsSize, ShowsEmpty, SaysNoAtlas, atlas_of, standing_in, state_of};
 
-use crate::atlas_calls;
 use crate::atlas_calls::is_positive;
 use crate::commands::Command;
 use crate::devices::ToolOutput;
 use crate::listing::{Waiting, send};
 use crate::replies::{Answer, Reply};
-use crate::session_calls;
 use crate::standing::Standing;
+use crate::{atlas_calls, session_calls};
 use guillotiere::{AllocId, AllocatorOptions, AtlasAllocator, SimpleAtlasAllocator, Size};
 use guillotiere_recording::RecordingAllocator;
 use std::alloc::Allocator;

@@ -16,13 +16,13 @@ mod atlas_grants;
 mod atlas_growth;
 #[cfg(test)]
 mod atlas_growth_recorded;
+mod atlas_memory;
 #[cfg(test)]
 mod atlas_rearranging;
 #[cfg(test)]
 mod atlas_rearranging_recorded;
 #[cfg(test)]
 mod atlas_rearranging_sessions;
-mod atlas_memory;
 #[cfg(test)]
 mod atlas_recorded;
 #[cfg(test)]
