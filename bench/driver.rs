@@ -89,10 +89,12 @@ impl Answers {
     }
 }
 
-fn glyph(calls: u32) -> Answers {
+// With `is_named`, as a recording allocator answers: names 0, 1, 2, .. in place of ids.
+fn glyph(calls: u32, is_named: bool) -> Answers {
     let mut random = Random(1);
     let mut atlas = AtlasAllocator::new(size2(2048, 2048));
     let mut live = Vec::new();
+    let mut names = 0;
     let mut answers = Answers::new();
     let mut size = size2(random.between(8, 64), random.between(8, 64));
     let mut is_full = false;
@@ -105,9 +107,11 @@ fn glyph(calls: u32) -> Answers {
             continue;
         }
         let answer = atlas.allocate(size);
-        answers.request(answer);
+        let name = AllocId::deserialize(names);
+        answers.request(answer.map(|granted| Allocation { id: if is_named { name } else { granted.id }, ..granted }));
         match answer {
             Some(allocation) => {
+                names += 1;
                 live.push(allocation.id);
                 size = size2(random.between(8, 64), random.between(8, 64));
             }
@@ -247,7 +251,8 @@ fn main() {
         let (name, size) = line.split_once(' ').expect("a name and a size");
         let size = size.parse().expect("a size");
         let answers = match name {
-            "glyph" => glyph(size),
+            "glyph" => glyph(size, false),
+            "record" => glyph(size, true),
             "sprite" => sprite(size, false),
             "sprite-sorted" => sprite(size, true),
             "checker" => checker(size),

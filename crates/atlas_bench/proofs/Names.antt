@@ -4,12 +4,13 @@ use Rattle.atlas_lines.specs.Words.{BeginsWithWord}
 use Rattle.atlas_lines.proofs.Keywords.{has_no_space, no_space_by_test}
 use Rattle.atlas_lines.proofs.Parting.{one_word}
 use Rattle.atlas_bench.specs.declared.workload.Workload.{Workload}
-use Rattle.atlas_bench.specs.declared.workload.Workload.TheVariants.{Glyph, Sprite, SortedSprite, Checker, Search, Growth, Rearrange}
+use Rattle.atlas_bench.specs.declared.workload.Workload.TheVariants.{Glyph, Record, Sprite, SortedSprite, Checker, Search, Growth, Rearrange}
 use Rattle.atlas_bench.specs.Workloads.{name}
 
 name_test : (w : Workload) → has_no_space (name w) ≡ true
 unfolding has_no_space
 name_test Glyph = refl
+name_test Record = refl
 name_test Sprite = refl
 name_test SortedSprite = refl
 name_test Checker = refl

@@ -3,11 +3,12 @@ use Rattle.std.specs.Prelude.{◌≡◌, ℕ, ◌+◌, ◌*◌, ◌^◌, ◌<◌
 use Rattle.guillotiere.specs.declared.geometry.Size.{Size}
 use Rattle.atlas_bench.specs.SplitMix.{next_state, number_below, size_between}
 use Rattle.atlas_bench.specs.declared.workload.Workload.{Workload}
-use Rattle.atlas_bench.specs.declared.workload.Workload.TheVariants.{Glyph, Sprite, SortedSprite, Checker, Search, Growth, Rearrange}
+use Rattle.atlas_bench.specs.declared.workload.Workload.TheVariants.{Glyph, Record, Sprite, SortedSprite, Checker, Search, Growth, Rearrange}
 
 -- the name of a workload
 abbrev pub name : Workload → List ℕ
 name Glyph = codes "glyph"
+name Record = codes "record"
 name Sprite = codes "sprite"
 name SortedSprite = codes "sprite-sorted"
 name Checker = codes "checker"
@@ -18,6 +19,7 @@ name Rearrange = codes "rearrange"
 -- its greatest size
 abbrev pub most_size : Workload → ℕ
 most_size Glyph = 1000000000
+most_size Record = 10000000
 most_size Sprite = 1000000
 most_size SortedSprite = 1000000
 most_size Checker = 8000000
@@ -29,6 +31,7 @@ most_size Rearrange = 1000000000
 -- are granted that are rearranged, of which half are freed.
 abbrev pub Makes : Workload → (size calls : ℕ) → Type 0
 Makes Glyph size calls = calls ≡ size
+Makes Record size calls = calls ≡ size
 Makes Sprite size calls = calls ≡ size
 Makes SortedSprite size calls = calls ≡ size
 Makes Checker size calls = calls ≡ 2 * size

@@ -69,7 +69,10 @@ impl Answers {
 
     // The same of boxes, in order.
     fn add_grants(&mut self, grants: &[Allocation])
-        ensures { self.new ≡ record { calls = self.old.calls; checksum = fold with_grant self.old.checksum grants.now } }
+        ensures { self.new ≡ record {
+          calls = self.old.calls;
+          checksum = fold with_grant self.old.checksum grants.now;
+        } }
     {
         for allocation in grants {
             self.add_grant(*allocation);
@@ -78,7 +81,10 @@ impl Answers {
 
     // The same of what boxes were and what they became, in order.
     fn add_changes(&mut self, changes: &[Change])
-        ensures { self.new ≡ record { calls = self.old.calls; checksum = fold with_change self.old.checksum changes.now } }
+        ensures { self.new ≡ record {
+          calls = self.old.calls;
+          checksum = fold with_change self.old.checksum changes.now;
+        } }
     {
         for change in changes {
             self.add_grant(change.old);
@@ -116,7 +122,10 @@ impl Answers {
     /// Takes in that the atlas was rearranged.
     pub fn rearranged(&mut self, list: &ChangeList)
         requires { self.old.calls + 1 < 2 ^ 64 }
-        ensures { self.new ≡ record { calls = self.old.calls + 1; checksum = with_word (with_list self.old.checksum list.now.changes.items list.now.failures.items) REARRANGED } }
+        ensures { self.new ≡ record {
+          calls = self.old.calls + 1;
+          checksum = with_word (with_list self.old.checksum list.now.changes.items list.now.failures.items) REARRANGED;
+        } }
     {
         self.calls += 1;
         self.add_changes(&list.changes);

@@ -1,5 +1,6 @@
 //! Why the program ends before its last line.
 use guillotiere::AtlasError;
+use guillotiere_recording::RecordingError;
 use std::alloc::AllocError;
 use std::io;
 use thiserror::Error;
@@ -13,6 +14,9 @@ pub enum BenchError {
     /// The atlas refused a call.
     #[error("refused: {0}")]
     Refused(#[from] AtlasError),
+    /// The recording allocator refused a call.
+    #[error("refused: {0}")]
+    Unrecorded(#[from] RecordingError),
     /// The atlas gave an answer that the workload rules out.
     #[error("wrong answer")]
     WrongAnswer,

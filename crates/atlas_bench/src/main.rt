@@ -8,6 +8,7 @@ mod glyphs;
 mod growth;
 mod jobs;
 mod random;
+mod recordings;
 mod run;
 mod sheets;
 mod sprites;

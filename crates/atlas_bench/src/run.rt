@@ -9,6 +9,7 @@ use crate::error::BenchError;
 use crate::glyphs::glyph;
 use crate::growth::growth;
 use crate::jobs::jobs;
+use crate::recordings::recorded;
 use crate::sheets::rearrange;
 use crate::sprites::{sorted_sprite, sprite};
 use crate::workload::{Job, Workload};
@@ -21,6 +22,7 @@ fn run_job(alloc: Global, job: Job) -> Result<Answers, BenchError>
 {
     match job.workload {
         Workload::Glyph => glyph(alloc, job.size),
+        Workload::Record => recorded(alloc, job.size),
         Workload::Sprite => sprite(alloc, job.size),
         Workload::SortedSprite => sorted_sprite(alloc, job.size),
         Workload::Checker => checker(alloc, job.size),

@@ -7,6 +7,8 @@ ghost use Rattle.atlas_bench.specs.Workloads.{name, most_size};
 pub enum Workload {
     /// `glyph`: a cache of glyphs; the size is the number of calls.
     Glyph,
+    /// `record`: the same cache through a recording allocator; the size is the number of calls.
+    Record,
     /// `sprite`: a sheet of sprites in the order in which they come; the size is their number.
     Sprite,
     /// `sprite-sorted`: the same sprites, sorted.
@@ -38,6 +40,7 @@ impl Workload {
     {
         match word {
             b"glyph" => Some(Workload::Glyph),
+            b"record" => Some(Workload::Record),
             b"sprite" => Some(Workload::Sprite),
             b"sprite-sorted" => Some(Workload::SortedSprite),
             b"checker" => Some(Workload::Checker),
@@ -54,6 +57,7 @@ impl Workload {
     {
         match self {
             Workload::Glyph => "glyph",
+            Workload::Record => "record",
             Workload::Sprite => "sprite",
             Workload::SortedSprite => "sprite-sorted",
             Workload::Checker => "checker",
@@ -69,6 +73,7 @@ impl Workload {
     {
         match self {
             Workload::Glyph | Workload::Search | Workload::Rearrange => 1_000_000_000,
+            Workload::Record => 10_000_000,
             Workload::Sprite | Workload::SortedSprite => 1_000_000,
             Workload::Checker => 8_000_000,
             Workload::Growth => 32_768,

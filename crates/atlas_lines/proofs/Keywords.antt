@@ -6,7 +6,7 @@ use Rattle.std.specs.Str.{bytes_eq}
 use Rattle.guillotiere.specs.declared.geometry.Size.{Size}
 use Rattle.guillotiere.specs.declared.options.AllocatorOptions.{AllocatorOptions}
 use Rattle.atlas_lines.specs.declared.commands.Command.{Command}
-use Rattle.atlas_lines.specs.declared.commands.Command.TheVariants.{Simple, Take, Atlas, Alloc, Live, Holes, AskSize, Free, Grow, Empty, Clear, Rearrange, Resize, FromAtlas}
+use Rattle.atlas_lines.specs.declared.commands.Command.TheVariants.{Simple, Take, Atlas, Alloc, Live, Holes, AskSize, Free, Grow, Empty, Clear, Rearrange, Resize, FromAtlas, Record}
 use Rattle.atlas_lines.specs.Grammar.{SpellsSize, SpellsAtlas, SpellsId, SpellsArguments, Spells, keyword}
 use Rattle.atlas_lines.specs.Words.{HasNoSpace, IsEmptyOrSpaced, BeginsWithWord, SpellsInParts}
 use Rattle.atlas_lines.proofs.Parting.{one_word, numbers_spaced}
@@ -42,6 +42,7 @@ keyword_test Clear = refl
 keyword_test Rearrange = refl
 keyword_test (Resize size) = refl
 keyword_test FromAtlas = refl
+keyword_test (Record size) = refl
 
 pub keyword_no_space : (c : Command) → HasNoSpace (keyword c)
 keyword_no_space c = no_space_by_test (keyword c) (keyword_test c)
@@ -64,6 +65,7 @@ arguments_spaced Clear text spells = subst IsEmptyOrSpaced (sym spells) tt
 arguments_spaced Rearrange text spells = subst IsEmptyOrSpaced (sym spells) tt
 arguments_spaced (Resize size) text spells = size_spaced size text spells
 arguments_spaced FromAtlas text spells = subst IsEmptyOrSpaced (sym spells) tt
+arguments_spaced (Record size) text spells = size_spaced size text spells
 
 -- the first word of a line that spells a command is its keyword
 pub in_parts : (c : Command) (line word rest : List ℕ) → BeginsWithWord line word rest → Spells c line → SpellsInParts c word rest
@@ -117,6 +119,10 @@ pub only_resize : (c : Command) (word rest : List ℕ) → word ≡ codes "resiz
 only_resize (Resize size) word rest e parts = (size, refl, parts.1)
 only_resize c word rest e parts = absurd (differ (codes "resize") (keyword c) refl (sym e ∙ parts.0))
 
+pub only_record : (c : Command) (word rest : List ℕ) → word ≡ codes "record" → SpellsInParts c word rest → (size : Size) × (c ≡ Record size) × SpellsSize size rest
+only_record (Record size) word rest e parts = (size, refl, parts.1)
+only_record c word rest e parts = absurd (differ (codes "record") (keyword c) refl (sym e ∙ parts.0))
+
 pub only_clear : (c : Command) (word rest : List ℕ) → word ≡ codes "clear" → SpellsInParts c word rest → (c ≡ Clear) × (rest ≡ [])
 only_clear Clear word rest e parts = (refl, parts.1)
 only_clear c word rest e parts = absurd (differ (codes "clear") (keyword c) refl (sym e ∙ parts.0))
@@ -149,6 +155,7 @@ ends_alone (Alloc size) rest alone spells = absurd (no_size size alone)
 ends_alone (Free id) rest alone spells = absurd (let e = alone.1 in cc)
 ends_alone (Grow size) rest alone spells = absurd (no_size size alone)
 ends_alone (Resize size) rest alone spells = absurd (no_size size alone)
+ends_alone (Record size) rest alone spells = absurd (no_size size alone)
 ends_alone Live rest alone spells = spells
 ends_alone Holes rest alone spells = spells
 ends_alone AskSize rest alone spells = spells
@@ -159,21 +166,22 @@ ends_alone FromAtlas rest alone spells = spells
 
 -- no other word begins a command with arguments
 pub stands_alone : (c : Command) (word rest : List ℕ) → word ≢ codes "simple" → word ≢ codes "take" → word ≢ codes "atlas" → word ≢ codes "alloc" → word ≢ codes "free"
-    → word ≢ codes "grow" → word ≢ codes "resize" → SpellsInParts c word rest → SpellsArguments c []
-stands_alone (Simple size) word rest simple take atlas alloc free grow resize parts = absurd (simple parts.0)
-stands_alone (Take size) word rest simple take atlas alloc free grow resize parts = absurd (take parts.0)
-stands_alone (Atlas size options) word rest simple take atlas alloc free grow resize parts = absurd (atlas parts.0)
-stands_alone (Alloc size) word rest simple take atlas alloc free grow resize parts = absurd (alloc parts.0)
-stands_alone (Free id) word rest simple take atlas alloc free grow resize parts = absurd (free parts.0)
-stands_alone (Grow size) word rest simple take atlas alloc free grow resize parts = absurd (grow parts.0)
-stands_alone (Resize size) word rest simple take atlas alloc free grow resize parts = absurd (resize parts.0)
-stands_alone Live word rest simple take atlas alloc free grow resize parts = refl
-stands_alone Holes word rest simple take atlas alloc free grow resize parts = refl
-stands_alone AskSize word rest simple take atlas alloc free grow resize parts = refl
-stands_alone Empty word rest simple take atlas alloc free grow resize parts = refl
-stands_alone Clear word rest simple take atlas alloc free grow resize parts = refl
-stands_alone Rearrange word rest simple take atlas alloc free grow resize parts = refl
-stands_alone FromAtlas word rest simple take atlas alloc free grow resize parts = refl
+    → word ≢ codes "grow" → word ≢ codes "resize" → word ≢ codes "record" → SpellsInParts c word rest → SpellsArguments c []
+stands_alone (Simple size) word rest simple take atlas alloc free grow resize recorded parts = absurd (simple parts.0)
+stands_alone (Take size) word rest simple take atlas alloc free grow resize recorded parts = absurd (take parts.0)
+stands_alone (Atlas size options) word rest simple take atlas alloc free grow resize recorded parts = absurd (atlas parts.0)
+stands_alone (Alloc size) word rest simple take atlas alloc free grow resize recorded parts = absurd (alloc parts.0)
+stands_alone (Free id) word rest simple take atlas alloc free grow resize recorded parts = absurd (free parts.0)
+stands_alone (Grow size) word rest simple take atlas alloc free grow resize recorded parts = absurd (grow parts.0)
+stands_alone (Resize size) word rest simple take atlas alloc free grow resize recorded parts = absurd (resize parts.0)
+stands_alone Live word rest simple take atlas alloc free grow resize recorded parts = refl
+stands_alone Holes word rest simple take atlas alloc free grow resize recorded parts = refl
+stands_alone AskSize word rest simple take atlas alloc free grow resize recorded parts = refl
+stands_alone Empty word rest simple take atlas alloc free grow resize recorded parts = refl
+stands_alone Clear word rest simple take atlas alloc free grow resize recorded parts = refl
+stands_alone Rearrange word rest simple take atlas alloc free grow resize recorded parts = refl
+stands_alone FromAtlas word rest simple take atlas alloc free grow resize recorded parts = refl
+stands_alone (Record size) word rest simple take atlas alloc free grow resize recorded parts = absurd (recorded parts.0)
 
 -- no other word begins a command without arguments
 pub no_keyword : (c : Command) (word rest : List ℕ) → SpellsArguments c [] → word ≢ codes "live" → word ≢ codes "holes" → word ≢ codes "size" → word ≢ codes "empty"
@@ -192,3 +200,4 @@ no_keyword Empty word rest alone live holes ask empty clear rearrange from parts
 no_keyword Clear word rest alone live holes ask empty clear rearrange from parts = clear parts.0
 no_keyword Rearrange word rest alone live holes ask empty clear rearrange from parts = rearrange parts.0
 no_keyword FromAtlas word rest alone live holes ask empty clear rearrange from parts = from parts.0
+no_keyword (Record size) word rest alone live holes ask empty clear rearrange from parts = no_size size alone

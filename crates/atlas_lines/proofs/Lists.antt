@@ -22,9 +22,10 @@ use Rattle.guillotiere.specs.Stored.{AtlasValue, state_of}
 use Rattle.guillotiere.specs.Visits.{AreGrants, AreFreeAreas}
 use Rattle.guillotiere.specs.Rearranging.{IsExactChange, transfer_of}
 use Rattle.guillotiere.specs.Simple.{SimpleState}
-use Rattle.atlas_lines.specs.declared.replies.Reply.{Reply}
+use Rattle.guillotiere_recording.specs.Recordings.{SessionValue}
+use Rattle.atlas_lines.specs.declared.standing.Standing.TheVariants.{Atlas, Session}
 use Rattle.atlas_lines.specs.Machine.{state_of as tool_state_of}
-use Rattle.atlas_lines.specs.Machine.{ToolReply, Held, with_atlas, LooksAtAtlas, IsLine, ShowsSize, ShowsEmpty, atlas_in, ShowsLive, HoldsHoles, AreInOrder, allocation_of, change_of}
+use Rattle.atlas_lines.specs.Machine.{ToolReply, Held, with_atlas, with_session, session_in, ShowsLive, HoldsHoles, AreInOrder, allocation_of, change_of}
 
 same_allocation : (a : Allocation) → IsExact a.rectangle → a ≡ allocation_of (grant_of a)
 same_allocation a e = λ i. record { id = a.id; rectangle = e i }
@@ -57,14 +58,8 @@ changes_shown changes failures exact lost =
     λ i. ToolReply.ChangeLines (moved i) (left i)
 
 -- the gathered live list is one that may be shown
-live_shown : (state : State) (found : List Allocation) → AreGrants state found → ShowsLive state (ToolReply.LiveLines found)
+pub live_shown : (state : State) (found : List Allocation) → AreGrants state found → ShowsLive state (ToolReply.LiveLines found)
 live_shown state found grants = (map grant_of found, grants.list, granted_back found grants.exact)
-
-pub live_looked : (held inside : Option AtlasValue) (value : AtlasValue) (found : List Allocation) → inside ≡ held → inside ≡ Some value → AreGrants (state_of value) found
-    → LooksAtAtlas (atlas_in held) ShowsLive (ToolReply.LiveLines found)
-live_looked held inside value found e f grants =
-    let P : Option AtlasValue → Type 0 = λ atlas. LooksAtAtlas (atlas_in atlas) ShowsLive (ToolReply.LiveLines found) in
-    subst P (sym f ∙ e) (live_shown (state_of value) found grants)
 
 areas_back : (found : List Rectangle) → All IsExact found → found ≡ map rectangle_of (map box_of found)
 areas_back [] exact = refl
@@ -129,21 +124,12 @@ holes_listed state found sorted areas moved order =
       areas_back sorted exact,
     )
 
--- ---- looks at an atlas that stands in the tool
-
-pub looked_size : (held inside : Option AtlasValue) (value : AtlasValue) (reply : Reply) → inside ≡ held → inside ≡ Some value → ShowsSize (state_of value) reply
-    → LooksAtAtlas (atlas_in held) (λ state. IsLine (ShowsSize state)) (ToolReply.OneLine reply)
-looked_size held inside value reply e f shown =
-    let P : Option AtlasValue → Type 0 = λ atlas. LooksAtAtlas (atlas_in atlas) (λ state. IsLine (ShowsSize state)) (ToolReply.OneLine reply) in
-    subst P (sym f ∙ e) shown
-
-pub looked_empty : (held inside : Option AtlasValue) (value : AtlasValue) (reply : Reply) → inside ≡ held → inside ≡ Some value → ShowsEmpty (state_of value) reply
-    → LooksAtAtlas (atlas_in held) (λ state. IsLine (ShowsEmpty state)) (ToolReply.OneLine reply)
-looked_empty held inside value reply e f shown =
-    let P : Option AtlasValue → Type 0 = λ atlas. LooksAtAtlas (atlas_in atlas) (λ state. IsLine (ShowsEmpty state)) (ToolReply.OneLine reply) in
-    subst P (sym f ∙ e) shown
-
 -- a new atlas in the tool
 pub made_atlas : (held : Held) (simple : Option SimpleState) (value : AtlasValue) (made : State) → simple ≡ held.simple → state_of value ≡ made
-    → tool_state_of (record { atlas = Some value; simple = simple }) ≡ with_atlas (tool_state_of held) made
-made_atlas held simple value made e f = λ i. record { atlas = Some (f i); simple = e i }
+    → tool_state_of (record { stand = Atlas value; simple = simple }) ≡ with_atlas (tool_state_of held) made
+made_atlas held simple value made e f = λ i. record { stand = Atlas (f i); simple = e i }
+
+-- a new session in the tool
+pub made_session : (held : Held) (simple : Option SimpleState) (value : SessionValue) → simple ≡ held.simple
+    → tool_state_of (record { stand = Session value; simple = simple }) ≡ with_session (tool_state_of held) (session_in value)
+made_session held simple value e = λ i. record { stand = Session (session_in value); simple = e i }

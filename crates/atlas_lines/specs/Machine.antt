@@ -1,11 +1,14 @@
 -- The tool as a machine: the reply to each command, by the steps of the allocators.
-use Rattle.std.specs.Prelude.{ℕ, ◌≡◌, ◌+◌, ◌<◌, ◌↔◌, IsTrue, List, [], map, length, slice_index_or, Option, Some, None}
+use Rattle.std.specs.Prelude.{ℕ, ◌≡◌, ⊤, ◌+◌, ◌<◌, ◌^◌, ◌↔◌, IsTrue, List, [], map, length, slice_index_or, Option, Some, None}
 use Rattle.guillotiere.specs.declared.allocation.Allocation.{Allocation}
 use Rattle.guillotiere.specs.declared.change.Change.{Change}
 use Rattle.guillotiere.specs.declared.error.AtlasError.TheVariants.{Memory}
 use Rattle.guillotiere.specs.declared.geometry.Rectangle.{Rectangle}
 use Rattle.guillotiere.specs.declared.options.TheConstants.{DEFAULT_OPTIONS}
-use Rattle.guillotiere.specs.Boxes.{Sides, Box, IsPositive, AreSameBoxes}
+use Rattle.guillotiere.specs.declared.geometry.Size.{Size}
+use Rattle.guillotiere.specs.declared.error.AtlasError.{AtlasError}
+use Rattle.guillotiere.specs.declared.error.AtlasError.TheVariants as refusal
+use Rattle.guillotiere.specs.Boxes.{Sides, Box, IsPositive, Fits, AreSameBoxes}
 use Rattle.guillotiere.specs.Choice.{Options, AreValid, ComesFirst}
 use Rattle.guillotiere.specs.Pixels.{sides_of, size_of, options_of, rectangle_of}
 use Rattle.guillotiere.specs.Trees.{Grant}
@@ -17,10 +20,18 @@ use Rattle.guillotiere.specs.Replies.{IsLiveList}
 use Rattle.guillotiere.specs.Stored.{AtlasValue}
 use Rattle.guillotiere.specs.Stored as stored
 use Rattle.guillotiere.specs.Simple.{SimpleState, SimpleAtlasCall, SimpleAnswer, SimpleStep, simple_start}
+use Rattle.guillotiere_recording.specs.declared.error.RecordingError.{RecordingError}
+use Rattle.guillotiere_recording.specs.declared.error.RecordingError.TheVariants as recording
+use Rattle.guillotiere_recording.specs.Events.{EventValue, ListValue}
+use Rattle.guillotiere_recording.specs.Logs.{RecordingValue, with_event}
+use Rattle.guillotiere_recording.specs.Recordings.{SessionValue, AreBooked, session_of}
+use Rattle.guillotiere_recording.specs.Sessions.{Named, IsLiveName, Leads}
 use Rattle.atlas_lines.specs.declared.commands.Command.{Command}
-use Rattle.atlas_lines.specs.declared.commands.Command.TheVariants.{Simple, Take, Atlas, Alloc, Live, Holes, AskSize, Free, Grow, Empty, Clear, Rearrange, Resize, FromAtlas}
+use Rattle.atlas_lines.specs.declared.commands.Command.TheVariants.{Simple, Take, Atlas, Alloc, Live, Holes, AskSize, Free, Grow, Empty, Clear, Rearrange, Resize, FromAtlas, Record}
 use Rattle.atlas_lines.specs.declared.replies.Reply.{Reply}
-use Rattle.atlas_lines.specs.declared.replies.Reply.TheVariants.{Completed, Placed, NotPlaced, Allocated, Extent, Truth, NoAtlas, NoSimple, Invalid, Declined}
+use Rattle.atlas_lines.specs.declared.replies.Reply.TheVariants.{Completed, Placed, NotPlaced, Allocated, Extent, Truth, NoAtlas, NoSimple, Invalid, Declined, NoNames}
+use Rattle.atlas_lines.specs.declared.standing.Standing.{Standing}
+use Rattle.atlas_lines.specs.declared.standing.Standing.TheVariants as stands
 
 -- a reply of one line, or of a line for each and one for their count
 pub data ToolReply : Type 0 where
@@ -29,28 +40,48 @@ pub data ToolReply : Type 0 where
   HoleLines : (areas : List Rectangle) → ToolReply
   ChangeLines : (changes : List Change) → (failures : List Allocation) → ToolReply
 
+-- a session that is recorded: an atlas under names, how many names were given, and what was recorded
+pub record Session : Type 0 where
+  pub named : Named
+  pub given : ℕ
+  pub recording : RecordingValue
+
+-- an atlas or a recorded session stands in one place
 pub record ToolState : Type 0 where
-  pub atlas : Option State
+  pub stand : Standing State Session
   pub simple : Option SimpleState
 
 -- what the tool stores: the values of its allocators
 pub record Held : Type 0 where
-  pub atlas : Option AtlasValue
+  pub stand : Standing AtlasValue SessionValue
   pub simple : Option SimpleState
 
-abbrev pub atlas_in : Option AtlasValue → Option State
-atlas_in None = None
-atlas_in (Some value) = Some (stored.state_of value)
+abbrev pub session_in : SessionValue → Session
+session_in value = record { named = session_of value; given = value.given; recording = value.recording }
+
+abbrev pub standing_in : Standing AtlasValue SessionValue → Standing State Session
+standing_in stands.Nothing = stands.Nothing
+standing_in (stands.Atlas value) = stands.Atlas (stored.state_of value)
+standing_in (stands.Session value) = stands.Session (session_in value)
 
 abbrev pub state_of : Held → ToolState
-state_of held = record { atlas = atlas_in held.atlas; simple = held.simple }
+state_of held = record { stand = standing_in held.stand; simple = held.simple }
 
--- no atlas and no simple allocator
+-- the atlas, if it stands there itself
+abbrev pub atlas_of : Standing State Session → Option State
+atlas_of stands.Nothing = None
+atlas_of (stands.Atlas state) = Some state
+atlas_of (stands.Session session) = None
+
+-- no atlas, no recorded session and no simple allocator
 abbrev pub at_start : ToolState
-at_start = record { atlas = None; simple = None }
+at_start = record { stand = stands.Nothing; simple = None }
 
 abbrev pub with_atlas : ToolState → State → ToolState
-with_atlas old made = record old { atlas = Some made }
+with_atlas old made = record old { stand = stands.Atlas made }
+
+abbrev pub with_session : ToolState → Session → ToolState
+with_session old made = record old { stand = stands.Session made }
 
 abbrev pub with_simple : ToolState → SimpleState → ToolState
 with_simple old made = record old { simple = Some made }
@@ -85,7 +116,7 @@ StartsSimple (Some source) (Some state) reply new =
     (answer : SimpleAnswer) × (later : SimpleState)
     × SimpleStep state (SimpleAtlasCall.Start source) answer later × (reply ≡ simple_reply answer) × (new ≡ Some later)
 
--- the creation of an atlas, which takes the place of an earlier one
+-- the creation of an atlas, which takes the place of an earlier one or of a recorded session
 abbrev pub CreatesAtlas : ToolState → Sides → Options → Reply → ToolState → Type 0
 CreatesAtlas old size options Completed new =
     IsPositive size × AreValid options × (new ≡ with_atlas old (started size options 16777216))
@@ -93,6 +124,21 @@ CreatesAtlas old size options Invalid new = (IsPositive size × AreValid options
 CreatesAtlas old size options (Declined error) new = (error ≡ Memory) × IsPositive size × AreValid options × (new ≡ old)
 -- no other reply comes
 CreatesAtlas old size options _ new = ⊥
+
+-- a recorded session that is new: an atlas of this size with the default options, and nothing recorded
+pub record IsNewSession (size : Size) (session : Session) : Type 0 where
+  pub state : session.named.state ≡ started (sides_of size) (options_of DEFAULT_OPTIONS) 16777216
+  pub recording : session.recording ≡ record { size = size; options = DEFAULT_OPTIONS; events = [] }
+  pub given : session.given ≡ 0
+
+-- the beginning of a recorded session, which takes the place of an atlas or of an earlier session
+abbrev pub BeginsSession : ToolState → Size → Reply → ToolState → Type 0
+BeginsSession old size Completed new =
+    IsPositive (sides_of size) × ((session : Session) × IsNewSession size session × (new ≡ with_session old session))
+BeginsSession old size Invalid new = (IsPositive (sides_of size) → ⊥) × (new ≡ old)
+BeginsSession old size (Declined error) new = (error ≡ Memory) × IsPositive (sides_of size) × (new ≡ old)
+-- no other reply comes
+BeginsSession old size _ new = ⊥
 
 abbrev pub allocation_of : Grant → Allocation
 allocation_of g = record { id = g.id; rectangle = rectangle_of g.box }
@@ -107,12 +153,64 @@ ShowsAnswer AtlasReply.BadCall reply = reply ≡ Invalid
 -- one line shows no list of changes
 ShowsAnswer (AtlasReply.Changed list) reply = ⊥
 
--- a call of the atlas, if there is one
-abbrev pub CallsAtlas : Option State → AtlasCall → Reply → Option State → Type 0
-CallsAtlas None call reply new = (reply ≡ NoAtlas) × (new ≡ None)
-CallsAtlas (Some state) call reply new =
-    (answer : AtlasReply) × (later : State)
-    × Step state call answer later × ShowsAnswer answer reply × (new ≡ Some later)
+-- a call of an atlas
+abbrev pub AnswersCall : State → AtlasCall → Reply → State → Type 0
+AnswersCall old call reply new = (answer : AtlasReply) × Step old call answer new × ShowsAnswer answer reply
+
+-- what stands in the tool's place is called: an atlas, or a recorded session, of which R tells
+abbrev pub CallsStanding : Standing State Session → AtlasCall → (R : Session → Session → Type 0) → Reply → Standing State Session → Type 0
+CallsStanding stands.Nothing call R reply new = (reply ≡ NoAtlas) × (new ≡ stands.Nothing)
+CallsStanding (stands.Atlas state) call R reply new =
+    (later : State) × AnswersCall state call reply later × (new ≡ stands.Atlas later)
+CallsStanding (stands.Session session) call R reply new = (later : Session) × R session later × (new ≡ stands.Session later)
+
+-- a session isn't asked what an atlas alone can answer
+abbrev pub HasNoAtlas : Reply → Session → Session → Type 0
+HasNoAtlas reply old new = (reply ≡ NoAtlas) × (new ≡ old)
+
+-- the line of a refusal in a session
+abbrev pub declined_line : RecordingError → Reply
+declined_line recording.Memory = Declined refusal.Memory
+declined_line recording.Slots = Declined refusal.Slots
+declined_line recording.NotLive = Declined refusal.NotLive
+declined_line recording.Names = NoNames
+
+-- an event of a session: it led on, and was recorded
+pub record Records (old : Session) (event : EventValue) (new : Session) : Type 0 where
+  pub led : Leads old.named event new.named
+  pub recorded : new.recording ≡ with_event event old.recording
+
+-- a refusal of a call to a session, for memory, or for slots where its atlas may refuse it so; nothing changes
+pub record Refuses (old : Session) (call : AtlasCall) (error : AtlasError) (new : Session) : Type 0 where
+  pub slots : error ≡ refusal.Slots → Step old.named.state call (AtlasReply.Refused error) old.named.state
+  pub live : error ≡ refusal.NotLive → ⊥
+  pub kept : new ≡ old
+
+-- a request to a session: granted under the next name, or without room; refused for names once all were given
+abbrev pub RecordsRequest : Session → Size → Reply → Session → Type 0
+RecordsRequest old size (Allocated a) new =
+    Records old (EventValue.Allocate size (Some a)) new × (a.id ≡ old.given) × (old.given ≡ 2 ^ 32 → ⊥)
+RecordsRequest old size NotPlaced new = Records old (EventValue.Allocate size None) new × (old.given ≡ 2 ^ 32 → ⊥)
+RecordsRequest old size NoNames new = (old.given ≡ 2 ^ 32) × (new ≡ old)
+RecordsRequest old size (Declined error) new = Refuses old (Allocate (sides_of size)) error new × (old.given ≡ 2 ^ 32 → ⊥)
+-- no other reply comes
+RecordsRequest old size _ new = ⊥
+
+-- a freeing in a session, by name
+abbrev pub RecordsFreeing : Session → (name : ℕ) → Reply → Session → Type 0
+RecordsFreeing old name Completed new = Records old (EventValue.Deallocate name) new
+RecordsFreeing old name (Declined error) new =
+    ((error ≡ refusal.NotLive) ↔ (IsLiveName old.named name → ⊥)) × (error ≡ refusal.Slots → ⊥) × (new ≡ old)
+-- no other reply comes
+RecordsFreeing old name _ new = ⊥
+
+-- a growth in a session
+abbrev pub RecordsGrowth : Session → Size → Reply → Session → Type 0
+RecordsGrowth old size Completed new = Records old (EventValue.Grow size) new
+RecordsGrowth old size Invalid new = (Fits old.named.state.size (sides_of size) → ⊥) × (new ≡ old)
+RecordsGrowth old size (Declined error) new = Refuses old (AtlasCall.Grow (sides_of size)) error new
+-- no other reply comes
+RecordsGrowth old size _ new = ⊥
 
 abbrev pub change_of : Transfer → Change
 change_of t = record { old = allocation_of t.old; new = allocation_of t.new }
@@ -128,12 +226,25 @@ ShowsRearranging (AtlasReply.Refused error) reply = reply ≡ OneLine (Declined 
 -- no other answer comes
 ShowsRearranging _ reply = ⊥
 
--- a rearranging of the atlas, if there is one
-abbrev pub RearrangesAtlas : Option State → AtlasCall → ToolReply → Option State → Type 0
-RearrangesAtlas None call reply new = (reply ≡ OneLine NoAtlas) × (new ≡ None)
-RearrangesAtlas (Some state) call reply new =
-    (answer : AtlasReply) × (later : State)
-    × Step state call answer later × ShowsRearranging answer reply × (new ≡ Some later)
+-- a rearranging of an atlas
+abbrev pub AnswersRearranging : State → AtlasCall → ToolReply → State → Type 0
+AnswersRearranging old call reply new = (answer : AtlasReply) × Step old call answer new × ShowsRearranging answer reply
+
+-- a rearranging in a session, whose lists hold names; `asks` says whether the call's condition holds
+abbrev pub RecordsRearranging : Session → AtlasCall → (asks : Type 0) → (recorded : ListValue → EventValue) → ToolReply → Session → Type 0
+RecordsRearranging old call asks recorded (ChangeLines changes failures) new =
+    Records old (recorded (record { changes = changes; failures = failures })) new
+RecordsRearranging old call asks recorded (OneLine Invalid) new = (asks → ⊥) × (new ≡ old)
+RecordsRearranging old call asks recorded (OneLine (Declined error)) new = Refuses old call error new
+-- no other reply comes
+RecordsRearranging old call asks recorded _ new = ⊥
+
+-- a rearranging of what stands in the tool's place: an atlas, or a recorded session, of which R tells
+abbrev pub RearrangesStanding : Standing State Session → AtlasCall → (R : Session → Session → Type 0) → ToolReply → Standing State Session → Type 0
+RearrangesStanding stands.Nothing call R reply new = (reply ≡ OneLine NoAtlas) × (new ≡ stands.Nothing)
+RearrangesStanding (stands.Atlas state) call R reply new =
+    (later : State) × AnswersRearranging state call reply later × (new ≡ stands.Atlas later)
+RearrangesStanding (stands.Session session) call R reply new = (later : Session) × R session later × (new ≡ stands.Session later)
 
 -- the live grants by rising slot, or no memory for the list
 abbrev pub ShowsLive : State → ToolReply → Type 0
@@ -141,6 +252,13 @@ ShowsLive state (LiveLines granted) = (grants : List Grant) × IsLiveList state 
 ShowsLive state (OneLine reply) = reply ≡ Declined Memory
 ShowsLive state (HoleLines areas) = ⊥
 ShowsLive state (ChangeLines changes failures) = ⊥
+
+-- the live names with their rectangles by rising name, or no memory for the list
+abbrev pub ShowsNames : Session → ToolReply → Type 0
+ShowsNames session (LiveLines granted) = AreBooked session.recording.events granted
+ShowsNames session (OneLine reply) = reply ≡ Declined Memory
+ShowsNames session (HoleLines areas) = ⊥
+ShowsNames session (ChangeLines changes failures) = ⊥
 
 -- each box lies above the next one, or at the same height and not right of it
 abbrev pub AreInOrder : List Box → Type 0
@@ -176,29 +294,47 @@ IsLine P (LiveLines granted) = ⊥
 IsLine P (HoleLines areas) = ⊥
 IsLine P (ChangeLines changes failures) = ⊥
 
--- a look at the atlas, if there is one
-abbrev pub LooksAtAtlas : Option State → (State → ToolReply → Type 0) → ToolReply → Type 0
-LooksAtAtlas None P reply = reply ≡ OneLine NoAtlas
-LooksAtAtlas (Some state) P reply = P state reply
+-- a look at what stands in the tool's place: P tells of an atlas, Q of a recorded session
+abbrev pub LooksAtStanding : Standing State Session → (P : State → ToolReply → Type 0) → (Q : Session → ToolReply → Type 0) → ToolReply → Type 0
+LooksAtStanding stands.Nothing P Q reply = reply ≡ OneLine NoAtlas
+LooksAtStanding (stands.Atlas state) P Q reply = P state reply
+LooksAtStanding (stands.Session session) P Q reply = Q session reply
+
+-- a session isn't looked at where an atlas alone can answer
+abbrev pub SaysNoAtlas : Session → ToolReply → Type 0
+SaysNoAtlas session reply = reply ≡ OneLine NoAtlas
 
 -- From old, the command may have this reply and lead to new.
 abbrev pub ToolStep : ToolState → Command → ToolReply → ToolState → Type 0
 ToolStep old (Simple size) reply new = IsLine (λ line. CreatesSimple old (sides_of size) line new) reply
 ToolStep old (Take size) reply new =
-    IsLine (λ line. RequestsSimple old.simple (sides_of size) line new.simple) reply × (new.atlas ≡ old.atlas)
+    IsLine (λ line. RequestsSimple old.simple (sides_of size) line new.simple) reply × (new.stand ≡ old.stand)
 ToolStep old (Atlas size options) reply new = IsLine (λ line. CreatesAtlas old (sides_of size) (options_of options) line new) reply
+ToolStep old (Record size) reply new = IsLine (λ line. BeginsSession old size line new) reply
 ToolStep old (Alloc size) reply new =
-    IsLine (λ line. CallsAtlas old.atlas (Allocate (sides_of size)) line new.atlas) reply × (new.simple ≡ old.simple)
-ToolStep old (Free id) reply new = IsLine (λ line. CallsAtlas old.atlas (Deallocate id) line new.atlas) reply × (new.simple ≡ old.simple)
+    IsLine (λ line. CallsStanding old.stand (Allocate (sides_of size)) (λ s t. RecordsRequest s size line t) line new.stand) reply
+    × (new.simple ≡ old.simple)
+ToolStep old (Free id) reply new =
+    IsLine (λ line. CallsStanding old.stand (Deallocate id) (λ s t. RecordsFreeing s id line t) line new.stand) reply
+    × (new.simple ≡ old.simple)
 ToolStep old (Grow size) reply new =
-    IsLine (λ line. CallsAtlas old.atlas (AtlasCall.Grow (sides_of size)) line new.atlas) reply × (new.simple ≡ old.simple)
-ToolStep old Clear reply new = IsLine (λ line. CallsAtlas old.atlas AtlasCall.Clear line new.atlas) reply × (new.simple ≡ old.simple)
-ToolStep old Rearrange reply new = RearrangesAtlas old.atlas AtlasCall.Rearrange reply new.atlas × (new.simple ≡ old.simple)
+    IsLine (λ line. CallsStanding old.stand (AtlasCall.Grow (sides_of size)) (λ s t. RecordsGrowth s size line t) line new.stand) reply
+    × (new.simple ≡ old.simple)
+ToolStep old Clear reply new =
+    IsLine (λ line. CallsStanding old.stand AtlasCall.Clear (λ s t. HasNoAtlas line s t) line new.stand) reply × (new.simple ≡ old.simple)
+ToolStep old Rearrange reply new =
+    RearrangesStanding old.stand AtlasCall.Rearrange (λ s t. RecordsRearranging s AtlasCall.Rearrange ⊤ EventValue.Rearrange reply t) reply new.stand
+    × (new.simple ≡ old.simple)
 ToolStep old (Resize size) reply new =
-    RearrangesAtlas old.atlas (ResizeAndRearrange (sides_of size)) reply new.atlas × (new.simple ≡ old.simple)
+    RearrangesStanding old.stand (ResizeAndRearrange (sides_of size))
+    (λ s t. RecordsRearranging s (ResizeAndRearrange (sides_of size)) (IsPositive (sides_of size)) (EventValue.ResizeAndRearrange size) reply t)
+    reply new.stand
+    × (new.simple ≡ old.simple)
 ToolStep old FromAtlas reply new =
-    IsLine (λ line. StartsSimple old.atlas old.simple line new.simple) reply × (new.atlas ≡ old.atlas)
-ToolStep old Live reply new = LooksAtAtlas old.atlas ShowsLive reply × (new ≡ old)
-ToolStep old Holes reply new = LooksAtAtlas old.atlas ShowsHoles reply × (new ≡ old)
-ToolStep old AskSize reply new = LooksAtAtlas old.atlas (λ state. IsLine (ShowsSize state)) reply × (new ≡ old)
-ToolStep old Empty reply new = LooksAtAtlas old.atlas (λ state. IsLine (ShowsEmpty state)) reply × (new ≡ old)
+    IsLine (λ line. StartsSimple (atlas_of old.stand) old.simple line new.simple) reply × (new.stand ≡ old.stand)
+ToolStep old Live reply new = LooksAtStanding old.stand ShowsLive ShowsNames reply × (new ≡ old)
+ToolStep old Holes reply new = LooksAtStanding old.stand ShowsHoles (λ s. ShowsHoles s.named.state) reply × (new ≡ old)
+ToolStep old AskSize reply new =
+    LooksAtStanding old.stand (λ state. IsLine (ShowsSize state)) (λ s. IsLine (ShowsSize s.named.state)) reply × (new ≡ old)
+ToolStep old Empty reply new =
+    LooksAtStanding old.stand (λ state. IsLine (ShowsEmpty state)) SaysNoAtlas reply × (new ≡ old)

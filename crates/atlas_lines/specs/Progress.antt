@@ -6,6 +6,7 @@ use Rattle.atlas_lines.specs.declared.run.ToolEnd.{ToolEnd}
 use Rattle.atlas_lines.specs.declared.run.ToolEnd.TheVariants.{BadLine}
 use Rattle.atlas_lines.specs.declared.run.ToolFault.{ToolFault}
 use Rattle.atlas_lines.specs.declared.run.ToolFault.TheVariants.{Write}
+use Rattle.atlas_lines.specs.declared.standing.Standing.TheVariants.{Nothing}
 use Rattle.atlas_lines.specs.Blocks.{IsGathered}
 use Rattle.atlas_lines.specs.Devices.{WritesBeginning}
 use Rattle.atlas_lines.specs.Ends.{is_write_fault}
@@ -24,7 +25,7 @@ abbrev pub state_at : Place → ToolState
 state_at place = state_of place.held
 
 abbrev pub place_at_start : Place
-place_at_start = record { held = record { atlas = None; simple = None }; line = []; number = 0 }
+place_at_start = record { held = record { stand = Nothing; simple = None }; line = []; number = 0 }
 
 -- these bytes, which follow the line that has begun, lead from old to new and owe this text
 pub record Advances (old : Place) (bytes text : List ℕ) (new : Place) : Type 0 where

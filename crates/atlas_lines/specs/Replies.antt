@@ -7,7 +7,7 @@ use Rattle.guillotiere.specs.declared.geometry.Rectangle.{Rectangle}
 use Rattle.guillotiere.specs.declared.error.AtlasError.{AtlasError}
 use Rattle.guillotiere.specs.declared.error.AtlasError.TheVariants.{Memory, Slots, NotLive}
 use Rattle.atlas_lines.specs.declared.replies.Reply.{Reply}
-use Rattle.atlas_lines.specs.declared.replies.Reply.TheVariants.{Completed, Placed, NotPlaced, Allocated, Extent, Truth, NoAtlas, NoSimple, Invalid, Declined}
+use Rattle.atlas_lines.specs.declared.replies.Reply.TheVariants.{Completed, Placed, NotPlaced, Allocated, Extent, Truth, NoAtlas, NoSimple, Invalid, Declined, NoNames}
 use Rattle.atlas_lines.specs.Lines.{ended}
 use Rattle.atlas_lines.specs.Machine.{ToolReply}
 use Rattle.atlas_lines.specs.Machine.ToolReply.{OneLine, LiveLines, HoleLines, ChangeLines}
@@ -41,6 +41,7 @@ line_text NoAtlas = ended (codes "no atlas")
 line_text NoSimple = ended (codes "no simple")
 line_text Invalid = ended (codes "bad call")
 line_text (Declined error) = ended (refusal_text error)
+line_text NoNames = ended (codes "refused names")
 
 -- the line of a live rectangle
 abbrev pub live_line : Allocation → List ℕ

@@ -39,6 +39,8 @@ pub enum Command {
     Resize(Size),
     /// `from-atlas`: make the simple allocator take over the atlas's size, options and free rectangles.
     FromAtlas,
+    /// `record W H`: begin a recorded session of an atlas of this size, in place of an atlas or of an earlier session.
+    Record(Size),
 }
 
 /// A line of more bytes is bad.
@@ -102,6 +104,9 @@ fn parse_words(word: &[u8], rest: &[u8]) -> Option<Command>
     }
     if word == b"resize".as_slice() {
         return Some(Command::Resize(size_arguments(rest)?));
+    }
+    if word == b"record".as_slice() {
+        return Some(Command::Record(size_arguments(rest)?));
     }
     parse_alone(word, rest)
 }

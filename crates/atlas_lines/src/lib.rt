@@ -1,6 +1,7 @@
 //! The lines of the program `atlas_tool`: commands in, reply lines out.
 #![tactic(auto)]
 
+mod atlas_calls;
 mod buffer;
 mod changes;
 mod commands;
@@ -10,8 +11,10 @@ pub mod laws;
 mod listing;
 mod replies;
 mod run;
+mod session_calls;
 mod standard;
 mod standard_output;
+mod standing;
 mod tool;
 mod words;
 

@@ -30,6 +30,8 @@ pub enum Reply {
     Invalid,
     /// `refused` and what was refused
     Declined(AtlasError),
+    /// `refused names`
+    NoNames,
 }
 
 /// What a command is answered.
@@ -111,6 +113,7 @@ pub fn push_reply<const N: usize>(text: &mut FixedBytes<N>, reply: Reply)
         Reply::NoSimple => text.push_all(b"no simple"),
         Reply::Invalid => text.push_all(b"bad call"),
         Reply::Declined(error) => text.push_all(refusal(error)),
+        Reply::NoNames => text.push_all(b"refused names"),
     }
     text.push(b'\n');
 }

@@ -1,23 +1,22 @@
 //! The tool between its lines: what it holds, and how it carries out a command.
-ghost use Rattle.std.specs.Prelude.{◌≡◌, ◌↔◌, None, true, false, not, IsTrue, IfOk, IsOkUnless};
-ghost use Rattle.std.specs.Result.{ForOk};
-ghost use Rattle.guillotiere.specs.declared.error.AtlasError.TheVariants as error;
-ghost use Rattle.guillotiere.specs.Boxes.{Fits, IsPositive};
+ghost use Rattle.std.specs.Prelude.{◌≡◌, ⊤, None, true, false, not};
 ghost use Rattle.guillotiere.specs.Pixels.{sides_of, options_of};
-ghost use Rattle.guillotiere.specs.Rearranging.{AreExactChanges, change_reply};
 ghost use Rattle.guillotiere.specs.Steps.AtlasCall.{Allocate, Deallocate, Grow, Clear, Rearrange, ResizeAndRearrange};
-ghost use Rattle.guillotiere.specs.Stored as stored;
+ghost use Rattle.guillotiere.specs.Boxes.{IsPositive};
+ghost use Rattle.guillotiere_recording.specs.Events.{EventValue};
+ghost use Rattle.atlas_lines.specs.declared.standing.Standing.TheVariants.{Nothing};
 ghost use Rattle.atlas_lines.specs.Answers.{shown_by, Replies, BeginsToReply};
-ghost use Rattle.atlas_lines.specs.Machine.{ToolReply, ToolStep, CreatesSimple, RequestsSimple, StartsSimple, CreatesAtlas, CallsAtlas, RearrangesAtlas, ShowsRearranging, LooksAtAtlas, IsLine, ShowsLive, ShowsHoles, ShowsSize, ShowsEmpty, HoldsHoles, atlas_in, state_of};
+ghost use Rattle.atlas_lines.specs.Machine.{ToolReply, ToolStep, CreatesSimple, RequestsSimple, StartsSimple, CreatesAtlas, BeginsSession, CallsStanding, RearrangesStanding, LooksAtStanding, HasNoAtlas, RecordsRequest, RecordsFreeing, RecordsGrowth, RecordsRearranging, IsLine, ShowsLive, ShowsNames, ShowsHoles, ShowsSize, ShowsEmpty, SaysNoAtlas, atlas_of, standing_in, state_of};
 
+use crate::atlas_calls::is_positive;
 use crate::commands::Command;
 use crate::devices::ToolOutput;
 use crate::listing::{Waiting, send};
 use crate::replies::{Answer, Reply};
-use guillotiere::{
-    AllocId, AllocatorOptions, AtlasAllocator, AtlasError, ChangeList, Rectangle,
-    SimpleAtlasAllocator, Size,
-};
+use crate::standing::Standing;
+use crate::{atlas_calls, session_calls};
+use guillotiere::{AllocId, AllocatorOptions, AtlasAllocator, SimpleAtlasAllocator, Size};
+use guillotiere_recording::RecordingAllocator;
 use std::alloc::Allocator;
 use std::marker::Model;
 
@@ -26,7 +25,7 @@ use std::marker::Model;
 #[derive(Drop)]
 pub struct Tool<'a, A: Allocator> {
     alloc: &'a A,
-    atlas: Option<AtlasAllocator<&'a A>>,
+    stand: Standing<AtlasAllocator<&'a A>, RecordingAllocator<&'a A>>,
     simple: Option<SimpleAtlasAllocator<&'a A>>,
 }
 
@@ -35,55 +34,17 @@ impl<'a, A: Allocator> Model for Tool<'a, A> {
 
     ghost Value = { Held };
 
-    ghost view = { λ t. record { atlas = t.atlas; simple = t.simple } };
-}
-
-// Whether both sides are above 0.
-fn is_positive(size: Size) -> bool
-    ensures { IsTrue result ↔ IsPositive (sides_of size) }
-{
-    size.width > 0 && size.height > 0
-}
-
-// Whether neither side of the atlas is greater than that of a size.
-fn shrinks_no_side<A: Allocator + Copy>(atlas: &AtlasAllocator<A>, new_size: Size) -> bool
-    ensures { IsTrue result ↔ Fits (stored.state_of atlas.now).size (sides_of new_size) }
-{
-    let size = atlas.size();
-    size.width <= new_size.width && size.height <= new_size.height
-}
-
-// The free rectangles from above to below and from left to right.
-fn ordered_holes<A: Allocator + Copy>(
-    atlas: &AtlasAllocator<A>,
-) -> Result<Vec<Rectangle, A>, AtlasError>
-    ensures unless { IsOkUnless result error.Memory }
-    ensures list { IfOk result (λ found. HoldsHoles (stored.state_of atlas.now) found.items) }
-{
-    let mut areas = atlas.free_rectangles()?;
-    areas.sort_by_key(|area| (area.min.y, area.min.x))?;
-    Ok(areas)
-}
-
-// The lines of what a rearranging answers.
-fn answer_changes<A: Allocator + Copy>(changed: Result<ChangeList<A>, AtlasError>) -> Answer<A>
-    requires { ForOk changed AreExactChanges }
-    ensures { ShowsRearranging (change_reply changed) (shown_by result) }
-{
-    match changed {
-        Ok(list) => Answer::ChangeLines(list),
-        Err(error) => Answer::OneLine(Reply::Declined(error)),
-    }
+    ghost view = { λ t. record { stand = t.stand; simple = t.simple } };
 }
 
 impl<'a, A: Allocator> Tool<'a, A> {
     /// A tool that holds nothing yet. It takes no memory.
     pub fn new(alloc: &'a A) -> Self
-        ensures { result ≡ record { atlas = None; simple = None } }
+        ensures { result ≡ record { stand = Nothing; simple = None } }
     {
         Tool {
             alloc,
-            atlas: None,
+            stand: Standing::Nothing,
             simple: None,
         }
     }
@@ -107,6 +68,7 @@ impl<'a, A: Allocator> Tool<'a, A> {
             Command::Rearrange => self.rearrange(),
             Command::Resize(size) => self.resize(size),
             Command::FromAtlas => Answer::OneLine(self.start_simple()),
+            Command::Record(size) => Answer::OneLine(self.begin_session(size)),
         }
     }
 
@@ -143,7 +105,7 @@ impl<'a, A: Allocator> Tool<'a, A> {
 
     fn request_simple(&mut self, size: Size) -> Reply
         ensures step { RequestsSimple self.old.simple (sides_of size) result self.new.simple }
-        ensures atlas { self.new.atlas ≡ self.old.atlas }
+        ensures stand { self.new.stand ≡ self.old.stand }
     {
         let Some(simple) = &mut self.simple else {
             return Reply::NoSimple;
@@ -156,10 +118,10 @@ impl<'a, A: Allocator> Tool<'a, A> {
     }
 
     fn start_simple(&mut self) -> Reply
-        ensures step { StartsSimple (atlas_in self.old.atlas) self.old.simple result self.new.simple }
-        ensures atlas { self.new.atlas ≡ self.old.atlas }
+        ensures step { StartsSimple (atlas_of (standing_in self.old.stand)) self.old.simple result self.new.simple }
+        ensures stand { self.new.stand ≡ self.old.stand }
     {
-        let Some(atlas) = &self.atlas else {
+        let Standing::Atlas(atlas) = &self.stand else {
             return Reply::NoAtlas;
         };
         let Some(simple) = &mut self.simple else {
@@ -182,131 +144,130 @@ impl<'a, A: Allocator> Tool<'a, A> {
         }
         match AtlasAllocator::with_options(self.alloc, size, options) {
             Ok(made) => {
-                self.atlas = Some(made);
+                self.stand = Standing::Atlas(made);
                 Reply::Completed
             }
             Err(error) => Reply::Declined(error),
         }
     }
 
+    fn begin_session(&mut self, size: Size) -> Reply
+        ensures { BeginsSession (state_of self.old) size result (state_of self.new) }
+    {
+        if !is_positive(size) {
+            return Reply::Invalid;
+        }
+        match RecordingAllocator::new(self.alloc, size) {
+            Ok(made) => {
+                self.stand = Standing::Session(made);
+                Reply::Completed
+            }
+            Err(error) => session_calls::declined(error),
+        }
+    }
+
     fn request(&mut self, size: Size) -> Reply
-        ensures step { CallsAtlas (atlas_in self.old.atlas) (Allocate (sides_of size)) result (atlas_in self.new.atlas) }
+        ensures step { CallsStanding (standing_in self.old.stand) (Allocate (sides_of size)) (λ s t. RecordsRequest s size result t) result (standing_in self.new.stand) }
         ensures simple { self.new.simple ≡ self.old.simple }
     {
-        let Some(atlas) = &mut self.atlas else {
-            return Reply::NoAtlas;
-        };
-        match atlas.allocate(size) {
-            Ok(Some(allocation)) => Reply::Allocated(allocation),
-            Ok(None) => Reply::NotPlaced,
-            Err(error) => Reply::Declined(error),
+        match &mut self.stand {
+            Standing::Nothing => Reply::NoAtlas,
+            Standing::Atlas(atlas) => atlas_calls::request(atlas, size),
+            Standing::Session(session) => session_calls::request(session, size),
         }
     }
 
     fn give_back(&mut self, id: AllocId) -> Reply
-        ensures step { CallsAtlas (atlas_in self.old.atlas) (Deallocate id) result (atlas_in self.new.atlas) }
+        ensures step { CallsStanding (standing_in self.old.stand) (Deallocate id) (λ s t. RecordsFreeing s id result t) result (standing_in self.new.stand) }
         ensures simple { self.new.simple ≡ self.old.simple }
     {
-        let Some(atlas) = &mut self.atlas else {
-            return Reply::NoAtlas;
-        };
-        match atlas.deallocate(id) {
-            Ok(()) => Reply::Completed,
-            Err(error) => Reply::Declined(error),
+        match &mut self.stand {
+            Standing::Nothing => Reply::NoAtlas,
+            Standing::Atlas(atlas) => atlas_calls::give_back(atlas, id),
+            Standing::Session(session) => session_calls::give_back(session, id),
         }
     }
 
     fn grow(&mut self, new_size: Size) -> Reply
-        ensures step { CallsAtlas (atlas_in self.old.atlas) (Grow (sides_of new_size)) result (atlas_in self.new.atlas) }
+        ensures step { CallsStanding (standing_in self.old.stand) (Grow (sides_of new_size)) (λ s t. RecordsGrowth s new_size result t) result (standing_in self.new.stand) }
         ensures simple { self.new.simple ≡ self.old.simple }
     {
-        let Some(atlas) = &mut self.atlas else {
-            return Reply::NoAtlas;
-        };
-        if !shrinks_no_side(atlas, new_size) {
-            return Reply::Invalid;
-        }
-        match atlas.grow(new_size) {
-            Ok(()) => Reply::Completed,
-            Err(error) => Reply::Declined(error),
+        match &mut self.stand {
+            Standing::Nothing => Reply::NoAtlas,
+            Standing::Atlas(atlas) => atlas_calls::grow(atlas, new_size),
+            Standing::Session(session) => session_calls::grow(session, new_size),
         }
     }
 
     fn clear(&mut self) -> Reply
-        ensures step { CallsAtlas (atlas_in self.old.atlas) Clear result (atlas_in self.new.atlas) }
+        ensures step { CallsStanding (standing_in self.old.stand) Clear (λ s t. HasNoAtlas result s t) result (standing_in self.new.stand) }
         ensures simple { self.new.simple ≡ self.old.simple }
     {
-        let Some(atlas) = &mut self.atlas else {
-            return Reply::NoAtlas;
-        };
-        match atlas.clear() {
-            Ok(()) => Reply::Completed,
-            Err(error) => Reply::Declined(error),
+        match &mut self.stand {
+            Standing::Nothing => Reply::NoAtlas,
+            Standing::Atlas(atlas) => atlas_calls::clear(atlas),
+            Standing::Session(_) => Reply::NoAtlas,
         }
     }
 
     fn rearrange(&mut self) -> Answer<&'a A>
-        ensures step { RearrangesAtlas (atlas_in self.old.atlas) Rearrange (shown_by result) (atlas_in self.new.atlas) }
+        ensures step { RearrangesStanding (standing_in self.old.stand) Rearrange (λ s t. RecordsRearranging s Rearrange ⊤ EventValue.Rearrange (shown_by result) t) (shown_by result) (standing_in self.new.stand) }
         ensures simple { self.new.simple ≡ self.old.simple }
     {
-        let Some(atlas) = &mut self.atlas else {
-            return Answer::OneLine(Reply::NoAtlas);
-        };
-        answer_changes(atlas.rearrange())
+        match &mut self.stand {
+            Standing::Nothing => Answer::OneLine(Reply::NoAtlas),
+            Standing::Atlas(atlas) => atlas_calls::rearrange(atlas),
+            Standing::Session(session) => session_calls::rearrange(session),
+        }
     }
 
     fn resize(&mut self, new_size: Size) -> Answer<&'a A>
-        ensures step { RearrangesAtlas (atlas_in self.old.atlas) (ResizeAndRearrange (sides_of new_size)) (shown_by result) (atlas_in self.new.atlas) }
+        ensures step { RearrangesStanding (standing_in self.old.stand) (ResizeAndRearrange (sides_of new_size)) (λ s t. RecordsRearranging s (ResizeAndRearrange (sides_of new_size)) (IsPositive (sides_of new_size)) (EventValue.ResizeAndRearrange new_size) (shown_by result) t) (shown_by result) (standing_in self.new.stand) }
         ensures simple { self.new.simple ≡ self.old.simple }
     {
-        let Some(atlas) = &mut self.atlas else {
-            return Answer::OneLine(Reply::NoAtlas);
-        };
-        if !is_positive(new_size) {
-            return Answer::OneLine(Reply::Invalid);
+        match &mut self.stand {
+            Standing::Nothing => Answer::OneLine(Reply::NoAtlas),
+            Standing::Atlas(atlas) => atlas_calls::resize(atlas, new_size),
+            Standing::Session(session) => session_calls::resize(session, new_size),
         }
-        answer_changes(atlas.resize_and_rearrange(new_size))
     }
 
     fn list_live(&self) -> Answer<&'a A>
-        ensures { LooksAtAtlas (atlas_in self.now.atlas) ShowsLive (shown_by result) }
+        ensures { LooksAtStanding (standing_in self.now.stand) ShowsLive ShowsNames (shown_by result) }
     {
-        let Some(atlas) = &self.atlas else {
-            return Answer::OneLine(Reply::NoAtlas);
-        };
-        match atlas.allocations() {
-            Ok(found) => Answer::LiveLines(found),
-            Err(error) => Answer::OneLine(Reply::Declined(error)),
+        match &self.stand {
+            Standing::Nothing => Answer::OneLine(Reply::NoAtlas),
+            Standing::Atlas(atlas) => atlas_calls::list_live(atlas),
+            Standing::Session(session) => session_calls::list_live(session),
         }
     }
 
     fn list_holes(&self) -> Answer<&'a A>
-        ensures { LooksAtAtlas (atlas_in self.now.atlas) ShowsHoles (shown_by result) }
+        ensures { LooksAtStanding (standing_in self.now.stand) ShowsHoles (λ s. ShowsHoles s.named.state) (shown_by result) }
     {
-        let Some(atlas) = &self.atlas else {
-            return Answer::OneLine(Reply::NoAtlas);
-        };
-        match ordered_holes(atlas) {
-            Ok(found) => Answer::HoleLines(found),
-            Err(error) => Answer::OneLine(Reply::Declined(error)),
+        match &self.stand {
+            Standing::Nothing => Answer::OneLine(Reply::NoAtlas),
+            Standing::Atlas(atlas) => atlas_calls::list_holes(atlas),
+            Standing::Session(session) => session_calls::list_holes(session),
         }
     }
 
     fn tell_size(&self) -> Reply
-        ensures { LooksAtAtlas (atlas_in self.now.atlas) (λ state. IsLine (ShowsSize state)) (ToolReply.OneLine result) }
+        ensures { LooksAtStanding (standing_in self.now.stand) (λ state. IsLine (ShowsSize state)) (λ s. IsLine (ShowsSize s.named.state)) (ToolReply.OneLine result) }
     {
-        match &self.atlas {
-            Some(atlas) => Reply::Extent(atlas.size()),
-            None => Reply::NoAtlas,
+        match &self.stand {
+            Standing::Nothing => Reply::NoAtlas,
+            Standing::Atlas(atlas) => Reply::Extent(atlas.size()),
+            Standing::Session(session) => Reply::Extent(session.size()),
         }
     }
 
     fn tell_empty(&self) -> Reply
-        ensures { LooksAtAtlas (atlas_in self.now.atlas) (λ state. IsLine (ShowsEmpty state)) (ToolReply.OneLine result) }
+        ensures { LooksAtStanding (standing_in self.now.stand) (λ state. IsLine (ShowsEmpty state)) SaysNoAtlas (ToolReply.OneLine result) }
     {
-        match &self.atlas {
-            Some(atlas) => Reply::Truth(atlas.is_empty()),
-            None => Reply::NoAtlas,
+        match &self.stand {
+            Standing::Atlas(atlas) => Reply::Truth(atlas.is_empty()),
+            Standing::Nothing | Standing::Session(_) => Reply::NoAtlas,
         }
     }
 }

@@ -37,12 +37,29 @@ pub fn others<A: Allocator + Copy>(
     size: Size,
     other: AllocId,
 ) -> Result<Option<AllocId>, AtlasError>
-    ensures { IfOk result (λ granted. IfSome granted (λ id. other ≢ id → rectangle_in (state_of atlas.new) other ≡ rectangle_in (state_of atlas.old) other)) }
+    ensures { IfOk result (λ granted. IfSome granted (λ id.
+        other ≢ id → rectangle_in (state_of atlas.new) other ≡ rectangle_in (state_of atlas.old) other)) }
 {
     match atlas.allocate(size)? {
         Some(a) => Ok(Some(a.id)),
         None => Ok(None),
     }
+}
+
+/// The same by a test, over a function whose contract has this one clause.
+pub fn tested<A: Allocator + Copy>(
+    atlas: &mut AtlasAllocator<A>,
+    size: Size,
+    other: AllocId,
+) -> Result<(), AtlasError> {
+    let before = atlas.get(other);
+    if let Some(id) = others(atlas, size, other)? {
+        if other != id {
+            let after = atlas.get(other);
+            prove!(after == before);
+        }
+    }
+    Ok(())
 }
 
 /// An id that is live keeps its rectangle, whatever a request is answered.

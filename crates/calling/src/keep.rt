@@ -11,7 +11,8 @@ pub fn put<A: Allocator + Copy>(
     atlas: &mut AtlasAllocator<A>,
     size: Size,
 ) -> Result<Option<(AllocId, Rectangle)>, AtlasError>
-    ensures placed { IfOk result (λ put. IfSome put (λ sprite. rectangle_in (state_of atlas.new) sprite.0 ≡ Some sprite.1)) }
+    ensures placed { IfOk result (λ put. IfSome put (λ sprite.
+        rectangle_in (state_of atlas.new) sprite.0 ≡ Some sprite.1)) }
     ensures keeps { KeepsLive (state_of atlas.old) (state_of atlas.new) }
 {
     let Some(a) = atlas.allocate(size)? else {

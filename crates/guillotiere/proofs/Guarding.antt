@@ -34,10 +34,10 @@ pub live_are_guarded : LiveAreGuarded
 live_are_guarded s sound = (
   guarded s [] (All-nil (IsWithin s.size)) (λ x y. omega (arith, covered_few s sound x y, count_boxes s (covers x y))),
   guarded s (map (λ g. g.box) (live_in s))
-  (All-map (IsWithin s.size) (λ (g : Grant). g.box) (live_in s)
-  (All-weaker (λ (g : Grant). IsNonempty g.box × IsWithin s.size g.box) (λ (g : Grant). IsWithin s.size g.box) (λ g h. h.1) (live_in s)
-  (live_in_place s.size s.tree sound.well_formed)))
-  (covered_few s sound),
+      (All-map (IsWithin s.size) (λ (g : Grant). g.box) (live_in s)
+      (All-weaker (λ (g : Grant). IsNonempty g.box × IsWithin s.size g.box) (λ (g : Grant). IsWithin s.size g.box) (λ g h. h.1) (live_in s)
+      (live_in_place s.size s.tree sound.well_formed)))
+      (covered_few s sound),
 )
 
 module _ (old new : State) (sound_old : IsSound old) (sound_new : IsSound new) where

@@ -41,7 +41,8 @@ pub record LeavesNoBox (old new : State) (id : ℕ) : Type 0 where
   pub sound : IsSound new
   pub gone : live_box new id ≡ None
   pub others : (k : ℕ) → k ≢ id → live_box new k ≡ live_box old k
-  pub guarded : (box : Box) (held : List Box) → live_box old id ≡ Some box → AreGuarded old (box ∷ held) → AreGuarded new held
+  pub guarded : (box : Box) (held : List Box) → live_box old id ≡ Some box → AreGuarded old (box ∷ held)
+      → AreGuarded new held
 
 -- the atlas is sound; the ids of a list have no box, and every other id what it had
 pub record LeavesNoBoxes (old new : State) (ids : List ℕ) : Type 0 where

@@ -34,17 +34,17 @@ parts_before (Free e rest) parts = (1, (e, 0)) ∷ parts_before rest parts
 parts_before (Alloc id e rest) parts = (2, (id, e)) ∷ parts_before rest parts
 parts_before (Seq e inner rest) parts = (3, (e, 0)) ∷ parts_before inner (parts_before rest parts)
 
--- one constructor over the members that were built
-abbrev built : ℕ → ℕ → ℕ → List Members → List Members
-built zero a b ms = End ∷ ms
-built (suc zero) a b (rest ∷ ms) = Free a rest ∷ ms
-built (suc (suc zero)) a b (rest ∷ ms) = Alloc a b rest ∷ ms
-built (suc (suc (suc k))) a b (inner ∷ rest ∷ ms) = Seq a inner rest ∷ ms
-built _ a b ms = ms
+-- a constructor put over members that are built
+abbrev with_part : ℕ → ℕ → ℕ → List Members → List Members
+with_part zero a b ms = End ∷ ms
+with_part (suc zero) a b (rest ∷ ms) = Free a rest ∷ ms
+with_part (suc (suc zero)) a b (rest ∷ ms) = Alloc a b rest ∷ ms
+with_part (suc (suc (suc k))) a b (inner ∷ rest ∷ ms) = Seq a inner rest ∷ ms
+with_part _ a b ms = ms
 
 abbrev all_built : Parts → List Members
 all_built [] = []
-all_built (p ∷ parts) = built p.0 p.1.0 p.1.1 (all_built parts)
+all_built (p ∷ parts) = with_part p.0 p.1.0 p.1.1 (all_built parts)
 
 abbrev first_built : List Members → Members
 first_built [] = End
@@ -52,10 +52,11 @@ first_built (m ∷ ms) = m
 
 all_built-parts_before : (m : Members) (parts : Parts) → all_built (parts_before m parts) ≡ m ∷ all_built parts
 all_built-parts_before End parts = refl
-all_built-parts_before (Free e rest) parts = ap (built 1 e 0) (all_built-parts_before rest parts)
-all_built-parts_before (Alloc id e rest) parts = ap (built 2 id e) (all_built-parts_before rest parts)
+all_built-parts_before (Free e rest) parts = ap (with_part 1 e 0) (all_built-parts_before rest parts)
+all_built-parts_before (Alloc id e rest) parts = ap (with_part 2 id e) (all_built-parts_before rest parts)
 all_built-parts_before (Seq e inner rest) parts =
-    ap (built 3 e 0) (all_built-parts_before inner (parts_before rest parts) ∙ ap (λ ms. inner ∷ ms) (all_built-parts_before rest parts))
+    ap (with_part 3 e 0)
+    (all_built-parts_before inner (parts_before rest parts) ∙ ap (λ ms. inner ∷ ms) (all_built-parts_before rest parts))
 
 abbrev to_parts : Members → Parts
 to_parts m = parts_before m []
@@ -67,24 +68,29 @@ pub from_parts-to_parts : (m : Members) → from_parts (to_parts m) ≡ m
 from_parts-to_parts m = ap first_built (all_built-parts_before m [])
 
 abbrev pub members_code : Coded Members
-members_code = code_by Parts (coded_list (coded× coded_ℕ (coded× coded_ℕ coded_ℕ))) to_parts from_parts from_parts-to_parts
+members_code =
+    code_by Parts (coded_list (coded× coded_ℕ (coded× coded_ℕ coded_ℕ))) to_parts from_parts from_parts-to_parts
 
 abbrev pub tree_code : Coded Tree
 tree_code =
-    code_by (Axis × Members) (coded× axis_code members_code) (λ t. (t.axis, t.members)) (λ p. record { axis = p.0; members = p.1 }) (λ _. refl)
+    code_by (Axis × Members) (coded× axis_code members_code) (λ t. (t.axis, t.members))
+    (λ p. record { axis = p.0; members = p.1 }) (λ _. refl)
 
 abbrev pub sides_code : Coded Sides
 sides_code =
-    code_by (ℕ × ℕ) (coded× coded_ℕ coded_ℕ) (λ s. (s.width, s.height)) (λ p. record { width = p.0; height = p.1 }) (λ _. refl)
+    code_by (ℕ × ℕ) (coded× coded_ℕ coded_ℕ) (λ s. (s.width, s.height))
+    (λ p. record { width = p.0; height = p.1 }) (λ _. refl)
 
 abbrev pub options_code : Coded Options
 options_code =
-    code_by (Sides × (ℤ × ℤ)) (coded× sides_code (coded× coded_ℤ coded_ℤ)) (λ o. (o.alignment, (o.small_threshold, o.large_threshold)))
+    code_by (Sides × (ℤ × ℤ)) (coded× sides_code (coded× coded_ℤ coded_ℤ))
+    (λ o. (o.alignment, (o.small_threshold, o.large_threshold)))
     (λ p. record { alignment = p.0; small_threshold = p.1.0; large_threshold = p.1.1 }) (λ _. refl)
 
 -- the code of a state, for `ghost coded`
 abbrev pub state_code : Coded State
 state_code =
-    code_by (Tree × (Sides × (Options × (ℕ × ℕ)))) (coded× tree_code (coded× sides_code (coded× options_code (coded× coded_ℕ coded_ℕ))))
+    code_by (Tree × (Sides × (Options × (ℕ × ℕ))))
+    (coded× tree_code (coded× sides_code (coded× options_code (coded× coded_ℕ coded_ℕ))))
     (λ s. (s.tree, (s.size, (s.options, (s.limit, s.kept)))))
     (λ p. record { tree = p.0; size = p.1.0; options = p.1.1.0; limit = p.1.1.1.0; kept = p.1.1.1.1 }) (λ _. refl)

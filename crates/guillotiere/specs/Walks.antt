@@ -34,11 +34,13 @@ pub record IsShownGrant (s : State) (x : Allocation) : Type 0 where
   pub nonempty : IsNonempty (box_of x.rectangle)
 
 -- f may be called at each rectangle of a list in turn, from the first on; each has P
-abbrev pub IsCallableAlong : {F : Type 0} → Mut F (Bor Rectangle × Unit {0}) (Unit {0}) → (Rectangle → Type 0) → F → List Rectangle → Type 0
+abbrev pub IsCallableAlong : {F : Type 0} → Mut F (Bor Rectangle × Unit {0}) (Unit {0}) → (Rectangle → Type 0)
+    → F → List Rectangle → Type 0
 IsCallableAlong g P f areas =
     CallableAtEachTurn first_of (λ p x q. CalledAt g p x tt q) (λ p x. P x → TakesAt g p x) areas f
 
 -- the same at ids with their rectangles
-abbrev pub IsCallableAlongGrants : {F : Type 0} → Mut F (ℕ × (Bor Rectangle × Unit {0})) (Unit {0}) → (Allocation → Type 0) → F → List Allocation → Type 0
+abbrev pub IsCallableAlongGrants : {F : Type 0} → Mut F (ℕ × (Bor Rectangle × Unit {0})) (Unit {0})
+    → (Allocation → Type 0) → F → List Allocation → Type 0
 IsCallableAlongGrants g P f grants =
     CallableAtEachTurn first_of (CalledAtGrant g) (λ p x. P x → TakesAtGrant g p x) grants f

@@ -154,8 +154,8 @@ impl<A: Allocator + Copy> AtlasAllocator<A> {
         self.size
     }
 
-    /// Says what each atlas keeps, and does nothing: it is sound, live and free boxes tile it, the rectangles of live ids lie
-    /// within it and apart from one another, and no held box at all is guarded.
+    /// Says what each atlas keeps, and does nothing: it is sound, live and free boxes tile it, and the rectangles of live
+    /// ids lie within it and apart from one another. A list of no held box is guarded.
     pub fn prove_sound(&self)
         ensures sound { IsSound (state_of self.now) }
         ensures tiled { IsTiled (state_of self.now) }
@@ -163,7 +163,7 @@ impl<A: Allocator + Copy> AtlasAllocator<A> {
         ensures within { AllLieWithin (state_of self.now) }
         ensures guarded { AreGuarded (state_of self.now) [] }
     {
-        self.size();
+        let _size = self.size();
     }
 
     /// Whether no id is live.
@@ -208,8 +208,10 @@ impl<A: Allocator + Copy> AtlasAllocator<A> {
         ensures none { result ≡ Ok None → self.new ≡ self.old }
         ensures refused { OnErr result (self.new ≡ self.old) }
         ensures turns { self.new.turns ≡ self.old.turns }
-        ensures adds { IfOk result (λ granted. IfSome granted (λ a. AddsBox (state_of self.old) (state_of self.new) a.id (box_of a.rectangle))) }
-        ensures guarded { IfOk result (λ granted. IfSome granted (λ a. JoinsGuarded (state_of self.old) (state_of self.new) (box_of a.rectangle))) }
+        ensures adds { IfOk result (λ granted. IfSome granted (λ a.
+            AddsBox (state_of self.old) (state_of self.new) a.id (box_of a.rectangle))) }
+        ensures guarded { IfOk result (λ granted. IfSome granted (λ a.
+            JoinsGuarded (state_of self.old) (state_of self.new) (box_of a.rectangle))) }
         ensures keeps { KeepsLive (state_of self.old) (state_of self.new) }
     {
         let Some(size) = rounded(requested_size, &self.store.options) else {
@@ -298,7 +300,8 @@ impl<A: Allocator + Copy> AtlasAllocator<A> {
         ensures step { Step (state_of self.old) Rearrange (change_reply result) (state_of self.new) }
         ensures exact { IfOk result AreExactChanges }
         ensures sides { IfOk result (λ list. All KeepsSides list.changes.items) }
-        ensures moves { IfOk result (λ list. IsRearrangingStep (state_of self.old) (rearrangement_of list) (state_of self.new)) }
+        ensures moves { IfOk result (λ list. IsRearrangingStep (state_of self.old) (rearrangement_of list)
+            (state_of self.new)) }
         ensures refused { OnErr result (self.new ≡ self.old) }
         ensures turns { self.new.turns ≡ self.old.turns }
         ensures sound { IsSound (state_of self.new) }
@@ -314,10 +317,12 @@ impl<A: Allocator + Copy> AtlasAllocator<A> {
     /// turns.
     pub fn resize_and_rearrange(&mut self, new_size: Size) -> Result<ChangeList<A>, AtlasError>
         requires { IsPositive (sides_of new_size) }
-        ensures step { Step (state_of self.old) (ResizeAndRearrange (sides_of new_size)) (change_reply result) (state_of self.new) }
+        ensures step { Step (state_of self.old) (ResizeAndRearrange (sides_of new_size)) (change_reply result)
+            (state_of self.new) }
         ensures exact { IfOk result AreExactChanges }
         ensures sides { IfOk result (λ list. All KeepsSides list.changes.items) }
-        ensures moves { IfOk result (λ list. IsRearrangingStep (state_of self.old) (rearrangement_of list) (state_of self.new)) }
+        ensures moves { IfOk result (λ list. IsRearrangingStep (state_of self.old) (rearrangement_of list)
+            (state_of self.new)) }
         ensures refused { OnErr result (self.new ≡ self.old) }
         ensures turns { self.new.turns ≡ self.old.turns }
         ensures sound { IsSound (state_of self.new) }

@@ -12,8 +12,8 @@ pub struct Change {
     pub new: Allocation,
 }
 
-/// What a rearranging did with what was allocated, in the order in which it was tried: `changes` are the rectangles that
-/// were placed anew, `failures` those that found no room, whose ids are live no more.
+/// What a rearranging did with what was allocated, in the order in which it was tried: `changes` are the rectangles
+/// that were placed anew, `failures` those that found no room, whose ids are live no more.
 #[derive(Drop)]
 #[derive_where(Debug, PartialEq)]
 pub struct ChangeList<A: Allocator + Copy = Global> {

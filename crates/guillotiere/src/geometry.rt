@@ -69,8 +69,8 @@ impl Rectangle {
         has_length(self.min.x, self.max.x) && has_length(self.min.y, self.max.y)
     }
 
-    /// `max.x - min.x`, in pixels, which is negative where `max` lies left of `min`. Asks that the rectangle is measurable:
-    /// `is_measurable` is the test.
+    /// `max.x - min.x`, in pixels, which is negative where `max` lies left of `min`. Asks that the rectangle is
+    /// measurable: `is_measurable` is the test.
     pub fn width(&self) -> i32
         requires { IsMeasurable self.now }
         ensures { result ≡ self.now.max.x -ℤ self.now.min.x }
@@ -78,7 +78,8 @@ impl Rectangle {
         self.max.x - self.min.x
     }
 
-    /// `max.y - min.y`, in pixels, which is negative where `max` lies above `min`. Asks that the rectangle is measurable.
+    /// `max.y - min.y`, in pixels, which is negative where `max` lies above `min`. Asks that the rectangle is
+    /// measurable.
     pub fn height(&self) -> i32
         requires { IsMeasurable self.now }
         ensures { result ≡ self.now.max.y -ℤ self.now.min.y }
@@ -103,7 +104,8 @@ impl From<Size> for Rectangle {
 
     ghost from_gives = { λ size rectangle. rectangle ≡ record { min = record { x = pos 0; y = pos 0 }; max = record { x = size.width; y = size.height } } };
 
-    /// The rectangle from (0, 0) to the width and the height. It is empty where a side is 0 or less, and always measurable.
+    /// The rectangle from (0, 0) to the width and the height. It is empty where a side is 0 or less, and always
+    /// measurable.
     fn from(size: Size) -> Rectangle {
         Rectangle {
             min: point2(0, 0),

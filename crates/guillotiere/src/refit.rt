@@ -61,8 +61,8 @@ pub fn refit<A: Allocator + Copy>(
     order: Vec<Allocation, A>,
 ) -> Result<ChangeList<A>, AtlasError>
     requires exact { All HasExactRectangle order.items }
-    ensures refits { IfOk result (λ list. IsRefitOf (state_of atlas.old) (map grant_of order.items) (rearrangement_of list)
-        (state_of atlas.new)) }
+    ensures refits { IfOk result (λ list. IsRefitOf (state_of atlas.old) (map grant_of order.items)
+        (rearrangement_of list) (state_of atlas.new)) }
     ensures exact { IfOk result AreExactChanges }
     ensures refused { IfErr result (IsRefitRefusal (state_of atlas.old) (map grant_of order.items)) }
 {

@@ -44,8 +44,8 @@ impl<A: Allocator + Copy> Model for SimpleAtlasAllocator<A> {
 }
 
 impl<A: Allocator + Copy> SimpleAtlasAllocator<A> {
-    /// An allocator of one free box of this size, in pixels, with `DEFAULT_OPTIONS`. Asks a size that isn't empty. The only
-    /// error is `Memory`.
+    /// An allocator of one free box of this size, in pixels, with `DEFAULT_OPTIONS`. Asks a size that isn't empty. The
+    /// only error is `Memory`.
     pub fn new(alloc: A, size: Size) -> Result<Self, AtlasError>
         requires { IsPositive (sides_of size) }
         ensures unless { IsOkUnless result AtlasError.Memory }

@@ -1,5 +1,5 @@
 //! The recording allocator: an atlas that hands out names in place of ids, and records its calls.
-ghost use Rattle.std.specs.Prelude.{◌≡◌, ◌+◌, ◌<◌, ◌^◌, ◌↔◌, [], OnErr, OnOk, IfErr, IfOk, IfSome, IsSome, OnSome, IsOkUnless, List, if◌then◌else◌, None, Some, Ok, Err};
+ghost use Rattle.std.specs.Prelude.{◌≡◌, ◌+◌, ◌<◌, ◌^◌, ◌↔◌, ◌⊎◌, [], OnErr, OnOk, IfErr, IfOk, IfSome, IsSome, OnSome, IsOkUnless, List, if◌then◌else◌, None, Some, Ok, Err};
 ghost use Rattle.std.specs.List.{FoldsTo};
 ghost use Rattle.std.specs.Fn.{CalledAt};
 ghost use Rattle.guillotiere.specs.declared.geometry.Rectangle.{Rectangle as Area};
@@ -10,6 +10,7 @@ ghost use Rattle.guillotiere.specs.Boxes.{Fits, IsPositive};
 ghost use Rattle.guillotiere.specs.Choice.{AreValid};
 ghost use Rattle.guillotiere.specs.Pixels.{sides_of, size_of, options_of};
 ghost use Rattle.guillotiere.specs.Visits.{AreFreeAreas, CalledAtGrant};
+ghost use Rattle.guillotiere.specs.States.{IsSound};
 ghost use Rattle.guillotiere.specs.Steps as atlas;
 ghost use Rattle.guillotiere.specs.Steps.{Step};
 ghost use Rattle.guillotiere_recording.specs.Events.EventValue.{Allocate, Deallocate, Grow, Rearrange, ResizeAndRearrange};
@@ -94,6 +95,7 @@ impl<A: Allocator + Copy> RecordingAllocator<A> {
     pub fn size(&self) -> Size
         ensures size { result ≡ size_of (state_of self.now.atlas).size }
         ensures faithful { IsFaithful self.now }
+        ensures sound { IsSound (state_of self.now.atlas) }
     {
         let _log = &self.log;
         self.atlas.size()
@@ -111,6 +113,8 @@ impl<A: Allocator + Copy> RecordingAllocator<A> {
         ensures slots { result ≡ Err RecordingError.Slots
             → Step (state_of self.old.atlas) (atlas.Allocate (sides_of requested_size))
             (atlas.Refused AtlasError.Slots) (state_of self.old.atlas) }
+        ensures only { IfErr result (λ e. (e ≡ RecordingError.Names) ⊎ ((e ≡ RecordingError.Slots)
+            ⊎ (e ≡ RecordingError.Memory))) }
         ensures refused { OnErr result (self.new ≡ self.old) }
     {
         if self.given == NAMES {
@@ -145,6 +149,7 @@ impl<A: Allocator + Copy> RecordingAllocator<A> {
         ensures recorded { OnOk result (self.new.recording ≡ with_event (Deallocate id) self.old.recording) }
         ensures led { OnOk result (Leads (session_of self.old) (Deallocate id) (session_of self.new)) }
         ensures not_live { (result ≡ Err RecordingError.NotLive) ↔ (IsLiveName (session_of self.old) id → ⊥) }
+        ensures only { IfErr result (λ e. (e ≡ RecordingError.NotLive) ⊎ (e ≡ RecordingError.Memory)) }
         ensures refused { OnErr result (self.new ≡ self.old) }
     {
         let Some(found) = find(&self.names, id.serialize()) else {
@@ -166,6 +171,7 @@ impl<A: Allocator + Copy> RecordingAllocator<A> {
         ensures slots { result ≡ Err RecordingError.Slots
             → Step (state_of self.old.atlas) (atlas.Grow (sides_of new_size))
             (atlas.Refused AtlasError.Slots) (state_of self.old.atlas) }
+        ensures only { IfErr result (λ e. (e ≡ RecordingError.Slots) ⊎ (e ≡ RecordingError.Memory)) }
         ensures refused { OnErr result (self.new ≡ self.old) }
     {
         self.log.make_room()?;
@@ -183,6 +189,7 @@ impl<A: Allocator + Copy> RecordingAllocator<A> {
         ensures slots { result ≡ Err RecordingError.Slots
             → Step (state_of self.old.atlas) atlas.Rearrange
             (atlas.Refused AtlasError.Slots) (state_of self.old.atlas) }
+        ensures only { IfErr result (λ e. (e ≡ RecordingError.Slots) ⊎ (e ≡ RecordingError.Memory)) }
         ensures refused { OnErr result (self.new ≡ self.old) }
     {
         let mut atlas = self.atlas.clone()?;
@@ -207,6 +214,7 @@ impl<A: Allocator + Copy> RecordingAllocator<A> {
         ensures slots { result ≡ Err RecordingError.Slots
             → Step (state_of self.old.atlas) (atlas.ResizeAndRearrange (sides_of new_size))
             (atlas.Refused AtlasError.Slots) (state_of self.old.atlas) }
+        ensures only { IfErr result (λ e. (e ≡ RecordingError.Slots) ⊎ (e ≡ RecordingError.Memory)) }
         ensures refused { OnErr result (self.new ≡ self.old) }
     {
         let mut atlas = self.atlas.clone()?;

@@ -204,8 +204,8 @@ fn started(rt: &impl Abort, atlas: &mut Atlas<'_>, call: &Call) {
     assert!(rt; atlas.is_empty());
 }
 
-// `rearrange`, or `resize_and_rearrange` to a size. Where memory is refused, nothing that can be seen has changed, and the
-// call is made again.
+// `rearrange`, or `resize_and_rearrange` to a size. Where memory is refused, nothing that can be seen has changed, and
+// the call is made again.
 fn rearrange<'a>(
     rt: &impl Abort,
     heap: &Refusing<Global>,

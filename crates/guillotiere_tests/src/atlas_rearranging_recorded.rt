@@ -1,6 +1,6 @@
-//! Random sessions of the atlas with starts and rearrangings, and the answers of the Rust crate `guillotiere` 0.7.0, recorded
-//! once. The crate was patched so that a free box counts once, in its present class, and of equal free boxes the one with
-//! the least `min.y`, then the least `min.x`, is taken.
+//! Random sessions of the atlas with starts and rearrangings, and the answers of the Rust crate `guillotiere` 0.7.0,
+//! recorded once. The crate was patched so that a free box counts once, in its present class, and of equal free boxes
+//! the one with the least `min.y`, then the least `min.x`, is taken.
 
 /// How many sessions there are.
 pub const SESSIONS: usize = 12;
@@ -8,12 +8,13 @@ pub const SESSIONS: usize = 12;
 /// How many rearrangings they have.
 pub const REARRANGINGS: usize = 66;
 
-/// Eleven numbers for each call or answer: what it is, its numbers, and zeros. A session begins, or an atlas is reset, with
-/// its width and height, the alignment's width and height, and the two thresholds. A request is its width and height, the
-/// id and the granted box, with an empty box for none. A freeing is the id, how many free boxes there are then, and the
-/// last of them by `min.y`, then `min.x`, or an empty box for none. A rearranging is the new width and height, or twice 0
-/// for the present ones, how many rectangles moved and how many are lost, and the free boxes as for a freeing. Those that
-/// moved follow, the old id and box and then the new ones, and those that are lost, the id and the box.
+/// Eleven numbers for each call or answer: what it is, its numbers, and zeros. A session begins, or an atlas is reset,
+/// with its width and height, the alignment's width and height, and the two thresholds. A request is its width and
+/// height, the id and the granted box, with an empty box for none. A freeing is the id, how many free boxes there are
+/// then, and the last of them by `min.y`, then `min.x`, or an empty box for none. A rearranging is the new width and
+/// height, or twice 0 for the present ones, how many rectangles moved and how many are lost, and the free boxes as for
+/// a freeing. Those that moved follow, the old id and box and then the new ones, and those that are lost, the id and
+/// the box.
 pub static RECORDED: [i32; 9471] = [
     0, 56, 52, 1, 1, 10, 40, 0, 0, 0, 0, 1, 2, 2, 3, 0, 0, 2, 2, 0, 0, 0, 2, 3, 1, 0, 0, 56, 52, 0,
     0, 0, 0, 1, 16, 8, 16777217, 0, 0, 16, 8, 0, 0, 0, 2, 16777217, 1, 0, 0, 56, 52, 0, 0, 0, 0, 1,

@@ -16,13 +16,13 @@ mod atlas_grants;
 mod atlas_growth;
 #[cfg(test)]
 mod atlas_growth_recorded;
+mod atlas_memory;
 #[cfg(test)]
 mod atlas_rearranging;
 #[cfg(test)]
 mod atlas_rearranging_recorded;
 #[cfg(test)]
 mod atlas_rearranging_sessions;
-mod atlas_memory;
 #[cfg(test)]
 mod atlas_recorded;
 #[cfg(test)]
@@ -39,6 +39,8 @@ mod geometry;
 mod session_long;
 #[cfg(test)]
 mod session_rows;
+#[cfg(test)]
+mod simple_beside;
 #[cfg(test)]
 mod simple_recorded;
 #[cfg(test)]
@@ -61,6 +63,8 @@ mod tool_conversation;
 mod tool_devices;
 #[cfg(test)]
 mod tool_faults;
+#[cfg(test)]
+mod tool_recording;
 #[cfg(test)]
 mod tool_rows;
 #[cfg(test)]

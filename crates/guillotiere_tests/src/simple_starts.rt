@@ -2,7 +2,9 @@
 
 use crate::simple_starts_recorded::{ATLAS_CALLS, RECORDED, SESSIONS, SIMPLE_CALLS};
 use crate::tables::{rectangle, size};
-use guillotiere::{AllocId, AllocatorOptions, AtlasAllocator, AtlasError, SimpleAtlasAllocator};
+use guillotiere::{
+    AllocId, AllocatorOptions, AtlasAllocator, AtlasError, SimpleAtlasAllocator, Size, size2,
+};
 use std::alloc::Global;
 use std::process::Abort;
 use std::test::Fail;
@@ -26,6 +28,12 @@ fn call_atlas(
     Ok(())
 }
 
+fn grow(rt: &impl Abort, simple: &mut SimpleAtlasAllocator, to: Size) -> Result<(), AtlasError> {
+    let old = simple.size();
+    assert!(rt; old.width <= to.width && old.height <= to.height);
+    simple.grow(to)
+}
+
 // A request, a growth or a clearing.
 fn call_simple(
     rt: &impl Abort,
@@ -39,10 +47,8 @@ fn call_simple(
         return simple.clear();
     }
     if width < 0 {
-        let new_size = size((width.wrapping_neg(), height.wrapping_neg()));
-        let old = simple.size();
-        assert!(rt; old.width <= new_size.width && old.height <= new_size.height);
-        return simple.grow(new_size);
+        let to = size((width.wrapping_neg(), height.wrapping_neg()));
+        return grow(rt, simple, to);
     }
     let want = rectangle((left, top, right, bottom));
     let granted = simple.allocate(size((width, height)))?;
@@ -68,7 +74,7 @@ fn replay(rt: &impl Abort, alloc: Global, session: &[i32]) -> Result<(), AtlasEr
     for recorded in calls[..3 * ATLAS_CALLS].chunks(3) {
         call_atlas(rt, &mut atlas, recorded)?;
     }
-    let mut simple = SimpleAtlasAllocator::new(alloc, size((1, 1)))?;
+    let mut simple = SimpleAtlasAllocator::new(alloc, size2(1, 1))?;
     simple.init_from_allocator(&atlas)?;
     assert_eq!(rt; simple.size(), whole);
     for recorded in calls[3 * ATLAS_CALLS..].chunks(6) {

@@ -1,20 +1,14 @@
 //! The simple allocator whole: worked rows of growths and starts, call by call and as lists of calls, with ample memory
 //! and with requests for memory refused.
 
-ghost use Rattle.std.specs.Prelude.{◌∷◌, IfOk, IfSome};
-ghost use Rattle.guillotiere.specs.Boxes.{AreDisjoint};
-ghost use Rattle.guillotiere.specs.Pixels.{box_of};
-ghost use Rattle.guillotiere.specs.Simple.{live_boxes};
-ghost use Rattle.guillotiere.specs.Stored.{state_of};
-
 use crate::tables::{ALIGNED_TO_8, Corners, Sides, rectangle, size};
 use guillotiere::session::{SimpleCall, SimpleReply, run_simple};
 use guillotiere::{
-    AllocId, AllocatorOptions, AtlasAllocator, AtlasError, DEFAULT_OPTIONS, Rectangle,
-    SimpleAtlasAllocator, Size, laws, size2,
+    AllocId, AllocatorOptions, AtlasAllocator, AtlasError, DEFAULT_OPTIONS, SimpleAtlasAllocator,
+    Size,
 };
 use refusing::Refusing;
-use std::alloc::{Allocator, Global};
+use std::alloc::Global;
 use std::process::Abort;
 use std::test::Fail;
 
@@ -479,34 +473,5 @@ fn a_clearing_asks_for_no_memory_where_its_list_has_room(rt: HostRuntime) -> Res
     assert_eq!(rt; heap.requests(), made);
     assert!(rt; simple.is_empty());
     assert_eq!(rt; simple.size(), size((10, 10)));
-    Ok(())
-}
-
-// A rectangle apart from all that an atlas holds live, or none; the atlas stays as it is.
-fn place_beside<'a, B: Allocator>(
-    alloc: &'a B,
-    atlas: &AtlasAllocator<&'a B>,
-    request: Size,
-) -> Result<Option<Rectangle>, AtlasError>
-    ensures { IfOk result (λ granted. IfSome granted (λ rectangle.
-        AreDisjoint (box_of rectangle ∷ live_boxes (state_of atlas.now)))) }
-{
-    laws::guarded_are_disjoint();
-    let mut simple = SimpleAtlasAllocator::new(alloc, size2(1, 1))?;
-    simple.init_from_allocator(atlas)?;
-    match simple.allocate(request) {
-        Ok(Some(rectangle)) => Ok(Some(rectangle)),
-        Ok(None) => Ok(None),
-        Err(error) => Err(error),
-    }
-}
-
-#[test]
-fn a_rectangle_is_placed_beside_live_ones(rt: HostRuntime) -> Result<(), Fail> {
-    let heap = Refusing::new(rt.alloc());
-    let atlas = atlas_of(&rt, &heap, &ROWS[0].source)?;
-    let placed = place_beside(&heap, &atlas, size((100, 150)));
-    assert_eq!(rt; placed, Ok(Some(rectangle((0, 0, 100, 150)))));
-    assert_eq!(rt; place_beside(&heap, &atlas, size((100, 201))), Ok(None));
     Ok(())
 }

@@ -143,7 +143,11 @@ fn rows_with_each_request_for_memory_refused_in_turn(rt: HostRuntime) {
             heap.refuse_nth(number);
             let mut input = Source::ending(text, 1000);
             let mut output = Sink::new(Vec::new(rt.alloc()), 5000, 1000, true);
-            assert_eq!(rt; run_lines(&heap, &mut input, &mut output), Ok(end), "{number}");
+            assert_eq!(rt;
+                run_lines(&heap, &mut input, &mut output),
+                Ok(end),
+                "{number}"
+            );
             if !heap.is_done() {
                 assert_eq!(rt; output.held(), want);
                 break;
@@ -152,7 +156,10 @@ fn rows_with_each_request_for_memory_refused_in_turn(rt: HostRuntime) {
             let held = output.held();
             let at = first_difference(held, want);
             assert!(rt; at < held.len(), "{number}");
-            assert!(rt; held[at..].starts_with(b"refused memory\n"), "{number}: {held:?}");
+            assert!(rt;
+                held[at..].starts_with(b"refused memory\n"),
+                "{number}: {held:?}"
+            );
             assert!(rt; at == 0 || held[at - 1] == b'\n', "{number}: {held:?}");
         }
         assert!(rt; 0 < refusals && refusals < 99, "{text:?}");

@@ -66,11 +66,7 @@ impl<A: Allocator + Copy> SimpleAtlasAllocator<A> {
         ensures guarded { OnOk result (IsGuarded self.new []) }
         ensures simple { IsSimple self.new }
     {
-        keep_only(
-            &mut self.lists,
-            class(size, options),
-            Rectangle::from(size),
-        )?;
+        keep_only(&mut self.lists, class(size, options), Rectangle::from(size))?;
         self.size = size;
         self.options = *options;
         Ok(())

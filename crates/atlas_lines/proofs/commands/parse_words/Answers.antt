@@ -1,5 +1,5 @@
 use Rattle.std.proofs.Common.{rules}
-use Rattle.atlas_lines.proofs.Keywords.{only_simple, only_take, only_atlas, only_alloc, only_free, only_grow, only_resize, stands_alone}
+use Rattle.atlas_lines.proofs.Keywords.{only_simple, only_take, only_atlas, only_alloc, only_free, only_grow, only_resize, only_record, stands_alone}
 use Rattle.atlas_lines.proofs.commands.parse_words.Goals as goal
 
 pub returns-in_err-size_arguments-clause-only : goal.returns-in_err-size_arguments-clause-only
@@ -95,7 +95,20 @@ returns-then-eq-7-clause-only c command parts =
     let is = only.1 in
     cc
 
+pub returns-in_err-size_arguments-6-clause-only : goal.returns-in_err-size_arguments-6-clause-only
+returns-in_err-size_arguments-6-clause-only c command parts =
+    let only = only_record command _ _ (search rules) parts in
+    let read = c.in_err-size_arguments-6.ensures.only only.0 only.2 in
+    absurd (cc)
+
+pub returns-then-eq-8-clause-only : goal.returns-then-eq-8-clause-only
+returns-then-eq-8-clause-only c command parts =
+    let only = only_record command _ _ (search rules) parts in
+    let read = c.in_ok-size_arguments-6.ensures.only only.0 only.2 in
+    let is = only.1 in
+    cc
+
 pub returns-clause-only : goal.returns-clause-only
 returns-clause-only c command parts =
     c.parse_alone.ensures.only command
-    (stands_alone command _ _ (search rules) (search rules) (search rules) (search rules) (search rules) (search rules) (search rules) parts) parts
+    (stands_alone command _ _ (search rules) (search rules) (search rules) (search rules) (search rules) (search rules) (search rules) (search rules) parts) parts

@@ -11,12 +11,12 @@ returns-clause-classes g c =
     let o = options_of c.args.options.now in
     on_ok_weaker c.append.result
     (λ added. added-classes o c.args.lists.now c.append.new.lists c.class.result c.args.area
-        (filed o c.args.area c.size-size.result c.class.result c.requires.unsigned c.requires.nonempty c.size-size.ensures c.class.ensures) added c.append.ensures.others)
+    (filed o c.args.area c.size-size.result c.class.result c.requires.unsigned c.requires.nonempty c.size-size.ensures c.class.ensures) added c.append.ensures.others)
     c.append.ensures.added
 
 pub returns-clause-boxes : goal.returns-clause-boxes
 returns-clause-boxes g c =
     on_ok_weaker c.append.result
     (λ added. added-boxes c.args.lists.now c.append.new.lists c.class.result c.args.area
-        (omega (arith, c.class.ensures, class_of-below (options_of c.args.options.now) (sides_of c.size-size.result))) added c.append.ensures.others)
+    (omega (arith, c.class.ensures, class_of-below (options_of c.args.options.now) (sides_of c.size-size.result))) added c.append.ensures.others)
     c.append.ensures.added

@@ -21,12 +21,13 @@ loop-slot-preserved g c =
     elim c.if-eq.branch [
       | then-eq+in_ok-file w ↦
           let next = next-filed (λ r. IsUnsigned r × IsNonempty (box_of r)) c.args.slots.now c.loop-slot.slot-index _ c.loop-slot.lists w.file.new.lists all
-              c.loop-slot-test.true (search rules) c.loop-slot.invariant.1 c.loop-slot.invariant.2 w.in_ok-file.ensures.boxes in
+          c.loop-slot-test.true (search rules) c.loop-slot.invariant.1 c.loop-slot.invariant.2 w.in_ok-file.ensures.boxes in
           rw w.lists-is (w.in_ok-file.ensures.classes c.loop-slot.invariant.0, next.0, next.1)
       | else-eq w ↦
           let e = passed-free c.args.slots.now c.loop-slot.slot-index _ c.eq.result c.loop-slot-test.true c.eq.ensures w.if-eq.false in
-          rw w.lists-is
-          (c.loop-slot.invariant.0,
-          subst (All (λ r. IsUnsigned r × IsNonempty (box_of r))) e c.loop-slot.invariant.1,
-          subst (λ l. AreSameBoxes (map box_of l ++ listed c.loop-slot.lists) all) e c.loop-slot.invariant.2)
+          rw w.lists-is (
+            c.loop-slot.invariant.0,
+            subst (All (λ r. IsUnsigned r × IsNonempty (box_of r))) e c.loop-slot.invariant.1,
+            subst (λ l. AreSameBoxes (map box_of l ++ listed c.loop-slot.lists) all) e c.loop-slot.invariant.2,
+          )
     ]

@@ -13,4 +13,4 @@ invariant-loop-slot g l =
     AreInClasses (options_of l.options) l.lists
     × All (λ r. IsUnsigned r × IsNonempty (box_of r)) (free_areas (nodes (drop l.slot-index l.slots)))
     × AreSameBoxes (map box_of (free_areas (nodes (drop l.slot-index l.slots))) ++ listed l.lists)
-        (map box_of (free_areas (nodes l.slots)) ++ listed l.initial.lists)
+    (map box_of (free_areas (nodes l.slots)) ++ listed l.initial.lists)

@@ -4,7 +4,7 @@ use Rattle.guillotiere.specs.declared.error.AtlasError.{AtlasError}
 use Rattle.guillotiere.specs.Rearranging.{change_reply}
 use Rattle.atlas_lines.specs.Machine.{ToolReply, ShowsRearranging}
 use Rattle.atlas_lines.proofs.Lists.{changes_shown}
-use Rattle.atlas_lines.proofs.tool.answer_changes.Goals as goal
+use Rattle.atlas_lines.proofs.atlas_calls.answer_changes.Goals as goal
 
 pub returns-in-Ok : goal.returns-in-Ok
 returns-in-Ok g c =

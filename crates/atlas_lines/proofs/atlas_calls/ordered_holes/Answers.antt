@@ -2,7 +2,7 @@ use Rattle.std.proofs.Common.{rules}
 use Rattle.std.proofs.lemmas.List.Sorted.{answers_always}
 use Rattle.guillotiere.specs.Stored as stored
 use Rattle.atlas_lines.proofs.Lists.{corner_key, holes_listed}
-use Rattle.atlas_lines.proofs.tool.ordered_holes.Goals as goal
+use Rattle.atlas_lines.proofs.atlas_calls.ordered_holes.Goals as goal
 
 pub returns-clause-list : goal.returns-clause-list
 returns-clause-list g c =

@@ -1,0 +1,81 @@
+//! A cache of glyphs whose calls are recorded: boxes go by names.
+ghost use Rattle.std.specs.Prelude.{◌≡◌, ◌<◌, ◌+◌, ◌^◌, IfOk, OnOk};
+
+use crate::answers::Answers;
+use crate::error::BenchError;
+use crate::random::Random;
+use guillotiere::{AllocId, Size, size2};
+use guillotiere_recording::RecordingAllocator;
+use std::alloc::Global;
+
+#[derive(Drop)]
+struct RecordedCache {
+    atlas: RecordingAllocator,
+    live: Vec<AllocId>,
+    random: Random,
+    answers: Answers,
+}
+
+impl RecordedCache {
+    // An empty cache of 2048x2048 pixels.
+    fn new(alloc: Global) -> Result<Self, BenchError>
+        ensures { IfOk result (λ it. it.answers.calls ≡ 0) }
+    {
+        Ok(RecordedCache {
+            atlas: RecordingAllocator::new(alloc, size2(2048, 2048))?,
+            live: Vec::new(alloc),
+            random: Random::new(1),
+            answers: Answers::new(),
+        })
+    }
+
+    // Requests a box. Whether it was granted.
+    fn request(&mut self, size: Size) -> Result<bool, BenchError>
+        requires { self.old.answers.calls + 1 < 2 ^ 64 }
+        ensures { OnOk result (self.new.answers.calls ≡ self.old.answers.calls + 1) }
+    {
+        let Some(allocation) = self.atlas.allocate(size)? else {
+            self.answers.refused();
+            return Ok(false);
+        };
+        let name = allocation.id;
+        self.answers.granted(allocation);
+        self.live.push(name)?;
+        Ok(true)
+    }
+
+    // Frees one of the live boxes, at random. `WrongAnswer` where none is live.
+    fn evict(&mut self) -> Result<(), BenchError>
+        requires { self.old.answers.calls + 1 < 2 ^ 64 }
+        ensures { OnOk result (self.new.answers.calls ≡ self.old.answers.calls + 1) }
+    {
+        if self.live.is_empty() {
+            return Err(BenchError::WrongAnswer);
+        }
+        let place = self.random.below(self.live.len() as u64) as usize;
+        let name = self.live.swap_remove(place);
+        self.atlas.deallocate(name)?;
+        self.answers.freed();
+        Ok(())
+    }
+}
+
+/// Requests glyphs as `glyph` does, through a recording allocator.
+pub fn recorded(alloc: Global, calls: u32) -> Result<Answers, BenchError>
+    ensures { IfOk result (λ it. it.calls ≡ calls) }
+{
+    let mut cache = RecordedCache::new(alloc)?;
+    let mut size = cache.random.size_between(8, 64);
+    let mut is_full = false;
+    for _ in 0..calls {
+        if is_full {
+            cache.evict()?;
+            is_full = false;
+        } else if cache.request(size)? {
+            size = cache.random.size_between(8, 64);
+        } else {
+            is_full = true;
+        }
+    }
+    Ok(cache.answers)
+}
