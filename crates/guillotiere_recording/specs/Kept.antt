@@ -46,7 +46,8 @@ pub record IsRearranged {A : Type 0} (entries : List LiveName) (list : ChangeLis
   pub step : Step (state_of before.atlas) asked (atlas.Changed (rearrangement_of list)) new
 
 -- the list under names is the said one, and the map has the entries of what was moved
-pub record IsFollowed {A : Type 0} (entries : List LiveName) (list : ChangeList A) (said : ListValue) (names : Names) : Type 0 where
+pub record IsFollowed {A : Type 0} (entries : List LiveName) (list : ChangeList A) (said : ListValue) (names : Names)
+    : Type 0 where
   pub moved : Moved A
   pub is : IsMoved entries list moved
   pub same : list_of moved.list ≡ said

@@ -49,7 +49,8 @@ pub record IsReplayed {A : Type 0} (r : RecordingValue) (stats : ReplayStats A) 
   pub deallocations : stats.deallocations ≡ count_by is_freeing r.events
   pub failed : stats.failed_allocations ≡ count_by is_failed_request r.events
 
--- The event can't be carried out: its new name is live, the name that it frees isn't, a side shrinks, or a size is empty.
+-- The event can't be carried out: its new name is live, the name that it frees isn't, a side shrinks, or a size is
+-- empty.
 abbrev pub IsBad : Named → EventValue → Type 0
 IsBad s (Allocate size None) = ⊥
 IsBad s (Allocate size (Some a)) = IsLiveName s a.id
@@ -88,7 +89,8 @@ IsAnswer s (Allocate size None) reply = reply ≡ NoRoom
 IsAnswer s (Allocate size (Some a)) reply = (g : Grant) × (reply ≡ Allocated g) × (a.rectangle ≡ rectangle_of g.box)
 IsAnswer s (Deallocate name) reply = reply ≡ Done
 IsAnswer s (Grow size) reply = reply ≡ Done
-IsAnswer s (Rearrange list) reply = (answer : Rearrangement) × (reply ≡ Changed answer) × (list ≡ shown_list s.name answer)
+IsAnswer s (Rearrange list) reply =
+    (answer : Rearrangement) × (reply ≡ Changed answer) × (list ≡ shown_list s.name answer)
 IsAnswer s (ResizeAndRearrange size list) reply =
     (answer : Rearrangement) × (reply ≡ Changed answer) × (list ≡ shown_list s.name answer)
 

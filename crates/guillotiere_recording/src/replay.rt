@@ -108,7 +108,8 @@ impl<A: Allocator + Copy> Event<A> {
 impl<A: Allocator + Copy> Log<A> {
     ghost use Rattle.guillotiere_recording.specs.Events.{event_of};
     ghost use Rattle.guillotiere_recording.specs.Logs.{recording_of};
-    ghost use Rattle.guillotiere_recording.specs.Replays.{IsReplayed, IsFaultOf, is_grant, is_freeing, is_failed_request};
+    ghost use Rattle.guillotiere_recording.specs.Replays.{IsReplayed, IsFaultOf};
+    ghost use Rattle.guillotiere_recording.specs.Replays.{is_grant, is_freeing, is_failed_request};
 
     // How many requests were granted.
     fn grants(&self) -> u64

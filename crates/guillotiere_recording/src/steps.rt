@@ -6,7 +6,8 @@ ghost use Rattle.guillotiere.specs.Stored.{state_of};
 ghost use Rattle.guillotiere.specs.Replies.{live_box};
 ghost use Rattle.guillotiere_recording.specs.Events.{event_of, list_of};
 ghost use Rattle.guillotiere_recording.specs.Sessions.{Named};
-ghost use Rattle.guillotiere_recording.specs.Events.EventValue.{Allocate, Deallocate, Grow, Rearrange, ResizeAndRearrange};
+ghost use Rattle.guillotiere_recording.specs.Events.EventValue.{Allocate, Deallocate, Grow};
+ghost use Rattle.guillotiere_recording.specs.Events.EventValue.{Rearrange, ResizeAndRearrange};
 ghost use Rattle.guillotiere_recording.specs.Standing.{Shows, CarriesOut, IsStopped, event_fault, shown_entry};
 ghost use Rattle.guillotiere_recording.specs.declared.steps.EventFault.TheVariants.{Memory};
 
