@@ -20,9 +20,13 @@ use std::collections::BTreeMap;
 /// Why an event isn't carried out.
 #[derive(Clone, Copy, Debug, PartialEq)]
 pub enum EventFault {
+    /// A request for memory was refused.
     Memory,
+    /// More slots would be used than an atlas may use.
     Slots,
+    /// The atlas gives another answer.
     Differs,
+    /// It can't be carried out.
     Bad,
 }
 

@@ -1,0 +1,36 @@
+//! First callers of replays: each is proved from the contracts alone.
+ghost use Rattle.std.specs.Prelude.{◌≡◌, IfSome, IfOk, true, count_by};
+ghost use Rattle.guillotiere_recording.specs.Replays.{IsRecorded, is_grant};
+
+use guillotiere_recording::{Recording, ReplayFault};
+
+/// Whether a recording is replayed to its end; then it is that of a session.
+pub fn is_replayed(recording: &Recording) -> bool
+    ensures { result ≡ true → IsRecorded recording.now }
+{
+    recording.replay().is_ok()
+}
+
+/// The number of an event that can't be carried out; then the recording is that of no session.
+pub fn bad_event(recording: &Recording) -> Option<usize>
+    ensures { IfSome result (λ at. IsRecorded recording.now → ⊥) }
+{
+    match recording.replay() {
+        Err(ReplayFault::BadEvent(at)) => Some(at),
+        _ => None,
+    }
+}
+
+/// How many requests of a recording were granted.
+pub fn grants(recording: &Recording) -> Result<u64, ReplayFault>
+    ensures { IfOk result (λ count. count ≡ count_by is_grant recording.now.events) }
+{
+    Ok(recording.replay()?.allocations)
+}
+
+/// Removes the first event, if there is one.
+pub fn remove_first(recording: &mut Recording) {
+    if !recording.events().is_empty() {
+        recording.remove_event(0);
+    }
+}
