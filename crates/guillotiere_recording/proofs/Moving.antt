@@ -1,15 +1,12 @@
 -- Entries in another order give the same names.
-use Rattle.std.proofs.Common.{◌≡◌, ℕ, ◌+◌, ◌<◌, ◌≤◌, ◌==◌, get_or, List, [], ◌∷◌, length, map, refl, ap, sym, subst, ◌∙◌, arith, All, Contains, IsPermutation}
-use Rattle.std.specs.List.{count_by}
-use Rattle.std.specs.List.Sorted.{IsNonDecreasingBy}
-use Rattle.std.proofs.lemmas.List.{get_or_default}
+use Rattle.std.proofs.Common.{◌≡◌, ℕ, ◌≤◌, ◌==◌, get_or, List, map, ap, sym, subst, ◌∙◌, arith, All, IsPermutation}
 use Rattle.std.proofs.lemmas.List.Elements.{All-contains}
 use Rattle.std.proofs.lemmas.List.Sorted.{Contains-permutation}
 use Rattle.guillotiere.specs.declared.allocation.Allocation.{Allocation}
 use Rattle.guillotiere.specs.declared.change.Change.{Change}
 use Rattle.guillotiere_recording.specs.declared.names.LiveName.{LiveName as Entry}
 use Rattle.guillotiere_recording.specs.Names.{entries_of, name_among}
-use Rattle.guillotiere_recording.specs.Moves.{change_under, failure_under, entry_under, AreEntered}
+use Rattle.guillotiere_recording.specs.Moves.{failure_under}
 use Rattle.guillotiere_recording.proofs.Counts.{count_permuted, map_alike}
 use Rattle.guillotiere_recording.proofs.Entries.{entry_of, name_of}
 

@@ -14,7 +14,7 @@ use Rattle.guillotiere_recording.specs.declared.names.LiveName.{LiveName as Entr
 use Rattle.guillotiere_recording.specs.Names.{shown, box_or_none}
 
 -- the rectangle of a live id is that of its box
-area_of : (o : Option Box) (area : Rectangle) → option_map rectangle_of o ≡ Some area → area ≡ rectangle_of (box_or_none o)
+pub area_of : (o : Option Box) (area : Rectangle) → option_map rectangle_of o ≡ Some area → area ≡ rectangle_of (box_or_none o)
 area_of None area is = cc
 area_of (Some b) area is = cc
 

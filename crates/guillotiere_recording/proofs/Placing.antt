@@ -1,6 +1,5 @@
 -- An id that has an entry, found among entries by rising id.
-use Rattle.std.proofs.Common.{◌≡◌, ℕ, zero, suc, ◌+◌, ◌<◌, ◌≤◌, ◌==◌, ◌⊎◌, inl, inr, eqb, ltb, ltb-true, ltb-false, Bool, true, false, get_or, List, [], ◌∷◌, length, refl, ap, sym, subst, ◌∙◌, arith, Contains}
-use Rattle.std.specs.List.{count_by}
+use Rattle.std.proofs.Common.{◌≡◌, ℕ, ◌<◌, ◌≤◌, ◌⊎◌, inl, inr, ltb, ltb-true, ltb-false, true, false, get_or, List, length, ap, sym, ◌∙◌, arith, Contains}
 use Rattle.std.specs.List.Sorted.{IsNonDecreasingBy, IsPartitionPoint}
 use Rattle.std.proofs.lemmas.Bool.{cases_lt}
 use Rattle.std.proofs.lemmas.List.{get_or_default}

@@ -1,5 +1,5 @@
 -- A rearranging under names keeps a session.
-use Rattle.std.proofs.Common.{◌≡◌, ℕ, zero, suc, append-nil, ◌+◌, ◌<◌, ◌≤◌, ◌==◌, ◌⊎◌, inl, inr, eqb, Bool, true, false, get_or, List, [], ◌∷◌, ◌++◌, length, map, refl, ap, ap₂, sym, subst, ◌∙◌, arith, All, AllPairs, Contains, IsPermutation}
+use Rattle.std.proofs.Common.{◌≡◌, ℕ, zero, suc, append-nil, ◌<◌, ◌≤◌, ◌==◌, ◌⊎◌, inl, inr, Bool, true, false, get_or, List, [], ◌∷◌, ◌++◌, length, map, refl, ap, sym, subst, ◌∙◌, arith, All, Contains}
 use Rattle.std.specs.List.{count_by}
 use Rattle.std.specs.List.Sorted.{IsNonDecreasingBy}
 use Rattle.std.proofs.lemmas.Bool.{eqb-true, eq-eqb, cases_lt}
@@ -28,18 +28,23 @@ use Rattle.guillotiere_recording.specs.declared.names.LiveName.{LiveName as Entr
 use Rattle.guillotiere_recording.specs.declared.moves.Moved.{Moved}
 use Rattle.guillotiere_recording.specs.Events.{EventValue, list_of, given_names}
 use Rattle.guillotiere_recording.specs.Logs.{RecordingValue, with_event}
-use Rattle.guillotiere_recording.specs.Sessions.{Named, renamed_transfer, RearrangesUnder, Leads}
+use Rattle.guillotiere_recording.specs.Sessions.{renamed_transfer, RearrangesUnder, Leads}
 use Rattle.guillotiere_recording.specs.Names.{AreRising, entries_of, name_among}
 use Rattle.guillotiere_recording.specs.Moves.{change_under, failure_under, entry_under, AreEntered, IsMoved}
 use Rattle.guillotiere_recording.specs.Recordings.{SessionValue, session_of, IsSession}
-use Rattle.guillotiere_recording.proofs.Counts.{count_map, count_permuted, count_alike}
+use Rattle.guillotiere_recording.specs.Kept.{IsKept}
+use Rattle.guillotiere_recording.proofs.Counts.{count_map, count_permuted}
 use Rattle.guillotiere_recording.proofs.Entries.{entry_of, name_of, counted_is_live}
 use Rattle.guillotiere_recording.proofs.Naming.{live_at_most_once, moved_from}
 use Rattle.guillotiere_recording.proofs.Keeping.{session_named, recorded_more, given_more, names_in}
 
+-- what each session keeps
+pub kept_of : (v : SessionValue) → IsSession v → IsKept v
+kept_of v h = record { ids = h.ids; named = session_named v h }
+
 -- lists
 
-map_twice : {X Y Z : Type 0} (f : Y → Z) (g : X → Y) (xs : List X) → map f (map g xs) ≡ map (λ x. f (g x)) xs
+pub map_twice : {X Y Z : Type 0} (f : Y → Z) (g : X → Y) (xs : List X) → map f (map g xs) ≡ map (λ x. f (g x)) xs
 map_twice f g [] = refl
 map_twice f g (x ∷ xs) = ap (λ ys. f (g x) ∷ ys) (map_twice f g xs)
 
@@ -75,7 +80,7 @@ count_two p (x ∷ xs) (suc i) (suc j) d less below pi pj =
     let two = count_two p xs i j d (omega arith) (omega arith) pi pj in
     omega (arith, a, two)
 
-strictly : (ns : List Entry) → IsNonDecreasingBy (λ (n : Entry). n.name) ns
+pub strictly : (ns : List Entry) → IsNonDecreasingBy (λ (n : Entry). n.name) ns
     → ((name : ℕ) → count_by (λ (n : Entry). n.name == name) ns ≤ 1) → AreRising ns
 strictly ns order once i j d less below = by_place (cases_lt (get_or ns i d).name (get_or ns j d).name)
   where
@@ -91,17 +96,17 @@ strictly ns order once i j d less below = by_place (cases_lt (get_or ns i d).nam
 
 -- what was live has entries
 
-pub all_entered : {A : Type 0} (v : SessionValue) (new : State) (answer : ChangeList A) (asked : AtlasCall) → IsSession v
+pub all_entered : {A : Type 0} (v : SessionValue) (new : State) (answer : ChangeList A) (asked : AtlasCall) → IsKept v
     → Step (state_of v.atlas) asked (atlas.Changed (rearrangement_of answer)) new
     → AreEntered v.names answer.changes.items answer.failures.items
 all_entered v new answer asked h step = record {
   changed = λ k d below. changed k d below;
   failed = λ k d below. failed k d below;
-  once = λ id. (let one = live_at_most_once (state_of v.atlas) id (session_named v h).sound in let i = h.ids id in omega (arith, one, i));
+  once = λ id. (let one = live_at_most_once (state_of v.atlas) id h.named.sound in let i = h.ids id in omega (arith, one, i));
 }
   where
     moves : IsRearrangingStep (state_of v.atlas) (rearrangement_of answer) new
-    moves = rearrangings_lose_nothing (state_of v.atlas) new asked (rearrangement_of answer) (session_named v h).sound step
+    moves = rearrangings_lose_nothing (state_of v.atlas) new asked (rearrangement_of answer) h.named.sound step
 
     changed : (k : ℕ) (d : Change) → k < length answer.changes.items → 1 ≤ entries_of (get_or answer.changes.items k d).old.id v.names
     changed k d below =
@@ -126,11 +131,11 @@ all_entered v new answer asked h step = record {
         omega (arith, i, a, b, c, some)
 
 -- the new entries are those of what is live now
-entered_anew : {A : Type 0} (v : SessionValue) (new : State) (answer : ChangeList A) (m : Moved A) (asked : AtlasCall) → IsSession v
+pub entered_anew : {A : Type 0} (v : SessionValue) (new : State) (answer : ChangeList A) (m : Moved A) (asked : AtlasCall) → IsKept v
     → Step (state_of v.atlas) asked (atlas.Changed (rearrangement_of answer)) new → IsMoved v.names answer m
     → (id : ℕ) → entries_of id m.names.items ≡ live_count id new
 entered_anew v new answer m asked h step moved id =
-    let moves = rearrangings_lose_nothing (state_of v.atlas) new asked (rearrangement_of answer) (session_named v h).sound step in
+    let moves = rearrangings_lose_nothing (state_of v.atlas) new asked (rearrangement_of answer) h.named.sound step in
     let f = name_among v.names in
     let p : Grant → Bool = λ g. g.id == id in
     let a = count_permuted (λ (n : Entry). n.id == id) (map (entry_under f) answer.changes.items) m.names.items moved.entries in
@@ -140,7 +145,7 @@ entered_anew v new answer m asked h step moved id =
     let e = count_map transfer_of (λ (t : Transfer). t.new.id == id) answer.changes.items in
     omega (arith, a, b, c, d, e)
 
-pub rearranges_under : {A : Type 0} (v : SessionValue) (a : AtlasValue) (answer : ChangeList A) (m : Moved A) (asked : AtlasCall) → IsSession v
+pub rearranges_under : {A : Type 0} (v : SessionValue) (a : AtlasValue) (answer : ChangeList A) (m : Moved A) (asked : AtlasCall) → IsKept v
     → Step (state_of v.atlas) asked (atlas.Changed (rearrangement_of answer)) (state_of a) → AreExactChanges answer
     → IsMoved v.names answer m → ((id : ℕ) → live_count id (state_of a) ≤ 1)
     → RearrangesUnder (session_of v) asked (list_of m.list) (record { state = state_of a; name = name_among m.names.items })
@@ -170,14 +175,14 @@ rearranges_under v a answer m asked h step exact moved few =
         name_of c.new.id m.names.items (entry_under (name_among v.names) c) (omega (arith, e, one)) there refl
 
 -- what is live after a rearranging is live once
-pub once_after : {A : Type 0} (v : SessionValue) (new : State) (answer : ChangeList A) (asked : AtlasCall) → IsSession v
+pub once_after : {A : Type 0} (v : SessionValue) (new : State) (answer : ChangeList A) (asked : AtlasCall) → IsKept v
     → Step (state_of v.atlas) asked (atlas.Changed (rearrangement_of answer)) new → (id : ℕ) → live_count id new ≤ 1
 once_after v new answer asked h step id =
     live_at_most_once new id
-    (steps_keep (state_of v.atlas) new asked (atlas.Changed (rearrangement_of answer)) (session_named v h).sound step)
+    (steps_keep (state_of v.atlas) new asked (atlas.Changed (rearrangement_of answer)) h.named.sound step)
 
 -- names stay apart
-names_apart : {A : Type 0} (v : SessionValue) (new : State) (answer : ChangeList A) (m : Moved A) (asked : AtlasCall) → IsSession v
+pub names_apart : {A : Type 0} (v : SessionValue) (new : State) (answer : ChangeList A) (m : Moved A) (asked : AtlasCall) → IsKept v
     → Step (state_of v.atlas) asked (atlas.Changed (rearrangement_of answer)) new → IsMoved v.names answer m
     → (name : ℕ) → count_by (λ (n : Entry). n.name == name) m.names.items ≤ 1
 names_apart v new answer m asked h step moved name =
@@ -187,7 +192,7 @@ names_apart v new answer m asked h step moved name =
     omega (arith, a, b, few)
   where
     moves : IsRearrangingStep (state_of v.atlas) (rearrangement_of answer) new
-    moves = rearrangings_lose_nothing (state_of v.atlas) new asked (rearrangement_of answer) (session_named v h).sound step
+    moves = rearrangings_lose_nothing (state_of v.atlas) new asked (rearrangement_of answer) h.named.sound step
 
     live : (c : Change) → Contains answer.changes.items c → IsLive (state_of v.atlas) c.old.id
     live c at =
@@ -206,10 +211,10 @@ names_apart v new answer m asked h step moved name =
         Contains-append_right s.before (s.here ∷ s.after) s.here (Contains-first s.here s.after) in
         let at : Contains answer.changes.items s.here = subst (λ cs. Contains cs s.here) (sym s.is) there in
         let few = count_weaker_in (λ (c : Change). name_among v.names c.old.id == name) (λ (c : Change). c.old.id == s.here.old.id) answer.changes.items
-        (λ c in_it is. eq-eqb _ _ ((session_named v h).names c.old.id s.here.old.id (live c in_it) (live s.here at) (eqb-true _ _ is ∙ sym (eqb-true _ _ s.passes)))) in
+        (λ c in_it is. eq-eqb _ _ (h.named.names c.old.id s.here.old.id (live c in_it) (live s.here at) (eqb-true _ _ is ∙ sym (eqb-true _ _ s.passes)))) in
         let all = count_map transfer_of (λ (t : Transfer). t.old.id == s.here.old.id) answer.changes.items in
         let from = moved_from (state_of v.atlas) new (rearrangement_of answer) moves s.here.old.id in
-        let one = live_at_most_once (state_of v.atlas) s.here.old.id (session_named v h).sound in
+        let one = live_at_most_once (state_of v.atlas) s.here.old.id h.named.sound in
         omega (arith, few, all, from, one)
 
 pub rearranged_session : {A : Type 0} (v : SessionValue) (a : AtlasValue) (ns : List Entry) (r : RecordingValue) (answer : ChangeList A) (m : Moved A)
@@ -224,7 +229,7 @@ rearranged_session v a ns r answer m asked event h step moved names more none le
   where
     low : (k : ℕ) (d : Change) → k < length answer.changes.items → name_among v.names (get_or answer.changes.items k d).old.id < v.given
     low k d below =
-        let e = all_entered v (state_of a) answer asked h step in
+        let e = all_entered v (state_of a) answer asked (kept_of v h) step in
         let n = entry_of (get_or answer.changes.items k d).old.id v.names (e.changed k d below) in
         subst (λ x. x < v.given) (sym n.3) (All-contains (λ (x : Entry). x.name < v.given) v.names n.0 h.below n.1)
 
@@ -234,8 +239,8 @@ rearranged_session v a ns r answer m asked event h step moved names more none le
         leads = recorded_more v.recording event (session_of v) (record { state = state_of a; name = name_among m.names.items }) h.faithful.leads leads;
         given = given_more v.recording.events event ∙ ap (λ xs. given_names v.recording.events ++ xs) none ∙ append-nil _ ∙ h.faithful.given;
       };
-      ids = entered_anew v (state_of a) answer m asked h step moved;
-      rising = strictly m.names.items moved.sorted (names_apart v (state_of a) answer m asked h step moved);
+      ids = entered_anew v (state_of a) answer m asked (kept_of v h) step moved;
+      rising = strictly m.names.items moved.sorted (names_apart v (state_of a) answer m asked (kept_of v h) step moved);
       below = All-permutation (λ (x : Entry). x.name < v.given) (map (entry_under (name_among v.names)) answer.changes.items) m.names.items moved.entries
           (All-map (λ (x : Entry). x.name < v.given) (entry_under (name_among v.names)) answer.changes.items low);
       most = h.most;

@@ -33,7 +33,7 @@ count_split q before x after =
     omega (arith, a, b, c)
 
 -- lists that count each number alike count each test alike
-each_counts : (xs ys : List ℕ) → ((k : ℕ) → count_by (λ x. x == k) xs ≡ count_by (λ x. x == k) ys) → (q : ℕ → Bool)
+pub each_counts : (xs ys : List ℕ) → ((k : ℕ) → count_by (λ x. x == k) xs ≡ count_by (λ x. x == k) ys) → (q : ℕ → Bool)
     → count_by q xs ≡ count_by q ys
 each_counts [] [] h q = refl
 each_counts [] (y ∷ ys) h q =
@@ -63,7 +63,7 @@ each_counts (x ∷ xs) ys h q = found (split_at (λ z. z == x) ys some) (λ zs m
         ∙ sym (count_split q s.before x s.after) ∙ ap (count_by q) (sym is)
 
 -- the live box of a listed grant
-box_of_live : (s : State) (g : Grant) → IsSound s → Contains (live_in s) g → box_or_none (live_box s g.id) ≡ g.box
+pub box_of_live : (s : State) (g : Grant) → IsSound s → Contains (live_in s) g → box_or_none (live_box s g.id) ≡ g.box
 box_of_live s g sound at =
     let it : find (λ (k : Grant). k.id == g.id) (live_in s) ≡ Some g =
     find-counted_once (λ k. k.id == g.id) (live_in s) g (live_at_most_once s g.id sound) at (eq-eqb g.id g.id refl) in

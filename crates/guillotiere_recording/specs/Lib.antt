@@ -2,7 +2,11 @@ pub mod Errors
 pub mod Events
 pub mod Logs
 pub mod Sessions
+pub mod Twins
 pub mod Books
 pub mod Names
 pub mod Moves
 pub mod Recordings
+pub mod Replays
+pub mod Standing
+pub mod Kept

@@ -4,14 +4,18 @@
 mod allocator;
 mod error;
 mod event;
+mod follow;
 pub mod laws;
 mod log;
 mod moves;
 mod names;
 mod recording;
+mod replay;
+mod steps;
 mod walks;
 
 pub use allocator::RecordingAllocator;
 pub use error::RecordingError;
 pub use event::Event;
 pub use recording::{Recorder, Recording};
+pub use replay::{ReplayFault, ReplayStats};

@@ -1,7 +1,8 @@
 //! The log of events that recordings, recorders and recording allocators keep.
 ghost use Rattle.std.specs.Prelude.{◌≡◌, ◌++◌, ◌∷◌, [], ◌<◌, OnErr, OnOk, IsOkUnless, vec_len, vec_capacity};
-ghost use Rattle.guillotiere_recording.specs.Events.{event_of};
-ghost use Rattle.guillotiere_recording.specs.Logs.{recording_of, with_event};
+ghost use Rattle.guillotiere.specs.Boxes.{IsPositive};
+ghost use Rattle.guillotiere.specs.Choice.{AreValid};
+ghost use Rattle.guillotiere.specs.Pixels.{sides_of, options_of};
 
 use crate::error::RecordingError;
 use crate::event::Event;
@@ -15,11 +16,18 @@ pub struct Log<A: Allocator + Copy> {
     pub size: Size,
     pub options: AllocatorOptions,
     pub events: Vec<Event<A>, A>,
+    pub ghost nonempty: { IsPositive (sides_of size) },
+    pub ghost valid: { AreValid (options_of options) },
 }
 
 impl<A: Allocator + Copy> Log<A> {
+    ghost use Rattle.guillotiere_recording.specs.Events.{event_of};
+    ghost use Rattle.guillotiere_recording.specs.Logs.{recording_of, with_event};
+
     /// A log without events. Takes no memory.
     pub fn new(alloc: A, size: Size, options: &AllocatorOptions) -> Log<A>
+        requires size { IsPositive (sides_of size) }
+        requires options { AreValid (options_of options.now) }
         ensures { recording_of result ≡ record { size = size; options = options.now; events = [] } }
     {
         Log {

@@ -1,5 +1,5 @@
 //! Recordings, and recorders, which make one of events that they are given.
-ghost use Rattle.std.specs.Prelude.{◌≡◌, [], OnErr, IfOk, OnOk, IsOkUnless, map};
+ghost use Rattle.std.specs.Prelude.{◌≡◌, [], ◌<◌, length, remove, OnErr, IfOk, IfErr, OnOk, IsOkUnless, map};
 ghost use Rattle.guillotiere.specs.Boxes.{IsPositive};
 ghost use Rattle.guillotiere.specs.Choice.{AreValid};
 ghost use Rattle.guillotiere.specs.Pixels.{sides_of, options_of};
@@ -9,6 +9,7 @@ ghost use Rattle.guillotiere_recording.specs.Logs.{recording_of, with_event};
 use crate::error::RecordingError;
 use crate::event::Event;
 use crate::log::Log;
+use crate::replay::{ReplayFault, ReplayStats};
 use guillotiere::{AllocatorOptions, Size};
 use std::alloc::{Allocator, Global};
 use std::marker::Model;
@@ -29,6 +30,8 @@ impl<A: Allocator + Copy> Model for Recording<A> {
 }
 
 impl<A: Allocator + Copy> Recording<A> {
+    ghost use Rattle.guillotiere_recording.specs.Replays.{IsRecorded, IsReplayed, IsFaultOf, MayFail};
+
     // The recording of a log.
     pub(crate) fn from_log(log: Log<A>) -> Recording<A>
         ensures { result ≡ recording_of log }
@@ -38,9 +41,32 @@ impl<A: Allocator + Copy> Recording<A> {
 
     /// The events, in order.
     pub fn events(&self) -> &[Event<A>]
-        ensures { map event_of result.now ≡ self.now.events }
+        ensures events { map event_of result.now ≡ self.now.events }
+        ensures count { length result.now ≡ length self.now.events }
     {
         &self.log.events
+    }
+
+    /// Carries out the events once more, in a new atlas of the recorded size and options, and compares each answer. The
+    /// first fault ends it: `BadEvent` where an event can't be carried out, which is tested before its call, as its new
+    /// name is live, the name that it frees isn't, a side shrinks or a size is empty; `Differs` where the answer is
+    /// another than the event says; `Slots` as the atlas's; `Memory` if a request for memory is refused. Events are
+    /// counted from 0.
+    pub fn replay(&self) -> Result<ReplayStats<A>, ReplayFault>
+        ensures replayed { IfOk result (IsReplayed self.now) }
+        ensures fault { IfErr result (IsFaultOf self.now) }
+        ensures recorded { IsRecorded self.now → IfErr result (MayFail self.now) }
+    {
+        self.log.replay()
+    }
+
+    /// Removes the event with this number, counted from 0; later ones move up by one. Asks a number below that of the
+    /// events. Takes no memory.
+    pub fn remove_event(&mut self, at: usize)
+        requires { at < length self.old.events }
+        ensures { self.new ≡ record self.old { events = remove self.old.events at } }
+    {
+        self.log.events.remove(at);
     }
 
     /// The same recording once more. `Memory` is the only error.

@@ -1,5 +1,4 @@
-use Rattle.std.proofs.Common.{◌≡◌, ℕ, ◌<◌, length, get_or, rules, ltb, ap, sym, ◌∙◌}
-use Rattle.std.proofs.lemmas.List.{get_or_default}
+use Rattle.std.proofs.Common.{◌≡◌, ◌<◌, length, get_or, rules, ltb}
 use Rattle.std.proofs.lemmas.List.Sorted.{IsPartitionPoint-from_clause, IsPartitionedBy-ltb}
 use Rattle.guillotiere_recording.specs.declared.names.LiveName.{LiveName as Entry}
 use Rattle.guillotiere_recording.proofs.Placing.{placed_id, contains_there}

@@ -1,8 +1,7 @@
-use Rattle.std.proofs.Common.{◌≡◌, ℕ, IsPermutation, ◌∙◌, refl, ap, sym, subst}
+use Rattle.std.proofs.Common.{ℕ, IsPermutation, ◌∙◌, ap, subst}
 use Rattle.guillotiere.specs.declared.change.Change.{Change}
 use Rattle.guillotiere_recording.specs.declared.names.LiveName.{LiveName as Entry}
-use Rattle.guillotiere_recording.specs.Names.{name_among}
-use Rattle.guillotiere_recording.specs.Moves.{change_under, failure_under, entry_under, AreEntered, IsMoved}
+use Rattle.guillotiere_recording.specs.Moves.{change_under, entry_under}
 use Rattle.guillotiere_recording.proofs.Moving.{read_back, once_permuted, changes_entered, failures_entered, changes_alike, failures_alike}
 use Rattle.guillotiere_recording.proofs.moves.under_names.Goals as goal
 

@@ -1,20 +1,18 @@
 use Rattle.std.proofs.Common.{◌≡◌, refl, ap, ap₂, sym, subst, ◌∙◌}
 use Rattle.guillotiere.specs.declared.error.AtlasError.TheVariants.{Slots}
-use Rattle.guillotiere.specs.Pixels.{sides_of}
 use Rattle.guillotiere.specs.Rearranging.{rearrangement_of}
 use Rattle.guillotiere.specs.States.{State}
 use Rattle.guillotiere.specs.Steps as atlas
 use Rattle.guillotiere.specs.Steps.{Step}
-use Rattle.guillotiere.specs.Stored.{AtlasValue, Stored, state_of}
-use Rattle.guillotiere_recording.specs.declared.names.LiveName.{LiveName as Entry}
-use Rattle.guillotiere_recording.specs.Events.{EventValue, ListValue, list_of}
-use Rattle.guillotiere_recording.specs.Events.EventValue.{Rearrange, ResizeAndRearrange}
-use Rattle.guillotiere_recording.specs.Logs.{RecordingValue, with_event, recording_of}
+use Rattle.guillotiere.specs.Stored.{Stored, state_of}
+use Rattle.guillotiere_recording.specs.Events.{list_of}
+use Rattle.guillotiere_recording.specs.Events.EventValue.{Rearrange}
+use Rattle.guillotiere_recording.specs.Logs.{with_event, recording_of}
 use Rattle.guillotiere_recording.specs.Moves.{AreEntered, IsMoved}
 use Rattle.guillotiere_recording.specs.Names.{name_among}
 use Rattle.guillotiere_recording.specs.Recordings.{SessionValue, session_of}
 use Rattle.guillotiere_recording.specs.Sessions.{RearrangesUnder}
-use Rattle.guillotiere_recording.proofs.Rearranged.{all_entered, rearranges_under, once_after, rearranged_session}
+use Rattle.guillotiere_recording.proofs.Rearranged.{kept_of, all_entered, rearranges_under, once_after, rearranged_session}
 use Rattle.guillotiere_recording.proofs.Refusals.{slots_step}
 use Rattle.guillotiere_recording.proofs.allocator.RecordingAllocator.rearrange.Goals as goal
 
@@ -37,7 +35,7 @@ under_names-requires g c =
     let same : state_of c.in_ok-atlas.atlas ≡ state_of c.self.inside.atlas = ap stands c.in_ok-atlas.ensures.equal in
     let step = subst (λ s. Step s call (atlas.Changed (rearrangement_of c.in_ok-answer.answer)) (state_of c.rearrange.new.self)) same c.in_ok-answer.ensures.step in
     subst (λ ns. AreEntered ns c.in_ok-answer.answer.changes.items c.in_ok-answer.answer.failures.items) (sym c.deref.ensures.value)
-    (all_entered _ (state_of c.rearrange.new.self) c.in_ok-answer.answer call c.self.invariant step)
+    (all_entered _ (state_of c.rearrange.new.self) c.in_ok-answer.answer call (kept_of _ c.self.invariant) step)
 
 pub invariant_of-self-2 : goal.invariant_of-self-2
 invariant_of-self-2 g c =
@@ -49,8 +47,8 @@ invariant_of-self-2 g c =
     let noted = ap₂ (λ xs ys. with_event (Rearrange (record { changes = xs; failures = ys })) (recording_of c.make_room.new.self))
     c.in_ok-clone.ensures.changes c.in_ok-clone.ensures.failures in
     let more = c.note.ensures ∙ noted ∙ ap (with_event (Rearrange (list_of m.list))) c.in_ok-make_room.ensures.same in
-    let led = rearranges_under _ c.rearrange.new.self c.in_ok-answer.answer m call c.self.invariant step c.in_ok-answer.ensures.exact moved
-    (once_after _ (state_of c.rearrange.new.self) c.in_ok-answer.answer call c.self.invariant step) in
+    let led = rearranges_under _ c.rearrange.new.self c.in_ok-answer.answer m call (kept_of _ c.self.invariant) step c.in_ok-answer.ensures.exact moved
+    (once_after _ (state_of c.rearrange.new.self) c.in_ok-answer.answer call (kept_of _ c.self.invariant) step) in
     rearranged_session _ c.rearrange.new.self m.names.items (recording_of c.note.new.self) c.in_ok-answer.answer m call (Rearrange (list_of m.list))
     c.self.invariant step moved refl more refl led
 
@@ -61,7 +59,7 @@ returns-clause-led g c =
     let same : state_of c.in_ok-atlas.atlas ≡ state_of c.self.inside.atlas = ap stands c.in_ok-atlas.ensures.equal in
     let step = subst (λ s. Step s call (atlas.Changed (rearrangement_of c.in_ok-answer.answer)) (state_of c.rearrange.new.self)) same c.in_ok-answer.ensures.step in
     let moved = subst (λ ns. IsMoved ns c.in_ok-answer.answer m) c.deref.ensures.value c.in_ok-list.ensures.moved in
-    let led = rearranges_under _ c.rearrange.new.self c.in_ok-answer.answer m call c.self.invariant step c.in_ok-answer.ensures.exact moved
-    (once_after _ (state_of c.rearrange.new.self) c.in_ok-answer.answer call c.self.invariant step) in
+    let led = rearranges_under _ c.rearrange.new.self c.in_ok-answer.answer m call (kept_of _ c.self.invariant) step c.in_ok-answer.ensures.exact moved
+    (once_after _ (state_of c.rearrange.new.self) c.in_ok-answer.answer call (kept_of _ c.self.invariant) step) in
     subst (λ (v : SessionValue). RearrangesUnder (session_of v) call (list_of m.list)
     (record { state = state_of c.rearrange.new.self; name = name_among m.names.items })) c.self.view_is led
