@@ -92,9 +92,15 @@ fn whole_recordings(rt: HostRuntime) -> Result<(), Fail> {
     let again = session.allocate(size2(100, 100))?;
     assert_eq!(rt; again, Some(allocation((1, (0, 0, 100, 100)))));
     let mut recording = session.finish();
-    assert_eq!(rt; ends(&recording, (2, 1, 0), &[(1, (0, 0, 100, 100))]), Ok(true));
+    assert_eq!(rt;
+        ends(&recording, (2, 1, 0), &[(1, (0, 0, 100, 100))]),
+        Ok(true)
+    );
     remove(&rt, &mut recording, 1);
-    assert_eq!(rt; ends(&recording, (2, 0, 0), &[]), Err(ReplayFault::Differs(1)));
+    assert_eq!(rt;
+        ends(&recording, (2, 0, 0), &[]),
+        Err(ReplayFault::Differs(1))
+    );
 
     let mut session = RecordingAllocator::new(alloc, size2(10, 10))?;
     assert_eq!(rt; session.allocate(size2(11, 1)), Ok(None));
@@ -114,31 +120,49 @@ fn cut_recordings(rt: HostRuntime) -> Result<(), Fail> {
     }
     let mut recording = session.finish();
     remove(&rt, &mut recording, 0);
-    assert_eq!(rt; ends(&recording, (2, 0, 0), &[]), Err(ReplayFault::Differs(0)));
+    assert_eq!(rt;
+        ends(&recording, (2, 0, 0), &[]),
+        Err(ReplayFault::Differs(0))
+    );
 
     let mut session = RecordingAllocator::new(alloc, size2(100, 100))?;
     session.allocate(size2(100, 100))?;
     session.deallocate(AllocId::deserialize(0))?;
     let mut recording = session.finish();
     remove(&rt, &mut recording, 0);
-    assert_eq!(rt; ends(&recording, (0, 1, 0), &[]), Err(ReplayFault::BadEvent(0)));
+    assert_eq!(rt;
+        ends(&recording, (0, 1, 0), &[]),
+        Err(ReplayFault::BadEvent(0))
+    );
 
     // without the third grant the last request has room; without the freeing another list is the answer
     let mut recording = column(alloc)?;
     remove(&rt, &mut recording, 2);
-    assert_eq!(rt; ends(&recording, (2, 1, 1), &[]), Err(ReplayFault::Differs(2)));
+    assert_eq!(rt;
+        ends(&recording, (2, 1, 1), &[]),
+        Err(ReplayFault::Differs(2))
+    );
     let mut recording = column(alloc)?;
     remove(&rt, &mut recording, 4);
-    assert_eq!(rt; ends(&recording, (3, 0, 1), &[]), Err(ReplayFault::Differs(4)));
+    assert_eq!(rt;
+        ends(&recording, (3, 0, 1), &[]),
+        Err(ReplayFault::Differs(4))
+    );
     Ok(())
 }
 
 #[test]
 fn made_up_recordings(rt: HostRuntime) -> Result<(), Fail> {
     let alloc = rt.alloc();
-    let box_of_seven = |corners: Corners| Event::Allocate(size2(4, 4), Some(allocation((7, corners))));
+    let box_of_seven = |corners: Corners| Event::Allocate(
+        size2(4, 4),
+        Some(allocation((7, corners))),
+    );
     let rows = vec![in alloc;
-        (vec![in alloc; Event::Grow(size2(9, 10))]?, ReplayFault::BadEvent(0)),
+        (
+            vec![in alloc; Event::Grow(size2(9, 10))]?,
+            ReplayFault::BadEvent(0)
+        ),
         (
             vec![in alloc; box_of_seven((0, 0, 4, 4)), box_of_seven((0, 0, 4, 4))]?,
             ReplayFault::BadEvent(1)
@@ -147,9 +171,18 @@ fn made_up_recordings(rt: HostRuntime) -> Result<(), Fail> {
             vec![in alloc; Event::ResizeAndRearrange(size2(0, 5), ChangeList::empty(alloc))]?,
             ReplayFault::BadEvent(0)
         ),
-        (vec![in alloc; box_of_seven((0, 0, 4, 5))]?, ReplayFault::Differs(0)),
-        (vec![in alloc; Event::Allocate(size2(4, 4), None)]?, ReplayFault::Differs(0)),
-        (vec![in alloc; box_of_seven((1, 0, 5, 4))]?, ReplayFault::Differs(0)),
+        (
+            vec![in alloc; box_of_seven((0, 0, 4, 5))]?,
+            ReplayFault::Differs(0)
+        ),
+        (
+            vec![in alloc; Event::Allocate(size2(4, 4), None)]?,
+            ReplayFault::Differs(0)
+        ),
+        (
+            vec![in alloc; box_of_seven((1, 0, 5, 4))]?,
+            ReplayFault::Differs(0)
+        ),
     ]?;
     for (events, fault) in rows {
         let mut made = recorder(alloc, events)?;
@@ -157,7 +190,10 @@ fn made_up_recordings(rt: HostRuntime) -> Result<(), Fail> {
         assert_eq!(rt; made.finish().events().len(), 0);
     }
     let mut made = recorder(alloc, vec![in alloc; box_of_seven((0, 0, 4, 4))]?)?;
-    assert_eq!(rt; ends(&made.finish(), (1, 0, 0), &[(7, (0, 0, 4, 4))]), Ok(true));
+    assert_eq!(rt;
+        ends(&made.finish(), (1, 0, 0), &[(7, (0, 0, 4, 4))]),
+        Ok(true)
+    );
     Ok(())
 }
 
