@@ -314,7 +314,8 @@ pub record CountsReplay (r : RecordingValue) (counts : ReplayCounts) : Type 0 wh
   pub failed : counts.failed_allocations ≡ count_by is_failed_request r.events
   pub live : (booked : List Allocation) × AreBooked r.events booked × (counts.live ≡ length booked)
 
--- the line of a replay: what it counted, or its fault, which where the events are those of a session needs a rearranging
+-- The line of a replay: what it counted, or its fault. Where the events are those of a session, a fault but for memory
+-- needs a rearranging.
 abbrev pub ShowsReplay : RecordingValue → Reply → Type 0
 ShowsReplay r (Replayed (Ok counts)) = CountsReplay r counts
 ShowsReplay r (Replayed (Err fault)) = IsFaultOf r fault × (IsRecorded r → MayFail r fault)
@@ -334,7 +335,8 @@ ToolStep old (Take size) reply new =
     IsLine (λ line. RequestsSimple old.simple (sides_of size) line new.simple) reply × (new.stand ≡ old.stand)
 ToolStep old (Atlas size options) reply new = IsLine (λ line. CreatesAtlas old (sides_of size) (options_of options) line new) reply
 ToolStep old (Record size) reply new = IsLine (λ line. BeginsSession old size line new) reply
-ToolStep old Replay reply new = IsLine (λ line. ReplaysStanding old.stand line new.stand) reply × (new.simple ≡ old.simple)
+ToolStep old Replay reply new =
+    IsLine (λ line. ReplaysStanding old.stand line new.stand) reply × (new.simple ≡ old.simple)
 ToolStep old (Alloc size) reply new =
     IsLine (λ line. CallsStanding old.stand (Allocate (sides_of size)) (λ s t. RecordsRequest s size line t) line new.stand) reply
     × (new.simple ≡ old.simple)

@@ -39,7 +39,8 @@ counted_text word count = word ++ decimal count
 -- what a replay counted
 abbrev pub counts_text : ReplayCounts → List ℕ
 counts_text counts =
-    counted_text (codes "replayed allocations ") counts.allocations ++ counted_text (codes " deallocations ") counts.deallocations
+    counted_text (codes "replayed allocations ") counts.allocations
+    ++ counted_text (codes " deallocations ") counts.deallocations
     ++ counted_text (codes " failed ") counts.failed_allocations ++ counted_text (codes " live ") counts.live
 
 -- why a replay ended early

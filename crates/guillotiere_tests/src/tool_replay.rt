@@ -91,7 +91,7 @@ fn rows_with_each_request_for_memory_refused_in_turn(rt: HostRuntime) {
     for (text, want) in ROWS {
         let [before, _, after] = want;
         let mut refusals = 0;
-        let mut replays = 0;
+        let mut told = false;
         for number in 1..200 {
             heap.refuse_nth(number);
             let mut input = Source::ending(text, 1000);
@@ -108,7 +108,7 @@ fn rows_with_each_request_for_memory_refused_in_turn(rt: HostRuntime) {
             }
             refusals = number;
             if is_made_of(held, [before, b"replay refused memory\n", after]) {
-                replays += 1;
+                told = true;
                 continue;
             }
             let at = first_difference(held, before);
@@ -119,9 +119,6 @@ fn rows_with_each_request_for_memory_refused_in_turn(rt: HostRuntime) {
             );
             assert!(rt; at == 0 || held[at - 1] == b'\n', "{number}: {held:?}");
         }
-        assert!(rt;
-            0 < replays && replays < refusals && refusals < 199,
-            "{text:?}"
-        );
+        assert!(rt; told && refusals < 199, "{text:?}");
     }
 }
