@@ -6,7 +6,7 @@ use Rattle.std.specs.Str.{bytes_eq}
 use Rattle.guillotiere.specs.declared.geometry.Size.{Size}
 use Rattle.guillotiere.specs.declared.options.AllocatorOptions.{AllocatorOptions}
 use Rattle.atlas_lines.specs.declared.commands.Command.{Command}
-use Rattle.atlas_lines.specs.declared.commands.Command.TheVariants.{Simple, Take, Atlas, Alloc, Live, Holes, AskSize, Free, Grow, Empty, Clear, Rearrange, Resize, FromAtlas, Record}
+use Rattle.atlas_lines.specs.declared.commands.Command.TheVariants.{Simple, Take, Atlas, Alloc, Live, Holes, AskSize, Free, Grow, Empty, Clear, Rearrange, Resize, FromAtlas, Record, Replay}
 use Rattle.atlas_lines.specs.Grammar.{SpellsSize, SpellsAtlas, SpellsId, SpellsArguments, Spells, keyword}
 use Rattle.atlas_lines.specs.Words.{HasNoSpace, IsEmptyOrSpaced, BeginsWithWord, SpellsInParts}
 use Rattle.atlas_lines.proofs.Parting.{one_word, numbers_spaced}
@@ -43,6 +43,7 @@ keyword_test Rearrange = refl
 keyword_test (Resize size) = refl
 keyword_test FromAtlas = refl
 keyword_test (Record size) = refl
+keyword_test Replay = refl
 
 pub keyword_no_space : (c : Command) → HasNoSpace (keyword c)
 keyword_no_space c = no_space_by_test (keyword c) (keyword_test c)
@@ -66,6 +67,7 @@ arguments_spaced Rearrange text spells = subst IsEmptyOrSpaced (sym spells) tt
 arguments_spaced (Resize size) text spells = size_spaced size text spells
 arguments_spaced FromAtlas text spells = subst IsEmptyOrSpaced (sym spells) tt
 arguments_spaced (Record size) text spells = size_spaced size text spells
+arguments_spaced Replay text spells = subst IsEmptyOrSpaced (sym spells) tt
 
 -- the first word of a line that spells a command is its keyword
 pub in_parts : (c : Command) (line word rest : List ℕ) → BeginsWithWord line word rest → Spells c line → SpellsInParts c word rest
@@ -135,6 +137,10 @@ pub only_from_atlas : (c : Command) (word rest : List ℕ) → word ≡ codes "f
 only_from_atlas FromAtlas word rest e parts = (refl, parts.1)
 only_from_atlas c word rest e parts = absurd (differ (codes "from-atlas") (keyword c) refl (sym e ∙ parts.0))
 
+pub only_replay : (c : Command) (word rest : List ℕ) → word ≡ codes "replay" → SpellsInParts c word rest → (c ≡ Replay) × (rest ≡ [])
+only_replay Replay word rest e parts = (refl, parts.1)
+only_replay c word rest e parts = absurd (differ (codes "replay") (keyword c) refl (sym e ∙ parts.0))
+
 no_size : (size : Size) → SpellsSize size [] → ⊥
 no_size size spells = let e = spells.2 in cc
 
@@ -163,6 +169,7 @@ ends_alone Empty rest alone spells = spells
 ends_alone Clear rest alone spells = spells
 ends_alone Rearrange rest alone spells = spells
 ends_alone FromAtlas rest alone spells = spells
+ends_alone Replay rest alone spells = spells
 
 -- no other word begins a command with arguments
 pub stands_alone : (c : Command) (word rest : List ℕ) → word ≢ codes "simple" → word ≢ codes "take" → word ≢ codes "atlas" → word ≢ codes "alloc" → word ≢ codes "free"
@@ -181,23 +188,25 @@ stands_alone Empty word rest simple take atlas alloc free grow resize recorded p
 stands_alone Clear word rest simple take atlas alloc free grow resize recorded parts = refl
 stands_alone Rearrange word rest simple take atlas alloc free grow resize recorded parts = refl
 stands_alone FromAtlas word rest simple take atlas alloc free grow resize recorded parts = refl
+stands_alone Replay word rest simple take atlas alloc free grow resize recorded parts = refl
 stands_alone (Record size) word rest simple take atlas alloc free grow resize recorded parts = absurd (recorded parts.0)
 
 -- no other word begins a command without arguments
 pub no_keyword : (c : Command) (word rest : List ℕ) → SpellsArguments c [] → word ≢ codes "live" → word ≢ codes "holes" → word ≢ codes "size" → word ≢ codes "empty"
-    → word ≢ codes "clear" → word ≢ codes "rearrange" → word ≢ codes "from-atlas" → SpellsInParts c word rest → ⊥
-no_keyword (Simple size) word rest alone live holes ask empty clear rearrange from parts = no_size size alone
-no_keyword (Take size) word rest alone live holes ask empty clear rearrange from parts = no_size size alone
-no_keyword (Atlas size options) word rest alone live holes ask empty clear rearrange from parts = no_atlas size options alone
-no_keyword (Alloc size) word rest alone live holes ask empty clear rearrange from parts = no_size size alone
-no_keyword (Free id) word rest alone live holes ask empty clear rearrange from parts = let e = alone.1 in cc
-no_keyword (Grow size) word rest alone live holes ask empty clear rearrange from parts = no_size size alone
-no_keyword (Resize size) word rest alone live holes ask empty clear rearrange from parts = no_size size alone
-no_keyword Live word rest alone live holes ask empty clear rearrange from parts = live parts.0
-no_keyword Holes word rest alone live holes ask empty clear rearrange from parts = holes parts.0
-no_keyword AskSize word rest alone live holes ask empty clear rearrange from parts = ask parts.0
-no_keyword Empty word rest alone live holes ask empty clear rearrange from parts = empty parts.0
-no_keyword Clear word rest alone live holes ask empty clear rearrange from parts = clear parts.0
-no_keyword Rearrange word rest alone live holes ask empty clear rearrange from parts = rearrange parts.0
-no_keyword FromAtlas word rest alone live holes ask empty clear rearrange from parts = from parts.0
-no_keyword (Record size) word rest alone live holes ask empty clear rearrange from parts = no_size size alone
+    → word ≢ codes "clear" → word ≢ codes "rearrange" → word ≢ codes "from-atlas" → word ≢ codes "replay" → SpellsInParts c word rest → ⊥
+no_keyword (Simple size) word rest alone live holes ask empty clear rearrange from replayed parts = no_size size alone
+no_keyword (Take size) word rest alone live holes ask empty clear rearrange from replayed parts = no_size size alone
+no_keyword (Atlas size options) word rest alone live holes ask empty clear rearrange from replayed parts = no_atlas size options alone
+no_keyword (Alloc size) word rest alone live holes ask empty clear rearrange from replayed parts = no_size size alone
+no_keyword (Free id) word rest alone live holes ask empty clear rearrange from replayed parts = let e = alone.1 in cc
+no_keyword (Grow size) word rest alone live holes ask empty clear rearrange from replayed parts = no_size size alone
+no_keyword (Resize size) word rest alone live holes ask empty clear rearrange from replayed parts = no_size size alone
+no_keyword Live word rest alone live holes ask empty clear rearrange from replayed parts = live parts.0
+no_keyword Holes word rest alone live holes ask empty clear rearrange from replayed parts = holes parts.0
+no_keyword AskSize word rest alone live holes ask empty clear rearrange from replayed parts = ask parts.0
+no_keyword Empty word rest alone live holes ask empty clear rearrange from replayed parts = empty parts.0
+no_keyword Clear word rest alone live holes ask empty clear rearrange from replayed parts = clear parts.0
+no_keyword Rearrange word rest alone live holes ask empty clear rearrange from replayed parts = rearrange parts.0
+no_keyword FromAtlas word rest alone live holes ask empty clear rearrange from replayed parts = from parts.0
+no_keyword (Record size) word rest alone live holes ask empty clear rearrange from replayed parts = no_size size alone
+no_keyword Replay word rest alone live holes ask empty clear rearrange from replayed parts = replayed parts.0

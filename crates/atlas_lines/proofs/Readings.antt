@@ -6,12 +6,12 @@ use Rattle.std.specs.Str.Parse.{IsNumeral, digits_value}
 use Rattle.guillotiere.specs.declared.geometry.Size.{Size}
 use Rattle.guillotiere.specs.declared.options.AllocatorOptions.{AllocatorOptions}
 use Rattle.atlas_lines.specs.declared.commands.Command.{Command}
-use Rattle.atlas_lines.specs.declared.commands.Command.TheVariants.{Simple, Take, Atlas, Alloc, Live, Holes, AskSize, Free, Grow, Empty, Clear, Rearrange, Resize, FromAtlas, Record}
+use Rattle.atlas_lines.specs.declared.commands.Command.TheVariants.{Simple, Take, Atlas, Alloc, Live, Holes, AskSize, Free, Grow, Empty, Clear, Rearrange, Resize, FromAtlas, Record, Replay}
 use Rattle.atlas_lines.specs.Grammar.{SpellsNumber, SpellsNumbers, SpellsSize, SpellsAtlas, SpellsId, Spells, keyword}
 use Rattle.atlas_lines.specs.Lines.{HasNoEnd, ended, all_ended, AreLines, last_line}
 use Rattle.atlas_lines.specs.Words.{BeginsWithWord, BeginsWithNumber, SpellsInParts}
 use Rattle.atlas_lines.proofs.Parting.{one_word, number_no_space, number_begins, same_size, same_options}
-use Rattle.atlas_lines.proofs.Keywords.{only_simple, only_take, only_atlas, only_alloc, only_free, only_grow, only_live, only_holes, only_size, only_empty, only_clear, only_rearrange, only_resize, only_record, only_from_atlas, keyword_no_space, arguments_spaced, in_parts}
+use Rattle.atlas_lines.proofs.Keywords.{only_simple, only_take, only_atlas, only_alloc, only_free, only_grow, only_live, only_holes, only_size, only_empty, only_clear, only_rearrange, only_resize, only_record, only_from_atlas, only_replay, keyword_no_space, arguments_spaced, in_parts}
 use Rattle.atlas_lines.proofs.Outcomes.{parted}
 
 -- ---- lines
@@ -152,6 +152,7 @@ same_parts word rest Rearrange d spells other = sym (only_rearrange d word rest 
 same_parts word rest (Record size) d spells other = let is = only_record d word rest spells.0 other in ap (λ s. Record s) (one_size size is.0 rest spells.1 is.2) ∙ sym is.1
 same_parts word rest (Resize size) d spells other = let is = only_resize d word rest spells.0 other in ap (λ s. Resize s) (one_size size is.0 rest spells.1 is.2) ∙ sym is.1
 same_parts word rest FromAtlas d spells other = sym (only_from_atlas d word rest spells.0 other).0
+same_parts word rest Replay d spells other = sym (only_replay d word rest spells.0 other).0
 
 pub same_command : (line : List ℕ) (c d : Command) → Spells c line → Spells d line → c ≡ d
 same_command line c d spells other = same_parts (keyword c) spells.0 c d (refl, spells.2) (in_parts d line (keyword c) spells.0 (begins_with_keyword c line spells) other)

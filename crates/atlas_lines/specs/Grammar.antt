@@ -6,7 +6,7 @@ use Rattle.guillotiere.specs.declared.geometry.Size.{Size}
 use Rattle.guillotiere.specs.declared.options.AllocatorOptions.{AllocatorOptions}
 use Rattle.guillotiere.specs.declared.options.TheConstants.{DEFAULT_OPTIONS}
 use Rattle.atlas_lines.specs.declared.commands.Command.{Command}
-use Rattle.atlas_lines.specs.declared.commands.Command.TheVariants.{Simple, Take, Atlas, Alloc, Live, Holes, AskSize, Free, Grow, Empty, Clear, Rearrange, Resize, FromAtlas, Record}
+use Rattle.atlas_lines.specs.declared.commands.Command.TheVariants.{Simple, Take, Atlas, Alloc, Live, Holes, AskSize, Free, Grow, Empty, Clear, Rearrange, Resize, FromAtlas, Record, Replay}
 
 -- one or more decimal digits, with a value that fits a `u32`
 abbrev pub SpellsUnsigned : ℕ → List ℕ → Type 0
@@ -58,6 +58,7 @@ keyword Rearrange = codes "rearrange"
 keyword (Resize size) = codes "resize"
 keyword FromAtlas = codes "from-atlas"
 keyword (Record size) = codes "record"
+keyword Replay = codes "replay"
 
 -- what follows that word
 abbrev pub SpellsArguments : Command → List ℕ → Type 0
@@ -76,6 +77,7 @@ SpellsArguments Rearrange text = text ≡ []
 SpellsArguments (Resize size) text = SpellsSize size text
 SpellsArguments FromAtlas text = text ≡ []
 SpellsArguments (Record size) text = SpellsSize size text
+SpellsArguments Replay text = text ≡ []
 
 -- the bytes of a line, without its LF, of which there are at most 120, spell this command
 abbrev pub Spells : Command → List ℕ → Type 0

@@ -1,5 +1,5 @@
 -- The tool as a machine: the reply to each command, by the steps of the allocators.
-use Rattle.std.specs.Prelude.{ℕ, ◌≡◌, ⊤, ◌+◌, ◌<◌, ◌^◌, ◌↔◌, IsTrue, List, [], map, length, slice_index_or, Option, Some, None}
+use Rattle.std.specs.Prelude.{ℕ, ◌≡◌, ⊤, ◌+◌, ◌<◌, ◌^◌, ◌↔◌, IsTrue, List, [], map, length, slice_index_or, count_by, Option, Some, None, Ok, Err}
 use Rattle.guillotiere.specs.declared.allocation.Allocation.{Allocation}
 use Rattle.guillotiere.specs.declared.change.Change.{Change}
 use Rattle.guillotiere.specs.declared.error.AtlasError.TheVariants.{Memory}
@@ -25,11 +25,13 @@ use Rattle.guillotiere_recording.specs.declared.error.RecordingError.TheVariants
 use Rattle.guillotiere_recording.specs.Events.{EventValue, ListValue}
 use Rattle.guillotiere_recording.specs.Logs.{RecordingValue, with_event}
 use Rattle.guillotiere_recording.specs.Recordings.{SessionValue, AreBooked, session_of}
+use Rattle.guillotiere_recording.specs.Replays.{IsRecorded, IsFaultOf, MayFail, is_grant, is_freeing, is_failed_request}
 use Rattle.guillotiere_recording.specs.Sessions.{Named, IsLiveName, Leads}
 use Rattle.atlas_lines.specs.declared.commands.Command.{Command}
-use Rattle.atlas_lines.specs.declared.commands.Command.TheVariants.{Simple, Take, Atlas, Alloc, Live, Holes, AskSize, Free, Grow, Empty, Clear, Rearrange, Resize, FromAtlas, Record}
+use Rattle.atlas_lines.specs.declared.commands.Command.TheVariants.{Simple, Take, Atlas, Alloc, Live, Holes, AskSize, Free, Grow, Empty, Clear, Rearrange, Resize, FromAtlas, Record, Replay}
+use Rattle.atlas_lines.specs.declared.replies.ReplayCounts.{ReplayCounts}
 use Rattle.atlas_lines.specs.declared.replies.Reply.{Reply}
-use Rattle.atlas_lines.specs.declared.replies.Reply.TheVariants.{Completed, Placed, NotPlaced, Allocated, Extent, Truth, NoAtlas, NoSimple, Invalid, Declined, NoNames}
+use Rattle.atlas_lines.specs.declared.replies.Reply.TheVariants.{Completed, Placed, NotPlaced, Allocated, Extent, Truth, NoAtlas, NoSimple, Invalid, Declined, NoNames, NoRecording, Replayed}
 use Rattle.atlas_lines.specs.declared.standing.Standing.{Standing}
 use Rattle.atlas_lines.specs.declared.standing.Standing.TheVariants as stands
 
@@ -304,6 +306,28 @@ LooksAtStanding (stands.Session session) P Q reply = Q session reply
 abbrev pub SaysNoAtlas : Session → ToolReply → Type 0
 SaysNoAtlas session reply = reply ≡ OneLine NoAtlas
 
+-- The events are those of a session; each kind of event is counted, and what is live at its end.
+pub record CountsReplay (r : RecordingValue) (counts : ReplayCounts) : Type 0 where
+  pub recorded : IsRecorded r
+  pub allocations : counts.allocations ≡ count_by is_grant r.events
+  pub deallocations : counts.deallocations ≡ count_by is_freeing r.events
+  pub failed : counts.failed_allocations ≡ count_by is_failed_request r.events
+  pub live : (booked : List Allocation) × AreBooked r.events booked × (counts.live ≡ length booked)
+
+-- The line of a replay: what it counted, or its fault. Where the events are those of a session, a fault but for memory
+-- needs a rearranging.
+abbrev pub ShowsReplay : RecordingValue → Reply → Type 0
+ShowsReplay r (Replayed (Ok counts)) = CountsReplay r counts
+ShowsReplay r (Replayed (Err fault)) = IsFaultOf r fault × (IsRecorded r → MayFail r fault)
+-- no other reply comes
+ShowsReplay r _ = ⊥
+
+-- a replay, which ends the recorded session
+abbrev pub ReplaysStanding : Standing State Session → Reply → Standing State Session → Type 0
+ReplaysStanding stands.Nothing reply new = (reply ≡ NoRecording) × (new ≡ stands.Nothing)
+ReplaysStanding (stands.Atlas state) reply new = (reply ≡ NoRecording) × (new ≡ stands.Atlas state)
+ReplaysStanding (stands.Session session) reply new = ShowsReplay session.recording reply × (new ≡ stands.Nothing)
+
 -- From old, the command may have this reply and lead to new.
 abbrev pub ToolStep : ToolState → Command → ToolReply → ToolState → Type 0
 ToolStep old (Simple size) reply new = IsLine (λ line. CreatesSimple old (sides_of size) line new) reply
@@ -311,6 +335,8 @@ ToolStep old (Take size) reply new =
     IsLine (λ line. RequestsSimple old.simple (sides_of size) line new.simple) reply × (new.stand ≡ old.stand)
 ToolStep old (Atlas size options) reply new = IsLine (λ line. CreatesAtlas old (sides_of size) (options_of options) line new) reply
 ToolStep old (Record size) reply new = IsLine (λ line. BeginsSession old size line new) reply
+ToolStep old Replay reply new =
+    IsLine (λ line. ReplaysStanding old.stand line new.stand) reply × (new.simple ≡ old.simple)
 ToolStep old (Alloc size) reply new =
     IsLine (λ line. CallsStanding old.stand (Allocate (sides_of size)) (λ s t. RecordsRequest s size line t) line new.stand) reply
     × (new.simple ≡ old.simple)

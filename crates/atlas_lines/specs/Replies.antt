@@ -1,13 +1,16 @@
 -- The text of each reply.
-use Rattle.std.specs.Prelude.{ℕ, ℤ, Bool, true, false, List, ◌++◌, codes, decimal, length, flat_map}
+use Rattle.std.specs.Prelude.{ℕ, ℤ, Bool, true, false, List, ◌++◌, codes, decimal, length, flat_map, Result, Ok, Err}
 use Rattle.std.specs.Fmt.{signed_decimal}
 use Rattle.guillotiere.specs.declared.allocation.Allocation.{Allocation}
 use Rattle.guillotiere.specs.declared.change.Change.{Change}
 use Rattle.guillotiere.specs.declared.geometry.Rectangle.{Rectangle}
 use Rattle.guillotiere.specs.declared.error.AtlasError.{AtlasError}
 use Rattle.guillotiere.specs.declared.error.AtlasError.TheVariants.{Memory, Slots, NotLive}
+use Rattle.guillotiere_recording.specs.declared.replay.ReplayFault.{ReplayFault}
+use Rattle.guillotiere_recording.specs.declared.replay.ReplayFault.TheVariants as fault
+use Rattle.atlas_lines.specs.declared.replies.ReplayCounts.{ReplayCounts}
 use Rattle.atlas_lines.specs.declared.replies.Reply.{Reply}
-use Rattle.atlas_lines.specs.declared.replies.Reply.TheVariants.{Completed, Placed, NotPlaced, Allocated, Extent, Truth, NoAtlas, NoSimple, Invalid, Declined, NoNames}
+use Rattle.atlas_lines.specs.declared.replies.Reply.TheVariants.{Completed, Placed, NotPlaced, Allocated, Extent, Truth, NoAtlas, NoSimple, Invalid, Declined, NoNames, NoRecording, Replayed}
 use Rattle.atlas_lines.specs.Lines.{ended}
 use Rattle.atlas_lines.specs.Machine.{ToolReply}
 use Rattle.atlas_lines.specs.Machine.ToolReply.{OneLine, LiveLines, HoleLines, ChangeLines}
@@ -29,6 +32,29 @@ abbrev pub truth_text : Bool → List ℕ
 truth_text true = codes "true"
 truth_text false = codes "false"
 
+-- a word and a count
+abbrev pub counted_text : (word : List ℕ) → (count : ℕ) → List ℕ
+counted_text word count = word ++ decimal count
+
+-- what a replay counted
+abbrev pub counts_text : ReplayCounts → List ℕ
+counts_text counts =
+    counted_text (codes "replayed allocations ") counts.allocations
+    ++ counted_text (codes " deallocations ") counts.deallocations
+    ++ counted_text (codes " failed ") counts.failed_allocations ++ counted_text (codes " live ") counts.live
+
+-- why a replay ended early
+abbrev pub fault_text : ReplayFault → List ℕ
+fault_text fault.Memory = codes "refused memory"
+fault_text fault.Slots = codes "refused slots"
+fault_text (fault.Differs i) = codes "differs " ++ decimal i
+fault_text (fault.BadEvent i) = codes "bad event " ++ decimal i
+
+-- what a replay answers
+abbrev pub replay_text : Result ReplayCounts ReplayFault → List ℕ
+replay_text (Ok counts) = counts_text counts
+replay_text (Err fault) = codes "replay " ++ fault_text fault
+
 -- a reply line with its LF
 abbrev pub line_text : Reply → List ℕ
 line_text Completed = ended (codes "ok")
@@ -42,6 +68,8 @@ line_text NoSimple = ended (codes "no simple")
 line_text Invalid = ended (codes "bad call")
 line_text (Declined error) = ended (refusal_text error)
 line_text NoNames = ended (codes "refused names")
+line_text NoRecording = ended (codes "no recording")
+line_text (Replayed outcome) = ended (replay_text outcome)
 
 -- the line of a live rectangle
 abbrev pub live_line : Allocation → List ℕ

@@ -41,6 +41,8 @@ pub enum Command {
     FromAtlas,
     /// `record W H`: begin a recorded session of an atlas of this size, in place of an atlas or of an earlier session.
     Record(Size),
+    /// `replay`: end the recorded session, and carry out its recording once more.
+    Replay,
 }
 
 /// A line of more bytes is bad.
@@ -74,6 +76,9 @@ fn parse_alone(word: &[u8], rest: &[u8]) -> Option<Command>
     }
     if word == b"from-atlas".as_slice() {
         return Some(Command::FromAtlas);
+    }
+    if word == b"replay".as_slice() {
+        return Some(Command::Replay);
     }
     None
 }

@@ -1,11 +1,25 @@
 //! Replies, and their text in a fixed buffer.
 ghost use Rattle.std.specs.Prelude.{◌≡◌, ◌≤◌, ◌+◌, ◌++◌, length};
-ghost use Rattle.atlas_lines.specs.Replies.{spaced_number, line_text, bad_line_text, corners_text, refusal_text};
+ghost use Rattle.atlas_lines.specs.Replies.{spaced_number, line_text, bad_line_text, corners_text, refusal_text, counted_text, counts_text, fault_text, replay_text};
 
 use crate::buffer::FixedBytes;
 use crate::digits::{push_signed, push_unsigned};
 use guillotiere::{Allocation, AtlasError, ChangeList, Rectangle, Size};
+use guillotiere_recording::ReplayFault;
 use std::alloc::Allocator;
+
+/// What a replay counted.
+#[derive(Clone, Copy, Debug, PartialEq)]
+pub struct ReplayCounts {
+    /// How many requests were granted.
+    pub allocations: u64,
+    /// How many boxes were freed.
+    pub deallocations: u64,
+    /// How many requests had no room.
+    pub failed_allocations: u64,
+    /// How many boxes are live at the end.
+    pub live: u64,
+}
 
 /// A reply of one line.
 #[derive(Clone, Copy, Debug, PartialEq)]
@@ -32,6 +46,11 @@ pub enum Reply {
     Declined(AtlasError),
     /// `refused names`
     NoNames,
+    /// `no recording`
+    NoRecording,
+    /// `replayed allocations A deallocations D failed F live L`; or `replay differs I`, `replay bad event I`,
+    /// `replay refused slots` or `replay refused memory`
+    Replayed(Result<ReplayCounts, ReplayFault>),
 }
 
 /// What a command is answered.
@@ -81,6 +100,64 @@ fn refusal(error: AtlasError) -> &'static [u8]
     }
 }
 
+// Adds a word and a count at the end.
+fn push_counted<const N: usize>(text: &mut FixedBytes<N>, word: &[u8], count: u64)
+    requires room { length text.old + 50 ≤ N }
+    requires short { length word.now ≤ 30 }
+    ensures text { text.new ≡ text.old ++ counted_text word.now count }
+    ensures length { length text.new ≤ length text.old + 50 }
+{
+    text.push_all(word);
+    push_unsigned(text, count);
+}
+
+// Adds what a replay counted at the end.
+fn push_replay_counts<const N: usize>(text: &mut FixedBytes<N>, counts: ReplayCounts)
+    requires { length text.old + 200 ≤ N }
+    ensures text { text.new ≡ text.old ++ counts_text counts }
+    ensures length { length text.new ≤ length text.old + 200 }
+{
+    push_counted(text, b"replayed allocations ", counts.allocations);
+    push_counted(text, b" deallocations ", counts.deallocations);
+    push_counted(text, b" failed ", counts.failed_allocations);
+    push_counted(text, b" live ", counts.live);
+}
+
+// Adds why a replay ended early.
+fn push_fault<const N: usize>(text: &mut FixedBytes<N>, fault: ReplayFault)
+    requires { length text.old + 40 ≤ N }
+    ensures text { text.new ≡ text.old ++ fault_text fault }
+    ensures length { length text.new ≤ length text.old + 40 }
+{
+    match fault {
+        ReplayFault::Memory => text.push_all(b"refused memory"),
+        ReplayFault::Slots => text.push_all(b"refused slots"),
+        ReplayFault::Differs(at) => {
+            text.push_all(b"differs ");
+            push_unsigned(text, at as u64);
+        }
+        ReplayFault::BadEvent(at) => {
+            text.push_all(b"bad event ");
+            push_unsigned(text, at as u64);
+        }
+    }
+}
+
+// Adds what a replay answers at the end.
+fn push_replay<const N: usize>(text: &mut FixedBytes<N>, outcome: Result<ReplayCounts, ReplayFault>)
+    requires { length text.old + 200 ≤ N }
+    ensures text { text.new ≡ text.old ++ replay_text outcome }
+    ensures length { length text.new ≤ length text.old + 200 }
+{
+    match outcome {
+        Ok(counts) => push_replay_counts(text, counts),
+        Err(fault) => {
+            text.push_all(b"replay ");
+            push_fault(text, fault);
+        }
+    }
+}
+
 /// No reply line is longer.
 pub const LINE: usize = 240;
 
@@ -114,6 +191,8 @@ pub fn push_reply<const N: usize>(text: &mut FixedBytes<N>, reply: Reply)
         Reply::Invalid => text.push_all(b"bad call"),
         Reply::Declined(error) => text.push_all(refusal(error)),
         Reply::NoNames => text.push_all(b"refused names"),
+        Reply::NoRecording => text.push_all(b"no recording"),
+        Reply::Replayed(outcome) => push_replay(text, outcome),
     }
     text.push(b'\n');
 }

@@ -6,10 +6,10 @@ ghost use Rattle.guillotiere.specs.Steps.AtlasCall.{Rearrange, ResizeAndRearrang
 ghost use Rattle.guillotiere_recording.specs.declared.error.RecordingError.TheVariants as error;
 ghost use Rattle.guillotiere_recording.specs.Events.{EventValue};
 ghost use Rattle.atlas_lines.specs.Answers.{shown_by};
-ghost use Rattle.atlas_lines.specs.Machine.{RecordsRequest, RecordsFreeing, RecordsGrowth, RecordsRearranging, ShowsNames, ShowsHoles, HoldsHoles, session_in, declined_line};
+ghost use Rattle.atlas_lines.specs.Machine.{RecordsRequest, RecordsFreeing, RecordsGrowth, RecordsRearranging, ShowsNames, ShowsHoles, HoldsHoles, ShowsReplay, session_in, declined_line};
 
 use crate::atlas_calls::is_positive;
-use crate::replies::{Answer, Reply};
+use crate::replies::{Answer, ReplayCounts, Reply};
 use guillotiere::{AllocId, AtlasError, Rectangle, Size};
 use guillotiere_recording::{RecordingAllocator, RecordingError};
 use std::alloc::Allocator;
@@ -120,5 +120,21 @@ pub fn list_holes<A: Allocator + Copy>(session: &RecordingAllocator<A>) -> Answe
     match ordered_holes(session) {
         Ok(found) => Answer::HoleLines(found),
         Err(error) => Answer::OneLine(declined(error)),
+    }
+}
+
+/// Ends the session, and carries out what it recorded once more.
+pub fn replay<A: Allocator + Copy>(session: RecordingAllocator<A>) -> Reply
+    ensures { ShowsReplay session.recording result }
+{
+    let recording = session.finish();
+    match recording.replay() {
+        Ok(stats) => Reply::Replayed(Ok(ReplayCounts {
+            allocations: stats.allocations,
+            deallocations: stats.deallocations,
+            failed_allocations: stats.failed_allocations,
+            live: stats.live.len() as u64,
+        })),
+        Err(fault) => Reply::Replayed(Err(fault)),
     }
 }

@@ -6,7 +6,7 @@ ghost use Rattle.guillotiere.specs.Boxes.{IsPositive};
 ghost use Rattle.guillotiere_recording.specs.Events.{EventValue};
 ghost use Rattle.atlas_lines.specs.declared.standing.Standing.TheVariants.{Nothing};
 ghost use Rattle.atlas_lines.specs.Answers.{shown_by, Replies, BeginsToReply};
-ghost use Rattle.atlas_lines.specs.Machine.{ToolReply, ToolStep, CreatesSimple, RequestsSimple, StartsSimple, CreatesAtlas, BeginsSession, CallsStanding, RearrangesStanding, LooksAtStanding, HasNoAtlas, RecordsRequest, RecordsFreeing, RecordsGrowth, RecordsRearranging, IsLine, ShowsLive, ShowsNames, ShowsHoles, ShowsSize, ShowsEmpty, SaysNoAtlas, atlas_of, standing_in, state_of};
+ghost use Rattle.atlas_lines.specs.Machine.{ToolReply, ToolStep, CreatesSimple, RequestsSimple, StartsSimple, CreatesAtlas, BeginsSession, CallsStanding, RearrangesStanding, LooksAtStanding, ReplaysStanding, HasNoAtlas, RecordsRequest, RecordsFreeing, RecordsGrowth, RecordsRearranging, IsLine, ShowsLive, ShowsNames, ShowsHoles, ShowsSize, ShowsEmpty, SaysNoAtlas, atlas_of, standing_in, state_of};
 
 use crate::atlas_calls::is_positive;
 use crate::commands::Command;
@@ -19,6 +19,7 @@ use guillotiere::{AllocId, AllocatorOptions, AtlasAllocator, SimpleAtlasAllocato
 use guillotiere_recording::RecordingAllocator;
 use std::alloc::Allocator;
 use std::marker::Model;
+use std::mem;
 
 /// What the tool holds: at first no allocator. It holds a reference to the memory's allocator, which is small whatever
 /// that allocator is.
@@ -69,6 +70,7 @@ impl<'a, A: Allocator> Tool<'a, A> {
             Command::Resize(size) => self.resize(size),
             Command::FromAtlas => Answer::OneLine(self.start_simple()),
             Command::Record(size) => Answer::OneLine(self.begin_session(size)),
+            Command::Replay => Answer::OneLine(self.replay()),
         }
     }
 
@@ -163,6 +165,19 @@ impl<'a, A: Allocator> Tool<'a, A> {
                 Reply::Completed
             }
             Err(error) => session_calls::declined(error),
+        }
+    }
+
+    fn replay(&mut self) -> Reply
+        ensures step { ReplaysStanding (standing_in self.old.stand) result (standing_in self.new.stand) }
+        ensures simple { self.new.simple ≡ self.old.simple }
+    {
+        match mem::replace(&mut self.stand, Standing::Nothing) {
+            Standing::Session(session) => session_calls::replay(session),
+            other => {
+                self.stand = other;
+                Reply::NoRecording
+            }
         }
     }
 

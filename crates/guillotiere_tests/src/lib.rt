@@ -66,6 +66,8 @@ mod tool_faults;
 #[cfg(test)]
 mod tool_recording;
 #[cfg(test)]
+mod tool_replay;
+#[cfg(test)]
 mod tool_rows;
 #[cfg(test)]
 mod tool_whole;

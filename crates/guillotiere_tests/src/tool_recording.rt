@@ -25,7 +25,7 @@ const ROWS: [Row; 4] = [
     REARRANGED,
     // an atlas stays where a session isn't begun; a session takes its place, and then another session
     (
-        b"atlas 7 7\nrecord 0 1\nsize\nrecord 100 100\nalloc 20 60\nholes\nresize 0 5\ngrow 99 100\nalloc 101 1\nrecord 5 5\nlive\nsize\nreplay\nsize\n",
+        b"atlas 7 7\nrecord 0 1\nsize\nrecord 100 100\nalloc 20 60\nholes\nresize 0 5\ngrow 99 100\nalloc 101 1\nrecord 5 5\nlive\nsize\nreply\nsize\n",
         b"ok\nbad call\nsize 7 7\nok\nid 0 at 0 0 20 60\nhole 20 0 100 100\nhole 0 60 20 100\nholes 2\nbad call\nbad call\nnone\nok\nlive 0\nsize 5 5\nbad line 13\n",
         ToolEnd::BadLine(13),
     ),
@@ -38,7 +38,7 @@ const ROWS: [Row; 4] = [
 ];
 
 // None of these spells a command.
-const BAD_LINES: [&[u8]; 9] = [
+const BAD_LINES: [&[u8]; 8] = [
     b"record",
     b"record ",
     b"record 1",
@@ -47,7 +47,6 @@ const BAD_LINES: [&[u8]; 9] = [
     b" record 1 1",
     b"Record 1 1",
     b"record 1 2147483648",
-    b"replay",
 ];
 
 #[test]

@@ -1,5 +1,5 @@
 use Rattle.std.proofs.Common.{rules}
-use Rattle.atlas_lines.proofs.Keywords.{only_live, only_holes, only_size, only_empty, only_clear, only_rearrange, only_from_atlas, ends_alone, no_keyword, no_bytes}
+use Rattle.atlas_lines.proofs.Keywords.{only_live, only_holes, only_size, only_empty, only_clear, only_rearrange, only_from_atlas, only_replay, ends_alone, no_keyword, no_bytes}
 use Rattle.atlas_lines.proofs.commands.parse_alone.Goals as goal
 
 pub returns-then-not-is_empty-clause-only : goal.returns-then-not-is_empty-clause-only
@@ -40,9 +40,14 @@ returns-then-eq-7-clause-only c command alone parts =
     let is = (only_from_atlas command _ _ (search rules) parts).0 in
     cc
 
+pub returns-then-eq-8-clause-only : goal.returns-then-eq-8-clause-only
+returns-then-eq-8-clause-only c command alone parts =
+    let is = (only_replay command _ _ (search rules) parts).0 in
+    cc
+
 pub returns-clause-only : goal.returns-clause-only
 returns-clause-only c command alone parts =
-    absurd (no_keyword command _ _ alone (search rules) (search rules) (search rules) (search rules) (search rules) (search rules) (search rules) parts)
+    absurd (no_keyword command _ _ alone (search rules) (search rules) (search rules) (search rules) (search rules) (search rules) (search rules) (search rules) parts)
 
 pub returns-then-eq-clause-found : goal.returns-then-eq-clause-found
 returns-then-eq-clause-found c = (search rules, no_bytes _ (search rules))
@@ -64,3 +69,6 @@ returns-then-eq-6-clause-found c = (search rules, no_bytes _ (search rules))
 
 pub returns-then-eq-7-clause-found : goal.returns-then-eq-7-clause-found
 returns-then-eq-7-clause-found c = (search rules, no_bytes _ (search rules))
+
+pub returns-then-eq-8-clause-found : goal.returns-then-eq-8-clause-found
+returns-then-eq-8-clause-found c = (search rules, no_bytes _ (search rules))

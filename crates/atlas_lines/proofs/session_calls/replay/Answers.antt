@@ -1,0 +1,9 @@
+use Rattle.std.proofs.Common.{subst, IfErr}
+use Rattle.guillotiere_recording.specs.Logs.{RecordingValue}
+use Rattle.guillotiere_recording.specs.Replays.{IsRecorded, IsFaultOf, MayFail}
+use Rattle.atlas_lines.proofs.session_calls.replay.Goals as goal
+
+pub returns : goal.returns
+returns g c =
+    subst (λ (r : RecordingValue). IsFaultOf r c.in-Err.fault × (IsRecorded r → MayFail r c.in-Err.fault)) c.finish-recording.ensures
+    (c.in-Err.ensures.fault, λ recorded. subst (λ x. IfErr x (MayFail c.finish-recording.result)) c.in-Err.is (c.replay.ensures.recorded recorded))
