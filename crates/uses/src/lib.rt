@@ -1,0 +1,4 @@
+//! Programs over the atlas as their users would write them: a cache of glyphs, a sheet of sprites, a cache that repacks,
+//! and a recorded session.
+#![tactic(auto)]
+
