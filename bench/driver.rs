@@ -7,7 +7,7 @@ extern crate alloc;
 
 mod allocator;
 
-use allocator::{AllocId, Allocation, AtlasAllocator, ChangeList};
+use allocator::{AllocId, Allocation, AtlasAllocator, ChangeList, SimpleAtlasAllocator};
 use euclid::size2;
 use std::io::Read;
 
@@ -59,9 +59,20 @@ impl Answers {
         }
     }
 
+    fn take(&mut self, answer: Option<Rectangle>) {
+        self.calls += 1;
+        match answer {
+            Some(rectangle) => self.add_box(rectangle),
+            None => self.add(u64::MAX),
+        }
+    }
+
     fn add_grant(&mut self, allocation: &Allocation) {
-        let r = allocation.rectangle;
         self.add(u64::from(allocation.id.serialize()));
+        self.add_box(allocation.rectangle);
+    }
+
+    fn add_box(&mut self, r: Rectangle) {
         self.add((u64::from(r.min.x as u32) << 32) | u64::from(r.min.y as u32));
         self.add((u64::from(r.max.x as u32) << 32) | u64::from(r.max.y as u32));
     }
@@ -89,14 +100,33 @@ impl Answers {
     }
 }
 
+#[derive(Clone, Copy)]
+enum Kind {
+    Glyphs,
+    Sprites,
+}
+
+fn next_size(kind: Kind, random: &mut Random) -> Size {
+    let (low, high) = match kind {
+        Kind::Glyphs => (8, 64),
+        Kind::Sprites => match random.below(10) {
+            0..=5 => (16, 64),
+            6..=8 => (32, 96),
+            _ => (64, 160),
+        },
+    };
+    let width = random.between(low, high);
+    size2(width, random.between(low, high))
+}
+
 // With `is_named`, as a recording allocator answers: names 0, 1, 2, .. in place of ids.
-fn glyph(calls: u32, is_named: bool) -> Answers {
+fn cache(kind: Kind, side: i32, calls: u32, is_named: bool) -> Answers {
     let mut random = Random(1);
-    let mut atlas = AtlasAllocator::new(size2(2048, 2048));
+    let mut atlas = AtlasAllocator::new(size2(side, side));
     let mut live = Vec::new();
     let mut names = 0;
     let mut answers = Answers::new();
-    let mut size = size2(random.between(8, 64), random.between(8, 64));
+    let mut size = next_size(kind, &mut random);
     let mut is_full = false;
     for _ in 0..calls {
         if is_full {
@@ -113,7 +143,7 @@ fn glyph(calls: u32, is_named: bool) -> Answers {
             Some(allocation) => {
                 names += 1;
                 live.push(allocation.id);
-                size = size2(random.between(8, 64), random.between(8, 64));
+                size = next_size(kind, &mut random);
             }
             None => is_full = true,
         }
@@ -121,23 +151,47 @@ fn glyph(calls: u32, is_named: bool) -> Answers {
     answers
 }
 
-fn sprite_sizes(count: u32) -> Vec<Size> {
-    let mut random = Random(2);
-    let mut sizes = Vec::with_capacity(count as usize);
-    for _ in 0..count {
-        let (low, high) = match random.below(10) {
-            0..=5 => (16, 64),
-            6..=8 => (32, 96),
-            _ => (64, 160),
-        };
-        let width = random.between(low, high);
-        sizes.push(size2(width, random.between(low, high)));
+fn sizes(kind: Kind, seed: u64, count: u32) -> Vec<Size> {
+    let mut random = Random(seed);
+    (0..count).map(|_| next_size(kind, &mut random)).collect()
+}
+
+fn sheet(kind: Kind, seed: u64, side: i32, count: u32) -> Answers {
+    let sizes = sizes(kind, seed, count);
+    let mut atlas = SimpleAtlasAllocator::new(size2(side, side));
+    let mut answers = Answers::new();
+    for size in sizes {
+        answers.take(atlas.allocate(size));
     }
-    sizes
+    answers
+}
+
+fn tiles(turns: u32) -> Answers {
+    let mut random = Random(7);
+    let mut atlas = AtlasAllocator::new(size2(2048, 2048));
+    let mut live = Vec::new();
+    let mut answers = Answers::new();
+    for _ in 0..16_384 {
+        let answer = atlas.allocate(size2(16, 16));
+        answers.request(answer);
+        live.push(answer.expect("room").id);
+    }
+    for place in 0..8_192 + turns {
+        if place >= 8_192 && place % 2 == 0 {
+            let answer = atlas.allocate(size2(16, 16));
+            answers.request(answer);
+            live.push(answer.expect("room").id);
+        } else {
+            let id: AllocId = live.swap_remove(random.below(live.len() as u64) as usize);
+            atlas.deallocate(id);
+            answers.freed();
+        }
+    }
+    answers
 }
 
 fn sprite(count: u32, is_sorted: bool) -> Answers {
-    let mut sizes = sprite_sizes(count);
+    let mut sizes = sizes(Kind::Sprites, 2, count);
     if is_sorted {
         sizes.sort_by(|a, b| (b.height, b.width).cmp(&(a.height, a.width)));
     }
@@ -153,7 +207,7 @@ fn rearrange(times: u32) -> Answers {
     let mut atlas = AtlasAllocator::new(size2(4096, 4096));
     let mut answers = Answers::new();
     let mut ids = Vec::new();
-    for size in sprite_sizes(5_000) {
+    for size in sizes(Kind::Sprites, 2, 5_000) {
         let answer = atlas.allocate(size);
         answers.request(answer);
         if let Some(allocation) = answer {
@@ -251,10 +305,18 @@ fn main() {
         let (name, size) = line.split_once(' ').expect("a name and a size");
         let size = size.parse().expect("a size");
         let answers = match name {
-            "glyph" => glyph(size, false),
-            "record" => glyph(size, true),
+            "glyph" => cache(Kind::Glyphs, 2048, size, false),
+            "glyph-1024" => cache(Kind::Glyphs, 1024, size, false),
+            "glyph-4096" => cache(Kind::Glyphs, 4096, size, false),
+            "glyph-8192" => cache(Kind::Glyphs, 8192, size, false),
+            "glyph-16384" => cache(Kind::Glyphs, 16384, size, false),
+            "mixed-4096" => cache(Kind::Sprites, 4096, size, false),
+            "tiles" => tiles(size),
+            "record" => cache(Kind::Glyphs, 2048, size, true),
             "sprite" => sprite(size, false),
             "sprite-sorted" => sprite(size, true),
+            "sheet" => sheet(Kind::Sprites, 2, 4096, size),
+            "sheet-16384" => sheet(Kind::Glyphs, 1, 16384, size),
             "checker" => checker(size),
             "search" => search(size),
             "growth" => growth(size),

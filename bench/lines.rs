@@ -2,8 +2,9 @@
 //!
 //! It is compiled beside the crate's allocator.rs (which isn't in this repository) and a stand-in for `euclid`. It reads
 //! commands and writes replies as docs/TOOL.md says. What the crate leaves to its caller is tested here: empty sizes,
-//! options, growths that shrink a side, and ids that aren't live. It expects lines that spell a command; empty ones are
-//! skipped.
+//! options, growths that shrink a side, and ids that aren't live. A recorded session is the crate's atlas with names for
+//! ids; a replay is answered by what was counted, since the crate's recorder doesn't compile. It expects lines that spell a
+//! command; empty ones are skipped.
 //!
 //! With the arguments `glyph N` it writes N lines of a glyph session instead: requests on an atlas of 2048x2048, and where
 //! one has no room, a random box is freed and it is requested again.
@@ -14,7 +15,7 @@ mod allocator;
 
 use allocator::{AllocId, AllocatorOptions, AtlasAllocator, SimpleAtlasAllocator, DEFAULT_OPTIONS};
 use euclid::size2;
-use std::collections::HashSet;
+use std::collections::{BTreeMap, HashMap};
 use std::io::{BufRead, BufReader, BufWriter, Read, Write};
 
 // What the crate's own root gives allocator.rs.
@@ -31,21 +32,49 @@ fn is_positive(size: Size) -> bool {
 }
 
 fn is_valid(o: &AllocatorOptions) -> bool {
-    is_positive(o.alignment) && 0 < o.small_size_threshold && o.small_size_threshold <= o.large_size_threshold
+    is_positive(o.alignment) && o.small_size_threshold <= o.large_size_threshold
+}
+
+// What a recorded session counts.
+#[derive(Default)]
+struct Counts {
+    grants: u32,
+    freeings: u32,
+    without_room: u32,
 }
 
 struct Held {
     atlas: AtlasAllocator,
-    live: HashSet<u32>,
+    // The number by which a box is called, and its id; the same without a recording.
+    live: BTreeMap<u32, u32>,
+    recorded: Option<Counts>,
 }
 
 impl Held {
-    fn relist(&mut self) {
-        let live = &mut self.live;
-        live.clear();
-        self.atlas.for_each_allocated_rectangle(|id, _| {
-            live.insert(id.serialize());
-        });
+    fn new(atlas: AtlasAllocator, recorded: Option<Counts>) -> Held {
+        Held { atlas, live: BTreeMap::new(), recorded }
+    }
+
+    // The next number for a box with this id.
+    fn number(&mut self, id: u32) -> u32 {
+        match self.recorded.as_mut() {
+            None => id,
+            Some(counts) => {
+                counts.grants += 1;
+                counts.grants - 1
+            }
+        }
+    }
+
+    // The boxes by rising number.
+    fn boxes(&self) -> Vec<(u32, Rectangle)> {
+        let mut boxes = Vec::new();
+        let numbers: HashMap<u32, u32> = self.live.iter().map(|(number, id)| (*id, *number)).collect();
+        self.atlas.for_each_allocated_rectangle(|id, r| boxes.push((numbers[&id.serialize()], *r)));
+        if self.recorded.is_some() {
+            boxes.sort_by_key(|listed| listed.0);
+        }
+        boxes
     }
 
     fn rearrange(&mut self, size: Size, out: &mut impl Write) -> std::io::Result<()> {
@@ -53,38 +82,45 @@ impl Held {
             return writeln!(out, "bad call");
         }
         let list = self.atlas.resize_and_rearrange(size);
+        let numbers: HashMap<u32, u32> = self.live.iter().map(|(number, id)| (*id, *number)).collect();
+        self.live.clear();
         for change in &list.changes {
-            writeln!(
-                out,
-                "moved {} {} to {} {}",
-                change.old.id.serialize(),
-                corners(&change.old.rectangle),
-                change.new.id.serialize(),
-                corners(&change.new.rectangle)
-            )?;
+            let (old, new) = (change.old.id.serialize(), change.new.id.serialize());
+            let is_named = self.recorded.is_some();
+            let (old, number) = (numbers[&old], if is_named { numbers[&old] } else { new });
+            self.live.insert(number, new);
+            let (from, to) = (corners(&change.old.rectangle), corners(&change.new.rectangle));
+            writeln!(out, "moved {old} {from} to {number} {to}")?;
         }
         for lost in &list.failures {
-            writeln!(out, "lost {} {}", lost.id.serialize(), corners(&lost.rectangle))?;
+            writeln!(out, "lost {} {}", numbers[&lost.id.serialize()], corners(&lost.rectangle))?;
         }
-        self.relist();
         writeln!(out, "changes {} failures {}", list.changes.len(), list.failures.len())
     }
 
     fn answer(&mut self, words: &[&str], numbers: &[i64], out: &mut impl Write) -> std::io::Result<()> {
         let size = || size2(numbers[0] as i32, numbers[1] as i32);
+        if self.recorded.is_some() && matches!(words[0], "clear" | "empty") {
+            return writeln!(out, "no atlas");
+        }
         match words[0] {
             "alloc" => match self.atlas.allocate(size()) {
-                None => writeln!(out, "none"),
+                None => {
+                    self.recorded.iter_mut().for_each(|counts| counts.without_room += 1);
+                    writeln!(out, "none")
+                }
                 Some(a) => {
-                    self.live.insert(a.id.serialize());
-                    writeln!(out, "id {} at {}", a.id.serialize(), corners(&a.rectangle))
+                    let number = self.number(a.id.serialize());
+                    self.live.insert(number, a.id.serialize());
+                    writeln!(out, "id {} at {}", number, corners(&a.rectangle))
                 }
             },
             "free" => {
-                if !self.live.remove(&(numbers[0] as u32)) {
+                let Some(id) = self.live.remove(&(numbers[0] as u32)) else {
                     return writeln!(out, "refused not live");
-                }
-                self.atlas.deallocate(AllocId::deserialize(numbers[0] as u32));
+                };
+                self.recorded.iter_mut().for_each(|counts| counts.freeings += 1);
+                self.atlas.deallocate(AllocId::deserialize(id));
                 writeln!(out, "ok")
             }
             "grow" => {
@@ -105,10 +141,9 @@ impl Held {
             }
             "resize" => self.rearrange(size(), out),
             "live" => {
-                let mut lines = Vec::new();
-                self.atlas.for_each_allocated_rectangle(|id, r| lines.push((id.serialize(), *r)));
-                for (id, r) in &lines {
-                    writeln!(out, "box {} {}", id, corners(r))?;
+                let lines = self.boxes();
+                for (number, r) in &lines {
+                    writeln!(out, "box {} {}", number, corners(r))?;
                 }
                 writeln!(out, "live {}", lines.len())
             }
@@ -176,7 +211,7 @@ fn answer_lines<R: Read>(input: &mut BufReader<R>, out: &mut impl Write) -> std:
                 },
             },
             "from-atlas" => match (held.as_ref(), simple.as_mut()) {
-                (None, _) => writeln!(out, "no atlas")?,
+                (None | Some(Held { recorded: Some(_), .. }), _) => writeln!(out, "no atlas")?,
                 (Some(_), None) => writeln!(out, "no simple")?,
                 (Some(from), Some(it)) => {
                     it.init_from_allocator(&from.atlas);
@@ -185,10 +220,28 @@ fn answer_lines<R: Read>(input: &mut BufReader<R>, out: &mut impl Write) -> std:
             },
             "atlas" => match make_atlas(&numbers) {
                 Some(atlas) => {
-                    held = Some(Held { atlas, live: HashSet::new() });
+                    held = Some(Held::new(atlas, None));
                     writeln!(out, "ok")?;
                 }
                 None => writeln!(out, "bad call")?,
+            },
+            "record" => match make_atlas(&numbers) {
+                Some(atlas) => {
+                    held = Some(Held::new(atlas, Some(Counts::default())));
+                    writeln!(out, "ok")?;
+                }
+                None => writeln!(out, "bad call")?,
+            },
+            "replay" => match held.take() {
+                Some(Held { live, recorded: Some(counts), .. }) => writeln!(
+                    out,
+                    "replayed allocations {} deallocations {} failed {} live {}",
+                    counts.grants, counts.freeings, counts.without_room, live.len()
+                )?,
+                other => {
+                    held = other;
+                    writeln!(out, "no recording")?;
+                }
             },
             _ => match held.as_mut() {
                 Some(held) => held.answer(&words, &numbers, out)?,

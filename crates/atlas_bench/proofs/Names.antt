@@ -4,7 +4,7 @@ use Rattle.atlas_lines.specs.Words.{BeginsWithWord}
 use Rattle.atlas_lines.proofs.Keywords.{has_no_space, no_space_by_test}
 use Rattle.atlas_lines.proofs.Parting.{one_word}
 use Rattle.atlas_bench.specs.declared.workload.Workload.{Workload}
-use Rattle.atlas_bench.specs.declared.workload.Workload.TheVariants.{Glyph, Record, Sprite, SortedSprite, Checker, Search, Growth, Rearrange}
+use Rattle.atlas_bench.specs.declared.workload.Workload.TheVariants.{Glyph, Record, Sprite, SortedSprite, Checker, Search, Growth, Rearrange, Glyph1024, Glyph4096, Glyph8192, Glyph16384, Mixed4096, Tiles, Sheet, Sheet16384}
 use Rattle.atlas_bench.specs.Workloads.{name}
 
 name_test : (w : Workload) → has_no_space (name w) ≡ true
@@ -17,6 +17,14 @@ name_test Checker = refl
 name_test Search = refl
 name_test Growth = refl
 name_test Rearrange = refl
+name_test Glyph1024 = refl
+name_test Glyph4096 = refl
+name_test Glyph8192 = refl
+name_test Glyph16384 = refl
+name_test Mixed4096 = refl
+name_test Tiles = refl
+name_test Sheet = refl
+name_test Sheet16384 = refl
 
 -- the first word of a line that begins with a name and a space is that name
 pub name_first : (w : Workload) (line word rest digits : List ℕ) → BeginsWithWord line word rest → line ≡ name w ++ 32 ∷ digits → (word ≡ name w) × (rest ≡ 32 ∷ digits)

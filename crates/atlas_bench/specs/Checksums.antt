@@ -4,6 +4,7 @@ use Rattle.std.specs.Int.{w32, cast_unsigned}
 use Rattle.guillotiere.specs.declared.allocation.Allocation.{Allocation}
 use Rattle.guillotiere.specs.declared.change.Change.{Change}
 use Rattle.guillotiere.specs.declared.geometry.Point.{Point}
+use Rattle.guillotiere.specs.declared.geometry.Rectangle.{Rectangle}
 
 -- a checksum after one more word: FNV-1a, by words of 64 bits
 abbrev pub with_word : (checksum word : ℕ) → ℕ
@@ -13,10 +14,13 @@ with_word checksum word = bit_xor checksum word * 0x100000001b3 % 2 ^ 64
 abbrev pub point_word : Point → ℕ
 point_word p = cast_unsigned w32 p.x * 2 ^ 32 + cast_unsigned w32 p.y
 
+-- a checksum after a box that has no id
+abbrev pub with_box : (checksum : ℕ) → Rectangle → ℕ
+with_box checksum r = with_word (with_word checksum (point_word r.min)) (point_word r.max)
+
 -- a checksum after a granted box
 abbrev pub with_grant : (checksum : ℕ) → Allocation → ℕ
-with_grant checksum a =
-    with_word (with_word (with_word checksum a.id) (point_word a.rectangle.min)) (point_word a.rectangle.max)
+with_grant checksum a = with_box (with_word checksum a.id) a.rectangle
 
 -- a checksum after what a box was and what it became
 abbrev pub with_change : (checksum : ℕ) → Change → ℕ

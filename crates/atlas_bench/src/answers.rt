@@ -1,8 +1,8 @@
 //! What a workload was answered.
 ghost use Rattle.std.specs.Prelude.{◌≡◌, ◌<◌, ◌+◌, ◌^◌, fold};
-ghost use Rattle.atlas_bench.specs.Checksums.{with_word, with_grant, with_change, with_list, point_word};
+ghost use Rattle.atlas_bench.specs.Checksums.{with_word, with_box, with_grant, with_change, with_list, point_word};
 
-use guillotiere::{Allocation, Change, ChangeList, Point};
+use guillotiere::{Allocation, Change, ChangeList, Point, Rectangle};
 use std::marker::Model;
 
 // The word of an answer that a request has no room. No id is so great.
@@ -63,8 +63,15 @@ impl Answers {
         ensures { self.new ≡ record { calls = self.old.calls; checksum = with_grant self.old.checksum allocation } }
     {
         self.add(u64::from(allocation.id.serialize()));
-        self.add(word_of(allocation.rectangle.min));
-        self.add(word_of(allocation.rectangle.max));
+        self.add_box(allocation.rectangle);
+    }
+
+    // Takes the words of a box without its id into the checksum.
+    fn add_box(&mut self, rectangle: Rectangle)
+        ensures { self.new ≡ record { calls = self.old.calls; checksum = with_box self.old.checksum rectangle } }
+    {
+        self.add(word_of(rectangle.min));
+        self.add(word_of(rectangle.max));
     }
 
     // The same of boxes, in order.
@@ -90,6 +97,15 @@ impl Answers {
             self.add_grant(change.old);
             self.add_grant(change.new);
         }
+    }
+
+    /// Takes in that a request was granted by an allocator without ids.
+    pub fn placed(&mut self, rectangle: Rectangle)
+        requires { self.old.calls + 1 < 2 ^ 64 }
+        ensures { self.new ≡ record { calls = self.old.calls + 1; checksum = with_box self.old.checksum rectangle } }
+    {
+        self.calls += 1;
+        self.add_box(rectangle);
     }
 
     /// Takes in that a request had no room.

@@ -3,14 +3,16 @@
 
 mod answers;
 mod boards;
+mod caches;
 mod error;
-mod glyphs;
 mod growth;
 mod jobs;
 mod random;
 mod recordings;
 mod run;
 mod sheets;
+mod simple_sheets;
+mod sizes;
 mod sprites;
 mod workload;
 

@@ -5,12 +5,14 @@ ghost use Rattle.atlas_bench.specs.Workloads.{Makes};
 
 use crate::answers::Answers;
 use crate::boards::{checker, search};
+use crate::caches::{cache, tiles};
 use crate::error::BenchError;
-use crate::glyphs::glyph;
 use crate::growth::growth;
 use crate::jobs::jobs;
 use crate::recordings::recorded;
 use crate::sheets::rearrange;
+use crate::simple_sheets::{large_sheet, sheet};
+use crate::sizes::Kind;
 use crate::sprites::{sorted_sprite, sprite};
 use crate::workload::{Job, Workload};
 use std::alloc::Global;
@@ -21,7 +23,7 @@ fn run_job(alloc: Global, job: Job) -> Result<Answers, BenchError>
     ensures { IfOk result (λ it. Makes job.workload job.size it.calls) }
 {
     match job.workload {
-        Workload::Glyph => glyph(alloc, job.size),
+        Workload::Glyph => cache(alloc, Kind::Glyphs, 2048, job.size),
         Workload::Record => recorded(alloc, job.size),
         Workload::Sprite => sprite(alloc, job.size),
         Workload::SortedSprite => sorted_sprite(alloc, job.size),
@@ -29,6 +31,14 @@ fn run_job(alloc: Global, job: Job) -> Result<Answers, BenchError>
         Workload::Search => search(alloc, job.size),
         Workload::Growth => growth(alloc, job.size),
         Workload::Rearrange => rearrange(alloc, job.size),
+        Workload::Glyph1024 => cache(alloc, Kind::Glyphs, 1024, job.size),
+        Workload::Glyph4096 => cache(alloc, Kind::Glyphs, 4096, job.size),
+        Workload::Glyph8192 => cache(alloc, Kind::Glyphs, 8192, job.size),
+        Workload::Glyph16384 => cache(alloc, Kind::Glyphs, 16_384, job.size),
+        Workload::Mixed4096 => cache(alloc, Kind::Sprites, 4096, job.size),
+        Workload::Tiles => tiles(alloc, job.size),
+        Workload::Sheet => sheet(alloc, job.size),
+        Workload::Sheet16384 => large_sheet(alloc, job.size),
     }
 }
 

@@ -4,7 +4,7 @@ ghost use Rattle.std.specs.Prelude.{◌≡◌, ◌<◌, ◌≤◌, ◌+◌, ◌^
 use crate::answers::Answers;
 use crate::boards::free_others;
 use crate::error::BenchError;
-use crate::sprites::sizes;
+use crate::sizes::{Kind, sizes};
 use guillotiere::{AllocId, AtlasAllocator, Size, size2};
 use std::alloc::Global;
 
@@ -41,7 +41,7 @@ pub fn rearrange(alloc: Global, times: u32) -> Result<Answers, BenchError>
     ensures least { IfOk result (λ it. 5000 + times ≤ it.calls) }
     ensures most { IfOk result (λ it. it.calls ≤ 7500 + times) }
 {
-    let sizes = sizes(alloc, SPRITES)?;
+    let sizes = sizes(alloc, Kind::Sprites, 2, SPRITES)?;
     let mut atlas = AtlasAllocator::new(alloc, size2(4096, 4096))?;
     let mut ids = Vec::new(alloc);
     let mut answers = Answers::new();

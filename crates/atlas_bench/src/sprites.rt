@@ -1,38 +1,11 @@
 //! A sheet of sprites.
-ghost use Rattle.std.specs.Prelude.{◌≡◌, ◌<◌, ◌^◌, IfOk, length, vec_len};
-ghost use Rattle.atlas_bench.specs.SplitMix.{next_state};
-ghost use Rattle.atlas_bench.specs.Workloads.{sprite_size};
+ghost use Rattle.std.specs.Prelude.{◌≡◌, ◌<◌, ◌^◌, IfOk, length};
 
 use crate::answers::Answers;
 use crate::error::BenchError;
-use crate::random::Random;
+use crate::sizes::{Kind, sizes};
 use guillotiere::{AtlasAllocator, Size, size2};
 use std::alloc::Global;
-
-// The size of the next sprite, in pixels: of ten six have sides of 16 to 64, three of 32 to 96, one of 64 to 160.
-fn next_size(random: &mut Random) -> Size
-    ensures size { result ≡ sprite_size random.old }
-    ensures state { random.new ≡ next_state (next_state (next_state random.old)) }
-{
-    let (low, high) = match random.below(10) {
-        0..=5 => (16, 64),
-        6..=8 => (32, 96),
-        _ => (64, 160),
-    };
-    random.size_between(low, high)
-}
-
-/// The sizes of so many sprites.
-pub fn sizes(alloc: Global, count: u32) -> Result<Vec<Size>, BenchError>
-    ensures { IfOk result (λ sizes. vec_len sizes ≡ count) }
-{
-    let mut random = Random::new(2);
-    let mut sizes = Vec::with_capacity(alloc, count as usize)?;
-    for _ in 0..count {
-        sizes.push(next_size(&mut random))?;
-    }
-    Ok(sizes)
-}
 
 // Requests a box of each size, in order, in an atlas of 4096x4096 pixels.
 fn pack(alloc: Global, sizes: &[Size]) -> Result<Answers, BenchError>
@@ -54,7 +27,7 @@ fn pack(alloc: Global, sizes: &[Size]) -> Result<Answers, BenchError>
 pub fn sprite(alloc: Global, count: u32) -> Result<Answers, BenchError>
     ensures { IfOk result (λ it. it.calls ≡ count) }
 {
-    let sizes = sizes(alloc, count)?;
+    let sizes = sizes(alloc, Kind::Sprites, 2, count)?;
     pack(alloc, &sizes)
 }
 
@@ -62,7 +35,7 @@ pub fn sprite(alloc: Global, count: u32) -> Result<Answers, BenchError>
 pub fn sorted_sprite(alloc: Global, count: u32) -> Result<Answers, BenchError>
     ensures { IfOk result (λ it. it.calls ≡ count) }
 {
-    let mut sizes = sizes(alloc, count)?;
+    let mut sizes = sizes(alloc, Kind::Sprites, 2, count)?;
     sizes.sort_by(|a, b| (b.height, b.width).cmp(&(a.height, a.width)))?;
     pack(alloc, &sizes)
 }

@@ -21,6 +21,22 @@ pub enum Workload {
     Growth,
     /// `rearrange`: sprites that are rearranged; the size is how often.
     Rearrange,
+    /// `glyph-1024`: `glyph` in 1024x1024.
+    Glyph1024,
+    /// `glyph-4096`: `glyph` in 4096x4096.
+    Glyph4096,
+    /// `glyph-8192`: `glyph` in 8192x8192.
+    Glyph8192,
+    /// `glyph-16384`: `glyph` in 16384x16384.
+    Glyph16384,
+    /// `mixed-4096`: a cache of sprites; the size is the number of calls.
+    Mixed4096,
+    /// `tiles`: equal tiles, half of which are live; the size is the number of calls after that.
+    Tiles,
+    /// `sheet`: sprites by the simple allocator; the size is their number.
+    Sheet,
+    /// `sheet-16384`: glyphs by the simple allocator; the size is their number.
+    Sheet16384,
 }
 
 /// A workload and its size, which is in range.
@@ -38,15 +54,29 @@ impl Workload {
         ensures found { IfSome result (λ it. word.now ≡ name it) }
         ensures only { (it : Workload) → word.now ≡ name it → result ≡ Some it }
     {
+        if word == b"sprite-sorted".as_slice() {
+            return Some(Workload::SortedSprite);
+        }
+        if word == b"glyph-16384".as_slice() {
+            return Some(Workload::Glyph16384);
+        }
+        if word == b"sheet-16384".as_slice() {
+            return Some(Workload::Sheet16384);
+        }
         match word {
             b"glyph" => Some(Workload::Glyph),
             b"record" => Some(Workload::Record),
             b"sprite" => Some(Workload::Sprite),
-            b"sprite-sorted" => Some(Workload::SortedSprite),
             b"checker" => Some(Workload::Checker),
             b"search" => Some(Workload::Search),
             b"growth" => Some(Workload::Growth),
             b"rearrange" => Some(Workload::Rearrange),
+            b"glyph-1024" => Some(Workload::Glyph1024),
+            b"glyph-4096" => Some(Workload::Glyph4096),
+            b"glyph-8192" => Some(Workload::Glyph8192),
+            b"mixed-4096" => Some(Workload::Mixed4096),
+            b"tiles" => Some(Workload::Tiles),
+            b"sheet" => Some(Workload::Sheet),
             _ => None,
         }
     }
@@ -64,6 +94,14 @@ impl Workload {
             Workload::Search => "search",
             Workload::Growth => "growth",
             Workload::Rearrange => "rearrange",
+            Workload::Glyph1024 => "glyph-1024",
+            Workload::Glyph4096 => "glyph-4096",
+            Workload::Glyph8192 => "glyph-8192",
+            Workload::Glyph16384 => "glyph-16384",
+            Workload::Mixed4096 => "mixed-4096",
+            Workload::Tiles => "tiles",
+            Workload::Sheet => "sheet",
+            Workload::Sheet16384 => "sheet-16384",
         }
     }
 
@@ -72,9 +110,18 @@ impl Workload {
         ensures { result ≡ most_size self }
     {
         match self {
-            Workload::Glyph | Workload::Search | Workload::Rearrange => 1_000_000_000,
+            Workload::Glyph
+            | Workload::Search
+            | Workload::Rearrange
+            | Workload::Glyph1024
+            | Workload::Glyph4096
+            | Workload::Glyph8192
+            | Workload::Glyph16384
+            | Workload::Mixed4096
+            | Workload::Tiles => 1_000_000_000,
             Workload::Record => 10_000_000,
-            Workload::Sprite | Workload::SortedSprite => 1_000_000,
+            Workload::Sprite | Workload::SortedSprite | Workload::Sheet | Workload::Sheet16384 =>
+                1_000_000,
             Workload::Checker => 8_000_000,
             Workload::Growth => 32_768,
         }
