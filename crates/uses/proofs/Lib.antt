@@ -1,0 +1,4 @@
+pub mod HighestFirst
+pub mod Numbering
+pub mod Placing
+pub mod Ranges

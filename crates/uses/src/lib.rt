@@ -2,3 +2,4 @@
 //! and a recorded session.
 #![tactic(auto)]
 
+pub mod sheet;
