@@ -1,1 +1,3 @@
 pub mod Sheets
+pub mod GlyphCodes
+pub mod Glyphs

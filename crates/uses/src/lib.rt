@@ -3,3 +3,6 @@
 #![tactic(auto)]
 
 pub mod sheet;
+mod glyph_cache;
+
+pub use glyph_cache::{Glyph, GlyphCache};

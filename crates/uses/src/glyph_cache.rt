@@ -1,0 +1,300 @@
+//! A cache of glyphs in an atlas: the least recently used glyph is the first to go.
+ghost use Rattle.std.specs.Prelude.{◌≡◌, ◌<◌, ◌≤◌, ◌*◌, ◌++◌, ◌∷◌, ◌↔◌, [], drop, length, vec_len, vec_capacity, false, None, Some, Ok, option_map, IsTrue, IfOk, IfSome, IfNone, OnSome, OnErr, IsOkUnless};
+ghost use Rattle.guillotiere.specs.Boxes.{box_sides};
+ghost use Rattle.guillotiere.specs.Choice.{HasNoRoom};
+ghost use Rattle.guillotiere.specs.Pixels.{box_of, sides_of};
+ghost use Rattle.guillotiere.specs.States.{free_in, live_in};
+ghost use Rattle.uses.specs.Glyphs.{area_in, inset, square, padded, AddsLast, HasPlace, IsEvicted, IsKept, IsLast, IsPlaced, NeverOverlap};
+
+use guillotiere::{AllocId, AtlasAllocator, AtlasError, Rectangle, Size, point2, size2};
+use std::alloc::{Allocator, Global};
+use std::marker::Model;
+
+/// A glyph in the cache: its number, and the id and the box, in pixels, that the atlas gave it.
+#[derive(Clone, Copy, Debug, PartialEq)]
+pub struct Glyph {
+    pub number: u32,
+    pub id: AllocId,
+    pub area: Rectangle,
+}
+
+/// Glyphs by number, each with a box of its own in an atlas, which doubles where there is no room, up to a greatest size.
+/// At that size the least recently used glyph goes.
+#[derive(Drop)]
+pub struct GlyphCache<A: Allocator + Copy = Global> {
+    atlas: AtlasAllocator<A>,
+    // In the order of their use, the least recently used first.
+    glyphs: Vec<Glyph, A>,
+    most: u16,
+    padding: u8,
+}
+
+impl<A: Allocator + Copy> Model for GlyphCache<A> {
+    ghost use Rattle.guillotiere.specs.Stored.{state_of};
+    ghost use Rattle.uses.specs.Glyphs.{Cache, IsKept};
+    ghost use Rattle.uses.specs.GlyphCodes.{cache_code};
+
+    ghost Value = { Cache };
+
+    ghost coded = { cache_code };
+
+    ghost view = { λ a. record { atlas = state_of a.atlas; glyphs = a.glyphs.items; most = a.most; padding = a.padding } };
+
+    ghost invariant = { λ a. IsKept (record { atlas = state_of a.atlas; glyphs = a.glyphs.items; most = a.most; padding = a.padding }) };
+}
+
+// Appends to a vector that has room.
+fn append<T: Drop, A: Allocator>(items: &mut Vec<T, A>, item: T)
+    requires { vec_len items.old < vec_capacity items.old }
+    ensures { items.new.items ≡ items.old.items ++ item ∷ [] }
+{
+    if items.push(item).is_err() {
+        unreachable!();
+    }
+}
+
+impl<A: Allocator + Copy> GlyphCache<A> {
+    /// An empty cache over an atlas of `side` by `side` pixels, which may grow up to `most` by `most`. Each glyph is given
+    /// a border of `padding` pixels on every side. `Memory` is the only error.
+    pub fn new(alloc: A, side: u16, most: u16, padding: u8) -> Result<Self, AtlasError>
+        requires nonempty { 0 < side }
+        requires most { side ≤ most }
+        ensures unless { IsOkUnless result AtlasError.Memory }
+        ensures empty { IfOk result (λ it. it.glyphs ≡ []) }
+        ensures size { IfOk result (λ it. it.atlas.size ≡ square side) }
+        ensures most { IfOk result (λ it. it.most ≡ most) }
+        ensures padding { IfOk result (λ it. it.padding ≡ padding) }
+    {
+        let side = i32::from(side);
+        Ok(GlyphCache {
+            atlas: AtlasAllocator::new(alloc, size2(side, side))?,
+            glyphs: Vec::new(alloc),
+            most,
+            padding,
+        })
+    }
+
+    /// How many glyphs are held.
+    pub fn len(&self) -> usize
+        ensures { result ≡ length self.now.glyphs }
+    {
+        self.glyphs.len()
+    }
+
+    /// The box of a glyph, with its padding, in pixels; None if it isn't held. It counts as no use of the glyph.
+    pub fn get(&self, number: u32) -> Option<Rectangle>
+        ensures { result ≡ area_in self.now number }
+    {
+        let glyph = self.glyphs.iter().find(|glyph| glyph.number == number)?;
+        Some(glyph.area)
+    }
+
+    /// Says what each cache keeps, and does nothing: no two glyphs overlap; what is live in the atlas is what the glyphs
+    /// hold, each once.
+    pub fn prove_kept(&self)
+        ensures kept { IsKept self.now }
+        ensures apart { NeverOverlap self.now }
+    {
+        let _atlas = &self.atlas;
+    }
+
+    /// The side of the atlas, in pixels, which is a square.
+    pub fn side(&self) -> u16
+        ensures { self.now.atlas.size ≡ square result }
+    {
+        self.atlas.size().width as u16
+    }
+
+    /// Whether no glyph is held, which is so exactly if nothing is live in the atlas.
+    pub fn is_empty(&self) -> bool
+        ensures glyphs { IsTrue result ↔ (self.now.glyphs ≡ []) }
+        ensures atlas { IsTrue result ↔ (live_in self.now.atlas ≡ []) }
+    {
+        self.atlas.is_empty()
+    }
+
+    /// The box of a glyph without its padding.
+    pub fn inner(&self, number: u32) -> Option<Rectangle>
+        ensures { result ≡ option_map (inset self.now.padding) (area_in self.now number) }
+    {
+        let area = self.get(number)?;
+        let padding = i32::from(self.padding);
+        Some(Rectangle {
+            min: point2(area.min.x + padding, area.min.y + padding),
+            max: point2(area.max.x - padding, area.max.y - padding),
+        })
+    }
+
+    /// The box of a glyph of `width` by `height` pixels: the one that it has, or a new one, for which the atlas doubles and
+    /// then glyphs go, the least recently used first. The glyph is then the most recently used. None exactly if it isn't
+    /// held, and with its padding it is empty or larger than the greatest atlas.
+    pub fn insert(
+        &mut self,
+        number: u32,
+        width: u16,
+        height: u16,
+    ) -> Result<Option<Rectangle>, AtlasError>
+        ensures here { IfOk result (λ placed. IfSome placed (λ area. area_in self.new number ≡ Some area)) }
+        ensures known { IfSome (area_in self.old number) (λ area. (result ≡ Ok (Some area))
+            × IsLast self.old.glyphs number self.new.glyphs) }
+        ensures none { (result ≡ Ok None) ↔ ((area_in self.old number ≡ None)
+            × (HasPlace self.old (record { width = width; height = height }) → ⊥)) }
+        ensures none_same { result ≡ Ok None → self.new ≡ self.old }
+        ensures sides { area_in self.old number ≡ None → IfOk result (λ placed. IfSome placed (λ area.
+            box_sides (box_of area) ≡ padded self.old.padding (record { width = width; height = height }))) }
+        ensures added { area_in self.old number ≡ None → IfOk result (λ placed. IfSome placed (λ area.
+            AddsLast self.old self.new number area)) }
+        ensures refused { OnErr result (IsEvicted self.old self.new self.new.glyphs) }
+    {
+        if let Some(area) = self.touch(number) {
+            return Ok(Some(area));
+        }
+        let border = 2 * i32::from(self.padding);
+        let size = size2(i32::from(width) + border, i32::from(height) + border);
+        let most = i32::from(self.most);
+        if size.is_empty() || size.width > most || size.height > most {
+            return Ok(None);
+        }
+        loop {
+            if let Some(area) = self.place(number, size)? {
+                return Ok(Some(area));
+            }
+            if !self.double()? && !self.evict() {
+                return Ok(None);
+            }
+        }
+    }
+
+    /// Lets all glyphs go. Always Ok. Takes no memory.
+    pub fn clear(&mut self) -> Result<(), AtlasError>
+        ensures ok { result ≡ Ok tt }
+        ensures glyphs { self.new.glyphs ≡ [] }
+        ensures atlas { live_in self.new.atlas ≡ [] }
+    {
+        self.glyphs.clear();
+        self.atlas.clear()
+    }
+
+    // Makes a held glyph the most recently used.
+    fn touch(&mut self, number: u32) -> Option<Rectangle>
+        ensures area { result ≡ area_in self.old number }
+        ensures used { OnSome result (IsLast self.old.glyphs number self.new.glyphs) }
+        ensures here { IfSome result (λ area. area_in self.new number ≡ Some area) }
+        ensures rest { self.new ≡ record self.old { glyphs = self.new.glyphs } }
+        ensures none { IfNone result (self.new ≡ self.old) }
+    {
+        let at = self
+            .glyphs
+            .iter()
+            .position(|glyph| glyph.number == number)?;
+        let glyph = self.glyphs.remove(at);
+        let area = glyph.area;
+        append(&mut self.glyphs, glyph);
+        Some(area)
+    }
+
+    // Places a new glyph without letting any go; None where the atlas has no room.
+    fn place(&mut self, number: u32, size: Size) -> Result<Option<Rectangle>, AtlasError>
+        requires new { area_in self.old number ≡ None }
+        requires wide { 2 * self.old.padding ≤ (sides_of size).width }
+        requires high { 2 * self.old.padding ≤ (sides_of size).height }
+        ensures placed { IfOk result (λ placed. IfSome placed (λ area.
+            IsPlaced self.old number (sides_of size) area self.new)) }
+        ensures none { IfOk result (λ placed. placed ≡ None → (self.new ≡ self.old)
+            × HasNoRoom (free_in self.old.atlas) self.old.atlas.options (sides_of size)) }
+        ensures refused { OnErr result (self.new ≡ self.old) }
+    {
+        self.glyphs.reserve(1)?;
+        let Some(granted) = self.atlas.allocate(size)? else {
+            return Ok(None);
+        };
+        let area = granted.rectangle;
+        let glyph = Glyph {
+            number,
+            id: granted.id,
+            area,
+        };
+        append(&mut self.glyphs, glyph);
+        Ok(Some(area))
+    }
+
+    // Doubles the atlas, as far as its greatest size; `false` if it has that.
+    fn double(&mut self) -> Result<bool, AtlasError>
+        ensures glyphs { self.new.glyphs ≡ self.old.glyphs }
+        ensures most { self.new.most ≡ self.old.most }
+        ensures padding { self.new.padding ≡ self.old.padding }
+        ensures grown { IfOk result (λ grown. IsTrue grown → self.old.atlas.size.width < self.new.atlas.size.width) }
+        ensures full { IfOk result (λ grown. grown ≡ false → (self.new ≡ self.old)
+            × (self.old.atlas.size ≡ square self.old.most)) }
+        ensures refused { OnErr result (self.new ≡ self.old) }
+    {
+        let side = self.atlas.size().width;
+        let most = i32::from(self.most);
+        if side == most {
+            return Ok(false);
+        }
+        let side = if 2 * side < most { 2 * side } else { most };
+        self.atlas.grow(size2(side, side))?;
+        Ok(true)
+    }
+
+    // Lets the least recently used glyph go; `false` if there is none.
+    fn evict(&mut self) -> bool
+        ensures gone { self.new.glyphs ≡ drop 1 self.old.glyphs }
+        ensures some { IsTrue result ↔ (1 ≤ length self.old.glyphs) }
+        ensures size { self.new.atlas.size ≡ self.old.atlas.size }
+        ensures most { self.new.most ≡ self.old.most }
+        ensures padding { self.new.padding ≡ self.old.padding }
+    {
+        if self.glyphs.is_empty() {
+            return false;
+        }
+        let oldest = self.glyphs.remove(0);
+        if self.atlas.deallocate(oldest.id).is_err() {
+            unreachable!();
+        }
+        true
+    }
+}
+
+#[cfg(test)]
+mod tests {
+    use super::GlyphCache;
+    use guillotiere::{AtlasError, Rectangle, point2};
+
+    fn area(left: i32, top: i32, right: i32, bottom: i32) -> Rectangle {
+        Rectangle {
+            min: point2(left, top),
+            max: point2(right, bottom),
+        }
+    }
+
+    // Four glyphs of 16 by 16 with their padding fill 32 by 32; the fifth takes the box of the least recently used.
+    #[test]
+    fn the_least_recently_used_goes(rt: HostRuntime) -> Result<(), AtlasError> {
+        let mut cache = GlyphCache::new(rt.alloc(), 16, 32, 1)?;
+        let first = area(0, 0, 16, 16);
+        let second = area(0, 16, 16, 32);
+        assert_eq!(rt; cache.side(), 16);
+        assert_eq!(rt; cache.insert(7, 14, 14)?, Some(first));
+        assert_eq!(rt; cache.insert(8, 14, 14)?, Some(second));
+        assert_eq!(rt; cache.side(), 32);
+        assert_eq!(rt; cache.insert(9, 14, 14)?, Some(area(16, 0, 32, 16)));
+        assert_eq!(rt; cache.insert(10, 14, 14)?, Some(area(16, 16, 32, 32)));
+        // finding the first glyph makes the second the least recently used
+        assert_eq!(rt; cache.insert(7, 14, 14)?, Some(first));
+        assert_eq!(rt; cache.insert(11, 14, 14)?, Some(second));
+        assert_eq!(rt; cache.get(8), None);
+        assert_eq!(rt; cache.get(11), Some(second));
+        assert_eq!(rt; cache.inner(11), Some(area(1, 17, 15, 31)));
+        assert_eq!(rt; cache.len(), 4);
+        assert_eq!(rt; cache.insert(12, 31, 3)?, None);
+        assert_eq!(rt; cache.len(), 4);
+        assert_eq!(rt; cache.insert(12, 30, 30)?, Some(area(0, 0, 32, 32)));
+        assert_eq!(rt; cache.len(), 1);
+        cache.clear()?;
+        cache.prove_kept();
+        assert!(rt; cache.is_empty());
+        Ok(())
+    }
+}
