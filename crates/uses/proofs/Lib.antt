@@ -2,3 +2,4 @@ pub mod HighestFirst
 pub mod Numbering
 pub mod Placing
 pub mod Ranges
+pub mod Caching

@@ -1,12 +1,11 @@
 -- What a cache of glyphs holds, and what it keeps.
-use Rattle.std.specs.Prelude.{◌≡◌, ℕ, ◌+◌, ◌*◌, ◌<◌, ◌≤◌, ◌==◌, ℤ, pos, ◌+ℤ◌, ◌-ℤ◌, Bool, List, ◌∷◌, [], ◌++◌, map, find, count_by, drop, All, Option, option_map}
+use Rattle.std.specs.Prelude.{◌≡◌, ℕ, ◌+◌, ◌*◌, ◌<◌, ◌≤◌, ◌==◌, ℤ, pos, ◌+ℤ◌, ◌-ℤ◌, ◌≤ℤ◌, Bool, List, ◌∷◌, [], ◌++◌, map, find, count_by, drop, All, Option, option_map}
 use Rattle.guillotiere.specs.declared.geometry.Rectangle.{Rectangle}
 use Rattle.guillotiere.specs.declared.options.TheConstants.{DEFAULT_OPTIONS}
 use Rattle.guillotiere.specs.Boxes.{Sides, Box, box_sides, AreDisjoint, Fits, IsPositive}
 use Rattle.guillotiere.specs.Pixels.{box_of, options_of}
 use Rattle.guillotiere.specs.Trees.{Grant, grant}
 use Rattle.guillotiere.specs.States.{State, live_in, IsSound}
-use Rattle.guillotiere.specs.Replies.{IsExact}
 use Rattle.uses.specs.declared.glyph_cache.Glyph.{Glyph}
 
 -- the atlas, the glyphs in the order of their use, the least recently used first, the greatest side of the atlas, and the
@@ -40,11 +39,12 @@ AreOnce glyphs = (number : ℕ) → count_by (has_number number) glyphs ≤ 1
 abbrev pub padded : (padding : ℕ) → Sides → Sides
 padded padding s = record { width = s.width + 2 * padding; height = s.height + 2 * padding }
 
--- the box has the coordinates of whole numbers and is larger than the border
-pub record IsPadded (padding : ℕ) (g : Glyph) : Type 0 where
-  pub exact : IsExact g.area
-  pub wide : 2 * padding ≤ (box_sides (box_of g.area)).width
-  pub high : 2 * padding ≤ (box_sides (box_of g.area)).height
+-- the box lies right of and below 0, and is at least as large as the border
+pub record HasBorder (padding : ℕ) (r : Rectangle) : Type 0 where
+  pub left : pos 0 ≤ℤ r.min.x
+  pub top : pos 0 ≤ℤ r.min.y
+  pub wide : (r.min.x +ℤ pos (2 * padding)) ≤ℤ r.max.x
+  pub high : (r.min.y +ℤ pos (2 * padding)) ≤ℤ r.max.y
 
 abbrev pub square : ℕ → Sides
 square side = record { width = side; height = side }
@@ -54,7 +54,7 @@ pub record IsKept (c : Cache) : Type 0 where
   pub sound : IsSound c.atlas
   pub live : HoldsLive c.atlas c.glyphs
   pub once : AreOnce c.glyphs
-  pub padded : All (IsPadded c.padding) c.glyphs
+  pub borders : All (λ g. HasBorder c.padding g.area) c.glyphs
   pub options : c.atlas.options ≡ options_of DEFAULT_OPTIONS
   pub size : (side : ℕ) × (c.atlas.size ≡ square side) × (side ≤ c.most)
 
@@ -69,12 +69,12 @@ pub record IsLast (old : List Glyph) (number : ℕ) (new : List Glyph) : Type 0 
   pub after : List Glyph
   pub was : old ≡ before ++ glyph ∷ after
   pub is : new ≡ (before ++ after) ++ glyph ∷ []
-  pub number : glyph.number ≡ number
+  pub named : glyph.number ≡ number
 
 -- some of the least recently used are gone, only where the atlas has its greatest size; the rest is as it was
-pub record IsEvicted (old new : Cache) (rest : List Glyph) : Type 0 where
+pub record IsEvicted (old new : Cache) (left : List Glyph) : Type 0 where
   pub gone : ℕ
-  pub rest : rest ≡ drop gone old.glyphs
+  pub rest : left ≡ drop gone old.glyphs
   pub full : 0 < gone → new.atlas.size ≡ square new.most
 
 -- a glyph is added at the end

@@ -1,10 +1,12 @@
 //! A cache of glyphs in an atlas: the least recently used glyph is the first to go.
-ghost use Rattle.std.specs.Prelude.{◌≡◌, ◌<◌, ◌≤◌, ◌*◌, ◌++◌, ◌∷◌, ◌↔◌, [], drop, length, vec_len, vec_capacity, false, None, Some, Ok, option_map, IsTrue, IfOk, IfSome, IfNone, OnSome, OnErr, IsOkUnless};
+ghost use Rattle.std.specs.Prelude.{◌≡◌, ◌<◌, ◌≤◌, ◌*◌, ◌++◌, ◌∷◌, ◌↔◌, [], drop, length, vec_len, vec_capacity, false, None, Some, Ok, option_map, IsTrue, IfOk, IfSome, IfNone, OnSome, OnErr, IsOkUnless, All};
+ghost use Rattle.std.specs.List.{HoldsAt};
 ghost use Rattle.guillotiere.specs.Boxes.{box_sides};
 ghost use Rattle.guillotiere.specs.Choice.{HasNoRoom};
-ghost use Rattle.guillotiere.specs.Pixels.{box_of, sides_of};
+ghost use Rattle.guillotiere.specs.Pixels.{box_of, sides_of, size_of};
 ghost use Rattle.guillotiere.specs.States.{free_in, live_in};
-ghost use Rattle.uses.specs.Glyphs.{area_in, inset, square, padded, AddsLast, HasPlace, IsEvicted, IsKept, IsLast, IsPlaced, NeverOverlap};
+ghost use Rattle.uses.specs.declared.glyph_cache.Glyph.{Glyph as Entry};
+ghost use Rattle.uses.specs.Glyphs.{area_in, inset, square, padded, AddsLast, HasBorder, HasPlace, IsEvicted, IsKept, IsLast, IsPlaced, NeverOverlap};
 
 use guillotiere::{AllocId, AtlasAllocator, AtlasError, Rectangle, Size, point2, size2};
 use std::alloc::{Allocator, Global};
@@ -53,6 +55,23 @@ fn append<T: Drop, A: Allocator>(items: &mut Vec<T, A>, item: T)
     }
 }
 
+// Where a glyph stands in a list.
+fn place_of(glyphs: &[Glyph], number: u32) -> Option<usize>
+    ensures inside { IfSome result (λ at. at < length glyphs.now) }
+    ensures found { IfSome result (λ at. HoldsAt (λ (g : Entry). g.number ≡ number) glyphs.now at) }
+    ensures none { IfNone result (All (λ (g : Entry). g.number ≡ number → ⊥) glyphs.now) }
+{
+    glyphs.iter().position(|glyph| glyph.number == number)
+}
+
+// The size of a glyph with its border.
+fn with_border(width: u16, height: u16, padding: u8) -> Size
+    ensures { result ≡ size_of (padded padding (record { width = width; height = height })) }
+{
+    let border = 2 * i32::from(padding);
+    size2(i32::from(width) + border, i32::from(height) + border)
+}
+
 impl<A: Allocator + Copy> GlyphCache<A> {
     /// An empty cache over an atlas of `side` by `side` pixels, which may grow up to `most` by `most`. Each glyph is given
     /// a border of `padding` pixels on every side. `Memory` is the only error.
@@ -83,7 +102,8 @@ impl<A: Allocator + Copy> GlyphCache<A> {
 
     /// The box of a glyph, with its padding, in pixels; None if it isn't held. It counts as no use of the glyph.
     pub fn get(&self, number: u32) -> Option<Rectangle>
-        ensures { result ≡ area_in self.now number }
+        ensures area { result ≡ area_in self.now number }
+        ensures border { IfSome result (HasBorder self.now.padding) }
     {
         let glyph = self.glyphs.iter().find(|glyph| glyph.number == number)?;
         Some(glyph.area)
@@ -98,11 +118,11 @@ impl<A: Allocator + Copy> GlyphCache<A> {
         let _atlas = &self.atlas;
     }
 
-    /// The side of the atlas, in pixels, which is a square.
-    pub fn side(&self) -> u16
-        ensures { self.now.atlas.size ≡ square result }
+    /// The size of the atlas, in pixels: a square.
+    pub fn size(&self) -> Size
+        ensures size { result ≡ size_of self.now.atlas.size }
     {
-        self.atlas.size().width as u16
+        self.atlas.size()
     }
 
     /// Whether no glyph is held, which is so exactly if nothing is live in the atlas.
@@ -149,8 +169,7 @@ impl<A: Allocator + Copy> GlyphCache<A> {
         if let Some(area) = self.touch(number) {
             return Ok(Some(area));
         }
-        let border = 2 * i32::from(self.padding);
-        let size = size2(i32::from(width) + border, i32::from(height) + border);
+        let size = with_border(width, height, self.padding);
         let most = i32::from(self.most);
         if size.is_empty() || size.width > most || size.height > most {
             return Ok(None);
@@ -159,6 +178,7 @@ impl<A: Allocator + Copy> GlyphCache<A> {
             if let Some(area) = self.place(number, size)? {
                 return Ok(Some(area));
             }
+            self.prove_kept();
             if !self.double()? && !self.evict() {
                 return Ok(None);
             }
@@ -183,10 +203,7 @@ impl<A: Allocator + Copy> GlyphCache<A> {
         ensures rest { self.new ≡ record self.old { glyphs = self.new.glyphs } }
         ensures none { IfNone result (self.new ≡ self.old) }
     {
-        let at = self
-            .glyphs
-            .iter()
-            .position(|glyph| glyph.number == number)?;
+        let at = place_of(&self.glyphs, number)?;
         let glyph = self.glyphs.remove(at);
         let area = glyph.area;
         append(&mut self.glyphs, glyph);
@@ -223,7 +240,8 @@ impl<A: Allocator + Copy> GlyphCache<A> {
         ensures glyphs { self.new.glyphs ≡ self.old.glyphs }
         ensures most { self.new.most ≡ self.old.most }
         ensures padding { self.new.padding ≡ self.old.padding }
-        ensures grown { IfOk result (λ grown. IsTrue grown → self.old.atlas.size.width < self.new.atlas.size.width) }
+        ensures grown { IfOk result (λ grown. IsTrue grown → (self.old.atlas.size.width < self.new.atlas.size.width)
+            × (self.old.atlas.size.width < self.old.most)) }
         ensures full { IfOk result (λ grown. grown ≡ false → (self.new ≡ self.old)
             × (self.old.atlas.size ≡ square self.old.most)) }
         ensures refused { OnErr result (self.new ≡ self.old) }
@@ -250,9 +268,8 @@ impl<A: Allocator + Copy> GlyphCache<A> {
             return false;
         }
         let oldest = self.glyphs.remove(0);
-        if self.atlas.deallocate(oldest.id).is_err() {
-            unreachable!();
-        }
+        let freed = self.atlas.deallocate(oldest.id);
+        prove!(freed.is_ok());
         true
     }
 }
@@ -260,7 +277,7 @@ impl<A: Allocator + Copy> GlyphCache<A> {
 #[cfg(test)]
 mod tests {
     use super::GlyphCache;
-    use guillotiere::{AtlasError, Rectangle, point2};
+    use guillotiere::{AtlasError, Rectangle, point2, size2};
 
     fn area(left: i32, top: i32, right: i32, bottom: i32) -> Rectangle {
         Rectangle {
@@ -275,10 +292,10 @@ mod tests {
         let mut cache = GlyphCache::new(rt.alloc(), 16, 32, 1)?;
         let first = area(0, 0, 16, 16);
         let second = area(0, 16, 16, 32);
-        assert_eq!(rt; cache.side(), 16);
+        assert_eq!(rt; cache.size(), size2(16, 16));
         assert_eq!(rt; cache.insert(7, 14, 14)?, Some(first));
         assert_eq!(rt; cache.insert(8, 14, 14)?, Some(second));
-        assert_eq!(rt; cache.side(), 32);
+        assert_eq!(rt; cache.size(), size2(32, 32));
         assert_eq!(rt; cache.insert(9, 14, 14)?, Some(area(16, 0, 32, 16)));
         assert_eq!(rt; cache.insert(10, 14, 14)?, Some(area(16, 16, 32, 32)));
         // finding the first glyph makes the second the least recently used
