@@ -1,13 +1,14 @@
 -- What grants and freeings make of the glyphs that a cache holds.
-use Rattle.std.proofs.Common.{◌≡◌, ℕ, zero, suc, ◌+◌, ◌*◌, ◌<◌, ◌≤◌, ◌==◌, ◌&&◌, Bool, true, false, not, cond, List, [], ◌∷◌, ◌++◌, map, length, take, drop, remove, get_or, refl, ap, ap₂, subst, sym, ◌∙◌, arith, All, Contains, IsPermutation, Option, Some, None, IsSome, option_map}
+use Rattle.std.proofs.Common.{◌≡◌, ℕ, zero, suc, ◌+◌, ◌*◌, ◌<◌, ◌≤◌, ◌==◌, ◌&&◌, Bool, true, false, not, cond, List, [], ◌∷◌, ◌++◌, map, length, take, drop, remove, get_or, refl, ap, ap₂, subst, sym, ◌∙◌, arith, All, Contains, IsPermutation, Option, Some, None, IsSome, option_map, ◌⊎◌, inl, inr}
 use Rattle.std.specs.List.{count_by, find}
 use Rattle.std.proofs.Math.Seq.{drop-cons}
 use Rattle.std.proofs.lemmas.Bool.{eq-eqb, eqb-true}
 use Rattle.std.proofs.lemmas.Int.{ints}
-use Rattle.std.proofs.lemmas.List.{nil_from_length, take-append-drop}
+use Rattle.std.proofs.lemmas.List.{drop-drop, nil_from_length, take-append-drop}
 use Rattle.std.proofs.lemmas.List.Elements.{All-append}
+use Rattle.std.proofs.lemmas.List.Folds.{find-append}
 use Rattle.std.proofs.lemmas.List.Sorted.{IsPermutation-to_front, IsPermutation-remove, IsPermutation-sym, IsPermutation-trans, All-permutation}
-use Rattle.guillotiere.specs.Boxes.{Sides, Box, box_sides, whole_box, covers, AreDisjoint, Fits, IsPositive}
+use Rattle.guillotiere.specs.Boxes.{Sides, box_sides, whole_box, covers, AreDisjoint, Fits, IsPositive}
 use Rattle.guillotiere.specs.Choice.{up, HasRoom}
 use Rattle.guillotiere.specs.Pixels.{box_of}
 use Rattle.guillotiere.specs.Trees.{Grant, grant}
@@ -20,14 +21,14 @@ use Rattle.guillotiere.specs.StepLaws.{IsGrantStep, IsFreeingStep}
 use Rattle.guillotiere.proofs.TreeBasics.{one_if}
 use Rattle.guillotiere.proofs.TreeIds.{Contains-first}
 use Rattle.guillotiere.proofs.Counting.{count_by-cons}
-use Rattle.guillotiere.proofs.CallerLemmas.{count_by-permutation, count_by-all, count_by-map, find-counted, find-counted_once, uncounted-find}
+use Rattle.guillotiere.proofs.CallerLemmas.{count_by-permutation, count_by-all, count_by-map, find-counted, find-counted_once, find-uncounted, uncounted-find}
 use Rattle.guillotiere.proofs.LiveBoxes.{live_have_boxes, sound_is_tiled}
 use Rattle.guillotiere.proofs.Guarding.{live_are_guarded}
 use Rattle.guillotiere.proofs.StepKeeping.{steps_keep}
 use Rattle.guillotiere.proofs.StepEffects.{grants_lie_inside, freeings_remove_one}
 use Rattle.guillotiere_recording.proofs.Counts.{count_filter}
 use Rattle.uses.specs.declared.glyph_cache.Glyph.{Glyph}
-use Rattle.uses.specs.Glyphs.{Cache, area_in, has_number, square, AreOnce, HasBorder, HoldsLive, IsKept, IsLast}
+use Rattle.uses.specs.Glyphs.{Cache, area_in, has_number, square, AreOnce, HasBorder, HoldsLive, IsEvicted, IsKept, IsLast}
 
 abbrev pub cache_of : State → List Glyph → (most padding : ℕ) → Cache
 cache_of s gs most padding = record { atlas = s; glyphs = gs; most = most; padding = padding }
@@ -100,9 +101,9 @@ left old new g gs step holds p =
     let gone : one_if (q (held g)) ≡ 0 = ap (λ b. one_if (not b && p (held g))) here in
     let one : one_if (g.id == g.id) ≡ 1 = ap one_if here in
     let others : count_by is (map held gs) ≡ 0 =
-        omega (arith, holds is, count_by-cons is (held g) (map held gs), one, step.one) in
+    omega (arith, holds is, count_by-cons is (held g) (map held gs), one, step.one) in
     let freed : count_by p (live_in new) ≡ count_by q (live_in old) =
-        ap (count_by p) step.live ∙ count_filter (λ k. not (k.id == g.id)) p (live_in old) in
+    ap (count_by p) step.live ∙ count_filter (λ k. not (k.id == g.id)) p (live_in old) in
     omega (arith, freed, holds q, count_by-cons q (held g) (map held gs), gone, passing p is (map held gs) others)
 
 pub once_left : (g : Glyph) (gs : List Glyph) → AreOnce (g ∷ gs) → AreOnce gs
@@ -224,12 +225,12 @@ joined_kept c g s new kept absent step exact wide high =
     let right = ap (λ r. r.max.x) exact in
     let bottom = ap (λ r. r.max.y) exact in
     let border : HasBorder c.padding g.area =
-        record {
-          left = omega (arith, ints, left);
-          top = omega (arith, ints, top);
-          wide = omega (arith, ints, left, right, w, wide);
-          high = omega (arith, ints, top, bottom, h, high);
-        } in
+    record {
+      left = omega (arith, ints, left);
+      top = omega (arith, ints, top);
+      wide = omega (arith, ints, left, right, w, wide);
+      high = omega (arith, ints, top, bottom, h, high);
+    } in
     record {
       kept =
           record {
@@ -259,3 +260,43 @@ room_when_empty c s kept none full positive fits =
             fits = rw (kept.options, full, up_one s.width, up_one s.height) (omega (arith, fits.0), omega (arith, fits.1));
           };
     }
+
+-- the glyph that was added is found
+pub added_found : (n : ℕ) (g : Glyph) (gs hs : List Glyph) → option_map (λ k. k.area) (find (has_number n) gs) ≡ None → g.number ≡ n
+    → hs ≡ gs ++ g ∷ [] → option_map (λ k. k.area) (find (has_number n) hs) ≡ Some g.area
+added_found n g gs hs none named is =
+    let absent = no_area (find (has_number n) gs) none in
+    let here : (g.number == n) ≡ true = eq-eqb g.number n named in
+    rw (is, find-append (has_number n) gs (g ∷ []), absent, here) refl
+
+-- what isn't found isn't found later on
+rest_absent : (n : ℕ) (gs : List Glyph) → find (has_number n) gs ≡ None → find (has_number n) (drop 1 gs) ≡ None
+rest_absent n [] none = refl
+rest_absent n (g ∷ gs) none =
+    find-uncounted (has_number n) gs
+    (omega (arith, count_by-cons (has_number n) g gs, uncounted-find (has_number n) (g ∷ gs) none))
+
+-- a turn of the loop that makes room: the atlas was doubled, or the least recently used glyph went
+pub room_made : (n : ℕ) (old now new : Cache) → area_in now n ≡ None → IsEvicted old now now.glyphs
+    → (new.glyphs ≡ now.glyphs) × (now.atlas.size.width < now.most) ⊎ (new.glyphs ≡ drop 1 now.glyphs) × (new.atlas.size ≡ square new.most)
+    → (area_in new n ≡ None) × IsEvicted old new new.glyphs
+room_made n old now new none was (inl (same, small)) = (
+  rw same none,
+  record {
+    gone = was.gone;
+    rest = same ∙ was.rest;
+    full = λ some. let side = ap (λ s. s.width) (was.full some) in absurd (omega (arith, side, small));
+  },
+)
+room_made n old now new none was (inr (first, full)) = (
+  rw first (ap (option_map (λ g. g.area)) (rest_absent n now.glyphs (no_area (find (has_number n) now.glyphs) none))),
+  record {
+    gone = was.gone + 1;
+    rest = first ∙ ap (drop 1) was.rest ∙ drop-drop 1 was.gone old.glyphs;
+    full = λ some. full;
+  },
+)
+
+pub none_left : (n : ℕ) → (1 ≤ n → ⊥) → n ≡ 0
+none_left zero h = refl
+none_left (suc n) h = absurd (h (omega arith))

@@ -1,7 +1,8 @@
 //! A cache of glyphs in an atlas: the least recently used glyph is the first to go.
-ghost use Rattle.std.specs.Prelude.{◌≡◌, ◌<◌, ◌≤◌, ◌*◌, ◌++◌, ◌∷◌, ◌↔◌, [], drop, length, vec_len, vec_capacity, false, None, Some, Ok, option_map, IsTrue, IfOk, IfSome, IfNone, OnSome, OnErr, IsOkUnless, All};
+ghost use Rattle.std.specs.Prelude.{◌≡◌, ◌<◌, ◌≤◌, ◌*◌, ◌++◌, ◌∷◌, ◌↔◌, [], drop, length, vec_len, vec_capacity, false, None, Some, Ok, option_map, IsTrue, IfOk, IfSome, IfNone, OnSome, OnErr, IsOkUnless, All, ◌+ℤ◌, ◌-ℤ◌, pos, FitsSigned};
+ghost use Rattle.std.specs.Int.{w32};
 ghost use Rattle.std.specs.List.{HoldsAt};
-ghost use Rattle.guillotiere.specs.Boxes.{box_sides};
+ghost use Rattle.guillotiere.specs.Boxes.{box_sides, Fits, IsPositive};
 ghost use Rattle.guillotiere.specs.Choice.{HasNoRoom};
 ghost use Rattle.guillotiere.specs.Pixels.{box_of, sides_of, size_of};
 ghost use Rattle.guillotiere.specs.States.{free_in, live_in};
@@ -72,6 +73,39 @@ fn with_border(width: u16, height: u16, padding: u8) -> Size
     size2(i32::from(width) + border, i32::from(height) + border)
 }
 
+fn plus(at: i32, by: u8) -> i32
+    requires { FitsSigned w32 (at +ℤ pos by) }
+    ensures { result ≡ at +ℤ pos by }
+{
+    at + i32::from(by)
+}
+
+fn minus(at: i32, by: u8) -> i32
+    requires { FitsSigned w32 (at -ℤ pos by) }
+    ensures { result ≡ at -ℤ pos by }
+{
+    at - i32::from(by)
+}
+
+// A box without its border.
+fn without_border(area: Rectangle, padding: u8) -> Rectangle
+    requires { HasBorder padding area }
+    ensures { result ≡ inset padding area }
+{
+    Rectangle {
+        min: point2(plus(area.min.x, padding), plus(area.min.y, padding)),
+        max: point2(minus(area.max.x, padding), minus(area.max.y, padding)),
+    }
+}
+
+// Whether a size isn't empty and fits an empty atlas of `most` by `most`.
+fn fits(size: Size, most: u16) -> bool
+    ensures { IsTrue result ↔ (IsPositive (sides_of size) × Fits (sides_of size) (square most)) }
+{
+    let most = i32::from(most);
+    size.width > 0 && size.height > 0 && size.width <= most && size.height <= most
+}
+
 impl<A: Allocator + Copy> GlyphCache<A> {
     /// An empty cache over an atlas of `side` by `side` pixels, which may grow up to `most` by `most`. Each glyph is given
     /// a border of `padding` pixels on every side. `Memory` is the only error.
@@ -138,11 +172,7 @@ impl<A: Allocator + Copy> GlyphCache<A> {
         ensures { result ≡ option_map (inset self.now.padding) (area_in self.now number) }
     {
         let area = self.get(number)?;
-        let padding = i32::from(self.padding);
-        Some(Rectangle {
-            min: point2(area.min.x + padding, area.min.y + padding),
-            max: point2(area.max.x - padding, area.max.y - padding),
-        })
+        Some(without_border(area, self.padding))
     }
 
     /// The box of a glyph of `width` by `height` pixels: the one that it has, or a new one, for which the atlas doubles and
@@ -170,8 +200,7 @@ impl<A: Allocator + Copy> GlyphCache<A> {
             return Ok(Some(area));
         }
         let size = with_border(width, height, self.padding);
-        let most = i32::from(self.most);
-        if size.is_empty() || size.width > most || size.height > most {
+        if !fits(size, self.most) {
             return Ok(None);
         }
         loop {
@@ -180,7 +209,8 @@ impl<A: Allocator + Copy> GlyphCache<A> {
             }
             self.prove_kept();
             if !self.double()? && !self.evict() {
-                return Ok(None);
+                // what fits an empty atlas of the greatest size had room there
+                unreachable!();
             }
         }
     }

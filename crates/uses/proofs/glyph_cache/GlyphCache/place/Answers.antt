@@ -1,4 +1,3 @@
-use Rattle.std.proofs.Common.{◌≡◌, ◌≤◌, ◌*◌, None}
 use Rattle.std.specs.List.{find}
 use Rattle.guillotiere.specs.Pixels.{sides_of}
 use Rattle.guillotiere.specs.Stored.{state_of}

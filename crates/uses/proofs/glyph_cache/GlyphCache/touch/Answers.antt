@@ -1,4 +1,4 @@
-use Rattle.std.proofs.Common.{◌≡◌, ◌∷◌, [], ◌++◌, ◌<◌, length, ap, sym, ◌∙◌, subst, remove, option_map, Contains, rules}
+use Rattle.std.proofs.Common.{◌∷◌, [], ◌++◌, ◌<◌, length, ap, sym, ◌∙◌, subst, remove, option_map, Contains, rules}
 use Rattle.std.proofs.lemmas.List.Elements.{Contains-get_or, Contains-append_right}
 use Rattle.guillotiere.proofs.TreeIds.{Contains-first}
 use Rattle.guillotiere.specs.Stored.{state_of}
