@@ -14,19 +14,9 @@ mod atlas_freeing;
 mod atlas_grants;
 #[cfg(test)]
 mod atlas_growth;
-#[cfg(test)]
-mod atlas_growth_recorded;
 mod atlas_memory;
 #[cfg(test)]
 mod atlas_rearranging;
-#[cfg(test)]
-mod atlas_rearranging_recorded;
-#[cfg(test)]
-mod atlas_rearranging_sessions;
-#[cfg(test)]
-mod atlas_recorded;
-#[cfg(test)]
-mod atlas_sessions;
 #[cfg(test)]
 mod atlas_starts;
 #[cfg(test)]
@@ -42,15 +32,7 @@ mod session_rows;
 #[cfg(test)]
 mod simple_beside;
 #[cfg(test)]
-mod simple_recorded;
-#[cfg(test)]
 mod simple_rows;
-#[cfg(test)]
-mod simple_sessions;
-#[cfg(test)]
-mod simple_starts;
-#[cfg(test)]
-mod simple_starts_recorded;
 #[cfg(test)]
 mod simple_whole;
 #[cfg(test)]
