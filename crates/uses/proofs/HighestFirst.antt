@@ -1,6 +1,6 @@
 -- The order in which sprites are placed.
-use Rattle.std.proofs.Common.{◌≡◌, ◌+◌, ◌<◌, ◌≤◌, ◌≤ℤ◌, ◌==◌, ℕ, ℤ, suc, false, List, [], ◌∷◌, map, length, get_or, drop, All, IsPermutation, Ordering, refl, ap, sym, subst, ◌∙◌, add-one, arith}
-use Rattle.std.specs.List.{enumerate_from, count_by, AllAdjacentBelow, AllZip}
+use Rattle.std.proofs.Common.{◌≡◌, ◌+◌, ◌<◌, ◌≤ℤ◌, ℕ, ℤ, false, List, [], ◌∷◌, map, length, get_or, IsPermutation, Ordering, refl, ap, subst, arith}
+use Rattle.std.specs.List.{enumerate_from}
 use Rattle.std.specs.List.Sorted.{IsSortedByKey}
 use Rattle.std.specs.Ordering.{int_cmp, is_lt}
 use Rattle.std.specs.declared.cmp.Reverse.{Reverse}
@@ -10,7 +10,6 @@ use Rattle.std.proofs.lemmas.List.{get_or-map, length-map}
 use Rattle.std.proofs.lemmas.List.Sorted.{IsPermutation-map}
 use Rattle.guillotiere.specs.declared.geometry.Size.{Size}
 use Rattle.uses.specs.Sheets.{AreHighestFirst}
-use Rattle.uses.proofs.Placing.{no_sprite}
 
 -- the key by which numbered sprites are sorted
 abbrev pub height_key : ℕ × Size → Reverse ℤ

@@ -3,3 +3,5 @@ pub mod Numbering
 pub mod Placing
 pub mod Ranges
 pub mod Caching
+pub mod Repacking
+pub mod Sorting

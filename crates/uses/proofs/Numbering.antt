@@ -1,14 +1,14 @@
 -- Numbered sprites: each number once, and the places of the numbers in their order.
-use Rattle.std.proofs.Common.{◌≡◌, ◌≢◌, ◌==◌, ◌+◌, ◌<◌, ◌≤◌, ℕ, zero, suc, Bool, true, false, List, [], ◌∷◌, map, length, drop, get_or, All, IsPermutation, refl, ap, sym, subst, ◌∙◌, add-one, arith}
+use Rattle.std.proofs.Common.{◌≡◌, ◌==◌, ◌+◌, ◌<◌, ◌≤◌, ℕ, Bool, true, false, List, [], ◌∷◌, map, length, drop, get_or, All, IsPermutation, refl, ap, sym, subst, ◌∙◌, add-one, arith}
 use Rattle.std.specs.List.{enumerate_from, count_by, AllZip}
 use Rattle.std.proofs.Math.ListN.{drop_of_length-le}
 use Rattle.std.proofs.Math.Seq.{drop-cons}
 use Rattle.std.proofs.lemmas.Bool.{eqb-true}
-use Rattle.std.proofs.lemmas.List.Elements.{All-nil, All-cons, All-head, All-tail, All-weaker}
+use Rattle.std.proofs.lemmas.List.Elements.{All-nil, All-cons, All-head, All-tail}
 use Rattle.std.proofs.lemmas.List.Sorted.{All-permutation, IsPermutation-map, IsPermutation-sym}
 use Rattle.guillotiere.specs.declared.geometry.Size.{Size}
 use Rattle.guillotiere.specs.declared.geometry.Rectangle.{Rectangle}
-use Rattle.guillotiere.specs.Boxes.{Box, covers, AreDisjoint}
+use Rattle.guillotiere.specs.Boxes.{covers}
 use Rattle.guillotiere.specs.Pixels.{box_of}
 use Rattle.guillotiere.proofs.TreeBasics.{one_if}
 use Rattle.guillotiere.proofs.Counting.{count_by-cons}

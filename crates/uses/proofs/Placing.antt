@@ -1,5 +1,5 @@
 -- Sprites placed in a sheet one after another: what holds of those that have a place, and of those that are left.
-use Rattle.std.proofs.Common.{◌≡◌, pos, ◌≢◌, ◌==◌, ◌+◌, ◌*◌, ◌<◌, ◌≤◌, ◌%◌, ℕ, suc, Bool, true, false, List, [], ◌∷◌, ◌++◌, map, length, take, drop, get_or, set, reverse, take_all, All, refl, ap, sym, subst, ◌∙◌, inl, inr, add-one, arith}
+use Rattle.std.proofs.Common.{◌≡◌, pos, ◌≢◌, ◌==◌, ◌+◌, ◌<◌, ◌≤◌, ◌%◌, ℕ, suc, Bool, List, [], ◌∷◌, ◌++◌, map, length, take, drop, get_or, set, reverse, take_all, All, refl, ap, sym, subst, ◌∙◌, inl, inr, arith}
 use Rattle.std.specs.List.{count_by}
 use Rattle.std.proofs.Math.Nat.{mod-one}
 use Rattle.std.proofs.Math.Seq.{drop-cons, take-suc}
@@ -10,7 +10,7 @@ use Rattle.std.proofs.lemmas.List.Sorted.{IsPermutation-reverse}
 use Rattle.guillotiere.specs.declared.geometry.Size.{Size}
 use Rattle.guillotiere.specs.declared.geometry.Rectangle.{Rectangle}
 use Rattle.guillotiere.specs.declared.options.TheConstants.{DEFAULT_OPTIONS}
-use Rattle.guillotiere.specs.Boxes.{Sides, Box, box_at, box_sides, covers, IsWithin, AreDisjoint}
+use Rattle.guillotiere.specs.Boxes.{Sides, Box, box_sides, covers, IsWithin, AreDisjoint}
 use Rattle.guillotiere.specs.Choice.{Options, rounded, HasNoRoom}
 use Rattle.guillotiere.specs.Pixels.{box_of, options_of, sides_of}
 use Rattle.guillotiere.specs.Replies.{IsExact}

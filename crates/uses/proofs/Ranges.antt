@@ -1,5 +1,5 @@
 -- A range of sides, each twice the one before: which of them are tried.
-use Rattle.std.proofs.Common.{◌≡◌, ◌+◌, ◌*◌, ◌^◌, ◌<◌, ◌≤◌, ◌⊎◌, ℕ, suc, List, refl, ap, sym, subst, ◌∙◌, inl, inr, Some, None, mul_assoc, arith}
+use Rattle.std.proofs.Common.{◌≡◌, ◌*◌, ◌^◌, ◌<◌, ◌≤◌, ℕ, suc, List, ap, sym, subst, ◌∙◌, inl, inr, Some, None, mul_assoc, arith}
 use Rattle.std.proofs.Math.Nat.{pow-suc, pow-le-pow_right, mul-le-mul_left}
 use Rattle.std.proofs.lemmas.Bool.{cases_lt}
 use Rattle.guillotiere.specs.declared.geometry.Size.{Size}

@@ -1,3 +1,4 @@
+pub mod Pictures
 pub mod Sheets
 pub mod GlyphCodes
 pub mod Glyphs

@@ -1,12 +1,12 @@
 -- Sheets of sprites: what the places on a sheet keep to, and which sheets are tried.
-use Rattle.std.specs.Prelude.{◌≡◌, ◌==◌, ℕ, ℤ, pos, ◌*◌, ◌^◌, ◌<◌, ◌≤◌, ◌≤ℤ◌, ◌⊎◌, List, [], ◌∷◌, map, length, count_by, slice_index_or, All, IsPermutation, Option, Some, None}
+use Rattle.std.specs.Prelude.{◌≡◌, ◌==◌, ℕ, pos, ◌*◌, ◌^◌, ◌<◌, ◌≤◌, ◌≤ℤ◌, ◌⊎◌, List, [], ◌∷◌, map, length, count_by, slice_index_or, All, IsPermutation, Option, Some, None}
 use Rattle.std.specs.List.{AllZip, AllAdjacentBelow}
 use Rattle.guillotiere.specs.declared.geometry.Size.{Size}
 use Rattle.guillotiere.specs.declared.geometry.Rectangle.{Rectangle}
 use Rattle.guillotiere.specs.declared.options.TheConstants.{DEFAULT_OPTIONS}
 use Rattle.guillotiere.specs.Boxes.{Sides, Box, IsWithin, AreDisjoint, box_sides}
 use Rattle.guillotiere.specs.Choice.{HasNoRoom}
-use Rattle.guillotiere.specs.Pixels.{box_of, natural, options_of, sides_of}
+use Rattle.guillotiere.specs.Pixels.{box_of, options_of, sides_of}
 use Rattle.guillotiere.specs.Replies.{IsExact}
 use Rattle.guillotiere.specs.Simple.{SimpleState, SimplyGrants, simple_start}
 

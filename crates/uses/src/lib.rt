@@ -2,7 +2,10 @@
 //! and a recorded session.
 #![tactic(auto)]
 
+pub mod repack;
 pub mod sheet;
 mod glyph_cache;
 
 pub use glyph_cache::{Glyph, GlyphCache};
+#[cfg(test)]
+mod sheet_tests;

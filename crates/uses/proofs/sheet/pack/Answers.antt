@@ -1,6 +1,6 @@
 use Rattle.std.proofs.Common.{◌∙◌, map, arith}
 use Rattle.uses.proofs.Numbering.{order_below, order_once, in_order}
-use Rattle.uses.proofs.Ranges.{first_try, next_try, found, none_found}
+use Rattle.uses.proofs.Ranges.{first_try, next_try, none_found}
 use Rattle.uses.proofs.sheet.pack.Goals as goal
 
 pub loop-tried-init : goal.loop-tried-init
@@ -32,6 +32,8 @@ loop-tried-preserved c =
     }
 
 pub returns-clause-smallest : goal.returns-clause-smallest
-returns-clause-smallest c =
-    (map (λ s. s.1) c.in_ok-order.order.items, c.in_ok-order.ensures.highest,
-    none_found _ _ _ c.loop-tried.invariant.trying c.args.most (omega (arith, c.loop-tried-test.false, c.from.ensures)))
+returns-clause-smallest c = (
+  map (λ s. s.1) c.in_ok-order.order.items,
+  c.in_ok-order.ensures.highest,
+  none_found _ _ _ c.loop-tried.invariant.trying c.args.most (omega (arith, c.loop-tried-test.false, c.from.ensures)),
+)

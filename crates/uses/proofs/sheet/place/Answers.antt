@@ -1,4 +1,4 @@
-use Rattle.std.proofs.Common.{◌≡◌, ◌<◌, ◌∷◌, ◌∙◌, List, length, refl, add-one, arith}
+use Rattle.std.proofs.Common.{◌<◌, ◌∷◌, ◌∙◌, List, length, refl, add-one}
 use Rattle.std.proofs.lemmas.List.{length-set}
 use Rattle.std.proofs.lemmas.List.Elements.{All-get_or}
 use Rattle.guillotiere.specs.Boxes.{Box}
@@ -16,7 +16,7 @@ loop-sprite-preserved c =
     let step = rw c.in-Some.is at c.in_ok-allocate.ensures.step in
     let exact = rw c.in-Some.is at c.in_ok-allocate.ensures.exact in
     let joins : (held : List Box) → IsGuarded c.loop-sprite.packer held → IsGuarded c.allocate.new.self (box_of c.in-Some.area ∷ held) =
-        λ held is. rw c.in-Some.is at (c.in_ok-allocate.ensures.guarded held is) in
+    λ held is. rw c.in-Some.is at (c.in_ok-allocate.ensures.guarded held is) in
     let room = All-get_or (λ s. s.0 < length c.args.places.now.items) order k no_sprite c.loop-sprite-test.true c.requires.numbers in
     rw add-one
     (record {
