@@ -1,4 +1,7 @@
 //! A dynamic allocator of rectangles inside one large texture: a port of the Rust crate `guillotiere` 0.7.0.
+//!
+//! Two limits, which the Rust crate has too. Free boxes are joined within one container of the tree of cuts, and not across
+//! containers. And grids of equal cells are served better by other packers.
 #![tactic(auto)]
 
 mod allocation;
