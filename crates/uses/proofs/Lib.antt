@@ -5,3 +5,4 @@ pub mod Ranges
 pub mod Caching
 pub mod Repacking
 pub mod Sorting
+pub mod Recordings

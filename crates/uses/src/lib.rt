@@ -9,3 +9,6 @@ mod glyph_cache;
 pub use glyph_cache::{Glyph, GlyphCache};
 #[cfg(test)]
 mod sheet_tests;
+pub mod glyph_cache;
+pub mod replayed;
+pub mod sheet;
