@@ -2,13 +2,11 @@
 //! and a recorded session.
 #![tactic(auto)]
 
-pub mod repack;
-pub mod sheet;
-mod glyph_cache;
-
-pub use glyph_cache::{Glyph, GlyphCache};
-#[cfg(test)]
-mod sheet_tests;
 pub mod glyph_cache;
+pub mod repack;
+#[cfg(test)]
+mod repack_tests;
 pub mod replayed;
 pub mod sheet;
+#[cfg(test)]
+mod sheet_tests;
