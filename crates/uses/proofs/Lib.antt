@@ -1,8 +1,8 @@
+pub mod Caching
 pub mod HighestFirst
 pub mod Numbering
 pub mod Placing
 pub mod Ranges
-pub mod Caching
+pub mod Recordings
 pub mod Repacking
 pub mod Sorting
-pub mod Recordings

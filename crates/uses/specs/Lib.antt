@@ -1,6 +1,5 @@
-pub mod Pictures
-pub mod Sheets
 pub mod GlyphCodes
 pub mod Glyphs
+pub mod Pictures
 pub mod Replaying
 pub mod Sheets
