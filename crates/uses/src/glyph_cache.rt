@@ -195,6 +195,8 @@ impl<A: Allocator + Copy> GlyphCache<A> {
         ensures added { area_in self.old number ≡ None → IfOk result (λ placed. IfSome placed (λ area.
             AddsLast self.old self.new number area)) }
         ensures refused { OnErr result (IsEvicted self.old self.new self.new.glyphs) }
+        ensures most { self.new.most ≡ self.old.most }
+        ensures padding { self.new.padding ≡ self.old.padding }
     {
         if let Some(area) = self.touch(number) {
             return Ok(Some(area));
@@ -220,6 +222,9 @@ impl<A: Allocator + Copy> GlyphCache<A> {
         ensures ok { result ≡ Ok tt }
         ensures glyphs { self.new.glyphs ≡ [] }
         ensures atlas { live_in self.new.atlas ≡ [] }
+        ensures size { self.new.atlas.size ≡ self.old.atlas.size }
+        ensures most { self.new.most ≡ self.old.most }
+        ensures padding { self.new.padding ≡ self.old.padding }
     {
         self.glyphs.clear();
         self.atlas.clear()
