@@ -28,6 +28,8 @@ pub mod Slots
 pub mod Numbered
 pub mod Standing
 pub mod Lists
+pub mod Bands
+pub mod Masks
 pub mod Reading
 pub mod Parts
 pub mod Calm

@@ -6,6 +6,7 @@
 
 mod allocation;
 mod atlas;
+mod bands;
 mod batch;
 mod change;
 mod choice;
@@ -17,6 +18,7 @@ mod geometry;
 mod growth;
 pub mod laws;
 mod lists;
+mod masks;
 mod options;
 mod pick;
 mod placing;
