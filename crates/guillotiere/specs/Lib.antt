@@ -30,6 +30,7 @@ pub mod Standing
 pub mod Lists
 pub mod Bands
 pub mod Masks
+pub mod Tables
 pub mod Reading
 pub mod Parts
 pub mod Calm

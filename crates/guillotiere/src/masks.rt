@@ -1,5 +1,5 @@
 //! Sets of numbers below 64, a bit for each.
-ghost use Rattle.std.specs.Prelude.{◌≡◌, ◌≢◌, ◌<◌, ◌≤◌, ◌↔◌, ℕ, true, false, IfSome, None};
+ghost use Rattle.std.specs.Prelude.{◌≡◌, ◌<◌, ◌≤◌, ◌≢◌, ◌==◌, ◌&&◌, ℕ, not, true, false, nat_le, nat_lt, IfSome, None};
 
 /// A set of numbers below 64.
 #[derive(Clone, Copy, Debug, PartialEq, Eq)]
@@ -8,18 +8,19 @@ pub struct Mask {
 }
 
 impl Mask {
-    ghost use Rattle.guillotiere.specs.Masks.{IsMarked};
+    ghost use Rattle.guillotiere.specs.Masks.{IsMarked, has};
 
     /// The set of no number.
     pub fn none() -> Mask
-        ensures { (k : ℕ) → IsMarked result k → ⊥ }
+        ensures none { (k : ℕ) → has result k ≡ false }
+        ensures bits { result.bits ≡ 0 }
     {
         Mask { bits: 0 }
     }
 
     /// Whether there is no number in the set.
     pub fn is_empty(self) -> bool
-        ensures empty { result ≡ true → (k : ℕ) → IsMarked self k → ⊥ }
+        ensures empty { result ≡ true → (k : ℕ) → has self k ≡ false }
         ensures some { result ≡ false → (k : ℕ) × IsMarked self k }
     {
         self.bits == 0
@@ -28,8 +29,8 @@ impl Mask {
     /// The set with a number.
     pub fn with(self, k: usize) -> Mask
         requires { k < 64 }
-        ensures this { IsMarked result k }
-        ensures others { (j : ℕ) → j ≢ k → IsMarked result j ↔ IsMarked self j }
+        ensures this { has result k ≡ true }
+        ensures others { (j : ℕ) → j ≢ k → has result j ≡ has self j }
     {
         Mask {
             bits: self.bits | 1 << k,
@@ -39,8 +40,8 @@ impl Mask {
     /// The set without a number.
     pub fn without(self, k: usize) -> Mask
         requires { k < 64 }
-        ensures this { IsMarked result k → ⊥ }
-        ensures others { (j : ℕ) → j ≢ k → IsMarked result j ↔ IsMarked self j }
+        ensures this { has result k ≡ false }
+        ensures others { (j : ℕ) → j ≢ k → has result j ≡ has self j }
     {
         Mask {
             bits: self.bits & !(1 << k),
@@ -50,7 +51,7 @@ impl Mask {
     /// The numbers of the set from one on.
     pub fn from(self, k: usize) -> Mask
         requires { k < 64 }
-        ensures { (j : ℕ) → IsMarked result j ↔ (IsMarked self j × (k ≤ j)) }
+        ensures { (j : ℕ) → has result j ≡ (has self j && nat_le k j) }
     {
         Mask {
             bits: self.bits >> k << k,
@@ -60,7 +61,7 @@ impl Mask {
     /// The numbers of the set below one.
     pub fn below(self, k: usize) -> Mask
         requires { k < 64 }
-        ensures { (j : ℕ) → IsMarked result j ↔ (IsMarked self j × (j < k)) }
+        ensures { (j : ℕ) → has result j ≡ (has self j && nat_lt j k) }
     {
         Mask {
             bits: self.bits & ((1 << k) - 1),
@@ -69,9 +70,9 @@ impl Mask {
 
     /// Takes the least number out of the set; None if there is none.
     pub fn take_first(&mut self) -> Option<usize>
-        ensures none { result ≡ None → (k : ℕ) → IsMarked self.old k → ⊥ }
+        ensures none { result ≡ None → (k : ℕ) → has self.old k ≡ false }
         ensures first { IfSome result (λ k. IsMarked self.old k × ((j : ℕ) → IsMarked self.old j → k ≤ j)) }
-        ensures rest { IfSome result (λ k. (j : ℕ) → IsMarked self.new j ↔ (IsMarked self.old j × (j ≢ k))) }
+        ensures rest { IfSome result (λ k. (j : ℕ) → has self.new j ≡ (has self.old j && not (j == k))) }
         ensures fewer { IfSome result (λ k. self.new.bits < self.old.bits) }
     {
         if self.bits == 0 {

@@ -1,0 +1,29 @@
+-- The heads of the lists of free slots. No public clause cites this module.
+use Rattle.std.specs.Prelude.{ℕ, ◌≡◌, ◌+◌, ◌*◌, ◌<◌, ◌==◌, Bool, not, List, length, slice_index_or}
+use Rattle.guillotiere.specs.declared.slots.Link.{Link}
+use Rattle.guillotiere.specs.declared.table.ListHead.{ListHead}
+use Rattle.guillotiere.specs.Slots.{no_slot}
+
+-- the head of a list with no slot
+abbrev pub blank_head : ListHead
+blank_head = record { first = record { number = no_slot }; low = 0 }
+
+abbrev pub entry_at : List ListHead → ℕ → ListHead
+entry_at heads k = slice_index_or heads k blank_head
+
+-- the first slot of list k, or none
+unfoldable pub head_of : List ListHead → ℕ → Link
+head_of heads k = (entry_at heads k).first
+
+-- a strip that none of the slots of list k lies above
+unfoldable pub low_of : List ListHead → ℕ → ℕ
+low_of heads k = (entry_at heads k).low
+
+-- whether there is a slot in list k
+abbrev pub is_used_at : List ListHead → ℕ → Bool
+is_used_at heads k = not ((head_of heads k).number == no_slot)
+
+-- there is a head for each list, and the marks are the lists with a slot
+pub record IsTable (heads : List ListHead) (marks : ℕ → ℕ → Bool) : Type 0 where
+  pub count : length heads ≡ 2704
+  pub marked : (i j : ℕ) → i < 52 → j < 52 → marks i j ≡ is_used_at heads (52 * i + j)
