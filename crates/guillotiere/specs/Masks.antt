@@ -17,12 +17,12 @@ mask_at masks i = slice_index_or masks i (record { bits = 0 })
 abbrev pub is_marked_at : List Mask → (row column : ℕ) → Bool
 is_marked_at rows row column = has (mask_at rows row) column
 
--- `rows` says which columns are marked in each row, `columns` says the same the other way round, and `used` are the rows
+-- `rows` says which columns are marked in each row, `columns` says the same the other way round, and `any` are the rows
 -- with a mark
-pub record AreMarks (rows columns : List Mask) (used : Mask) : Type 0 where
+pub record AreMarks (rows columns : List Mask) (any : Mask) : Type 0 where
   pub row_count : length rows ≡ 52
   pub column_count : length columns ≡ 52
   pub inside : (i j : ℕ) → is_marked_at rows i j ≡ true → (i < 52) × (j < 52)
   pub same : (i j : ℕ) → is_marked_at columns j i ≡ is_marked_at rows i j
-  pub used : (i j : ℕ) → is_marked_at rows i j ≡ true → IsMarked used i
-  pub used_only : (i : ℕ) → IsMarked used i → (j : ℕ) × (is_marked_at rows i j ≡ true)
+  pub used : (i j : ℕ) → is_marked_at rows i j ≡ true → IsMarked any i
+  pub used_only : (i : ℕ) → IsMarked any i → (j : ℕ) × (is_marked_at rows i j ≡ true)

@@ -2,7 +2,9 @@
 use Rattle.std.specs.Prelude.{ℕ, ◌≡◌, ◌+◌, ◌*◌, ◌<◌, ◌==◌, Bool, not, List, length, slice_index_or}
 use Rattle.guillotiere.specs.declared.slots.Link.{Link}
 use Rattle.guillotiere.specs.declared.table.ListHead.{ListHead}
+use Rattle.guillotiere.specs.declared.masks.Mask.{Mask}
 use Rattle.guillotiere.specs.Slots.{no_slot}
+use Rattle.guillotiere.specs.Masks.{is_marked_at}
 
 -- the head of a list with no slot
 abbrev pub blank_head : ListHead
@@ -24,6 +26,6 @@ abbrev pub is_used_at : List ListHead → ℕ → Bool
 is_used_at heads k = not ((head_of heads k).number == no_slot)
 
 -- there is a head for each list, and the marks are the lists with a slot
-pub record IsTable (heads : List ListHead) (marks : ℕ → ℕ → Bool) : Type 0 where
+pub record IsTable (heads : List ListHead) (rows : List Mask) : Type 0 where
   pub count : length heads ≡ 2704
-  pub marked : (i j : ℕ) → i < 52 → j < 52 → marks i j ≡ is_used_at heads (52 * i + j)
+  pub marked : (i j : ℕ) → i < 52 → j < 52 → is_marked_at rows i j ≡ is_used_at heads (52 * i + j)

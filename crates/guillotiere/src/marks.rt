@@ -1,12 +1,12 @@
 //! Which lists have a slot: marks in rows and columns.
 ghost use Rattle.std.specs.Prelude.{◌≡◌, ◌≢◌, ◌<◌, ◌⊎◌, ℕ, true, false};
-ghost use Rattle.guillotiere.specs.Masks.{IsMarked, has};
+ghost use Rattle.guillotiere.specs.Masks.{IsMarked, has, is_marked_at};
 
 use crate::bands::{BANDS, Place};
 use crate::masks::Mask;
 use std::marker::Model;
 
-/// A set of places. Contracts see whether the place in a row and a column is marked.
+/// A set of places. Contracts see the marked columns of each row.
 #[derive(Drop)]
 pub struct Marks {
     rows: [Mask; BANDS],
@@ -15,12 +15,13 @@ pub struct Marks {
 }
 
 impl Model for Marks {
-    ghost use Rattle.std.specs.Prelude.{ℕ, Bool};
-    ghost use Rattle.guillotiere.specs.Masks.{AreMarks, is_marked_at};
+    ghost use Rattle.std.specs.Prelude.{List};
+    ghost use Rattle.guillotiere.specs.declared.masks.Mask.{Mask};
+    ghost use Rattle.guillotiere.specs.Masks.{AreMarks};
 
-    ghost Value = { ℕ → ℕ → Bool };
+    ghost Value = { List Mask };
 
-    ghost view = { λ m. is_marked_at m.rows };
+    ghost view = { λ m. m.rows };
 
     ghost invariant = { λ m. AreMarks m.rows m.columns m.used };
 }
@@ -28,7 +29,7 @@ impl Model for Marks {
 impl Marks {
     /// No place is marked.
     pub fn none() -> Marks
-        ensures { (i j : ℕ) → result i j ≡ false }
+        ensures { (i j : ℕ) → is_marked_at result i j ≡ false }
     {
         Marks {
             rows: [Mask::none(); BANDS],
@@ -52,8 +53,8 @@ impl Marks {
     pub fn mark(&mut self, at: Place)
         requires row { at.row < BANDS }
         requires column { at.column < BANDS }
-        ensures this { self.new at.row at.column ≡ true }
-        ensures others { (i j : ℕ) → (i ≢ at.row) ⊎ (j ≢ at.column) → self.new i j ≡ self.old i j }
+        ensures this { is_marked_at self.new at.row at.column ≡ true }
+        ensures others { (i j : ℕ) → (i ≢ at.row) ⊎ (j ≢ at.column) → is_marked_at self.new i j ≡ is_marked_at self.old i j }
     {
         self.rows[at.row] = self.rows[at.row].with(at.column);
         self.columns[at.column] = self.columns[at.column].with(at.row);
@@ -64,8 +65,8 @@ impl Marks {
     pub fn unmark(&mut self, at: Place)
         requires row { at.row < BANDS }
         requires column { at.column < BANDS }
-        ensures this { self.new at.row at.column ≡ false }
-        ensures others { (i j : ℕ) → (i ≢ at.row) ⊎ (j ≢ at.column) → self.new i j ≡ self.old i j }
+        ensures this { is_marked_at self.new at.row at.column ≡ false }
+        ensures others { (i j : ℕ) → (i ≢ at.row) ⊎ (j ≢ at.column) → is_marked_at self.new i j ≡ is_marked_at self.old i j }
     {
         let row = self.rows[at.row].without(at.column);
         self.rows[at.row] = row;
@@ -78,7 +79,7 @@ impl Marks {
     /// The marked columns of a row.
     pub fn row(&self, i: usize) -> Mask
         requires { i < BANDS }
-        ensures marked { (j : ℕ) → has result j ≡ self.now i j }
+        ensures marked { (j : ℕ) → has result j ≡ is_marked_at self.now i j }
         ensures inside { (j : ℕ) → IsMarked result j → j < BANDS }
     {
         self.rows[i]
@@ -87,7 +88,7 @@ impl Marks {
     /// The marked rows of a column.
     pub fn column(&self, j: usize) -> Mask
         requires { j < BANDS }
-        ensures marked { (i : ℕ) → has result i ≡ self.now i j }
+        ensures marked { (i : ℕ) → has result i ≡ is_marked_at self.now i j }
         ensures inside { (i : ℕ) → IsMarked result i → i < BANDS }
     {
         self.columns[j]
@@ -95,8 +96,8 @@ impl Marks {
 
     /// The rows with a mark.
     pub fn used(&self) -> Mask
-        ensures each { (i j : ℕ) → self.now i j ≡ true → IsMarked result i }
-        ensures only { (i : ℕ) → IsMarked result i → (j : ℕ) × (self.now i j ≡ true) }
+        ensures each { (i j : ℕ) → is_marked_at self.now i j ≡ true → IsMarked result i }
+        ensures only { (i : ℕ) → IsMarked result i → (j : ℕ) × (is_marked_at self.now i j ≡ true) }
         ensures inside { (i : ℕ) → IsMarked result i → i < BANDS }
     {
         self.used
