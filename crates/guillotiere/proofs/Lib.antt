@@ -1,3 +1,4 @@
+pub mod MaskBits
 pub mod Picking
 pub mod PickExistence
 pub mod RunKeeping
