@@ -1,3 +1,5 @@
+pub mod Marking
+pub mod BandSteps
 pub mod MaskBits
 pub mod Picking
 pub mod PickExistence

@@ -1,6 +1,6 @@
 //! The lists of free slots by the bands of both sides.
 ghost use Rattle.std.specs.Prelude.{◌≡◌, ◌+◌, ◌<◌, ◌≤◌, pos, ◌<ℤ◌, ◌≤ℤ◌, ℕ};
-ghost use Rattle.guillotiere.specs.Bands.{band_of, border_of, list_of, number_of, start_of, step_of, strip_of};
+ghost use Rattle.guillotiere.specs.Bands.{band_of, border_of, list_of, number_of, passes, start_of, step_of, strip_of};
 ghost use Rattle.guillotiere.specs.Boxes.{IsPositive};
 ghost use Rattle.guillotiere.specs.Pixels.{natural, options_of, sides_of};
 
@@ -39,22 +39,33 @@ static STEPS: [u8; 257] = [
 ];
 
 // The step of a side.
-fn step(side: i32) -> usize
-    requires { pos 0 <ℤ side }
-    ensures { result ≡ step_of (natural side) }
+fn step(side: u32) -> usize
+    requires { 0 < side }
+    ensures step { result ≡ step_of side }
+    ensures most { result ≤ 49 }
 {
     STEPS[side.min(256) as usize] as usize
 }
 
+// 1 if a side is at least a threshold.
+fn passed(side: i32, threshold: i32) -> usize
+    requires { pos 0 <ℤ side }
+    ensures passes { result ≡ passes threshold (natural side) }
+    ensures most { result ≤ 1 }
+{
+    if side >= threshold { 1 } else { 0 }
+}
+
 /// The band of a side.
+#[tactic(auto, unfolding(crate::specs::Bands::band_of))]
 pub fn band(side: i32, options: &AllocatorOptions) -> usize
     requires { pos 0 <ℤ side }
     ensures band { result ≡ band_of (options_of options.now) (natural side) }
     ensures inside { result < BANDS }
 {
-    step(side)
-        + (side >= options.small_size_threshold) as usize
-        + (side >= options.large_size_threshold) as usize
+    step(side as u32)
+        + passed(side, options.small_size_threshold)
+        + passed(side, options.large_size_threshold)
 }
 
 /// The list of a size.

@@ -31,10 +31,11 @@ impl Marks {
     pub fn none() -> Marks
         ensures { (i j : ℕ) → is_marked_at result i j ≡ false }
     {
+        let none = Mask::none();
         Marks {
-            rows: [Mask::none(); BANDS],
-            columns: [Mask::none(); BANDS],
-            used: Mask::none(),
+            rows: [none; BANDS],
+            columns: [none; BANDS],
+            used: none,
         }
     }
 
