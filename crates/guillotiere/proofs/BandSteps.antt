@@ -19,10 +19,10 @@ table_is n l = eqb-true (get_or STEPS n 0) (step_of n) (agree_below_at (λ k. ge
 pub step_is : (n : ℕ) → get_or STEPS (min n 256) 0 ≡ step_of n
 step_is n =
     elim (cases_lt n 256) [
-      inl l ↦ (let e : min n 256 ≡ n = omega arith in ap (λ i. get_or STEPS i 0) e ∙ table_is n (omega arith))
-    | inr g ↦
-        let e : min n 256 ≡ 256 = omega arith in
-        ap (λ i. get_or STEPS i 0) e ∙ table_is 256 (omega arith) ∙ step_of-last 256 (omega arith) ∙ sym (step_of-last n g)
+      | inl l ↦ (let e : min n 256 ≡ n = omega arith in ap (λ i. get_or STEPS i 0) e ∙ table_is n (omega arith))
+      | inr g ↦
+          let e : min n 256 ≡ 256 = omega arith in
+          ap (λ i. get_or STEPS i 0) e ∙ table_is 256 (omega arith) ∙ step_of-last 256 (omega arith) ∙ sym (step_of-last n g)
     ]
 
 pub step_of-most : (n : ℕ) → step_of n ≤ 49

@@ -1,3 +1,4 @@
+pub mod TableHeads
 pub mod Marking
 pub mod BandSteps
 pub mod MaskBits

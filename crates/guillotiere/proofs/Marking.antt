@@ -20,17 +20,17 @@ pub set_others : (rows : List Mask) (i j k l : ℕ) (m : Mask) (b : Bool) → i 
 set_others rows i j k l m b within w (inl apart) = ap (λ x. has x l) (get_or-set_other rows i k m (record { bits = 0 }) apart)
 set_others rows i j k l m b within w (inr apart) =
     elim (cases_eq k i) [
-      inl same ↦ ap (λ n. is_marked_at (slice_set rows i m) n l) same ∙ ap (λ x. has x l) (get_or-set_same rows i m (record { bits = 0 }) within) ∙ w.others l apart
+      | inl same ↦ ap (λ n. is_marked_at (slice_set rows i m) n l) same ∙ ap (λ x. has x l) (get_or-set_same rows i m (record { bits = 0 }) within) ∙ w.others l apart
           ∙ ap (λ n. is_marked_at rows n l) (sym same)
-    | inr other ↦ ap (λ x. has x l) (get_or-set_other rows i k m (record { bits = 0 }) other)
+      | inr other ↦ ap (λ x. has x l) (get_or-set_other rows i k m (record { bits = 0 }) other)
     ]
 
 -- two places are the same, or differ in one of their numbers
-cases_place : (i j k l : ℕ) → ((k ≡ i) × (l ≡ j)) ⊎ ((k ≢ i) ⊎ (l ≢ j))
+pub cases_place : (i j k l : ℕ) → ((k ≡ i) × (l ≡ j)) ⊎ ((k ≢ i) ⊎ (l ≢ j))
 cases_place i j k l =
     elim (cases_eq k i) [
-      inl e ↦ elim (cases_eq l j) [ inl f ↦ inl (e, f) | inr g ↦ inr (inr g) ]
-    | inr g ↦ inr (inl g)
+      | inl e ↦ elim (cases_eq l j) [ inl f ↦ inl (e, f) | inr g ↦ inr (inr g) ]
+      | inr g ↦ inr (inl g)
     ]
 
 turned : (i j k l : ℕ) → (k ≢ i) ⊎ (l ≢ j) → (l ≢ j) ⊎ (k ≢ i)
@@ -80,8 +80,8 @@ module _ (rows columns : List Mask) (any : Mask) (are : AreMarks rows columns an
   used_by is any' w k l (inl e) h = ap (has any') e.0 ∙ w.this
   used_by is any' w k l (inr apart) h =
       elim (cases_eq k i) [
-        inl e ↦ ap (has any') e ∙ w.this
-      | inr other ↦ w.others k other ∙ are.used k l (sym (row_others k l apart) ∙ h)
+        | inl e ↦ ap (has any') e ∙ w.this
+        | inr other ↦ w.others k other ∙ are.used k l (sym (row_others k l apart) ∙ h)
       ]
 
   only_by : (b ≡ true) → (any' : Mask) → IsWritten any any' i true → (k : ℕ) → (k ≡ i) ⊎ (k ≢ i)
@@ -110,15 +110,15 @@ module _ (rows columns : List Mask) (any : Mask) (are : AreMarks rows columns an
       each : (k l : ℕ) → is_marked_at (slice_set rows i row) k l ≡ true → IsMarked any' k
       each k l h =
           elim (cases_eq k i) [
-            inl e ↦ absurd (both_ways _ (ap (λ n. is_marked_at (slice_set rows i row) n l) e ∙ row_is l ∙ empty l) h)
-          | inr apart ↦ w.others k apart ∙ are.used k l (still_by is k l (cases_place i j k l) h)
+            | inl e ↦ absurd (both_ways _ (ap (λ n. is_marked_at (slice_set rows i row) n l) e ∙ row_is l ∙ empty l) h)
+            | inr apart ↦ w.others k apart ∙ are.used k l (still_by is k l (cases_place i j k l) h)
           ]
 
       only : (k : ℕ) → IsMarked any' k → (l : ℕ) × (is_marked_at (slice_set rows i row) k l ≡ true)
       only k h =
           elim (cases_eq k i) [
-            inl e ↦ absurd (both_ways _ (ap (has any') e ∙ w.this) h)
-          | inr apart ↦ (let old = are.used_only k (sym (w.others k apart) ∙ h) in (old.0, row_others k old.0 (inl apart) ∙ old.1))
+            | inl e ↦ absurd (both_ways _ (ap (has any') e ∙ w.this) h)
+            | inr apart ↦ (let old = are.used_only k (sym (w.others k apart) ∙ h) in (old.0, row_others k old.0 (inl apart) ∙ old.1))
           ]
 
   -- a mark of a row goes, and another one stays
@@ -128,8 +128,8 @@ module _ (rows columns : List Mask) (any : Mask) (are : AreMarks rows columns an
       only : (k : ℕ) → IsMarked any k → (l : ℕ) × (is_marked_at (slice_set rows i row) k l ≡ true)
       only k h =
           elim (cases_eq k i) [
-            inl e ↦ (some.0, ap (λ n. is_marked_at (slice_set rows i row) n some.0) e ∙ row_is some.0 ∙ some.1)
-          | inr apart ↦ (let old = are.used_only k h in (old.0, row_others k old.0 (inl apart) ∙ old.1))
+            | inl e ↦ (some.0, ap (λ n. is_marked_at (slice_set rows i row) n some.0) e ∙ row_is some.0 ∙ some.1)
+            | inr apart ↦ (let old = are.used_only k h in (old.0, row_others k old.0 (inl apart) ∙ old.1))
           ]
 
 -- ---- no mark
@@ -137,10 +137,10 @@ module _ (rows columns : List Mask) (any : Mask) (are : AreMarks rows columns an
 pub no_mark : (m : Mask) → ((k : ℕ) → has m k ≡ false) → (i j : ℕ) → is_marked_at (replicate 52 m) i j ≡ false
 no_mark m none i j =
     elim (cases_lt i 52) [
-      inl l ↦ ap (λ x. has x j) (get_or-replicate 52 i m (record { bits = 0 }) l) ∙ none j
-    | inr g ↦
-        let past : length (replicate 52 m) ≤ i = omega (arith, length-replicate 52 m) in
-        ap (λ x. has x j) (get_or-eq_default (replicate 52 m) (record { bits = 0 }) past) ∙ none-has j
+      | inl l ↦ ap (λ x. has x j) (get_or-replicate 52 i m (record { bits = 0 }) l) ∙ none j
+      | inr g ↦
+          let past : length (replicate 52 m) ≤ i = omega (arith, length-replicate 52 m) in
+          ap (λ x. has x j) (get_or-eq_default (replicate 52 m) (record { bits = 0 }) past) ∙ none-has j
     ]
 
 pub no-marks : (m : Mask) → ((k : ℕ) → has m k ≡ false) → AreMarks (replicate 52 m) (replicate 52 m) m

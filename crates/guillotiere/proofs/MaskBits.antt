@@ -70,8 +70,8 @@ pub from_has : (n k j : ℕ) → n < 2 ^ 64 → has (of_bits (n / 2 ^ k * 2 ^ k 
 unfolding has
 from_has n k j fits =
     elim (cases_lt j k) [
-      inl l ↦ ap is_one (from_low n k j fits l) ∙ sym (and_right (is_one (bit_at n j)) (nat_le k j) (lt-leb k j l))
-    | inr g ↦ ap is_one (from_high n k j fits g) ∙ and_true (is_one (bit_at n j)) ∙ ap (λ b. is_one (bit_at n j) && b) (sym (le-leb k j g))
+      | inl l ↦ ap is_one (from_low n k j fits l) ∙ sym (and_right (is_one (bit_at n j)) (nat_le k j) (lt-leb k j l))
+      | inr g ↦ ap is_one (from_high n k j fits g) ∙ and_true (is_one (bit_at n j)) ∙ ap (λ b. is_one (bit_at n j) && b) (sym (le-leb k j g))
     ]
 
 below_is : (n k j : ℕ) → k < 64 → bit_at (bit_and n (1 * 2 ^ k % 2 ^ 64 - 1)) j ≡ min (bit_at n j) (bit_at (2 ^ k - 1) j)
@@ -87,9 +87,9 @@ pub below_has : (n k j : ℕ) → k < 64 → has (of_bits (bit_and n (1 * 2 ^ k 
 unfolding has
 below_has n k j within =
     elim (cases_lt j k) [
-      inl l ↦ ap is_one (below_is n k j within ∙ ap (min (bit_at n j)) (bit_at_ones k j l) ∙ min_one (bit_at n j) (bit_at-lt n j))
+      | inl l ↦ ap is_one (below_is n k j within ∙ ap (min (bit_at n j)) (bit_at_ones k j l) ∙ min_one (bit_at n j) (bit_at-lt n j))
           ∙ and_true (is_one (bit_at n j)) ∙ ap (λ b. is_one (bit_at n j) && b) (sym (lt-ltb j k l))
-    | inr g ↦ ap is_one (below_is n k j within ∙ ap (min (bit_at n j)) (bit_at_ones_above k j g) ∙ min_zero (bit_at n j))
+      | inr g ↦ ap is_one (below_is n k j within ∙ ap (min (bit_at n j)) (bit_at_ones_above k j g) ∙ min_zero (bit_at n j))
           ∙ sym (and_right (is_one (bit_at n j)) (nat_lt j k) (le-ltb j k g))
     ]
 
@@ -142,9 +142,9 @@ unfolding has
 rest_has n j some fits =
     let t = count_trailing_zeros 64 n in
     elim (cases_eq j t) [
-      inl same ↦ ap is_one (ap (bit_at (bit_and n (n - 1))) same ∙ this_goes 64 n (omega arith) fits)
+      | inl same ↦ ap is_one (ap (bit_at (bit_and n (n - 1))) same ∙ this_goes 64 n (omega arith) fits)
           ∙ sym (and_right (is_one (bit_at n j)) (not (j == t)) (ap not (eq-eqb j t same)))
-    | inr apart ↦ ap is_one (others_stay 64 n j (omega arith) fits apart) ∙ and_true (is_one (bit_at n j))
+      | inr apart ↦ ap is_one (others_stay 64 n j (omega arith) fits apart) ∙ and_true (is_one (bit_at n j))
           ∙ ap (λ b. is_one (bit_at n j) && not b) (sym (ne_eqb j t apart))
     ]
 
@@ -154,4 +154,3 @@ unfolding has
 first_has n some fits =
     let t = bit_at-trailing_zeros w64 n (omega arith) fits in
     (ap is_one t.1, λ j h. elim (cases_lt j (count_trailing_zeros 64 n)) [ inl l ↦ absurd (both_ways (is_one (bit_at n j)) (ap is_one (t.2 j l)) h) | inr g ↦ g ])
-

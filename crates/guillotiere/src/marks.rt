@@ -98,7 +98,7 @@ impl Marks {
     /// The rows with a mark.
     pub fn used(&self) -> Mask
         ensures each { (i j : ℕ) → is_marked_at self.now i j ≡ true → IsMarked result i }
-        ensures only { (i : ℕ) → IsMarked result i → (j : ℕ) × (is_marked_at self.now i j ≡ true) }
+        ensures only { (i : ℕ) → IsMarked result i → (j : ℕ) × (j < BANDS) × (is_marked_at self.now i j ≡ true) }
         ensures inside { (i : ℕ) → IsMarked result i → i < BANDS }
     {
         self.used
