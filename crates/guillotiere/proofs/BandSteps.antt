@@ -1,7 +1,6 @@
 -- The table of steps against their definition, at each side.
-use Rattle.std.proofs.Common.{◌≡◌, ℕ, ◌+◌, ◌-◌, ◌/◌, ◌<◌, ◌≤◌, ◌⊎◌, inl, inr, min, Bool, true, ◌&&◌, ◌==◌, nat_lt, nat_le, get_or, refl, sym, ap, ◌∙◌, arith}
-use Rattle.std.specs.Prelude.{if◌then◌else◌}
-use Rattle.std.proofs.lemmas.Bool.{agree_below, agree_below_at, eqb-true, ltb-true, cases_lt, le-ltb, cond_both, cond-false}
+use Rattle.std.proofs.Common.{◌≡◌, ℕ, ◌-◌, ◌<◌, ◌≤◌, inl, inr, min, true, ◌==◌, nat_lt, get_or, refl, sym, ap, ◌∙◌, arith}
+use Rattle.std.proofs.lemmas.Bool.{agree_below_at, eqb-true, ltb-true, cases_lt, le-ltb, cond_both, cond-false}
 use Rattle.guillotiere.specs.declared.bands.TheConstants.{STEPS}
 use Rattle.guillotiere.specs.Bands.{step_of}
 

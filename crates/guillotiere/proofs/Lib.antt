@@ -1,3 +1,4 @@
+pub mod BandLaws
 pub mod TableHeads
 pub mod Marking
 pub mod BandSteps

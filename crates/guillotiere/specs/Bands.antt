@@ -1,6 +1,6 @@
 -- The 52 bands of a side, and the 52 x 52 lists of free slots by the bands of both sides. No public clause cites this
 -- module.
-use Rattle.std.specs.Prelude.{ℕ, ◌≡◌, ◌+◌, ◌-◌, ◌*◌, ◌/◌, ◌<◌, ◌≤◌, ◌==◌, ◌⊎◌, ℤ, pos, int_le, nat_lt, min, if◌then◌else◌}
+use Rattle.std.specs.Prelude.{ℕ, ◌+◌, ◌-◌, ◌*◌, ◌/◌, ◌<◌, ◌≤◌, ◌==◌, ◌⊎◌, ℤ, pos, int_le, nat_lt, min, if◌then◌else◌}
 use Rattle.guillotiere.specs.declared.bands.Place.{Place}
 use Rattle.guillotiere.specs.Boxes.{Sides}
 use Rattle.guillotiere.specs.Pixels.{natural}
