@@ -126,7 +126,7 @@ worse_margin-good true r b c fb fc h =
     ]
 
 -- b is kept rather than c
-precedes-good : (is_large : Bool) (r : Sides) (b c : Box) → Fits r (box_sides b) → Fits r (box_sides c)
+pub precedes-good : (is_large : Bool) (r : Sides) (b c : Box) → Fits r (box_sides b) → Fits r (box_sides c)
     → Precedes is_large (pos (least_margin r b)) (pos (least_margin r c)) (rectangle_of b).min (rectangle_of c).min
     → IsAsGood is_large r b c × (IsAsGood is_large r c b → ComesFirst b c)
 precedes-good is_large r b c fb fc (inl h) =
@@ -136,7 +136,7 @@ precedes-good is_large r b c fb fc (inr h) =
     (equal_margin-good is_large r b c fb fc (omega (arith, ints)), λ g. comes_first-before b c h.1)
 
 -- c is kept
-not_precedes-good : (is_large : Bool) (r : Sides) (b c : Box) → Fits r (box_sides b) → Fits r (box_sides c)
+pub not_precedes-good : (is_large : Bool) (r : Sides) (b c : Box) → Fits r (box_sides b) → Fits r (box_sides c)
     → (Precedes is_large (pos (least_margin r b)) (pos (least_margin r c)) (rectangle_of b).min (rectangle_of c).min → ⊥)
     → IsAsGood is_large r c b × (IsAsGood is_large r b c → ComesFirst c b)
 not_precedes-good is_large r b c fb fc h = (
@@ -158,14 +158,14 @@ not_precedes-good is_large r b c fb fc h = (
 
 -- one box more is shown
 
-none_more : (r : Sides) (shown : List Shown) (c : Shown) → FitsNone r shown → (Fits r (box_sides c.box) → ⊥) → FitsNone r (shown ++ c ∷ [])
+pub none_more : (r : Sides) (shown : List Shown) (c : Shown) → FitsNone r shown → (Fits r (box_sides c.box) → ⊥) → FitsNone r (shown ++ c ∷ [])
 none_more r shown c none misfit d has fits =
     elim (Contains-push_cases shown c d has) [
       | inl earlier ↦ none d earlier fits
       | inr same ↦ let P : Shown → Type 0 = λ s. Fits r (box_sides s.box) in misfit (subst P (sym same) fits)
     ]
 
-best_kept : (is_large : Bool) (r : Sides) (shown : List Shown) (f c : Shown) → IsBestShown is_large r shown f
+pub best_kept : (is_large : Bool) (r : Sides) (shown : List Shown) (f c : Shown) → IsBestShown is_large r shown f
     → (Fits r (box_sides c.box) → IsAsGood is_large r f.box c.box × (IsAsGood is_large r c.box f.box → ComesFirst f.box c.box))
     → IsBestShown is_large r (shown ++ c ∷ []) f
 best_kept is_large r shown f c best worse = record {
@@ -185,7 +185,7 @@ best_kept is_large r shown f c best worse = record {
       ];
 }
 
-best_replaced : (is_large : Bool) (r : Sides) (shown : List Shown) (f c : Shown) → IsBestShown is_large r shown f → Fits r (box_sides c.box)
+pub best_replaced : (is_large : Bool) (r : Sides) (shown : List Shown) (f c : Shown) → IsBestShown is_large r shown f → Fits r (box_sides c.box)
     → IsAsGood is_large r c.box f.box × (IsAsGood is_large r f.box c.box → ComesFirst c.box f.box)
     → IsBestShown is_large r (shown ++ c ∷ []) c
 best_replaced is_large r shown f c best fits better = record {
@@ -206,7 +206,7 @@ best_replaced is_large r shown f c best fits better = record {
       ];
 }
 
-best_only : (is_large : Bool) (r : Sides) (shown : List Shown) (c : Shown) → FitsNone r shown → Fits r (box_sides c.box)
+pub best_only : (is_large : Bool) (r : Sides) (shown : List Shown) (c : Shown) → FitsNone r shown → Fits r (box_sides c.box)
     → IsBestShown is_large r (shown ++ c ∷ []) c
 best_only is_large r shown c none fits = record {
   is_shown = Contains-push shown c;
@@ -243,7 +243,7 @@ seen-unfit s is_large r shown c seen misfit =
     by_best (Some found) f = found_kept is_large r shown found c f (λ fits. absurd (misfit fits))
 
 -- the margin and the place in the order of a rectangle that stands for a box
-at_box : (is_large : Bool) (margin other : ℤ) (m n : ℕ) (a b : Rectangle) → margin ≡ pos m → other ≡ pos n → IsUnsigned a → IsUnsigned b
+pub at_box : (is_large : Bool) (margin other : ℤ) (m n : ℕ) (a b : Rectangle) → margin ≡ pos m → other ≡ pos n → IsUnsigned a → IsUnsigned b
     → Precedes is_large margin other a.min b.min → Precedes is_large (pos m) (pos n) (rectangle_of (box_of a)).min (rectangle_of (box_of b)).min
 at_box is_large margin other m n a b p q u v h =
     let P : ℤ → ℤ → Rectangle → Rectangle → Type 0 = λ i j x y. Precedes is_large i j x.min y.min in
@@ -252,7 +252,7 @@ at_box is_large margin other m n a b p q u v h =
     let h3 = subst (λ x. P (pos m) (pos n) x b) u h2 in
     subst (λ y. P (pos m) (pos n) (rectangle_of (box_of a)) y) v h3
 
-not_at_box : (is_large : Bool) (margin other : ℤ) (m n : ℕ) (a b : Rectangle) → margin ≡ pos m → other ≡ pos n → IsUnsigned a → IsUnsigned b
+pub not_at_box : (is_large : Bool) (margin other : ℤ) (m n : ℕ) (a b : Rectangle) → margin ≡ pos m → other ≡ pos n → IsUnsigned a → IsUnsigned b
     → Precedes is_large (pos m) (pos n) (rectangle_of (box_of a)).min (rectangle_of (box_of b)).min → Precedes is_large margin other a.min b.min
 not_at_box is_large margin other m n a b p q u v h =
     let P : ℤ → ℤ → Rectangle → Rectangle → Type 0 = λ i j x y. Precedes is_large i j x.min y.min in

@@ -133,3 +133,4 @@ pub mod LyingApart
 pub mod Guarding
 pub mod CallerSteps
 pub mod Measuring
+mod Besting

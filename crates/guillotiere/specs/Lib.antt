@@ -31,6 +31,9 @@ pub mod Lists
 pub mod Bands
 pub mod Masks
 pub mod Tables
+pub mod Items
+pub mod Ranks
+pub mod Bests
 pub mod Reading
 pub mod Parts
 pub mod Calm

@@ -93,7 +93,7 @@ fn is_better(is_large: bool, margin: i32, other: i32) -> bool
 }
 
 // Whether a box whose `min` is `point` comes before a box whose `min` is `other`.
-fn is_before(point: Point, other: Point) -> bool
+pub fn is_before(point: Point, other: Point) -> bool
     ensures { IsTrue result ↔ IsBefore point other }
 {
     point.y < other.y || (point.y == other.y && point.x < other.x)
@@ -119,7 +119,7 @@ fn spare(from: i32, to: i32, side: i32) -> i32
 }
 
 // The smaller of the two side differences, which is below 0 exactly if the size does not fit.
-fn margin_in(rectangle: Rectangle, size: Size) -> i32
+pub fn margin_in(rectangle: Rectangle, size: Size) -> i32
     requires unsigned { IsUnsigned rectangle }
     requires nonempty { IsNonempty (box_of rectangle) }
     requires positive { IsPositive (sides_of size) }

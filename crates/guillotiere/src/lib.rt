@@ -8,6 +8,7 @@ mod allocation;
 mod atlas;
 mod bands;
 mod batch;
+mod best;
 mod change;
 mod choice;
 mod cut;

@@ -1,0 +1,44 @@
+-- The entries that a search reads: each has a rectangle and an entry after it. No public clause cites this module.
+use Rattle.std.specs.Prelude.{ℕ, ◌+◌, ◌≡◌, ◌<◌, ◌⊎◌, pos, Bool, false, List, [], ◌∷◌, length, map, slice_index_or}
+use Rattle.guillotiere.specs.declared.geometry.Rectangle.{Rectangle}
+use Rattle.guillotiere.specs.Boxes.{Sides, Box, box_sides}
+use Rattle.guillotiere.specs.Pixels.{box_of}
+use Rattle.guillotiere.specs.Numbered.{same}
+use Rattle.guillotiere.specs.Searches.{Shown, shown_at}
+
+-- an entry: its rectangle, the number of the entry after it in its list, and whether it is a free box
+pub record Item : Type 0 where
+  pub area : Rectangle
+  pub after : ℕ
+  pub is_free : Bool
+
+-- what stands for an entry past the end
+abbrev pub no_item : Item
+no_item =
+    record {
+      area = record { min = record { x = pos 0; y = pos 0 }; max = record { x = pos 0; y = pos 0 } };
+      after = 0;
+      is_free = false;
+    }
+
+abbrev pub item_at : List Item → ℕ → Item
+item_at es i = slice_index_or es i no_item
+
+abbrev pub item_box : Item → Box
+item_box e = box_of e.area
+
+abbrev pub item_sides : Item → Sides
+item_sides e = box_sides (item_box e)
+
+-- the box of an entry, with its number
+abbrev pub shown_item : List Item → ℕ → Shown
+shown_item es i = shown_at (item_box (item_at es i)) i
+
+-- the boxes of these entries, each with its number
+abbrev pub shown_items : List Item → List ℕ → List Shown
+shown_items es xs = map (shown_item es) xs
+
+-- xs are the entries from one up to another, which isn't among them
+abbrev pub IsPath : List Item → (from : ℕ) → List ℕ → (to : ℕ) → Type 0
+IsPath es from [] to = from ≡ to
+IsPath es from (x ∷ xs) to = (from ≡ x) × (x < length es) × IsPath es (item_at es x).after xs to
