@@ -134,3 +134,4 @@ pub mod Guarding
 pub mod CallerSteps
 pub mod Measuring
 mod Besting
+mod Showing

@@ -1,10 +1,12 @@
 -- The entries that a search reads: each has a rectangle and an entry after it. No public clause cites this module.
-use Rattle.std.specs.Prelude.{ℕ, ◌+◌, ◌≡◌, ◌<◌, ◌⊎◌, pos, Bool, false, List, [], ◌∷◌, length, map, slice_index_or}
+use Rattle.std.specs.Prelude.{ℕ, ◌+◌, ◌≡◌, ◌<◌, ◌≤◌, ◌⊎◌, pos, Bool, false, List, [], ◌∷◌, length, map, slice_index_or}
 use Rattle.guillotiere.specs.declared.geometry.Rectangle.{Rectangle}
 use Rattle.guillotiere.specs.Boxes.{Sides, Box, box_sides}
 use Rattle.guillotiere.specs.Pixels.{box_of}
-use Rattle.guillotiere.specs.Numbered.{same}
+use Rattle.guillotiere.specs.Links.{IsExact}
+use Rattle.guillotiere.specs.Lists.{occurs}
 use Rattle.guillotiere.specs.Searches.{Shown, shown_at}
+use Rattle.guillotiere.specs.Slots.{no_slot}
 
 -- an entry: its rectangle, the number of the entry after it in its list, and whether it is a free box
 pub record Item : Type 0 where
@@ -42,3 +44,16 @@ shown_items es xs = map (shown_item es) xs
 abbrev pub IsPath : List Item → (from : ℕ) → List ℕ → (to : ℕ) → Type 0
 IsPath es from [] to = from ≡ to
 IsPath es from (x ∷ xs) to = (from ≡ x) × (x < length es) × IsPath es (item_at es x).after xs to
+
+-- what stands before an entry in the list xs that begins at `head`: nothing, or an entry of the list
+abbrev pub IsPrevious : List Item → (head : ℕ) → List ℕ → (before at : ℕ) → Type 0
+IsPrevious es head xs before at =
+    ((before ≡ no_slot) × (at ≡ head)) ⊎ ((0 < occurs before xs) × ((item_at es before).after ≡ at))
+
+-- a list without repetition begins at `head`, and has exact rectangles alone
+pub record IsShowable (es : List Item) (head : ℕ) : Type 0 where
+  pub xs : List ℕ
+  pub short : length es ≤ no_slot
+  pub path : IsPath es head xs no_slot
+  pub once : (i : ℕ) → occurs i xs ≤ 1
+  pub exact : (i : ℕ) → 0 < occurs i xs → IsExact (item_at es i).area

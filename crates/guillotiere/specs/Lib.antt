@@ -32,6 +32,7 @@ pub mod Bands
 pub mod Masks
 pub mod Tables
 pub mod Items
+pub mod Lookups
 pub mod Ranks
 pub mod Bests
 pub mod Reading

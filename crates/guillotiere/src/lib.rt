@@ -26,6 +26,7 @@ mod pick;
 mod placing;
 mod refit;
 mod requests;
+mod search;
 pub mod session;
 mod simple;
 mod slots;
