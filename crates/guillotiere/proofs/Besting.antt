@@ -3,20 +3,20 @@ use Rattle.std.proofs.Common.{◌≡◌, ℕ, ◌-◌, ◌<◌, ◌≤◌, ◌�
 use Rattle.std.specs.List.{Contains}
 use Rattle.std.proofs.lemmas.Int.{ints}
 use Rattle.std.proofs.lemmas.Bool.{cases_eq}
-use Rattle.std.proofs.lemmas.List.Elements.{Contains-push_cases}
+use Rattle.std.proofs.lemmas.List.Elements.{Contains-push_cases, Contains-append_left, Contains-append_cases}
 use Rattle.guillotiere.specs.declared.best.Best.{Best}
 use Rattle.guillotiere.specs.declared.best.Found.{Found}
 use Rattle.guillotiere.specs.declared.geometry.Point.{Point}
 use Rattle.guillotiere.specs.declared.geometry.Rectangle.{Rectangle}
 use Rattle.guillotiere.specs.Bests.{IsAhead, IsKeptOf, HasSeen}
 use Rattle.guillotiere.specs.Boxes.{Sides, Box, box_sides, Fits, IsPositive}
-use Rattle.guillotiere.specs.Choice.{least_margin, ComesFirst}
+use Rattle.guillotiere.specs.Choice.{least_margin, HasEqualSide, ComesFirst}
 use Rattle.guillotiere.specs.Pixels.{natural, box_of, sides_of}
 use Rattle.guillotiere.specs.Ranks.{rank_of, no_rank}
 use Rattle.guillotiere.specs.Rectangles.{IsUnsigned}
 use Rattle.guillotiere.specs.Requests.{IsBetterMargin, Precedes}
 use Rattle.guillotiere.specs.Searches.{Shown, shown_at, IsAsGood, IsBestShown, FitsNone}
-use Rattle.guillotiere.proofs.Choosing.{precedes-good, not_precedes-good, none_more, best_kept, best_replaced, best_only, at_box, not_at_box}
+use Rattle.guillotiere.proofs.Choosing.{precedes-good, not_precedes-good, none_more, best_kept, best_replaced, best_only, at_box, not_at_box, margin-equal_side, equal_side-margin}
 
 -- ranks and margins
 
@@ -216,3 +216,44 @@ least-ahead is_own before found least less own all unsigned lower low d has =
       ]
       | inr e ↦ inl (refl, sym e)
     ]
+
+-- boxes that are passed over: those with an equal side lie below the best, which has an equal side too
+pub seen-passed : (s : Best) (is_large : Bool) (r : Sides) (shown more : List Shown) → HasSeen s is_large r shown → s.rank ≡ 0
+    → ((c : Shown) → Contains more c → HasEqualSide r c.box → natural s.found.rectangle.min.y < c.box.min.y)
+    → HasSeen s is_large r (shown ++ more)
+seen-passed s is_large r shown more seen zero below =
+    record {
+      positive = seen.positive;
+      size = seen.size;
+      large = seen.large;
+      best = elim seen.best [
+        | inl n ↦ absurd (omega (arith, zero, n.0))
+        | inr k ↦ inr (k.0, record { unsigned = k.1.unsigned; below = k.1.below; ranked = k.1.ranked; best = still k.1 })
+      ];
+    }
+  where
+    good : (l : Bool) (b c : Box) → Fits r (box_sides b) → HasEqualSide r b → IsAsGood l r b c
+    good true b c fits e = inl e
+    good false b c fits e = omega (arith, margin-equal_side r b fits e)
+
+    equal : (l : Bool) (b c : Box) → Fits r (box_sides b) → Fits r (box_sides c) → HasEqualSide r b → IsAsGood l r c b → HasEqualSide r c
+    equal true b c fb fc e (inl h) = h
+    equal true b c fb fc e (inr h) = absurd (h.0 e)
+    equal false b c fb fc e h = equal_side-margin r c fc (omega (arith, h, margin-equal_side r b fb e))
+
+    still : IsKeptOf is_large r shown s.rank s.found → IsBestShown is_large r (shown ++ more) (shown_at (box_of s.found.rectangle) s.found.at.number)
+    still k =
+        let b = box_of s.found.rectangle in
+        let e : HasEqualSide r b = equal_side-margin r b k.best.fits (rank-zero is_large _ k.below (sym k.ranked ∙ zero)) in
+        record {
+          is_shown = Contains-append_left shown more _ k.best.is_shown;
+          fits = k.best.fits;
+          best = λ d has fits. elim (Contains-append_cases shown more d has) [
+            | inl earlier ↦ k.best.best d earlier fits
+            | inr later ↦ good is_large b d.box k.best.fits e
+          ];
+          first = λ d has fits h. elim (Contains-append_cases shown more d has) [
+            | inl earlier ↦ k.best.first d earlier fits h
+            | inr later ↦ inl (below d later (equal is_large b d.box k.best.fits fits e h))
+          ];
+        }

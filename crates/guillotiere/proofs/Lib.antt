@@ -135,3 +135,4 @@ pub mod CallerSteps
 pub mod Measuring
 mod Besting
 mod Showing
+mod Adding

@@ -37,7 +37,7 @@ path-inside es from (x ∷ xs) to p i h =
       | inr ne ↦ path-inside es (item_at es x).after xs to p.2 i (omega (arith, same-ne i x ne))
     ]
 
-path-stop : (es : List Item) (xs : List ℕ) → length es ≤ no_slot → (from : ℕ) → from ≡ no_slot → IsPath es from xs no_slot → xs ≡ []
+pub path-stop : (es : List Item) (xs : List ℕ) → length es ≤ no_slot → (from : ℕ) → from ≡ no_slot → IsPath es from xs no_slot → xs ≡ []
 path-stop es [] short from e p = refl
 path-stop es (x ∷ xs) short from e p = absurd (omega (arith, e, p.0, p.1))
 
@@ -59,7 +59,7 @@ shown-push : (es : List Item) (x : ℕ) (xs : List ℕ) → shown_items es (xs +
 shown-push es x [] = refl
 shown-push es x (y ∷ xs) = ap (λ s. shown_item es y ∷ s) (shown-push es x xs)
 
-append-none : (xs : List Shown) → xs ≡ xs ++ []
+pub append-none : (xs : List Shown) → xs ≡ xs ++ []
 append-none [] = refl
 append-none (x ∷ xs) = ap (λ s. x ∷ s) (append-none xs)
 
@@ -75,6 +75,22 @@ shown_items-has es (x ∷ xs) i l =
       | inl e ↦ (0, omega arith, ap (shown_item es) (sym e))
       | inr ne ↦ let more = shown_items-has es xs i (omega (arith, same-ne i x ne)) in (suc more.0, omega (arith, more.1), more.2)
     ]
+
+-- what is shown of entries is the box of one of them
+pub shown_items-in : (es : List Item) (xs : List ℕ) (c : Shown) → Contains (shown_items es xs) c → (i : ℕ) × (0 < occurs i xs) × (c ≡ shown_item es i)
+shown_items-in es [] c h = absurd (omega (arith, h.1))
+shown_items-in es (x ∷ xs) c (zero, l, e) = (x, omega (arith, same-self x), sym e)
+shown_items-in es (x ∷ xs) c (suc n, l, e) =
+    let more = shown_items-in es xs c (n, omega (arith, l), e) in
+    (more.0, omega (arith, more.1), more.2)
+
+-- the entries from one on are determined
+pub path-same : (es : List Item) (from : ℕ) (xs ys : List ℕ) → length es ≤ no_slot → IsPath es from xs no_slot → IsPath es from ys no_slot → xs ≡ ys
+path-same es from [] ys short p q = sym (path-stop es ys short from p q)
+path-same es from (x ∷ xs) [] short p q = path-stop es (x ∷ xs) short from q p
+path-same es from (x ∷ xs) (y ∷ ys) short p q =
+    let e : x ≡ y = sym p.0 ∙ q.0 in
+    ap (λ z. z ∷ xs) e ∙ ap (λ zs. y ∷ zs) (path-same es (item_at es y).after xs ys short (subst (λ z. IsPath es (item_at es z).after xs no_slot) e p.2) q.2)
 
 -- the search has come to `at`, which stands after `before`
 pub record IsAlong (es : List Item) (head : ℕ) (place : Place) (start : Best) (step at before : ℕ) (now : Best) : Type 0 where

@@ -1,6 +1,7 @@
 -- The search through lists of entries: what it needs, and what it answers. No public clause cites this module.
 use Rattle.std.specs.Prelude.{ℕ, ◌+◌, ◌*◌, ◌≡◌, ◌≢◌, ◌<◌, ◌≤◌, ◌==◌, ◌⊎◌, ◌++◌, Bool, true, List, Contains, length}
 use Rattle.guillotiere.specs.declared.bands.Place.{Place}
+use Rattle.guillotiere.specs.declared.bands.Window.{Window}
 use Rattle.guillotiere.specs.declared.best.Best.{Best}
 use Rattle.guillotiere.specs.declared.best.Found.{Found}
 use Rattle.guillotiere.specs.declared.masks.Mask.{Mask}
@@ -8,13 +9,14 @@ use Rattle.guillotiere.specs.declared.table.ListHead.{ListHead}
 use Rattle.guillotiere.specs.Bands.{band_of, list_of, number_of, strip_of, start_of, IsInWindow}
 use Rattle.guillotiere.specs.Bests.{HasSeen, IsSameBest}
 use Rattle.guillotiere.specs.Boxes.{Sides, Box, Fits, box_sides}
-use Rattle.guillotiere.specs.Choice.{Options, class_of}
+use Rattle.guillotiere.specs.Choice.{Options, AreValid, class_of}
 use Rattle.guillotiere.specs.Items.{Item, item_at, item_box, item_sides, shown_item, shown_items, IsPath, IsPrevious}
 use Rattle.guillotiere.specs.Links.{IsExact}
 use Rattle.guillotiere.specs.Lists.{occurs}
 use Rattle.guillotiere.specs.Masks.{IsMarked}
+use Rattle.guillotiere.specs.Pixels.{box_of}
 use Rattle.guillotiere.specs.Ranks.{no_rank}
-use Rattle.guillotiere.specs.Searches.{Shown}
+use Rattle.guillotiere.specs.Searches.{Shown, shown_at, IsBestShown}
 use Rattle.guillotiere.specs.Slots.{no_slot}
 use Rattle.guillotiere.specs.Tables.{head_of, is_used_at, low_of}
 
@@ -42,6 +44,7 @@ pub record HasShown (es : List Item) (head : ℕ) (place : Place) (before after 
 -- its strip is none above the list's.
 pub record AreListed (o : Options) (heads : List ListHead) (es : List Item) : Type 0 where
   pub held : ℕ → List ℕ
+  pub valid : AreValid o
   pub short : length es ≤ no_slot
   pub path : (k : ℕ) → k < 2704 → IsPath es (head_of heads k).number (held k) no_slot
   pub own : (k i : ℕ) → k < 2704 → 0 < occurs i (held k) → ((item_at es i).is_free ≡ true) × (list_of o (item_sides (item_at es i)) ≡ k)
@@ -81,6 +84,57 @@ pub record HasAdded (o : Options) (heads : List ListHead) (es : List Item) (clas
       → Contains more (shown_item es i)
   pub seen : (is_large : Bool) (shown : List Shown) → HasSeen before is_large r shown → HasSeen after is_large r (shown ++ more)
   pub known : IsKnown o heads es before → IsKnown o heads es after
+
+-- the request fits no free entry of a class
+abbrev pub FitsNoneIn : Options → List Item → (class : ℕ) → (r : Sides) → Type 0
+FitsNoneIn o es class r =
+    (i : ℕ) → (item_at es i).is_free ≡ true → class_of o (item_sides (item_at es i)) ≡ class → Fits r (item_sides (item_at es i)) → ⊥
+
+-- each free entry that the request fits has at least this class
+abbrev pub FitsItemsFrom : Options → List Item → (class : ℕ) → (r : Sides) → Type 0
+FitsItemsFrom o es class r =
+    (i : ℕ) → (item_at es i).is_free ≡ true → Fits r (item_sides (item_at es i)) → class ≤ class_of o (item_sides (item_at es i))
+
+-- the free entries of a class are those shown, or can't be the best
+pub record AreShownIn (o : Options) (es : List Item) (class : ℕ) (r : Sides) (shown : List Shown) : Type 0 where
+  pub of_class : (c : Shown) → Contains shown c
+      → ((item_at es c.at).is_free ≡ true) × (c ≡ shown_item es c.at) × (class_of o (item_sides (item_at es c.at)) ≡ class)
+  pub each : (i : ℕ) → (item_at es i).is_free ≡ true → class_of o (item_sides (item_at es i)) ≡ class
+      → Fits r (item_sides (item_at es i)) → Contains shown (shown_item es i)
+
+-- a search was shown the free entries of a class
+pub record HasSearched (o : Options) (heads : List ListHead) (es : List Item) (class : ℕ) (r : Sides) (search : Best) : Type 0 where
+  pub shown : List Shown
+  pub are_shown : AreShownIn o es class r shown
+  pub seen : HasSeen search (class_of o r == 2) r shown
+  pub known : IsKnown o heads es search
+
+-- the best free entry of a class for a request, and of the best ones the first
+pub record IsBestIn (o : Options) (heads : List ListHead) (es : List Item) (class : ℕ) (r : Sides) (found : Found) : Type 0 where
+  pub shown : List Shown
+  pub are_shown : AreShownIn o es class r shown
+  pub best : IsBestShown (class_of o r == 2) r shown (shown_at (box_of found.rectangle) found.at.number)
+  pub standing : IsStanding o heads es found
+
+-- the boxes are those of the free entries
+pub record AreFreeItems (es : List Item) (free : List Box) : Type 0 where
+  pub of_item : (b : Box) → Contains free b → (i : ℕ) × ((item_at es i).is_free ≡ true) × (item_box (item_at es i) ≡ b)
+  pub of_box : (i : ℕ) → (item_at es i).is_free ≡ true → Contains free (item_box (item_at es i))
+
+-- a row and a column lie in the window
+pub record IsInside (w : Window) (row column : ℕ) : Type 0 where
+  pub row_ends : row < w.end
+  pub column_ends : column < w.end
+  pub begins : (w.first ≤ row) ⊎ (w.first ≤ column)
+
+-- the window is that of a class
+pub record IsWindowOf (o : Options) (class : ℕ) (w : Window) : Type 0 where
+  pub first : w.first ≡ start_of o class
+  pub end : w.end ≡ start_of o (class + 1)
+
+-- these rows, from a column on
+abbrev pub IsBeyond : (rows : Mask) → (first : ℕ) → ℕ → ℕ → Type 0
+IsBeyond rows first i j = IsMarked rows i × (first ≤ j)
 
 -- the lists of a row in these columns, and the lists of a column in these rows
 abbrev pub IsInRow : (row : ℕ) → (columns : Mask) → ℕ → ℕ → Type 0

@@ -1,5 +1,5 @@
 //! The best free box that a search was shown, and what the search learns of its list on the way.
-ghost use Rattle.std.specs.Prelude.{◌≡◌, ◌<◌, ◌++◌, ◌∷◌, [], ℕ, Bool, true, false, List, pos, ◌≤ℤ◌, ◌↔◌, IsTrue, IfSome, None};
+ghost use Rattle.std.specs.Prelude.{◌≡◌, ◌≢◌, ◌<◌, ◌++◌, ◌∷◌, [], ℕ, Bool, true, false, List, pos, ◌≤ℤ◌, ◌↔◌, IsTrue, IfSome, None};
 ghost use Rattle.guillotiere.specs.Bands.{strip_of};
 ghost use Rattle.guillotiere.specs.Boxes.{IsNonempty, IsPositive, Sides};
 ghost use Rattle.guillotiere.specs.Pixels.{box_of, natural, sides_of};
@@ -167,6 +167,32 @@ impl Best {
     {
         if self.is_own {
             self.found.low = strip(self.least);
+        }
+    }
+
+    /// Whether the best has an equal side.
+    pub fn has_equal_side(&self) -> bool
+        ensures { IsTrue result ↔ (self.now.rank ≡ 0) }
+    {
+        self.rank == 0
+    }
+
+    /// Whether the best has an equal side and lies in a strip above this one: no box in the strip or below it is better.
+    pub fn settles(&self, strip_number: u8) -> bool
+        ensures { IsTrue result → (self.now.rank ≡ 0) × (strip_of (natural self.now.found.rectangle.min.y) < strip_number) }
+    {
+        self.rank == 0 && strip(self.found.rectangle.min.y) < strip_number
+    }
+
+    /// The best of the boxes shown.
+    pub fn best(&self) -> Option<Found>
+        ensures none { result ≡ None → self.now.rank ≡ no_rank }
+        ensures some { IfSome result (λ found. (found ≡ self.now.found) × (self.now.rank ≢ no_rank)) }
+    {
+        if self.rank == NO_RANK {
+            None
+        } else {
+            Some(self.found)
         }
     }
 }

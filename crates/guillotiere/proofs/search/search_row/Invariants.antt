@@ -1,0 +1,17 @@
+use Rattle.std.proofs.Common.{map, ◌≡◌, ◌<◌, ℕ, false}
+use Rattle.guillotiere.specs.Bands.{IsInWindow}
+use Rattle.guillotiere.specs.Boxes.{Sides}
+use Rattle.guillotiere.specs.Choice.{Options}
+use Rattle.guillotiere.specs.Lookups.{AreListed, HasAdded, IsInRow}
+use Rattle.guillotiere.specs.Masks.{has, IsMarked}
+use Rattle.guillotiere.proofs.search.search_row.Given as goal
+
+abbrev pub invariant-loop-column : goal.invariant-loop-column
+invariant-loop-column g l =
+    ((k : ℕ) → IsMarked l.left k → IsMarked l.fn.columns k)
+    × ((o : Options) (class : ℕ) (r : Sides) → AreListed o l.table (map g.E.Entry.item l.entries) → class < 3
+    → ((k : ℕ) → IsMarked l.fn.columns k → IsInWindow o class l.row k)
+    → HasAdded o l.table (map g.E.Entry.item l.entries) class r (λ i j. IsInRow l.row l.fn.columns i j × (has l.left j ≡ false)) l.fn.best l.best)
+
+abbrev pub decreases-loop-column : goal.decreases-loop-column
+decreases-loop-column g l = l.left.bits
