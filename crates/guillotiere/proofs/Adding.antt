@@ -34,6 +34,18 @@ added-none o heads es class r s =
       known = λ k. k;
     }
 
+-- fewer lists
+pub added-of : (o : Options) (heads : List ListHead) (es : List Item) (class : ℕ) (r : Sides) (V W : ℕ → ℕ → Type 0) (s t : Best)
+    → ((i j : ℕ) → W i j → V i j) → HasAdded o heads es class r V s t → HasAdded o heads es class r W s t
+added-of o heads es class r V W s t to h =
+    record {
+      more = h.more;
+      of_class = h.of_class;
+      each = λ i free e w. h.each i free e (to _ _ w);
+      seen = h.seen;
+      known = h.known;
+    }
+
 module _ (o : Options) (heads : List ListHead) (es : List Item) (class : ℕ) (r : Sides) where
   -- lists are shown after others
   pub added-then : (V W : ℕ → ℕ → Type 0) (s t u : Best) → HasAdded o heads es class r V s t → HasAdded o heads es class r W t u
@@ -195,3 +207,14 @@ module _ (o : Options) (heads : List ListHead) (es : List Item) (class : ℕ) (r
           → strip_of (natural s.found.rectangle.min.y) < low_of heads (number_of place)
           → HasAdded o heads es class r (λ i j. (i ≡ place.row) × (j ≡ place.column)) s s
       added-over few w s best_is beyond = added-passed few w (a.held (number_of place)) refl s best_is beyond
+
+-- nothing that is in question was shown
+pub added-nothing : (o : Options) (heads : List ListHead) (es : List Item) (class : ℕ) (r : Sides) (W : ℕ → ℕ → Type 0) (s : Best)
+    → ((i j : ℕ) → W i j → ⊥) → HasAdded o heads es class r W s s
+added-nothing o heads es class r W s never = added-of o heads es class r (λ i j. ⊥) W s s never (added-none o heads es class r s)
+
+-- a list more
+pub added-next : (o : Options) (heads : List ListHead) (es : List Item) (class : ℕ) (r : Sides) (V U W : ℕ → ℕ → Type 0) (s t u : Best)
+    → ((i j : ℕ) → W i j → V i j ⊎ U i j) → HasAdded o heads es class r V s t → HasAdded o heads es class r U t u → HasAdded o heads es class r W s u
+added-next o heads es class r V U W s t u to a b =
+    added-of o heads es class r (λ i j. V i j ⊎ U i j) W s u to (added-then o heads es class r V U s t u a b)

@@ -136,3 +136,4 @@ pub mod Measuring
 mod Besting
 mod Showing
 mod Adding
+mod AddingLines
