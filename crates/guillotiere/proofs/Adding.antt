@@ -1,7 +1,7 @@
 -- What a search knows once it was shown lists of a table.
-use Rattle.std.proofs.Common.{◌≡◌, ◌≢◌, ℕ, ◌+◌, ◌*◌, ◌<◌, ◌≤◌, ◌⊎◌, ◌==◌, Bool, true, false, not, List, [], ◌∷◌, ◌++◌, length, refl, ap, sym, ◌∙◌, subst, inl, inr, zero, suc, get_or, append_assoc, arith}
+use Rattle.std.proofs.Common.{◌≡◌, ℕ, ◌+◌, ◌*◌, ◌<◌, ◌≤◌, ◌⊎◌, Bool, true, not, List, [], ◌++◌, refl, ap, sym, ◌∙◌, subst, inl, inr, append_assoc, arith}
 use Rattle.std.specs.List.{Contains}
-use Rattle.std.proofs.lemmas.Bool.{cases_eq, ne_eqb, cases_lt}
+use Rattle.std.proofs.lemmas.Bool.{ne_eqb, cases_lt}
 use Rattle.std.proofs.lemmas.List.Elements.{Contains-append_left, Contains-append_right, Contains-append_cases}
 use Rattle.guillotiere.specs.declared.bands.Place.{Place}
 use Rattle.guillotiere.specs.declared.best.Best.{Best}
@@ -10,10 +10,10 @@ use Rattle.guillotiere.specs.declared.table.ListHead.{ListHead}
 use Rattle.guillotiere.specs.Bands.{band_of, list_of, number_of, strip_of, IsInWindow}
 use Rattle.guillotiere.specs.Bests.{HasSeen, IsSameBest}
 use Rattle.guillotiere.specs.Boxes.{Sides, IsPositive}
-use Rattle.guillotiere.specs.Choice.{Options, class_of, HasEqualSide}
-use Rattle.guillotiere.specs.Items.{Item, item_at, item_box, item_sides, shown_item, shown_items, IsPath, IsPrevious, IsShowable}
+use Rattle.guillotiere.specs.Choice.{Options, class_of}
+use Rattle.guillotiere.specs.Items.{Item, item_at, item_box, item_sides, shown_item, shown_items, IsShowable}
 use Rattle.guillotiere.specs.Lists.{occurs}
-use Rattle.guillotiere.specs.Lookups.{IsSpot, IsLow, HasShown, AreListed, IsStanding, IsKnown, HasAdded}
+use Rattle.guillotiere.specs.Lookups.{IsSpot, IsLow, HasShown, AreListed, IsStanding, HasAdded}
 use Rattle.guillotiere.specs.Pixels.{natural}
 use Rattle.guillotiere.specs.Ranks.{no_rank}
 use Rattle.guillotiere.specs.Searches.{Shown}
@@ -65,10 +65,10 @@ module _ (o : Options) (heads : List ListHead) (es : List Item) (class : ℕ) (r
 
   module _ (a : AreListed o heads es) where
     -- the band of the sides of an entry
-    abbrev row_at : ℕ → ℕ
+    abbrev pub row_at : ℕ → ℕ
     row_at i = band_of o (item_sides (item_at es i)).width
 
-    abbrev column_at : ℕ → ℕ
+    abbrev pub column_at : ℕ → ℕ
     column_at i = band_of o (item_sides (item_at es i)).height
 
     positive-at : (i : ℕ) → (item_at es i).is_free ≡ true → IsPositive (item_sides (item_at es i))

@@ -1,7 +1,6 @@
 -- What a search knows once it was shown lists of a row or of a column, one by one.
-use Rattle.std.proofs.Common.{◌≡◌, ◌≢◌, ℕ, ◌+◌, ◌*◌, ◌<◌, ◌≤◌, ◌⊎◌, ◌==◌, ◌&&◌, Bool, true, false, not, List, refl, ap, sym, ◌∙◌, subst, inl, inr, arith}
+use Rattle.std.proofs.Common.{◌≡◌, ℕ, ◌+◌, ◌*◌, ◌<◌, ◌≤◌, ◌⊎◌, ◌==◌, ◌&&◌, Bool, true, false, not, List, refl, ap, sym, ◌∙◌, subst, inl, inr, arith}
 use Rattle.std.proofs.lemmas.Bool.{cases_eq, ne_eqb, true≢false}
-use Rattle.guillotiere.specs.declared.bands.Place.{Place}
 use Rattle.guillotiere.specs.declared.bands.Window.{Window}
 use Rattle.guillotiere.specs.declared.best.Best.{Best}
 use Rattle.guillotiere.specs.declared.masks.Mask.{Mask}
@@ -13,7 +12,7 @@ use Rattle.guillotiere.specs.Items.{Item}
 use Rattle.guillotiere.specs.Lookups.{AreListed, HasAdded, IsInRow, IsInColumn, IsBeyond, IsInside, IsWindowOf}
 use Rattle.guillotiere.specs.Masks.{has, IsMarked}
 use Rattle.guillotiere.specs.Tables.{is_used_at}
-use Rattle.guillotiere.proofs.Adding.{added-of, added-nothing, added-next, added-weaker}
+use Rattle.guillotiere.proofs.Adding.{added-nothing, added-next, added-weaker}
 
 and_left : (a b : Bool) → (a && b) ≡ true → a ≡ true
 and_left true b e = refl

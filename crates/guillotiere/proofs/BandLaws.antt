@@ -1,9 +1,9 @@
 -- Bands keep the order of sides, boxes of one list are of one class, and the lists of a class are its window.
-use Rattle.std.proofs.Common.{◌≡◌, ◌≢◌, ℕ, zero, suc, ◌+◌, ◌-◌, ◌*◌, ◌/◌, ◌<◌, ◌≤◌, ◌⊎◌, inl, inr, ◌↔◌, min, ℤ, pos, negsuc, ◌≤ℤ◌, Bool, true, false, ◌||◌, ◌==◌, nat_lt, cond, refl, sym, ap, ◌∙◌, subst, arith}
+use Rattle.std.proofs.Common.{◌≡◌, ℕ, zero, suc, ◌+◌, ◌-◌, ◌*◌, ◌/◌, ◌<◌, ◌≤◌, ◌⊎◌, inl, inr, ◌↔◌, ℤ, pos, negsuc, ◌≤ℤ◌, true, false, nat_lt, refl, sym, ◌∙◌, subst, arith}
 use Rattle.std.specs.Prelude.{if◌then◌else◌, int_le}
-use Rattle.std.proofs.lemmas.Bool.{cases_lt, cases_Bool, cond_both, cond-true, cond-false, ltb-true, ltb-false, leb-true, leb-false, le-leb, lt-leb, or_cases, or_left, or_right, or_from, or_parts, both_ways}
+use Rattle.std.proofs.lemmas.Bool.{cases_Bool, cond_both, cond-true, cond-false, ltb-true, ltb-false, leb-true, leb-false, le-leb, lt-leb, or_cases, or_from, or_parts, both_ways}
 use Rattle.std.proofs.lemmas.Int.{ints}
-use Rattle.guillotiere.specs.Boxes.{Sides, Fits, IsPositive}
+use Rattle.guillotiere.specs.Boxes.{Sides, IsPositive}
 use Rattle.guillotiere.specs.Pixels.{natural}
 use Rattle.guillotiere.specs.Choice.{Options, AreValid, class_of, reaches}
 use Rattle.guillotiere.specs.Bands.{step_of, passes, band_of, list_of, strip_of, border_of, start_of, IsInWindow}

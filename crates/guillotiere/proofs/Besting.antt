@@ -6,7 +6,6 @@ use Rattle.std.proofs.lemmas.Bool.{cases_eq}
 use Rattle.std.proofs.lemmas.List.Elements.{Contains-push_cases, Contains-append_left, Contains-append_cases}
 use Rattle.guillotiere.specs.declared.best.Best.{Best}
 use Rattle.guillotiere.specs.declared.best.Found.{Found}
-use Rattle.guillotiere.specs.declared.geometry.Point.{Point}
 use Rattle.guillotiere.specs.declared.geometry.Rectangle.{Rectangle}
 use Rattle.guillotiere.specs.Bests.{IsAhead, IsKeptOf, HasSeen}
 use Rattle.guillotiere.specs.Boxes.{Sides, Box, box_sides, Fits, IsPositive}
@@ -15,7 +14,7 @@ use Rattle.guillotiere.specs.Pixels.{natural, box_of, sides_of}
 use Rattle.guillotiere.specs.Ranks.{rank_of, no_rank}
 use Rattle.guillotiere.specs.Rectangles.{IsUnsigned}
 use Rattle.guillotiere.specs.Requests.{IsBetterMargin, Precedes}
-use Rattle.guillotiere.specs.Searches.{Shown, shown_at, IsAsGood, IsBestShown, FitsNone}
+use Rattle.guillotiere.specs.Searches.{Shown, shown_at, IsAsGood, IsBestShown}
 use Rattle.guillotiere.proofs.Choosing.{precedes-good, not_precedes-good, none_more, best_kept, best_replaced, best_only, at_box, not_at_box, margin-equal_side, equal_side-margin}
 
 -- ranks and margins

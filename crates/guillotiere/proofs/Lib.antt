@@ -1,6 +1,6 @@
 pub mod BandLaws
 pub mod TableHeads
-pub mod Marking
+pub mod MarkWrites
 pub mod BandSteps
 pub mod MaskBits
 pub mod Picking
@@ -137,3 +137,5 @@ mod Besting
 mod Showing
 mod Adding
 mod AddingLines
+mod ClassSearching
+mod ItemPicks

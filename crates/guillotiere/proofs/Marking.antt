@@ -1,155 +1,61 @@
--- The marks of rows and columns after one of them is written.
-use Rattle.std.proofs.Common.{◌≡◌, ◌≢◌, ℕ, ◌<◌, ◌≤◌, ◌⊎◌, inl, inr, Bool, true, false, List, length, get_or, slice_set, replicate, sym, ap, ◌∙◌, arith}
-use Rattle.std.proofs.lemmas.List.{get_or-set_same, get_or-set_other, get_or-replicate, length-set, length-replicate}
-use Rattle.std.proofs.Math.ListN.{get_or-eq_default}
-use Rattle.std.proofs.lemmas.Bool.{cases_lt, cases_eq, both_ways}
-use Rattle.guillotiere.specs.declared.masks.Mask.{Mask}
-use Rattle.guillotiere.proofs.MaskBits.{none-has}
-use Rattle.guillotiere.specs.Masks.{has, IsMarked, mask_at, is_marked_at, AreMarks}
+-- marking an allocated leaf free
+use Rattle.std.proofs.Common.{ℕ, ◌+◌, ◌≡◌, List, refl, sym, ap, ◌∙◌, inl, inr, arith, eqb}
+use Rattle.std.proofs.lemmas.Bool.{cond_both, eqb-true, eqb-false, cases_eq}
+use Rattle.guillotiere.specs.declared.slots.Node.{Node}
+use Rattle.guillotiere.specs.declared.slots.NodeKind.TheVariants as kind
+use Rattle.guillotiere.specs.Slots.{no_slot, node_at, use_count}
+use Rattle.guillotiere.specs.Numbered.{Numbered, tally, first_slot, same, marked, End, Free, Alloc, Seq}
+use Rattle.guillotiere.specs.Standing.{Sequence, Standing, Stands, IsPlaced, inside}
+use Rattle.guillotiere.proofs.Frames.{IsWritten}
 
--- the new mask says `b` of k, and of each other number what the old one says
-pub record IsWritten (old new : Mask) (k : ℕ) (b : Bool) : Type 0 where
-  pub this : has new k ≡ b
-  pub others : (j : ℕ) → j ≢ k → has new j ≡ has old j
+pub first-marked : (i : ℕ) (n : Numbered) → first_slot (marked i n) ≡ first_slot n
+first-marked i End = refl
+first-marked i (Free j e rest) = refl
+first-marked i (Alloc j g e rest) =
+    cond_both (eqb i j) (Free j e (marked i rest)) (Alloc j g e (marked i rest)) (λ m. first_slot m ≡ j) (λ _. refl) (λ _. refl)
+first-marked i (Seq j e inner rest) = refl
 
-pub set_this : (rows : List Mask) (i j : ℕ) (m : Mask) (b : Bool) → i < length rows → IsWritten (mask_at rows i) m j b → is_marked_at (slice_set rows i m) i j ≡ b
-set_this rows i j m b l w = ap (λ x. has x j) (get_or-set_same rows i m (record { bits = 0 }) l) ∙ w.this
+pub tally-marked : (k i : ℕ) (n : Numbered) → tally k (marked i n) ≡ tally k n
+tally-marked k i End = refl
+tally-marked k i (Free j e rest) = ap (λ x. same k j + x) (tally-marked k i rest)
+tally-marked k i (Alloc j g e rest) =
+    cond_both (eqb i j) (Free j e (marked i rest)) (Alloc j g e (marked i rest)) (λ m. tally k m ≡ same k j + tally k rest) (λ _. ap (λ x. same k j + x) (tally-marked k i rest)) (λ _. ap (λ x. same k j + x) (tally-marked k i rest))
+tally-marked k i (Seq j e inner rest) = omega (arith, tally-marked k i inner, tally-marked k i rest)
 
-pub set_others : (rows : List Mask) (i j k l : ℕ) (m : Mask) (b : Bool) → i < length rows → IsWritten (mask_at rows i) m j b → (k ≢ i) ⊎ (l ≢ j)
-    → is_marked_at (slice_set rows i m) k l ≡ is_marked_at rows k l
-set_others rows i j k l m b within w (inl apart) = ap (λ x. has x l) (get_or-set_other rows i k m (record { bits = 0 }) apart)
-set_others rows i j k l m b within w (inr apart) =
-    elim (cases_eq k i) [
-      | inl same ↦ ap (λ n. is_marked_at (slice_set rows i m) n l) same ∙ ap (λ x. has x l) (get_or-set_same rows i m (record { bits = 0 }) within) ∙ w.others l apart
-          ∙ ap (λ n. is_marked_at rows n l) (sym same)
-      | inr other ↦ ap (λ x. has x l) (get_or-set_other rows i k m (record { bits = 0 }) other)
-    ]
+module _ (ns ms : List Node) (i : ℕ) (w : IsWritten ns ms i (record (node_at ns i) { kind = kind.Free })) (was : (node_at ns i).kind ≡ kind.Alloc) where
+  -- a place of another kind is another slot
+  other_free : (s : Sequence) (b a j : ℕ) → IsPlaced (node_at ns j) s b a kind.Free → j ≡ i → ⊥
+  other_free s b a j h e = let k = h.kind in let l : (node_at ns j).kind ≡ kind.Alloc = rw e was in cc
 
--- two places are the same, or differ in one of their numbers
-pub cases_place : (i j k l : ℕ) → ((k ≡ i) × (l ≡ j)) ⊎ ((k ≢ i) ⊎ (l ≢ j))
-cases_place i j k l =
-    elim (cases_eq k i) [
-      | inl e ↦ elim (cases_eq l j) [ inl f ↦ inl (e, f) | inr g ↦ inr (inr g) ]
-      | inr g ↦ inr (inl g)
-    ]
+  other_container : (s : Sequence) (b a j : ℕ) → IsPlaced (node_at ns j) s b a kind.Container → j ≡ i → ⊥
+  other_container s b a j h e = let k = h.kind in let l : (node_at ns j).kind ≡ kind.Alloc = rw e was in cc
 
-turned : (i j k l : ℕ) → (k ≢ i) ⊎ (l ≢ j) → (l ≢ j) ⊎ (k ≢ i)
-turned i j k l (inl p) = inr p
-turned i j k l (inr p) = inl p
+  freed : (s : Sequence) (b a j : ℕ) → i ≡ j → IsPlaced (node_at ns j) s b a kind.Alloc → IsPlaced (node_at ms j) s b a kind.Free
+  freed s b a j e h =
+      rw (← e, w.there) (let h2 = rw (← e) at h in record { parent = h2.parent; previous = h2.previous; next = h2.next; kind = refl; axis = h2.axis })
 
-module _ (rows columns : List Mask) (any : Mask) (are : AreMarks rows columns any) (i j : ℕ) (row_inside : i < 52) (column_inside : j < 52)
-    (row column : Mask) (b : Bool) (in_row : IsWritten (mask_at rows i) row j b) (in_column : IsWritten (mask_at columns j) column i b) where
-  in_rows : i < length rows
-  in_rows = omega (arith, are.row_count)
+  pub Standing-marked : (s : Sequence) (before p : ℕ) (n : Numbered) → Standing ns s before p n → Standing ms s before p (marked i n)
+  Standing-marked s before p End h = tt
+  Standing-marked s before p (Free j e rest) h =
+      let eq : node_at ms j ≡ node_at ns j = w.others j (other_free _ _ _ _ h.0) in
+      (rw (eq, first-marked i rest) h.0, rw eq h.1, Standing-marked s j (p + e) rest h.2)
+  Standing-marked s before p (Alloc j g e rest) h =
+      cond_both (eqb i j) (Free j e (marked i rest)) (Alloc j g e (marked i rest)) (λ m. Standing ms s before p m) (λ t.
+      let q : i ≡ j = eqb-true i j t in
+      (rw (first-marked i rest) (freed _ _ _ _ q h.0), rw (← q, w.there) (rw (← q) at h.1), Standing-marked s j (p + e) rest h.3)) (λ f.
+      let eq : node_at ms j ≡ node_at ns j = w.others j (λ q. eqb-false i j f (sym q)) in
+      (rw (eq, first-marked i rest) h.0, rw eq h.1, rw eq h.2, Standing-marked s j (p + e) rest h.3))
+  Standing-marked s before p (Seq j e inner rest) h =
+      let eq : node_at ms j ≡ node_at ns j = w.others j (other_container _ _ _ _ h.0) in
+      (rw (eq, first-marked i rest) h.0, rw eq h.1, Standing-marked (inside s j p e) no_slot s.start inner h.2, Standing-marked s j (p + e) rest h.3)
 
-  in_columns : j < length columns
-  in_columns = omega (arith, are.column_count)
-
-  row_this : is_marked_at (slice_set rows i row) i j ≡ b
-  row_this = set_this rows i j row b in_rows in_row
-
-  row_others : (k l : ℕ) → (k ≢ i) ⊎ (l ≢ j) → is_marked_at (slice_set rows i row) k l ≡ is_marked_at rows k l
-  row_others k l = set_others rows i j k l row b in_rows in_row
-
-  inside_by : (k l : ℕ) → ((k ≡ i) × (l ≡ j)) ⊎ ((k ≢ i) ⊎ (l ≢ j)) → is_marked_at (slice_set rows i row) k l ≡ true → (k < 52) × (l < 52)
-  inside_by k l (inl e) h = (omega (arith, e.0, row_inside), omega (arith, e.1, column_inside))
-  inside_by k l (inr apart) h = are.inside k l (sym (row_others k l apart) ∙ h)
-
-  same_by : (k l : ℕ) → ((k ≡ i) × (l ≡ j)) ⊎ ((k ≢ i) ⊎ (l ≢ j)) → is_marked_at (slice_set columns j column) l k ≡ is_marked_at (slice_set rows i row) k l
-  same_by k l (inl e) =
-      (λ t. is_marked_at (slice_set columns j column) (e.1 t) (e.0 t)) ∙ set_this columns j i column b in_columns in_column
-      ∙ sym ((λ t. is_marked_at (slice_set rows i row) (e.0 t) (e.1 t)) ∙ row_this)
-  same_by k l (inr apart) = set_others columns j i l k column b in_columns in_column (turned i j k l apart) ∙ are.same k l ∙ sym (row_others k l apart)
-
-  pub written-marks : (any' : Mask)
-      → ((k l : ℕ) → is_marked_at (slice_set rows i row) k l ≡ true → IsMarked any' k)
-      → ((k : ℕ) → IsMarked any' k → (l : ℕ) × (is_marked_at (slice_set rows i row) k l ≡ true))
-      → AreMarks (slice_set rows i row) (slice_set columns j column) any'
-  written-marks any' each only =
-      record {
-        row_count = length-set rows i row ∙ are.row_count;
-        column_count = length-set columns j column ∙ are.column_count;
-        inside = λ k l. inside_by k l (cases_place i j k l);
-        same = λ k l. same_by k l (cases_place i j k l);
-        used = each;
-        used_only = only;
-      }
-
-  used_by : (b ≡ true) → (any' : Mask) → IsWritten any any' i true → (k l : ℕ) → ((k ≡ i) × (l ≡ j)) ⊎ ((k ≢ i) ⊎ (l ≢ j))
-      → is_marked_at (slice_set rows i row) k l ≡ true → IsMarked any' k
-  used_by is any' w k l (inl e) h = ap (has any') e.0 ∙ w.this
-  used_by is any' w k l (inr apart) h =
-      elim (cases_eq k i) [
-        | inl e ↦ ap (has any') e ∙ w.this
-        | inr other ↦ w.others k other ∙ are.used k l (sym (row_others k l apart) ∙ h)
-      ]
-
-  only_by : (b ≡ true) → (any' : Mask) → IsWritten any any' i true → (k : ℕ) → (k ≡ i) ⊎ (k ≢ i)
-      → IsMarked any' k → (l : ℕ) × (is_marked_at (slice_set rows i row) k l ≡ true)
-  only_by is any' w k (inl e) h = (j, ap (λ n. is_marked_at (slice_set rows i row) n j) e ∙ row_this ∙ is)
-  only_by is any' w k (inr apart) h =
-      let old = are.used_only k (sym (w.others k apart) ∙ h) in
-      (old.0, row_others k old.0 (inl apart) ∙ old.1)
-
-  -- a place is marked
-  pub marked-marks : b ≡ true → (any' : Mask) → IsWritten any any' i true → AreMarks (slice_set rows i row) (slice_set columns j column) any'
-  marked-marks is any' w = written-marks any' (λ k l. used_by is any' w k l (cases_place i j k l)) (λ k. only_by is any' w k (cases_eq k i))
-
-  still_by : (b ≡ false) → (k l : ℕ) → ((k ≡ i) × (l ≡ j)) ⊎ ((k ≢ i) ⊎ (l ≢ j)) → is_marked_at (slice_set rows i row) k l ≡ true → is_marked_at rows k l ≡ true
-  still_by is k l (inl e) h = absurd (both_ways _ ((λ t. is_marked_at (slice_set rows i row) (e.0 t) (e.1 t)) ∙ row_this ∙ is) h)
-  still_by is k l (inr apart) h = sym (row_others k l apart) ∙ h
-
-  row_is : (l : ℕ) → is_marked_at (slice_set rows i row) i l ≡ has row l
-  row_is l = ap (λ x. has x l) (get_or-set_same rows i row (record { bits = 0 }) in_rows)
-
-  -- the last mark of a row goes
-  pub emptied-marks : b ≡ false → ((l : ℕ) → has row l ≡ false) → (any' : Mask) → IsWritten any any' i false
-      → AreMarks (slice_set rows i row) (slice_set columns j column) any'
-  emptied-marks is empty any' w = written-marks any' each only
-    where
-      each : (k l : ℕ) → is_marked_at (slice_set rows i row) k l ≡ true → IsMarked any' k
-      each k l h =
-          elim (cases_eq k i) [
-            | inl e ↦ absurd (both_ways _ (ap (λ n. is_marked_at (slice_set rows i row) n l) e ∙ row_is l ∙ empty l) h)
-            | inr apart ↦ w.others k apart ∙ are.used k l (still_by is k l (cases_place i j k l) h)
-          ]
-
-      only : (k : ℕ) → IsMarked any' k → (l : ℕ) × (is_marked_at (slice_set rows i row) k l ≡ true)
-      only k h =
-          elim (cases_eq k i) [
-            | inl e ↦ absurd (both_ways _ (ap (has any') e ∙ w.this) h)
-            | inr apart ↦ (let old = are.used_only k (sym (w.others k apart) ∙ h) in (old.0, row_others k old.0 (inl apart) ∙ old.1))
-          ]
-
-  -- a mark of a row goes, and another one stays
-  pub unmarked-marks : b ≡ false → (l : ℕ) × IsMarked row l → AreMarks (slice_set rows i row) (slice_set columns j column) any
-  unmarked-marks is some = written-marks any (λ k l h. are.used k l (still_by is k l (cases_place i j k l) h)) only
-    where
-      only : (k : ℕ) → IsMarked any k → (l : ℕ) × (is_marked_at (slice_set rows i row) k l ≡ true)
-      only k h =
-          elim (cases_eq k i) [
-            | inl e ↦ (some.0, ap (λ n. is_marked_at (slice_set rows i row) n some.0) e ∙ row_is some.0 ∙ some.1)
-            | inr apart ↦ (let old = are.used_only k h in (old.0, row_others k old.0 (inl apart) ∙ old.1))
-          ]
-
--- ---- no mark
-
-pub no_mark : (m : Mask) → ((k : ℕ) → has m k ≡ false) → (i j : ℕ) → is_marked_at (replicate 52 m) i j ≡ false
-no_mark m none i j =
-    elim (cases_lt i 52) [
-      | inl l ↦ ap (λ x. has x j) (get_or-replicate 52 i m (record { bits = 0 }) l) ∙ none j
-      | inr g ↦
-          let past : length (replicate 52 m) ≤ i = omega (arith, length-replicate 52 m) in
-          ap (λ x. has x j) (get_or-eq_default (replicate 52 m) (record { bits = 0 }) past) ∙ none-has j
-    ]
-
-pub no-marks : (m : Mask) → ((k : ℕ) → has m k ≡ false) → AreMarks (replicate 52 m) (replicate 52 m) m
-no-marks m none =
+pub Stands-marked : (ns ms : List Node) (i : ℕ) → IsWritten ns ms i (record (node_at ns i) { kind = kind.Free }) → (node_at ns i).kind ≡ kind.Alloc → (s : Sequence) (n : Numbered) → Stands ns s n → Stands ms s (marked i n)
+Stands-marked ns ms i w was s n h =
     record {
-      row_count = length-replicate 52 m;
-      column_count = length-replicate 52 m;
-      inside = λ i j h. absurd (both_ways _ (no_mark m none i j) h);
-      same = λ i j. no_mark m none j i ∙ sym (no_mark m none i j);
-      used = λ i j h. absurd (both_ways _ (no_mark m none i j) h);
-      used_only = λ i h. absurd (both_ways _ (none i) h);
+      standing = Standing-marked ns ms i w was s no_slot 0 n h.standing;
+      numbered = λ k. tally-marked k i n ∙ h.numbered k ∙ used_same ns ms i w was k;
     }
+  where
+    used_same : (ns ms : List Node) (i : ℕ) → IsWritten ns ms i (record (node_at ns i) { kind = kind.Free }) → (node_at ns i).kind ≡ kind.Alloc → (k : ℕ) → use_count (node_at ns k).kind ≡ use_count (node_at ms k).kind
+    used_same ns ms i w was k =
+        elim (cases_eq k i) [ inl e ↦ rw (e, w.there, was) refl | inr ne ↦ rw (w.others k ne) refl ]

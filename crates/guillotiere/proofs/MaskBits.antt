@@ -1,7 +1,7 @@
 -- The numbers of a mask after each operation on its bits.
-use Rattle.std.proofs.Common.{◌≡◌, ◌≢◌, ℕ, zero, suc, ◌+◌, ◌-◌, ◌*◌, ◌/◌, ◌%◌, ◌^◌, ◌<◌, ◌≤◌, ◌⊎◌, inl, inr, min, Bool, true, false, not, ◌&&◌, ◌==◌, nat_le, nat_lt, refl, sym, ap, ◌∙◌, arith, w64, bit_and, bit_or}
+use Rattle.std.proofs.Common.{◌≡◌, ◌≢◌, ℕ, zero, suc, ◌+◌, ◌-◌, ◌*◌, ◌/◌, ◌%◌, ◌^◌, ◌<◌, ◌≤◌, inl, inr, min, Bool, true, false, not, ◌&&◌, ◌==◌, nat_le, nat_lt, refl, sym, ap, ◌∙◌, arith, w64, bit_and, bit_or}
 use Rattle.std.proofs.Math.Nat.{mod-eq_of_lt}
-use Rattle.std.specs.Int.{bit_at, bit_not, trailing_zeros}
+use Rattle.std.specs.Int.{bit_at, trailing_zeros}
 use Rattle.std.specs.Int.Bits.{and_self}
 use Rattle.std.specs.Int.Count.{count_trailing_zeros}
 use lib.Count.{under}

@@ -2,7 +2,7 @@
 use Rattle.std.proofs.Common.{◌≡◌, ◌≢◌, ℕ, zero, suc, ◌+◌, ◌<◌, ◌≤◌, ◌⊎◌, Bool, true, false, List, [], ◌∷◌, ◌++◌, length, map, ℤ, pos, negsuc, ◌≤ℤ◌, refl, ap, sym, ◌∙◌, subst, inl, inr, append_assoc, get_or, arith}
 use Rattle.std.specs.List.{Contains}
 use Rattle.std.proofs.lemmas.Int.{ints}
-use Rattle.std.proofs.lemmas.Bool.{cases_eq, cases_lt}
+use Rattle.std.proofs.lemmas.Bool.{cases_eq}
 use Rattle.std.proofs.lemmas.List.{get_or-map}
 use Rattle.guillotiere.specs.declared.best.Best.{Best}
 use Rattle.guillotiere.specs.declared.best.Found.{Found}
@@ -12,7 +12,7 @@ use Rattle.guillotiere.specs.declared.slots.Link.{Link}
 use Rattle.guillotiere.specs.Bands.{strip_of}
 use Rattle.guillotiere.specs.Bests.{HasSeen, IsLeast, IsLooked, IsSameBest}
 use Rattle.guillotiere.specs.Boxes.{Sides}
-use Rattle.guillotiere.specs.Items.{Item, no_item, item_at, item_box, shown_item, shown_items, IsPath, IsPrevious, IsShowable}
+use Rattle.guillotiere.specs.Items.{Item, no_item, item_at, shown_item, shown_items, IsPath, IsPrevious, IsShowable}
 use Rattle.guillotiere.specs.Links.{IsExact}
 use Rattle.guillotiere.specs.Lists.{occurs}
 use Rattle.guillotiere.specs.Lookups.{IsSpot, IsLow, HasShown}

@@ -1,15 +1,15 @@
 -- A table after one of its heads is written.
-use Rattle.std.proofs.Common.{◌≡◌, ◌≢◌, ℕ, ◌+◌, ◌*◌, ◌<◌, ◌≤◌, ◌⊎◌, inl, inr, Bool, true, false, not, ◌==◌, List, length, get_or, slice_set, replicate, refl, sym, ap, subst, ◌∙◌, arith}
+use Rattle.std.proofs.Common.{◌≡◌, ◌≢◌, ℕ, ◌+◌, ◌*◌, ◌<◌, ◌≤◌, ◌⊎◌, inl, inr, Bool, true, false, not, ◌==◌, List, length, get_or, slice_set, replicate, refl, sym, ap, ◌∙◌, arith}
 use Rattle.std.proofs.lemmas.List.{get_or-set_same, get_or-set_other, get_or-replicate, get_or_read, length-set, length-replicate}
 use Rattle.std.proofs.Math.ListN.{get_or-eq_default}
-use Rattle.std.proofs.lemmas.Bool.{cases_lt, cases_eq, ne_eqb, eq-eqb, eqb-false, not-true, not-false}
+use Rattle.std.proofs.lemmas.Bool.{cases_lt, cases_eq, ne_eqb, eq-eqb}
 use Rattle.guillotiere.specs.declared.masks.Mask.{Mask}
 use Rattle.guillotiere.specs.declared.slots.Link.{Link}
 use Rattle.guillotiere.specs.declared.table.ListHead.{ListHead}
 use Rattle.guillotiere.specs.Slots.{no_slot}
 use Rattle.guillotiere.specs.Masks.{is_marked_at}
-use Rattle.guillotiere.specs.Tables.{blank_head, entry_at, head_of, low_of, is_used_at, IsTable}
-use Rattle.guillotiere.proofs.Marking.{cases_place}
+use Rattle.guillotiere.specs.Tables.{blank_head, head_of, low_of, is_used_at, IsTable}
+use Rattle.guillotiere.proofs.MarkWrites.{cases_place}
 
 -- what an index reads
 module _ (heads : List ListHead) (k : ℕ) (e : ListHead) (within : k < length heads) (read : e ≡ get_or heads k e) where

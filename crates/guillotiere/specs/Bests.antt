@@ -1,9 +1,8 @@
 -- The best free box that a search was shown: what it keeps of it. No public clause cites this module.
-use Rattle.std.specs.Prelude.{◌≡◌, ℕ, ◌-◌, ◌<◌, ◌≤◌, ◌⊎◌, ◌&&◌, nat_lt, pos, ◌≤ℤ◌, Bool, true, List, Contains, if◌then◌else◌}
+use Rattle.std.specs.Prelude.{◌≡◌, ℕ, ◌<◌, ◌⊎◌, pos, ◌≤ℤ◌, Bool, true, List, Contains}
 use Rattle.guillotiere.specs.declared.best.Found.{Found}
 use Rattle.guillotiere.specs.declared.best.Best.{Best}
 use Rattle.guillotiere.specs.declared.geometry.Point.{Point}
-use Rattle.guillotiere.specs.declared.geometry.Rectangle.{Rectangle}
 use Rattle.guillotiere.specs.Boxes.{Sides, IsPositive}
 use Rattle.guillotiere.specs.Choice.{least_margin}
 use Rattle.guillotiere.specs.Pixels.{box_of, size_of}

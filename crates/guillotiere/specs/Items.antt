@@ -1,5 +1,5 @@
 -- The entries that a search reads: each has a rectangle and an entry after it. No public clause cites this module.
-use Rattle.std.specs.Prelude.{ℕ, ◌+◌, ◌≡◌, ◌<◌, ◌≤◌, ◌⊎◌, pos, Bool, false, List, [], ◌∷◌, length, map, slice_index_or}
+use Rattle.std.specs.Prelude.{ℕ, ◌≡◌, ◌<◌, ◌≤◌, ◌⊎◌, pos, Bool, false, List, [], ◌∷◌, length, map, slice_index_or}
 use Rattle.guillotiere.specs.declared.geometry.Rectangle.{Rectangle}
 use Rattle.guillotiere.specs.Boxes.{Sides, Box, box_sides}
 use Rattle.guillotiere.specs.Pixels.{box_of}

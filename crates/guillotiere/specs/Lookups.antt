@@ -1,14 +1,14 @@
 -- The search through lists of entries: what it needs, and what it answers. No public clause cites this module.
-use Rattle.std.specs.Prelude.{ℕ, ◌+◌, ◌*◌, ◌≡◌, ◌≢◌, ◌<◌, ◌≤◌, ◌==◌, ◌⊎◌, ◌++◌, Bool, true, List, Contains, length}
+use Rattle.std.specs.Prelude.{ℕ, ◌+◌, ◌≡◌, ◌≢◌, ◌<◌, ◌≤◌, ◌==◌, ◌⊎◌, ◌++◌, Bool, true, List, Contains, length}
 use Rattle.guillotiere.specs.declared.bands.Place.{Place}
 use Rattle.guillotiere.specs.declared.bands.Window.{Window}
 use Rattle.guillotiere.specs.declared.best.Best.{Best}
 use Rattle.guillotiere.specs.declared.best.Found.{Found}
 use Rattle.guillotiere.specs.declared.masks.Mask.{Mask}
 use Rattle.guillotiere.specs.declared.table.ListHead.{ListHead}
-use Rattle.guillotiere.specs.Bands.{band_of, list_of, number_of, strip_of, start_of, IsInWindow}
+use Rattle.guillotiere.specs.Bands.{band_of, list_of, number_of, strip_of, start_of}
 use Rattle.guillotiere.specs.Bests.{HasSeen, IsSameBest}
-use Rattle.guillotiere.specs.Boxes.{Sides, Box, Fits, box_sides}
+use Rattle.guillotiere.specs.Boxes.{Sides, Box, Fits}
 use Rattle.guillotiere.specs.Choice.{Options, AreValid, class_of}
 use Rattle.guillotiere.specs.Items.{Item, item_at, item_box, item_sides, shown_item, shown_items, IsPath, IsPrevious}
 use Rattle.guillotiere.specs.Links.{IsExact}
@@ -18,7 +18,7 @@ use Rattle.guillotiere.specs.Pixels.{box_of}
 use Rattle.guillotiere.specs.Ranks.{no_rank}
 use Rattle.guillotiere.specs.Searches.{Shown, shown_at, IsBestShown}
 use Rattle.guillotiere.specs.Slots.{no_slot}
-use Rattle.guillotiere.specs.Tables.{head_of, is_used_at, low_of}
+use Rattle.guillotiere.specs.Tables.{head_of, low_of}
 
 -- the best stands in the list xs that begins at `head`
 pub record IsSpot (es : List Item) (head : ℕ) (place : Place) (xs : List ℕ) (found : Found) : Type 0 where

@@ -1,17 +1,20 @@
 //! The search for the free box that a request takes, through the lists of a table.
-ghost use Rattle.std.specs.Prelude.{◌≡◌, ◌≢◌, ◌+◌, ◌*◌, ◌<◌, ◌≤◌, ◌↔◌, ℕ, true, map, IsTrue, List};
+ghost use Rattle.std.specs.Prelude.{◌≡◌, ◌≢◌, ◌+◌, ◌*◌, ◌<◌, ◌≤◌, ◌↔◌, ℕ, true, map, IsTrue, List, None, IfSome};
 ghost use Rattle.guillotiere.specs.Bands.{IsInWindow};
-ghost use Rattle.guillotiere.specs.Boxes.{Sides};
-ghost use Rattle.guillotiere.specs.Choice.{Options};
-ghost use Rattle.guillotiere.specs.Items.{IsShowable};
-ghost use Rattle.guillotiere.specs.Lookups.{AreListed, HasAdded, HasShown, IsBeyond, IsInColumn, IsInRow, IsInside, IsWindowOf};
+ghost use Rattle.guillotiere.specs.Boxes.{Box, Fits, IsPositive, Sides};
+ghost use Rattle.guillotiere.specs.Choice.{IsFitting, IsPick, Options, class_of};
+ghost use Rattle.guillotiere.specs.Items.{IsShowable, item_at, item_sides};
+ghost use Rattle.guillotiere.specs.Lookups.{AreFreeItems, AreListed, FitsNoneIn, HasAdded, HasSearched, HasShown, IsBestIn, IsBeyond, IsInColumn, IsInRow, IsInside, IsStanding, IsWindowOf};
 ghost use Rattle.guillotiere.specs.Masks.{IsMarked};
+ghost use Rattle.guillotiere.specs.Pixels.{box_of, options_of, sides_of};
 ghost use Rattle.guillotiere.specs.Tables.{is_used_at};
 
-use crate::bands::{BANDS, Place, Window};
-use crate::best::Best;
-use crate::geometry::Rectangle;
+use crate::bands::{BANDS, Place, Window, place_for, window_for};
+use crate::best::{Best, Found};
+use crate::choice::class;
+use crate::geometry::{Rectangle, Size};
 use crate::masks::Mask;
+use crate::options::AllocatorOptions;
 use crate::slots::{Link, NO_SLOT};
 use crate::table::Table;
 use std::alloc::Allocator;
@@ -161,4 +164,73 @@ fn search_rows<A: Allocator, E: Entry>(
         let columns = columns_in(table, window, row, first);
         search_row(entries, table, row, columns, best);
     }
+}
+
+// A search that was shown the free entries of a class: those with an equal side first, which stand in the request's row
+// and column, and the others only if none of those is free.
+fn search_class<A: Allocator, E: Entry>(
+    entries: &[E],
+    table: &Table<A>,
+    options: &AllocatorOptions,
+    size: Size,
+    number: usize,
+) -> Best
+    requires positive { IsPositive (sides_of size) }
+    requires class { number < 3 }
+    requires from { class_of (options_of options.now) (sides_of size) ≤ number }
+    requires listed { AreListed (options_of options.now) table.now (map E.item entries.now) }
+    ensures { HasSearched (options_of options.now) table.now (map E.item entries.now) number (sides_of size) result }
+{
+    let mut best = Best::new(size, class(size, options) == 2);
+    let own = place_for(size, options);
+    let window = window_for(number, options);
+    let columns = columns_in(table, window, own.row, own.column);
+    search_row(entries, table, own.row, columns, &mut best);
+    let rows = rows_in(table, window, own.column, own.row + 1);
+    search_column(entries, table, own.column, rows, &mut best);
+    if !best.has_equal_side() {
+        let others = table.used().from(own.row + 1).below(window.end);
+        search_rows(entries, table, window, others, own.column + 1, &mut best);
+    }
+    best
+}
+
+// The best free entry of a class.
+fn best_of_class<A: Allocator, E: Entry>(
+    entries: &[E],
+    table: &Table<A>,
+    options: &AllocatorOptions,
+    size: Size,
+    number: usize,
+) -> Option<Found>
+    requires positive { IsPositive (sides_of size) }
+    requires class { number < 3 }
+    requires from { class_of (options_of options.now) (sides_of size) ≤ number }
+    requires listed { AreListed (options_of options.now) table.now (map E.item entries.now) }
+    ensures none { result ≡ None → FitsNoneIn (options_of options.now) (map E.item entries.now) number (sides_of size) }
+    ensures some { IfSome result (IsBestIn (options_of options.now) table.now (map E.item entries.now) number (sides_of size)) }
+{
+    search_class(entries, table, options, size, number).best()
+}
+
+/// The free entry that a request of this rounded size takes.
+pub fn pick<A: Allocator, E: Entry>(
+    entries: &[E],
+    table: &Table<A>,
+    options: &AllocatorOptions,
+    size: Size,
+) -> Option<Found>
+    requires positive { IsPositive (sides_of size) }
+    requires listed { AreListed (options_of options.now) table.now (map E.item entries.now) }
+    ensures none { result ≡ None → (i : ℕ) → (item_at (map E.item entries.now) i).is_free ≡ true → Fits (sides_of size) (item_sides (item_at (map E.item entries.now) i)) → ⊥ }
+    ensures no_room { result ≡ None → (free : List Box) → AreFreeItems (map E.item entries.now) free → (b : Box) → IsFitting free (sides_of size) b → ⊥ }
+    ensures picked { IfSome result (λ found. (free : List Box) → AreFreeItems (map E.item entries.now) free → IsPick free (options_of options.now) (sides_of size) (box_of found.rectangle)) }
+    ensures standing { IfSome result (IsStanding (options_of options.now) table.now (map E.item entries.now)) }
+{
+    for number in class(size, options)..3 {
+        if let Some(found) = best_of_class(entries, table, options, size, number) {
+            return Some(found);
+        }
+    }
+    None
 }

@@ -1,6 +1,6 @@
-use Rattle.std.proofs.Common.{map, ◌≡◌, sym, subst, ◌<◌, ℕ, false, true}
+use Rattle.std.proofs.Common.{map, subst, ◌<◌, ℕ}
 use Rattle.guillotiere.specs.declared.slots.Link.{Link}
-use Rattle.guillotiere.specs.Bands.{number_of, strip_of}
+use Rattle.guillotiere.specs.Bands.{strip_of}
 use Rattle.guillotiere.specs.Lookups.{HasShown}
 use Rattle.guillotiere.specs.Pixels.{natural}
 use Rattle.guillotiere.proofs.Adding.{added-list, added-over}

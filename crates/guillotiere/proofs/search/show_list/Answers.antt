@@ -1,4 +1,4 @@
-use Rattle.std.proofs.Common.{◌<◌, ◌≡◌, ◌≢◌, ◌∙◌, sym, ap, subst, inl, inr, map, length, arith, rules, refl}
+use Rattle.std.proofs.Common.{◌≢◌, ◌∙◌, sym, ap, subst, inl, inr, map, arith}
 use Rattle.std.proofs.lemmas.List.{length-map}
 use Rattle.guillotiere.specs.declared.geometry.Rectangle.{Rectangle}
 use Rattle.guillotiere.specs.Boxes.{IsNonempty}

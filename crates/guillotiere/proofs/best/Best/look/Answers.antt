@@ -1,11 +1,10 @@
-use Rattle.std.proofs.Common.{◌≡◌, ◌≤ℤ◌, pos, ℤ, FitsSigned, w32, to_z, of_z, rules, arith, refl, subst, sym, ap, ◌∙◌, true}
+use Rattle.std.proofs.Common.{◌≡◌, ◌≤ℤ◌, pos, ℤ, FitsSigned, w32, to_z, of_z, rules, arith, refl, subst, sym, ap, ◌∙◌}
 use Rattle.std.proofs.lemmas.Int.{to_z-of_z, ints}
 use Rattle.std.proofs.lemmas.Bool.{true≢false}
 use Rattle.guillotiere.specs.declared.geometry.Rectangle.{Rectangle}
 use Rattle.guillotiere.specs.Boxes.{Sides, Fits, box_sides}
-use Rattle.guillotiere.specs.Choice.{least_margin}
 use Rattle.guillotiere.specs.Pixels.{box_of}
-use Rattle.guillotiere.proofs.Besting.{asked, ranked-asked, seen-unfit, seen-behind, seen-ahead, margin-below, least-passed, least-ahead}
+use Rattle.guillotiere.proofs.Besting.{asked, ranked-asked, seen-unfit, seen-behind, seen-ahead, margin-below, least-ahead}
 use Rattle.guillotiere.proofs.best.Best.look.Goals as goal
 
 pub returns-then-margin-lt0-clause-seen : goal.returns-then-margin-lt0-clause-seen

@@ -1,5 +1,5 @@
-use Rattle.std.proofs.Common.{◌≡◌, ◌≤ℤ◌, pos, ℤ, FitsSigned, w32, rules, arith, refl, to_z, of_z, subst, sym}
-use Rattle.std.proofs.lemmas.Int.{to_z-of_z, ints}
+use Rattle.std.proofs.Common.{◌≡◌, ◌≤ℤ◌, pos, ℤ, FitsSigned, w32, rules, to_z, of_z, subst, sym}
+use Rattle.std.proofs.lemmas.Int.{to_z-of_z}
 use Rattle.guillotiere.proofs.Besting.{least-passed}
 use Rattle.guillotiere.proofs.best.Best.pass.Goals as goal
 

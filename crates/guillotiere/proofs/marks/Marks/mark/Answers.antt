@@ -1,5 +1,5 @@
 use Rattle.std.proofs.Common.{true, refl}
-use Rattle.guillotiere.proofs.Marking.{marked-marks}
+use Rattle.guillotiere.proofs.MarkWrites.{marked-marks}
 use Rattle.guillotiere.proofs.marks.Marks.mark.Goals as goal
 
 pub invariant_of-self : goal.invariant_of-self

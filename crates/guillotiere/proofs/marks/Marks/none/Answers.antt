@@ -1,4 +1,4 @@
-use Rattle.guillotiere.proofs.Marking.{no_mark, no-marks}
+use Rattle.guillotiere.proofs.MarkWrites.{no_mark, no-marks}
 use Rattle.guillotiere.proofs.marks.Marks.none.Goals as goal
 
 pub invariant_of-result : goal.invariant_of-result

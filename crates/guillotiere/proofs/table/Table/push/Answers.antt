@@ -1,4 +1,4 @@
-use Rattle.std.proofs.Common.{◌≡◌, ◌+◌, ◌*◌, ◌<◌, ◌≤◌, ◌∙◌, min, subst, sym, ap, length, arith}
+use Rattle.std.proofs.Common.{◌+◌, ◌*◌, ◌<◌, ◌≤◌, ◌∙◌, min, subst, sym, ap, length, arith}
 use Rattle.std.proofs.lemmas.Bool.{both_ways}
 use Rattle.guillotiere.specs.Tables.{head_of, low_of, is_used_at}
 use Rattle.guillotiere.proofs.TableHeads.{read-head, read-low, is_slot, slot-is, no_slot-is, kept-table, written-table, head_of-same, head_of-other, low_of-same, low_of-other}

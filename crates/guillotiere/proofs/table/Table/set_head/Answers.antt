@@ -1,4 +1,4 @@
-use Rattle.std.proofs.Common.{◌≡◌, ℕ, ◌≢◌, ◌+◌, ◌*◌, ◌<◌, ◌∙◌, sym, ap, length, arith}
+use Rattle.std.proofs.Common.{◌+◌, ◌*◌, ◌<◌, ◌∙◌, sym, ap, length, arith}
 use Rattle.guillotiere.specs.Tables.{head_of, low_of}
 use Rattle.guillotiere.proofs.TableHeads.{read-low, slot-is, no_slot-is, written-table, head_of-same, head_of-other, low_of-any}
 use Rattle.guillotiere.proofs.table.Table.set_head.Goals as goal
