@@ -15,7 +15,7 @@ use Rattle.guillotiere.specs.Slots.{nodes, node_at}
 use Rattle.guillotiere.specs.Numbered.{erase, id_of}
 use Rattle.guillotiere.specs.Reading.{extent_of}
 use Rattle.guillotiere.specs.Picks.{AreFreeBoxes, IsFreeSlot, IsSearchable}
-use Rattle.guillotiere.specs.Stored.{Shelf, Holding, Holds}
+use Rattle.guillotiere.specs.Stored.{Shelf, Holding, Holds, places_of}
 use Rattle.guillotiere.specs.Holdings.{node_in, across_of, with_loose, with_held}
 use Rattle.guillotiere.specs.Planning.{IsPlanFor, IsFeasible, IsPlaceableAt, IsPlanned}
 use Rattle.guillotiere.specs.Chosen.{IsAtRest, IsChosen, IsGrantable, IsGrantMade}
@@ -28,7 +28,7 @@ module _ (v : Shelf) (h : Holding) (rest : IsAtRest v h) where
   pub rest-searchable : (slots : List Slot) → slots ≡ v.slots → IsSearchable (options_of v.options) slots v.lists
   rest-searchable slots e =
       let P : List Slot → Type 0 = λ s. IsSearchable (options_of v.options) s v.lists in
-      subst P (sym e) (searchable (options_of v.options) v.slots v.lists v.unused h.spare h.held (λ i. 0) h.loose h.sequence h.tree rest.holds.filed (λ i. rest.listed i refl) rest.holds.stands rest.holds.wide rest.holds.cut)
+      subst P (sym e) (searchable (options_of v.options) v.slots v.lists v.unused (places_of (λ i. 0) h) h.sequence h.tree rest.holds.filed (λ i. rest.listed i refl) rest.holds.stands rest.holds.wide rest.holds.cut)
 
   pub rest-free : AreFreeBoxes (nodes v.slots) (ungranted (leaves h.sequence.axis origin h.sequence.width (erase h.tree)))
   rest-free = AreFreeBoxes-stands (nodes v.slots) h.sequence h.tree rest.holds.stands rest.start

@@ -1,5 +1,5 @@
 -- The free slots of slots that stand for a tree: their boxes are the tree's free boxes, and their rectangles are exact.
-use Rattle.std.proofs.Common.{ℕ, ◌+◌, ◌<◌, ◌≡◌, ◌⊎◌, inl, inr, List, ◌∷◌, ◌++◌, refl, sym, ap, ◌∙◌, arith, length, zero, suc, subst, Bool, false}
+use Rattle.std.proofs.Common.{ℕ, ◌+◌, ◌<◌, ◌≡◌, ◌⊎◌, inl, inr, List, ◌∷◌, ◌++◌, refl, sym, ap, ◌∙◌, arith, length, zero, suc, subst, false}
 use Rattle.std.specs.Prelude.{Contains, slice_index_or}
 use Rattle.std.proofs.lemmas.Bool.{cases_eq, cases_lt}
 use Rattle.std.proofs.lemmas.List.Elements.{filter_map-append, Contains-append_left, Contains-append_right, Contains-append_cases}
@@ -18,7 +18,7 @@ use Rattle.guillotiere.specs.Slots.{nodes, rings, node_at, use_count, no_slot}
 use Rattle.guillotiere.specs.Numbered.{Numbered, tally, erase, End, Free, Alloc, Seq}
 use Rattle.guillotiere.specs.Standing.{Sequence, Standing, Stands, spot, member_box, inside}
 use Rattle.guillotiere.specs.Choice.{Options}
-use Rattle.guillotiere.specs.Lists.{AreFiled}
+use Rattle.guillotiere.specs.Lists.{AreFiled, Places}
 use Rattle.guillotiere.specs.Links.{IsExact}
 use Rattle.guillotiere.specs.Picks.{node_box, IsFreeSlot, AreFreeBoxes, IsSearchable}
 use Rattle.guillotiere.proofs.Occurrences.{same-ne}
@@ -145,14 +145,11 @@ pub exact-free : (ns : List Node) (s : Sequence) (n : Numbered) → Stands ns s 
 exact-free ns s n h w cut i free = exact-stands ns s n h w cut i (omega (arith, ap use_count free))
 
 -- slots that stand for a tree of cuts, and whose free ones are all listed, can be searched
-pub searchable : (o : Options) (slots : List Slot) (lists : List FreeList) (unused : Link) (spare : List ℕ) (held : ℕ → List ℕ) (hand : ℕ → ℕ) (loose : ℕ → Bool) (s : Sequence) (n : Numbered) → AreFiled o (nodes slots) (rings slots) lists unused spare held hand loose → ((i : ℕ) → loose i ≡ false) → Stands (nodes slots) s n → 0 < s.width → IsCut s.width (erase n) → IsSearchable o slots lists
-searchable o slots lists unused spare held hand loose s n f listed h w cut =
+pub searchable : (o : Options) (slots : List Slot) (lists : List FreeList) (unused : Link) (p : Places) (s : Sequence) (n : Numbered) → AreFiled o (nodes slots) (rings slots) lists unused p → ((i : ℕ) → p.loose i ≡ false) → Stands (nodes slots) s n → 0 < s.width → IsCut s.width (erase n) → IsSearchable o slots lists
+searchable o slots lists unused p s n f listed h w cut =
     record {
       unused = unused;
-      spare = spare;
-      held = held;
-      hand = hand;
-      loose = loose;
+      places = p;
       filed = f;
       all_listed = listed;
       exact = exact-free (nodes slots) s n h w cut;

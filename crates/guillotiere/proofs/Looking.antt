@@ -26,36 +26,36 @@ module _ (o : Options) (slots : List Slot) (lists : List FreeList) (s : IsSearch
   below : 8 * class + part < 24
   below = omega arith
 
-  of_list : (i : ℕ) → 0 < occurs i (s.held (8 * class + part)) → (class_of o (node_sides (node_at (nodes slots) i)) ≡ class) × IsFreeSlot (nodes slots) i
+  of_list : (i : ℕ) → 0 < occurs i (s.places.held (8 * class + part)) → (class_of o (node_sides (node_at (nodes slots) i)) ≡ class) × IsFreeSlot (nodes slots) i
   of_list i h =
-      let e = listed-list o (nodes slots) (rings slots) lists s.unused s.spare s.held s.hand s.loose s.filed (8 * class + part) i below h in
+      let e = listed-list o (nodes slots) (rings slots) lists s.unused s.places s.filed (8 * class + part) i below h in
       let b = band_of-most (node_sides (node_at (nodes slots) i)) in
-      (omega arith, listed-kind o (nodes slots) (rings slots) lists s.unused s.spare s.held s.hand s.loose s.filed (8 * class + part) i below h)
+      (omega arith, listed-kind o (nodes slots) (rings slots) lists s.unused s.places s.filed (8 * class + part) i below h)
 
-  in_list : (i : ℕ) → IsFreeSlot (nodes slots) i → class_of o (node_sides (node_at (nodes slots) i)) ≡ class → band_of (node_sides (node_at (nodes slots) i)) ≡ part → occurs i (s.held (8 * class + part)) ≡ 1
+  in_list : (i : ℕ) → IsFreeSlot (nodes slots) i → class_of o (node_sides (node_at (nodes slots) i)) ≡ class → band_of (node_sides (node_at (nodes slots) i)) ≡ part → occurs i (s.places.held (8 * class + part)) ≡ 1
   in_list i free ec eb =
       let e : list_for o (node_at (nodes slots) i) ≡ 8 * class + part = omega arith in
-      subst (λ k. occurs i (s.held k) ≡ 1) e (listed-one o (nodes slots) (rings slots) lists s.unused s.spare s.held s.hand s.loose s.filed i free (s.all_listed i))
+      subst (λ k. occurs i (s.places.held k) ≡ 1) e (listed-one o (nodes slots) (rings slots) lists s.unused s.places s.filed i free (s.all_listed i))
 
   pub can-show : (d : FreeList) → length lists ≡ 24 → IsShowable slots (slice_index_or lists (8 * class + part) d)
   can-show d el =
-      (s.held (8 * class + part), rw (get_or_default lists (8 * class + part) d blank_list (omega (arith, below))) ((s.filed.free (8 * class + part) below).links), λ i h. s.exact i (of_list i h).1)
+      (s.places.held (8 * class + part), rw (get_or_default lists (8 * class + part) d blank_list (omega (arith, below))) ((s.filed.free (8 * class + part) below).links), λ i h. s.exact i (of_list i h).1)
 
-  shown-listed : (r : Sides) (shown : List Shown) → AreShown o (nodes slots) class part r shown → AreShown o (nodes slots) class (part + 1) r (shown ++ shown_of (nodes slots) (s.held (8 * class + part)))
+  shown-listed : (r : Sides) (shown : List Shown) → AreShown o (nodes slots) class part r shown → AreShown o (nodes slots) class (part + 1) r (shown ++ shown_of (nodes slots) (s.places.held (8 * class + part)))
   shown-listed r shown a =
-      let more = shown_of (nodes slots) (s.held (8 * class + part)) in
+      let more = shown_of (nodes slots) (s.places.held (8 * class + part)) in
       record {
         slots = λ c h. elim (Contains-append_cases shown more c h) [
           | inl y ↦ a.slots c y
-          | inr y ↦ let t = shown_of-in (nodes slots) (s.held (8 * class + part)) c y in rw t.2 ((of_list t.0 t.1).1, refl)
+          | inr y ↦ let t = shown_of-in (nodes slots) (s.places.held (8 * class + part)) c y in rw t.2 ((of_list t.0 t.1).1, refl)
         ];
         of_class = λ c h. elim (Contains-append_cases shown more c h) [
           | inl y ↦ a.of_class c y
-          | inr y ↦ let t = shown_of-in (nodes slots) (s.held (8 * class + part)) c y in rw t.2 ((of_list t.0 t.1).0)
+          | inr y ↦ let t = shown_of-in (nodes slots) (s.places.held (8 * class + part)) c y in rw t.2 ((of_list t.0 t.1).0)
         ];
         each = λ i free ec lb fits. elim (cases_lt (band_of (node_sides (node_at (nodes slots) i))) part) [
           | inl l ↦ Contains-append_left shown more _ (a.each i free ec l fits)
-          | inr l ↦ Contains-append_right shown more _ (shown_of-has (nodes slots) (s.held (8 * class + part)) i (omega (arith, in_list i free ec (omega arith))))
+          | inr l ↦ Contains-append_right shown more _ (shown_of-has (nodes slots) (s.places.held (8 * class + part)) i (omega (arith, in_list i free ec (omega arith))))
         ];
       }
 
@@ -70,7 +70,7 @@ module _ (o : Options) (slots : List Slot) (lists : List FreeList) (s : IsSearch
           | inr l ↦
               let one = in_list i free ec (omega arith) in
               let held = mine.bounded i (omega arith) in
-              absurd (none (omega (arith, mine.links.counted, length-occurs i (s.held (8 * class + part)) (omega arith)), (omega (arith, fits.0, held.0), omega (arith, fits.1, held.1))))
+              absurd (none (omega (arith, mine.links.counted, length-occurs i (s.places.held (8 * class + part)) (omega arith)), (omega (arith, fits.0, held.0), omega (arith, fits.1, held.1))))
         ];
       }
 
@@ -78,16 +78,16 @@ module _ (o : Options) (slots : List Slot) (lists : List FreeList) (s : IsSearch
   none-in_empty e i free ec eb =
       let one = in_list i free ec eb in
       let links = (s.filed.free (8 * class + part) below).links in
-      absurd (omega (arith, e, links.counted, length-occurs i (s.held (8 * class + part)) (omega arith)))
+      absurd (omega (arith, e, links.counted, length-occurs i (s.places.held (8 * class + part)) (omega arith)))
 
   pub looked-listed : (d : FreeList) → length lists ≡ 24 → (r : Sides) (now next : Search) → HasLooked o (nodes slots) class part r now → ((xs : List ℕ) → IsList (rings slots) (slice_index_or lists (8 * class + part) d) xs → (is_large : Bool) (r : Sides) (shown : List Shown) → HasSeen now is_large r shown → HasSeen next is_large r (shown ++ shown_of (nodes slots) xs)) → HasLooked o (nodes slots) class (part + 1) r next
   looked-listed d el r now next h look =
       let links = (s.filed.free (8 * class + part) below).links in
-      let at_list : IsList (rings slots) (slice_index_or lists (8 * class + part) d) (s.held (8 * class + part)) = rw (get_or_default lists (8 * class + part) d blank_list (omega (arith, below))) links in
+      let at_list : IsList (rings slots) (slice_index_or lists (8 * class + part) d) (s.places.held (8 * class + part)) = rw (get_or_default lists (8 * class + part) d blank_list (omega (arith, below))) links in
       record {
-        shown = h.shown ++ shown_of (nodes slots) (s.held (8 * class + part));
+        shown = h.shown ++ shown_of (nodes slots) (s.places.held (8 * class + part));
         are_shown = shown-listed r h.shown h.are_shown;
-        seen = look (s.held (8 * class + part)) at_list (class_of o r == 2) r h.shown h.seen;
+        seen = look (s.places.held (8 * class + part)) at_list (class_of o r == 2) r h.shown h.seen;
       }
 
   pub looked-skipped : (d : FreeList) → length lists ≡ 24 → (r : Sides) (now : Search) → HasLooked o (nodes slots) class part r now → ((0 < (slice_index_or lists (8 * class + part) d).count) × Fits r (bounds (slice_index_or lists (8 * class + part) d)) → ⊥) → HasLooked o (nodes slots) class (part + 1) r now

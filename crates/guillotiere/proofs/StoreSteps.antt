@@ -14,12 +14,12 @@ use Rattle.guillotiere.specs.Slots.{nodes, rings, node_at, use_count, KeepsUse, 
 use Rattle.guillotiere.specs.Numbered.{Numbered, erase, tally, marked, joined, lifted, granted_at, split_at, wrapped_at}
 use Rattle.guillotiere.specs.Standing.{Sequence, Stands}
 use Rattle.guillotiere.proofs.Frames.{Standing-same}
-use Rattle.guillotiere.specs.Lists.{AreFiled, Line, front, is_free}
+use Rattle.guillotiere.specs.Lists.{AreFiled, Places, Line, front, is_free}
 use Rattle.std.proofs.lemmas.List.{length-map, length_push}
 use Rattle.guillotiere.specs.Reading.{extent_of}
 use Rattle.guillotiere.specs.Parts.{front_node, back_node, inner_node}
-use Rattle.guillotiere.specs.Links.{with_mark, with_count, rest_of, IsExact, IsTaken}
-use Rattle.guillotiere.specs.Stored.{Shelf, Holding, Holds, HoldsWith}
+use Rattle.guillotiere.specs.Links.{with_mark, with_count, rest_of, given_back, IsExact, IsTaken}
+use Rattle.guillotiere.specs.Stored.{Shelf, Holding, Holds, HoldsWith, places_of}
 use Rattle.guillotiere.specs.Holdings.{node_in, IsLooseLeaf, IsReadyWith, HasSlotsFor, after_take, after_grant, after_mark, after_join, after_lift, after_split, after_wrap}
 use Rattle.guillotiere.proofs.Filing.{with_mark-same, with_mark-other, with_count-same, with_count-other}
 use Rattle.guillotiere.proofs.Taking.{AreFiled-moved, AreFiled-nodes, IsMoved}
@@ -29,7 +29,7 @@ use Rattle.guillotiere.proofs.SlotBoxes.{slot-exact}
 -- what is held once the slots and the unused list changed, and no list of free slots
 pub held_again : (hand hand' : ℕ → ℕ) (v : Shelf) (old mid new : List Slot) (unused : Link) (h : Holding) (tree : Numbered) (spare : List ℕ) (loose : ℕ → Bool)
     → old ≡ v.slots → new ≡ mid → length mid ≤ 16777216 → HoldsWith hand v h → Stands (nodes mid) h.sequence tree
-    → AreFiled (options_of v.options) (nodes mid) (rings mid) v.lists unused spare h.held hand' loose
+    → AreFiled (options_of v.options) (nodes mid) (rings mid) v.lists unused (record { spare = spare; held = h.held; hand = hand'; loose = loose })
     → IsCut h.sequence.width (erase tree) → total (erase tree) ≡ total (erase h.tree)
     → HoldsWith hand' (record v { slots = new; unused = unused }) (record h { tree = tree; spare = spare; loose = loose })
 held_again hand hand' v old mid new unused h tree spare loose eo en short holds stands filed cut whole =
@@ -54,24 +54,24 @@ pub use-kept : (n m : Node) → KeepsUse n m → use_count m.kind ≡ use_count 
 use-kept n m k = ap use_count k.kind
 
 -- one loose slot changes, and stays in use
-pub filed-one : (o : Options) (ns ms : List Node) (rs ts : List Ring) (lists : List _) (unused : Link) (spare : List ℕ) (held : ℕ → List ℕ) (loose : ℕ → Bool) (i : ℕ) (mark : Bool)
-    → ts ≡ rs → IsMoved (node_at ns i) (node_at ms i) (loose i) mark → use_count (node_at ms i).kind ≡ use_count (node_at ns i).kind
+pub filed-one : (o : Options) (ns ms : List Node) (rs ts : List Ring) (lists : List _) (unused : Link) (p : Places) (i : ℕ) (mark : Bool)
+    → ts ≡ rs → IsMoved (node_at ns i) (node_at ms i) (p.loose i) mark → use_count (node_at ms i).kind ≡ use_count (node_at ns i).kind
     → ((k : ℕ) → k ≢ i → KeepsUse (node_at ns k) (node_at ms k))
-    → AreFiled o ns rs lists unused spare held (λ j. 0) loose → AreFiled o ms ts lists unused spare held (λ j. 0) (with_mark loose i mark)
-filed-one o ns ms rs ts lists unused spare held loose i mark same here used others filed =
-    let moved : (k : ℕ) → IsMoved (node_at ns k) (node_at ms k) (loose k) (with_mark loose i mark k) =
+    → AreFiled o ns rs lists unused p → AreFiled o ms ts lists unused (record p { loose = with_mark p.loose i mark })
+filed-one o ns ms rs ts lists unused p i mark same here used others filed =
+    let moved : (k : ℕ) → IsMoved (node_at ns k) (node_at ms k) (p.loose k) (with_mark p.loose i mark k) =
     λ k. elim (cases_eq k i) [
-      | inl e ↦ subst (λ x. IsMoved (node_at ns x) (node_at ms x) (loose x) (with_mark loose i mark x)) (sym e)
-          (subst (λ b. IsMoved (node_at ns i) (node_at ms i) (loose i) b) (sym (with_mark-same loose i mark)) here)
-      | inr ne ↦ moved-kept (node_at ns k) (node_at ms k) (loose k) (with_mark loose i mark k) (others k ne) (with_mark-other loose i mark k ne)
+      | inl e ↦ subst (λ x. IsMoved (node_at ns x) (node_at ms x) (p.loose x) (with_mark p.loose i mark x)) (sym e)
+          (subst (λ b. IsMoved (node_at ns i) (node_at ms i) (p.loose i) b) (sym (with_mark-same p.loose i mark)) here)
+      | inr ne ↦ moved-kept (node_at ns k) (node_at ms k) (p.loose k) (with_mark p.loose i mark k) (others k ne) (with_mark-other p.loose i mark k ne)
     ] in
-    let counts : (k : ℕ) → k < length rs → 0 + use_count (node_at ms k).kind ≡ 0 + use_count (node_at ns k).kind =
+    let counts : (k : ℕ) → k < length rs → p.hand k + use_count (node_at ms k).kind ≡ p.hand k + use_count (node_at ns k).kind =
     λ k _. elim (cases_eq k i) [
-      | inl e ↦ subst (λ x. 0 + use_count (node_at ms x).kind ≡ 0 + use_count (node_at ns x).kind) (sym e) (omega (arith, used))
+      | inl e ↦ subst (λ x. p.hand x + use_count (node_at ms x).kind ≡ p.hand x + use_count (node_at ns x).kind) (sym e) (omega (arith, used))
       | inr ne ↦ omega (arith, use-kept (node_at ns k) (node_at ms k) (others k ne))
     ] in
-    subst (λ r. AreFiled o ms r lists unused spare held (λ j. 0) (with_mark loose i mark)) (sym same)
-    (AreFiled-moved o ns ms rs lists unused spare held (λ j. 0) (λ j. 0) loose (with_mark loose i mark) moved counts filed)
+    subst (λ r. AreFiled o ms r lists unused (record p { loose = with_mark p.loose i mark })) (sym same)
+    (AreFiled-moved o ns ms rs lists unused p p.hand (with_mark p.loose i mark) moved counts filed)
 
 -- a loose leaf is granted
 pub granted-holds : (v : Shelf) (old mid new : List Slot) (at : ℕ)
@@ -85,13 +85,13 @@ granted-holds v old mid new at eo en long tree this others same h leaf =
     let P : List Slot → Type 0 = λ slots. (node_at (nodes slots) at).kind ≡ kind.Free in
     let was_free : (node_at (nodes old) at).kind ≡ kind.Free = subst P (sym eo) leaf.kind in
     let Q : List Slot → Type 0 = λ slots. Stands (nodes slots) h.sequence h.tree in
-    let F : List Slot → Type 0 = λ slots. AreFiled (options_of v.options) (nodes slots) (rings slots) v.lists v.unused h.spare h.held (λ i. 0) h.loose in
+    let F : List Slot → Type 0 = λ slots. AreFiled (options_of v.options) (nodes slots) (rings slots) v.lists v.unused (places_of (λ i. 0) h) in
     let is_granted : (node_at (nodes mid) at).kind ≡ kind.Alloc = ap (λ n. n.kind) this in
     let G : List Slot → Type 0 = λ slots. Stands (nodes mid) h.sequence (granted_at at (node_at (nodes slots) at).generation h.tree) in
     held_again (λ i. 0) (λ i. 0) v old mid new v.unused h (granted_at at (node_in v at).generation h.tree) h.spare (with_mark h.loose at false) eo en
     (omega (arith, leaf.holds.short, ap (λ s. length s) eo, long)) leaf.holds
     (subst G eo (tree h.sequence h.tree (subst Q (sym eo) leaf.holds.stands)))
-    (filed-one (options_of v.options) (nodes old) (nodes mid) (rings old) (rings mid) v.lists v.unused h.spare h.held h.loose at false same
+    (filed-one (options_of v.options) (nodes old) (nodes mid) (rings old) (rings mid) v.lists v.unused (places_of (λ i. 0) h) at false same
     (inr (inl leaf.loose, inr (ap is_free is_granted)))
     (ap use_count is_granted ∙ sym (ap use_count was_free)) others (subst F (sym eo) leaf.holds.filed))
     (cut-granted at (node_in v at).generation h.sequence.width h.tree leaf.holds.cut)
@@ -111,9 +111,9 @@ pub short-mid : (own old mid new : List Slot) → AreSlots own old mid new → l
 short-mid own old mid new a h = omega (arith, ap (λ s. length s) a.given, a.long, h)
 
 pub filed-before : (hand : ℕ → ℕ) (v : Shelf) (old : List Slot) (h : Holding) → old ≡ v.slots → HoldsWith hand v h
-    → AreFiled (options_of v.options) (nodes old) (rings old) v.lists v.unused h.spare h.held hand h.loose
+    → AreFiled (options_of v.options) (nodes old) (rings old) v.lists v.unused (places_of hand h)
 filed-before hand v old h e holds =
-    let F : List Slot → Type 0 = λ slots. AreFiled (options_of v.options) (nodes slots) (rings slots) v.lists v.unused h.spare h.held hand h.loose in
+    let F : List Slot → Type 0 = λ slots. AreFiled (options_of v.options) (nodes slots) (rings slots) v.lists v.unused (places_of hand h) in
     subst F (sym e) holds.filed
 
 pub stands-before : (hand : ℕ → ℕ) (v : Shelf) (old : List Slot) (h : Holding) → old ≡ v.slots → HoldsWith hand v h → Stands (nodes old) h.sequence h.tree
@@ -132,7 +132,7 @@ marked-holds v old mid new at a tree was_granted is_now_free others same h holds
     held_again (λ i. 0) (λ i. 0) v old mid new v.unused h (marked at h.tree) h.spare (with_mark h.loose at true) a.given a.left
     (short-mid v.slots old mid new a holds.short) holds
     (tree h.sequence h.tree (stands-before (λ i. 0) v old h a.given holds))
-    (filed-one (options_of v.options) (nodes old) (nodes mid) (rings old) (rings mid) v.lists v.unused h.spare h.held h.loose at true same
+    (filed-one (options_of v.options) (nodes old) (nodes mid) (rings old) (rings mid) v.lists v.unused (places_of (λ i. 0) h) at true same
     (inr (inr (ap is_free was), inl refl))
     (ap use_count is_now_free ∙ sym (ap use_count was)) others (filed-before (λ i. 0) v old h a.given holds))
     (cut-marked at h.sequence.width h.tree holds.cut)
@@ -149,18 +149,18 @@ pub record ChangesTwo (ns ms : List Node) (i j : ℕ) (hand hand' : ℕ → ℕ)
   pub marks : (k : ℕ) → k ≢ i → k ≢ j → loose' k ≡ loose k
   pub others : (k : ℕ) → k ≢ i → k ≢ j → KeepsUse (node_at ns k) (node_at ms k)
 
-pub filed-two : (o : Options) (ns ms : List Node) (rs ts : List Ring) (lists : List _) (unused : Link) (spare : List ℕ) (held : ℕ → List ℕ) (hand hand' : ℕ → ℕ) (loose loose' : ℕ → Bool) (i j : ℕ)
-    → ts ≡ rs → ChangesTwo ns ms i j hand hand' loose loose'
-    → AreFiled o ns rs lists unused spare held hand loose → AreFiled o ms ts lists unused spare held hand' loose'
-filed-two o ns ms rs ts lists unused spare held hand hand' loose loose' i j same c filed =
-    let M : ℕ → Type 0 = λ x. IsMoved (node_at ns x) (node_at ms x) (loose x) (loose' x) in
-    let C : ℕ → Type 0 = λ x. hand' x + use_count (node_at ms x).kind ≡ hand x + use_count (node_at ns x).kind in
+pub filed-two : (o : Options) (ns ms : List Node) (rs ts : List Ring) (lists : List _) (unused : Link) (p : Places) (hand' : ℕ → ℕ) (loose' : ℕ → Bool) (i j : ℕ)
+    → ts ≡ rs → ChangesTwo ns ms i j p.hand hand' p.loose loose'
+    → AreFiled o ns rs lists unused p → AreFiled o ms ts lists unused (record p { hand = hand'; loose = loose' })
+filed-two o ns ms rs ts lists unused p hand' loose' i j same c filed =
+    let M : ℕ → Type 0 = λ x. IsMoved (node_at ns x) (node_at ms x) (p.loose x) (loose' x) in
+    let C : ℕ → Type 0 = λ x. hand' x + use_count (node_at ms x).kind ≡ p.hand x + use_count (node_at ns x).kind in
     let moved : (k : ℕ) → M k =
     λ k. elim (cases_eq k i) [
       | inl e ↦ subst M (sym e) c.first
       | inr ne ↦ elim (cases_eq k j) [
         | inl e ↦ subst M (sym e) c.second
-        | inr nf ↦ moved-kept (node_at ns k) (node_at ms k) (loose k) (loose' k) (c.others k ne nf) (c.marks k ne nf)
+        | inr nf ↦ moved-kept (node_at ns k) (node_at ms k) (p.loose k) (loose' k) (c.others k ne nf) (c.marks k ne nf)
       ]
     ] in
     let counts : (k : ℕ) → k < length rs → C k =
@@ -171,21 +171,21 @@ filed-two o ns ms rs ts lists unused spare held hand hand' loose loose' i j same
         | inr nf ↦ omega (arith, use-kept (node_at ns k) (node_at ms k) (c.others k nf ne), c.hands k ne)
       ]
     ] in
-    subst (λ r. AreFiled o ms r lists unused spare held hand' loose') (sym same)
-    (AreFiled-moved o ns ms rs lists unused spare held hand hand' loose loose' moved counts filed)
+    subst (λ r. AreFiled o ms r lists unused (record p { hand = hand'; loose = loose' })) (sym same)
+    (AreFiled-moved o ns ms rs lists unused p hand' loose' moved counts filed)
 
 -- what is in hand may be said in another way
-pub filed-hand : (o : Options) (ns : List Node) (rs : List Ring) (lists : List _) (unused : Link) (spare : List ℕ) (held : ℕ → List ℕ) (hand hand' : ℕ → ℕ) (loose : ℕ → Bool)
-    → ((i : ℕ) → hand' i ≡ hand i) → AreFiled o ns rs lists unused spare held hand loose → AreFiled o ns rs lists unused spare held hand' loose
-filed-hand o ns rs lists unused spare held hand hand' loose e filed =
-    AreFiled-nodes o ns ns rs lists unused spare held hand hand' loose loose (λ k i. refl) (λ i _. omega (arith, e i)) (λ k i _ _. refl) filed
+pub filed-hand : (o : Options) (ns : List Node) (rs : List Ring) (lists : List _) (unused : Link) (p : Places) (hand' : ℕ → ℕ)
+    → ((i : ℕ) → hand' i ≡ p.hand i) → AreFiled o ns rs lists unused p → AreFiled o ns rs lists unused (record p { hand = hand' })
+filed-hand o ns rs lists unused p hand' e filed =
+    AreFiled-nodes o ns ns rs lists unused p hand' p.loose (λ k i. refl) (λ i _. omega (arith, e i)) (λ k i _ _. refl) filed
 
 pub holds-hand : (hand hand' : ℕ → ℕ) (v : Shelf) (h : Holding) → ((i : ℕ) → hand' i ≡ hand i) → HoldsWith hand v h → HoldsWith hand' v h
 holds-hand hand hand' v h e holds =
     record {
       top = holds.top;
       stands = holds.stands;
-      filed = filed-hand (options_of v.options) (nodes v.slots) (rings v.slots) v.lists v.unused h.spare h.held hand hand' h.loose e holds.filed;
+      filed = filed-hand (options_of v.options) (nodes v.slots) (rings v.slots) v.lists v.unused (places_of hand h) hand' e holds.filed;
       short = holds.short;
       valid = holds.valid;
       cut = holds.cut;
@@ -205,8 +205,8 @@ hand-back hand j m none i =
 -- a free leaf leaves its list, or enters it: the nodes stay
 pub listed-holds : (v : Shelf) (old mid new : List Slot) (lists : List FreeList) (h : Holding) (held : ℕ → List ℕ) (loose : ℕ → Bool)
     → AreSlots v.slots old mid new → nodes mid ≡ nodes old
-    → (AreFiled (options_of v.options) (nodes old) (rings old) v.lists v.unused h.spare h.held (λ i. 0) h.loose
-    → AreFiled (options_of v.options) (nodes mid) (rings mid) lists v.unused h.spare held (λ i. 0) loose)
+    → (AreFiled (options_of v.options) (nodes old) (rings old) v.lists v.unused (places_of (λ i. 0) h)
+    → AreFiled (options_of v.options) (nodes mid) (rings mid) lists v.unused (record (places_of (λ i. 0) h) { held = held; loose = loose }))
     → Holds v h → Holds (record v { slots = new; lists = lists }) (record h { held = held; loose = loose })
 listed-holds v old mid new lists h held loose a same filed holds =
     let Q : List Slot → Type 0 = λ slots. Holds (record v { slots = slots; lists = lists }) (record h { held = held; loose = loose }) in
@@ -237,20 +237,20 @@ pub record GivesBack (v : Shelf) (mid old2 mid2 : List Slot) (unused : Link) (j 
   pub same_nodes : nodes mid2 ≡ nodes old2
   pub long : length mid2 ≡ length old2
   pub filed :
-      (o : Options) (lists : List FreeList) (spare : List ℕ) (held : ℕ → List ℕ) (hand : ℕ → ℕ) (loose : ℕ → Bool)
-      → AreFiled o (nodes old2) (rings old2) lists v.unused spare held hand loose → 0 < hand j
-      → AreFiled o (nodes mid2) (rings mid2) lists unused (j ∷ spare) held (with_count hand j 0) loose
+      (o : Options) (lists : List FreeList) (p : Places)
+      → AreFiled o (nodes old2) (rings old2) lists v.unused p → 0 < p.hand j
+      → AreFiled o (nodes mid2) (rings mid2) lists unused (given_back p j)
 
 -- what the lists hold once slot j, which is in hand, is given back
-given-filed : (v : Shelf) (mid old2 mid2 : List Slot) (unused : Link) (j : ℕ) (o : Options) (lists : List FreeList) (spare : List ℕ) (held : ℕ → List ℕ) (loose : ℕ → Bool)
+given-filed : (v : Shelf) (mid old2 mid2 : List Slot) (unused : Link) (j : ℕ) (o : Options) (lists : List FreeList) (p : Places)
     → GivesBack v mid old2 mid2 unused j
-    → AreFiled o (nodes mid) (rings mid) lists v.unused spare held (with_count (λ i. 0) j 1) loose
-    → AreFiled o (nodes mid2) (rings mid2) lists unused (j ∷ spare) held (λ i. 0) loose
-given-filed v mid old2 mid2 unused j o lists spare held loose b filed =
-    let F : List Slot → Type 0 = λ slots. AreFiled o (nodes slots) (rings slots) lists v.unused spare held (with_count (λ i. 0) j 1) loose in
-    filed-hand o (nodes mid2) (rings mid2) lists unused (j ∷ spare) held (with_count (with_count (λ i. 0) j 1) j 0) (λ i. 0) loose
+    → AreFiled o (nodes mid) (rings mid) lists v.unused (record p { hand = with_count (λ i. 0) j 1 })
+    → AreFiled o (nodes mid2) (rings mid2) lists unused (record p { spare = j ∷ p.spare; hand = λ i. 0 })
+given-filed v mid old2 mid2 unused j o lists p b filed =
+    let F : List Slot → Type 0 = λ slots. AreFiled o (nodes slots) (rings slots) lists v.unused (record p { hand = with_count (λ i. 0) j 1 }) in
+    filed-hand o (nodes mid2) (rings mid2) lists unused (given_back (record p { hand = with_count (λ i. 0) j 1 }) j) (λ i. 0)
     (λ i. sym (hand-back (λ k. 0) j 1 refl i))
-    (b.filed o lists spare held (with_count (λ i. 0) j 1) loose (subst F (sym b.given) filed) (omega (arith, with_count-same (λ i. 0) j 1)))
+    (b.filed o lists (record p { hand = with_count (λ i. 0) j 1 }) (subst F (sym b.given) filed) (omega (arith, with_count-same (λ i. 0) j 1)))
 
 stands-given : (v : Shelf) (mid old2 mid2 : List Slot) (unused : Link) (j : ℕ) (s : Sequence) (n : Numbered) → GivesBack v mid old2 mid2 unused j → Stands (nodes mid) s n → Stands (nodes mid2) s n
 stands-given v mid old2 mid2 unused j s n b stands =
@@ -280,13 +280,13 @@ joined-holds v old mid old2 mid2 new unused i j eo long back en tree was_free is
       marks = λ k _ ne. with_mark-other h.loose j false k ne;
       others = others;
     } in
-    let filed : AreFiled (options_of v.options) (nodes mid) (rings mid) v.lists v.unused h.spare h.held (with_count (λ k. 0) j 1) (with_mark h.loose j false) =
-    filed-two (options_of v.options) (nodes old) (nodes mid) (rings old) (rings mid) v.lists v.unused h.spare h.held (λ k. 0) (with_count (λ k. 0) j 1) h.loose (with_mark h.loose j false) i j
+    let filed : AreFiled (options_of v.options) (nodes mid) (rings mid) v.lists v.unused (record (places_of (with_count (λ k. 0) j 1) h) { loose = with_mark h.loose j false }) =
+    filed-two (options_of v.options) (nodes old) (nodes mid) (rings old) (rings mid) v.lists v.unused (places_of (λ k. 0) h) (with_count (λ k. 0) j 1) (with_mark h.loose j false) i j
     same two (filed-before (λ k. 0) v old h eo holds) in
     held_again (λ k. 0) (λ k. 0) v old mid2 new unused h (joined i h.tree) (j ∷ h.spare) (with_mark h.loose j false) eo en
     (omega (arith, back.long, ap (λ s. length s) back.given, long, ap (λ s. length s) eo, holds.short)) holds
     (stands-given v mid old2 mid2 unused j h.sequence (joined i h.tree) back (tree h.sequence h.tree (stands-before (λ k. 0) v old h eo holds)))
-    (given-filed v mid old2 mid2 unused j (options_of v.options) v.lists h.spare h.held (with_mark h.loose j false) back filed)
+    (given-filed v mid old2 mid2 unused j (options_of v.options) v.lists (record (places_of (λ k. 0) h) { loose = with_mark h.loose j false }) back filed)
     (cut-joined i h.sequence.width h.tree holds.cut) (total-joined i h.tree)
 
 -- a container gives way to its lone child, whose slot is given back
@@ -312,13 +312,13 @@ lifted-holds v old mid old2 mid2 new unused i c eo long back en tree was_contain
       marks = λ k ne nf. with_mark-other (with_mark h.loose i true) c false k nf ∙ with_mark-other h.loose i true k ne;
       others = λ k ne nf. others k nf ne;
     } in
-    let filed : AreFiled (options_of v.options) (nodes mid) (rings mid) v.lists v.unused h.spare h.held (with_count (λ k. 0) c 1) (with_mark (with_mark h.loose i true) c false) =
-    filed-two (options_of v.options) (nodes old) (nodes mid) (rings old) (rings mid) v.lists v.unused h.spare h.held (λ k. 0) (with_count (λ k. 0) c 1) h.loose (with_mark (with_mark h.loose i true) c false) i c
+    let filed : AreFiled (options_of v.options) (nodes mid) (rings mid) v.lists v.unused (record (places_of (with_count (λ k. 0) c 1) h) { loose = with_mark (with_mark h.loose i true) c false }) =
+    filed-two (options_of v.options) (nodes old) (nodes mid) (rings old) (rings mid) v.lists v.unused (places_of (λ k. 0) h) (with_count (λ k. 0) c 1) (with_mark (with_mark h.loose i true) c false) i c
     same two (filed-before (λ k. 0) v old h eo holds) in
     held_again (λ k. 0) (λ k. 0) v old mid2 new unused h (lifted i h.tree) (c ∷ h.spare) (with_mark (with_mark h.loose i true) c false) eo en
     (omega (arith, back.long, ap (λ s. length s) back.given, long, ap (λ s. length s) eo, holds.short)) holds
     (stands-given v mid old2 mid2 unused c h.sequence (lifted i h.tree) back (tree h.sequence h.tree holds.top (stands-before (λ k. 0) v old h eo holds)))
-    (given-filed v mid old2 mid2 unused c (options_of v.options) v.lists h.spare h.held (with_mark (with_mark h.loose i true) c false) back filed)
+    (given-filed v mid old2 mid2 unused c (options_of v.options) v.lists (record (places_of (λ k. 0) h) { loose = with_mark (with_mark h.loose i true) c false }) back filed)
     (cut-lifted i h.sequence.width h.tree holds.cut) (total-lifted i h.tree)
 
 -- a fact of a node of a shelf is one of the slots that a call was given
@@ -370,7 +370,7 @@ stands-taken ns ms i s n was is others stands =
 pub taken-holds : (v : Shelf) (new : List Slot) (unused : Link) (at : ℕ) (h : Holding) (hand : ℕ → ℕ)
     → length new ≤ 16777216
     → ((k : ℕ) → k ≢ at → node_at (nodes new) k ≡ node_at (nodes v.slots) k)
-    → IsTaken (options_of v.options) v.slots new v.lists v.unused unused h.spare h.held hand h.loose at
+    → IsTaken (options_of v.options) v.slots new v.lists unused (places_of hand h) at
     → HoldsWith hand v h → HoldsWith (with_count hand at 1) (record v { slots = new; unused = unused }) (after_take h)
 taken-holds v new unused at h hand short others taken holds =
     held_again hand (with_count hand at 1) v v.slots new new unused h h.tree (rest_of h.spare) h.loose refl refl short holds
@@ -444,7 +444,7 @@ split-holds v old mid new at fresh p after before a tree free_v unused_v positiv
     held_again hand (with_count hand fresh 0) v old mid new v.unused h (split_at at fresh p h.tree) h.spare (with_mark h.loose fresh true) a.given a.left
     (short-mid v.slots old mid new a r.holds.short) r.holds
     (tree h.sequence h.tree stands)
-    (filed-two (options_of v.options) (nodes old) (nodes mid) (rings old) (rings mid) v.lists v.unused h.spare h.held hand (with_count hand fresh 0) h.loose (with_mark h.loose fresh true) at fresh
+    (filed-two (options_of v.options) (nodes old) (nodes mid) (rings old) (rings mid) v.lists v.unused (places_of hand h) (with_count hand fresh 0) (with_mark h.loose fresh true) at fresh
     same two (filed-before hand v old h a.given r.holds))
     (cut-split at fresh p (nodes old) h.sequence no_slot 0 h.tree positive less stands.standing r.holds.cut)
     (total-split at fresh p (nodes old) h.sequence no_slot 0 h.tree less stands.standing)
@@ -478,7 +478,7 @@ wrapped-holds v old mid new at fresh link a tree free_v unused_v outer inner oth
     held_again hand (with_count hand fresh 0) v old mid new v.unused h (wrapped_at at fresh h.sequence.width h.tree) h.spare (with_mark (with_mark h.loose fresh true) at false) a.given a.left
     (short-mid v.slots old mid new a r.holds.short) r.holds
     (tree h.sequence h.tree (stands-before hand v old h a.given r.holds))
-    (filed-two (options_of v.options) (nodes old) (nodes mid) (rings old) (rings mid) v.lists v.unused h.spare h.held hand (with_count hand fresh 0) h.loose (with_mark (with_mark h.loose fresh true) at false) at fresh
+    (filed-two (options_of v.options) (nodes old) (nodes mid) (rings old) (rings mid) v.lists v.unused (places_of hand h) (with_count hand fresh 0) (with_mark (with_mark h.loose fresh true) at false) at fresh
     same two (filed-before hand v old h a.given r.holds))
     (cut-wrapped at fresh h.sequence.width h.tree r.holds.wide r.holds.cut)
     (total-wrapped at fresh h.sequence.width h.tree)

@@ -15,16 +15,16 @@ use Rattle.guillotiere.specs.Choice.{Options}
 use Rattle.guillotiere.specs.Pixels.{box_of}
 use Rattle.guillotiere.specs.Slots.{nodes, rings, node_at, ring_at, use_count, no_slot, blank_node, blank_ring, blank_slot}
 use Rattle.guillotiere.specs.Numbered.{same}
-use Rattle.guillotiere.specs.Lists.{AreFiled, IsList, Line, blank_list, occurs, front, filed, list_of, list_at, node_sides, is_free, bounds}
-use Rattle.guillotiere.specs.Links.{with_count, with_mark, rest_of, renewed, IsTaken}
+use Rattle.guillotiere.specs.Lists.{AreFiled, Places, IsList, Line, blank_list, occurs, front, filed, list_of, list_at, node_sides, is_free, bounds}
+use Rattle.guillotiere.specs.Links.{with_count, with_mark, rest_of, renewed, given_back, IsTaken}
 use Rattle.guillotiere.proofs.Occurrences.{same-self, same-ne, ne-from_occurs}
 use Rattle.guillotiere.proofs.Unlinking.{IsList-kept, Line-kept, Line-inside, Line-given}
 use Rattle.guillotiere.proofs.Filing.{unless-le, filed-use, with_mark-same, unless_loose, unless-loose, spare-use, unused-nowhere, with_count-same, with_count-other, past-unused}
 
 -- the lists stay in order where the nodes change: each slot is filed as before, is used or in hand as before, and keeps
 -- its rectangle if it stands in a list
-pub AreFiled-nodes : (o : Options) (ns ms : List Node) (rs : List Ring) (lists : List FreeList) (unused : Link) (spare : List ℕ) (held : ℕ → List ℕ) (hand hand' : ℕ → ℕ) (loose loose' : ℕ → Bool) → ((k i : ℕ) → unless_loose (loose' i) (filed o k (node_at ms i)) ≡ unless_loose (loose i) (filed o k (node_at ns i))) → ((i : ℕ) → i < length rs → hand' i + use_count (node_at ms i).kind ≡ hand i + use_count (node_at ns i).kind) → ((k i : ℕ) → k < 24 → 0 < occurs i (held k) → (node_at ms i).area ≡ (node_at ns i).area) → AreFiled o ns rs lists unused spare held hand loose → AreFiled o ms rs lists unused spare held hand' loose'
-AreFiled-nodes o ns ms rs lists unused spare held hand hand' loose loose' files counts areas f =
+pub AreFiled-nodes : (o : Options) (ns ms : List Node) (rs : List Ring) (lists : List FreeList) (unused : Link) (p : Places) (hand' : ℕ → ℕ) (loose' : ℕ → Bool) → ((k i : ℕ) → unless_loose (loose' i) (filed o k (node_at ms i)) ≡ unless_loose (p.loose i) (filed o k (node_at ns i))) → ((i : ℕ) → i < length rs → hand' i + use_count (node_at ms i).kind ≡ p.hand i + use_count (node_at ns i).kind) → ((k i : ℕ) → k < 24 → 0 < occurs i (p.held k) → (node_at ms i).area ≡ (node_at ns i).area) → AreFiled o ns rs lists unused p → AreFiled o ms rs lists unused (record p { hand = hand'; loose = loose' })
+AreFiled-nodes o ns ms rs lists unused p hand' loose' files counts areas f =
     record {
       free = λ k l. let mine = f.free k l in record {
         links = mine.links;
@@ -60,20 +60,20 @@ filed-same o k n m e a =
     ap (λ c. if is_free c && eqb (list_of o (node_sides m)) k then 1 else 0) e ∙ ap (λ r. if is_free n.kind && eqb (list_of o (box_sides (box_of r))) k then 1 else 0) a
 
 -- the lists stay in order where the nodes of slots that are out of them change
-pub AreFiled-moved : (o : Options) (ns ms : List Node) (rs : List Ring) (lists : List FreeList) (unused : Link) (spare : List ℕ) (held : ℕ → List ℕ) (hand hand' : ℕ → ℕ) (loose loose' : ℕ → Bool) → ((i : ℕ) → IsMoved (node_at ns i) (node_at ms i) (loose i) (loose' i)) → ((i : ℕ) → i < length rs → hand' i + use_count (node_at ms i).kind ≡ hand i + use_count (node_at ns i).kind) → AreFiled o ns rs lists unused spare held hand loose → AreFiled o ms rs lists unused spare held hand' loose'
-AreFiled-moved o ns ms rs lists unused spare held hand hand' loose loose' moved counts f =
-    AreFiled-nodes o ns ms rs lists unused spare held hand hand' loose loose' (λ k i.
+pub AreFiled-moved : (o : Options) (ns ms : List Node) (rs : List Ring) (lists : List FreeList) (unused : Link) (p : Places) (hand' : ℕ → ℕ) (loose' : ℕ → Bool) → ((i : ℕ) → IsMoved (node_at ns i) (node_at ms i) (p.loose i) (loose' i)) → ((i : ℕ) → i < length rs → hand' i + use_count (node_at ms i).kind ≡ p.hand i + use_count (node_at ns i).kind) → AreFiled o ns rs lists unused p → AreFiled o ms rs lists unused (record p { hand = hand'; loose = loose' })
+AreFiled-moved o ns ms rs lists unused p hand' loose' moved counts f =
+    AreFiled-nodes o ns ms rs lists unused p hand' loose' (λ k i.
     elim (moved i) [
-      | inl s ↦ ap (λ b. unless_loose b (filed o k (node_at ms i))) s.2 ∙ ap (unless_loose (loose i)) (filed-same o k (node_at ns i) (node_at ms i) s.0 s.1)
-      | inr s ↦ filed-out o k (node_at ms i) (loose' i) s.1 ∙ sym (filed-out o k (node_at ns i) (loose i) s.0)
+      | inl s ↦ ap (λ b. unless_loose b (filed o k (node_at ms i))) s.2 ∙ ap (unless_loose (p.loose i)) (filed-same o k (node_at ns i) (node_at ms i) s.0 s.1)
+      | inr s ↦ filed-out o k (node_at ms i) (loose' i) s.1 ∙ sym (filed-out o k (node_at ns i) (p.loose i) s.0)
     ]) counts (λ k i l h.
     elim (moved i) [
       | inl s ↦ s.1
-      | inr s ↦ absurd (omega (arith, (f.free k l).each i, filed-out o k (node_at ns i) (loose i) s.0))
+      | inr s ↦ absurd (omega (arith, (f.free k l).each i, filed-out o k (node_at ns i) (p.loose i) s.0))
     ]) f
 
 -- one more unused slot, which is in hand
-module _ (o : Options) (ns : List Node) (rs : List Ring) (lists : List FreeList) (unused : Link) (spare : List ℕ) (held : ℕ → List ℕ) (hand : ℕ → ℕ) (loose : ℕ → Bool) (f : AreFiled o ns rs lists unused spare held hand loose) where
+module _ (o : Options) (ns : List Node) (rs : List Ring) (lists : List FreeList) (unused : Link) (p : Places) (f : AreFiled o ns rs lists unused p) where
   pub node_at-grown : (i : ℕ) → node_at (ns ++ blank_node ∷ []) i ≡ node_at ns i
   node_at-grown i =
       elim (cases_lt i (length ns)) [
@@ -94,27 +94,27 @@ module _ (o : Options) (ns : List Node) (rs : List Ring) (lists : List FreeList)
         ]
       ]
 
-  pub AreFiled-grown : length ns ≡ length rs → AreFiled o (ns ++ blank_node ∷ []) (rs ++ blank_ring ∷ []) lists unused spare held (with_count hand (length rs) 1) loose
+  pub AreFiled-grown : length ns ≡ length rs → AreFiled o (ns ++ blank_node ∷ []) (rs ++ blank_ring ∷ []) lists unused (record p { hand = with_count p.hand (length rs) 1 })
   AreFiled-grown el =
       let longer = length_push rs blank_ring in
       let ms = ns ++ blank_node ∷ [] in
-      let moved = AreFiled-nodes o ns ms rs lists unused spare held hand hand loose loose (λ k i. ap (λ n. unless_loose (loose i) (filed o k n)) (node_at-grown i)) (λ i l. ap (λ (n : Node). hand i + use_count n.kind) (node_at-grown i)) (λ k i l h. ap (λ (n : Node). n.area) (node_at-grown i)) f in
+      let moved = AreFiled-nodes o ns ms rs lists unused p p.hand p.loose (λ k i. ap (λ n. unless_loose (p.loose i) (filed o k n)) (node_at-grown i)) (λ i l. ap (λ (n : Node). p.hand i + use_count n.kind) (node_at-grown i)) (λ k i l h. ap (λ (n : Node). n.area) (node_at-grown i)) f in
       record {
-        free = λ k l. let mine = moved.free k l in record { links = IsList-kept rs (rs ++ blank_ring ∷ []) (list_at lists k) (held k) (omega arith) (λ j h. ring_at-grown j) mine.links; each = mine.each; bounded = mine.bounded };
-        line = Line-kept rs (rs ++ blank_ring ∷ []) spare (omega arith) (λ j h. ring_at-grown j) f.line;
+        free = λ k l. let mine = moved.free k l in record { links = IsList-kept rs (rs ++ blank_ring ∷ []) (list_at lists k) (p.held k) (omega arith) (λ j h. ring_at-grown j) mine.links; each = mine.each; bounded = mine.bounded };
+        line = Line-kept rs (rs ++ blank_ring ∷ []) p.spare (omega arith) (λ j h. ring_at-grown j) f.line;
         begins = f.begins;
         each = λ i l. elim (cases_eq i (length rs)) [
           | inl e ↦
               let z : use_count (node_at ms i).kind ≡ 0 = ap (λ (n : Node). use_count n.kind) (node_at-grown i) ∙ past-unused ns i (omega arith) in
-              let h : with_count hand (length rs) 1 i ≡ 1 = rw e (with_count-same hand (length rs) 1) in
-              let s : occurs i spare ≡ 0 = elim (cases_lt 0 (occurs i spare)) [ inl y ↦ (let past = Line-inside rs i spare f.line y in absurd (omega arith)) | inr y ↦ omega arith ] in
+              let h : with_count p.hand (length rs) 1 i ≡ 1 = rw e (with_count-same p.hand (length rs) 1) in
+              let s : occurs i p.spare ≡ 0 = elim (cases_lt 0 (occurs i p.spare)) [ inl y ↦ (let past = Line-inside rs i p.spare f.line y in absurd (omega arith)) | inr y ↦ omega arith ] in
               omega arith
-          | inr ne ↦ omega (arith, moved.each i (omega arith), with_count-other hand (length rs) 1 i ne)
+          | inr ne ↦ omega (arith, moved.each i (omega arith), with_count-other p.hand (length rs) 1 i ne)
         ];
       }
 
   -- the first spare slot is taken
-  pub AreFiled-taken : (x : ℕ) (rest : List ℕ) (next : Link) → spare ≡ x ∷ rest → next ≡ (ring_at rs x).next → AreFiled o ns rs lists next rest held (with_count hand x 1) loose
+  pub AreFiled-taken : (x : ℕ) (rest : List ℕ) (next : Link) → p.spare ≡ x ∷ rest → next ≡ (ring_at rs x).next → AreFiled o ns rs lists next (record p { spare = rest; hand = with_count p.hand x 1 })
   AreFiled-taken x rest next es en =
       let line : Line rs (x ∷ rest) = rw es at f.line in
       record {
@@ -122,33 +122,33 @@ module _ (o : Options) (ns : List Node) (rs : List Ring) (lists : List FreeList)
         line = line.2;
         begins = rw en line.1;
         each = λ i l.
-            let was : occurs i (x ∷ rest) + hand i + use_count (node_at ns i).kind ≡ 1 = rw es at (f.each i l) in
+            let was : occurs i (x ∷ rest) + p.hand i + use_count (node_at ns i).kind ≡ 1 = rw es at (f.each i l) in
             elim (cases_eq i x) [
-              | inl e ↦ let h : with_count hand x 1 i ≡ 1 = rw e (with_count-same hand x 1) in let s : same i x ≡ 1 = rw e (same-self x) in omega arith
-              | inr ne ↦ omega (arith, with_count-other hand x 1 i ne, same-ne i x ne)
+              | inl e ↦ let h : with_count p.hand x 1 i ≡ 1 = rw e (with_count-same p.hand x 1) in let s : same i x ≡ 1 = rw e (same-self x) in omega arith
+              | inr ne ↦ omega (arith, with_count-other p.hand x 1 i ne, same-ne i x ne)
             ];
       }
 
   -- a slot in hand becomes the first spare one
-  pub AreFiled-given : (ts : List Ring) (i : ℕ) (ring : Ring) (next : Link) → i < length rs → 0 < hand i → ts ≡ set rs i ring → ring.next ≡ unused → next.number ≡ i → AreFiled o ns ts lists next (i ∷ spare) held (with_count hand i 0) loose
+  pub AreFiled-given : (ts : List Ring) (i : ℕ) (ring : Ring) (next : Link) → i < length rs → 0 < p.hand i → ts ≡ set rs i ring → ring.next ≡ unused → next.number ≡ i → AreFiled o ns ts lists next (given_back p i)
   AreFiled-given ts i ring next li hi et er en =
       let lt : length ts ≡ length rs = rw et (length-set rs i ring) in
       let now = f.each i li in
       let unused_now : use_count (node_at ns i).kind ≡ 0 = omega arith in
       let same_at : (j : ℕ) → (j ≡ i → ⊥) → ring_at ts j ≡ ring_at rs j = (λ j ne. rw et (get_or-set_other rs i j ring blank_ring ne)) in
-      let none : occurs i spare ≡ 0 = omega arith in
+      let none : occurs i p.spare ≡ 0 = omega arith in
       record {
-        free = λ k l. let mine = f.free k l in record { links = IsList-kept rs ts (list_at lists k) (held k) (omega arith) (λ j h. same_at j (ne-from_occurs i j (held k) (unused-nowhere o ns rs lists unused spare held hand loose f k i l unused_now) h)) mine.links; each = mine.each; bounded = mine.bounded };
-        line = Line-given rs ts i ring li et spare f.line (ap (λ (l : Link). l.number) er ∙ f.begins) none;
+        free = λ k l. let mine = f.free k l in record { links = IsList-kept rs ts (list_at lists k) (p.held k) (omega arith) (λ j h. same_at j (ne-from_occurs i j (p.held k) (unused-nowhere o ns rs lists unused p f k i l unused_now) h)) mine.links; each = mine.each; bounded = mine.bounded };
+        line = Line-given rs ts i ring li et p.spare f.line (ap (λ (l : Link). l.number) er ∙ f.begins) none;
         begins = en;
         each = λ j l. elim (cases_eq j i) [
           | inl e ↦
-              let h : with_count hand i 0 j ≡ 0 = rw e (with_count-same hand i 0) in
+              let h : with_count p.hand i 0 j ≡ 0 = rw e (with_count-same p.hand i 0) in
               let s : same j i ≡ 1 = rw e (same-self i) in
-              let n : occurs j spare ≡ 0 = rw e none in
+              let n : occurs j p.spare ≡ 0 = rw e none in
               let u : use_count (node_at ns j).kind ≡ 0 = rw e unused_now in
               omega arith
-          | inr ne ↦ omega (arith, f.each j (omega arith), with_count-other hand i 0 j ne, same-ne j i ne)
+          | inr ne ↦ omega (arith, f.each j (omega arith), with_count-other p.hand i 0 j ne, same-ne j i ne)
         ];
       }
 
@@ -163,18 +163,18 @@ nil-from_inside rs [] short l e = refl
 nil-from_inside rs (x ∷ xs) short l e = absurd (omega (arith, l.0))
 
 -- no slot is unused: a new one is taken
-pub taken-fresh : (o : Options) (old new : List Slot) (slot : Slot) (lists : List FreeList) (unused : Link) (at : ℕ) → length old < 4294967295 → unused.number ≡ no_slot → at ≡ length old → new ≡ old ++ slot ∷ [] → slot ≡ blank_slot → (spare : List ℕ) (held : ℕ → List ℕ) (hand : ℕ → ℕ) (loose : ℕ → Bool) → AreFiled o (nodes old) (rings old) lists unused spare held hand loose → IsTaken o old new lists unused unused spare held hand loose at
-taken-fresh o old new slot lists unused at short none ea en es spare held hand loose f =
+pub taken-fresh : (o : Options) (old new : List Slot) (slot : Slot) (lists : List FreeList) (unused : Link) (at : ℕ) → length old < 4294967295 → unused.number ≡ no_slot → at ≡ length old → new ≡ old ++ slot ∷ [] → slot ≡ blank_slot → (p : Places) → AreFiled o (nodes old) (rings old) lists unused p → IsTaken o old new lists unused p at
+taken-fresh o old new slot lists unused at short none ea en es p f =
     let ln : length (nodes old) ≡ length old = length-map old _ in
     let lr : length (rings old) ≡ length old = length-map old _ in
     let last : new ≡ old ++ blank_slot ∷ [] = en ∙ ap (λ s. old ++ s ∷ []) es in
     let ns : nodes new ≡ nodes old ++ blank_node ∷ [] = ap nodes last ∙ map-append (λ (s : Slot). s.node) old (blank_slot ∷ []) in
     let rs : rings new ≡ rings old ++ blank_ring ∷ [] = ap rings last ∙ map-append (λ (s : Slot). s.ring) old (blank_slot ∷ []) in
-    let empty : spare ≡ [] = nil-from_inside (rings old) spare (omega arith) f.line (sym f.begins ∙ none) in
-    let same_rest : rest_of spare ≡ spare = ap rest_of empty ∙ sym empty in
-    let grown = AreFiled-grown o (nodes old) (rings old) lists unused spare held hand loose f (ln ∙ sym lr) in
-    let P : List Node → List Ring → List ℕ → ℕ → Type 0 = λ ms ts ys n. AreFiled o ms ts lists unused ys held (with_count hand n 1) loose in
-    let at_node : (i : ℕ) → node_at (nodes new) i ≡ node_at (nodes old) i = (λ i. rw ns (node_at-grown o (nodes old) (rings old) lists unused spare held hand loose f i)) in
+    let empty : p.spare ≡ [] = nil-from_inside (rings old) p.spare (omega arith) f.line (sym f.begins ∙ none) in
+    let same_rest : rest_of p.spare ≡ p.spare = ap rest_of empty ∙ sym empty in
+    let grown = AreFiled-grown o (nodes old) (rings old) lists unused p f (ln ∙ sym lr) in
+    let P : List Node → List Ring → List ℕ → ℕ → Type 0 = λ ms ts ys n. AreFiled o ms ts lists unused (record p { spare = ys; hand = with_count p.hand n 1 }) in
+    let at_node : (i : ℕ) → node_at (nodes new) i ≡ node_at (nodes old) i = (λ i. rw ns (node_at-grown o (nodes old) (rings old) lists unused p f i)) in
     let blank : node_at (nodes old) at ≡ blank_node = get_or_past (nodes old) at blank_node (omega arith) in
     record {
       filed = rw (ns, rs, same_rest, ea, ← lr) grown;
@@ -185,49 +185,61 @@ taken-fresh o old new slot lists unused at short none ea en es spare held hand l
     }
 
 -- the first unused slot is taken
-pub taken-again : (o : Options) (old new : List Slot) (lists : List FreeList) (unused next : Link) → (unused.number ≡ no_slot → ⊥) → next ≡ (ring_at (rings old) unused.number).next → nodes new ≡ set (nodes old) unused.number (renewed (node_at (nodes old) unused.number)) → rings new ≡ rings old → (spare : List ℕ) (held : ℕ → List ℕ) (hand : ℕ → ℕ) (loose : ℕ → Bool) → AreFiled o (nodes old) (rings old) lists unused spare held hand loose → IsTaken o old new lists unused next spare held hand loose unused.number
-taken-again o old new lists unused next some en em er [] held hand loose f = absurd (some f.begins)
-taken-again o old new lists unused next some en em er (x ∷ rest) held hand loose f =
-    let at = unused.number in
-    let ax : at ≡ x = f.begins in
-    let ns = nodes old in
-    let lr : length (rings old) ≡ length old = length-map old _ in
-    let ln : length ns ≡ length old = length-map old _ in
-    let in_rings : at < length (rings old) = rw ax f.line.0 in
-    let inside : at < length ns = omega arith in
-    let on : 0 < occurs at (x ∷ rest) = omega (arith, same-self x, ap (λ v. same v x) ax) in
-    let free = spare-use o ns (rings old) lists unused (x ∷ rest) held hand loose f at on in
-    let was : (node_at ns at).kind ≡ kind.Unused = unused_kind _ free.0 in
-    let here : node_at (nodes new) at ≡ renewed (node_at ns at) = rw em (get_or-set_same ns at (renewed (node_at ns at)) blank_node inside) in
-    let there : (i : ℕ) → (i ≡ at → ⊥) → node_at (nodes new) i ≡ node_at ns i = (λ i ne. rw em (get_or-set_other ns at i (renewed (node_at ns at)) blank_node ne)) in
-    let kinds : (i : ℕ) → (node_at (nodes new) i).kind ≡ (node_at ns i).kind = (λ i. elim (cases_eq i at) [ inl e ↦ rw e (ap (λ (n : Node). n.kind) here) | inr ne ↦ ap (λ (n : Node). n.kind) (there i ne) ]) in
-    let areas : (i : ℕ) → (node_at (nodes new) i).area ≡ (node_at ns i).area = (λ i. elim (cases_eq i at) [ inl e ↦ rw e (ap (λ (n : Node). n.area) here) | inr ne ↦ ap (λ (n : Node). n.area) (there i ne) ]) in
-    let taken = AreFiled-taken o ns (rings old) lists unused (x ∷ rest) held hand loose f x rest next refl (rw (← ax) en) in
-    let now = AreFiled-moved o ns (nodes new) (rings old) lists next rest held (with_count hand x 1) (with_count hand x 1) loose loose (λ i. inl (kinds i, areas i, refl)) (λ i l. ap (λ k. with_count hand x 1 i + use_count k) (kinds i)) taken in
-    record {
-      filed = rw (er, ax) now;
-      inside = rw (sym (length-map new (λ (s : Slot). s.ring)), er) in_rings;
-      was_unused = was;
-      is_unused = kinds at ∙ was;
-      apart = λ k l h e. let z : hand k ≡ 0 = rw (← e) free.1 in absurd (omega arith);
-    }
+pub taken-again : (o : Options) (old new : List Slot) (lists : List FreeList) (unused next : Link) → (unused.number ≡ no_slot → ⊥) → next ≡ (ring_at (rings old) unused.number).next → nodes new ≡ set (nodes old) unused.number (renewed (node_at (nodes old) unused.number)) → rings new ≡ rings old → (p : Places) → AreFiled o (nodes old) (rings old) lists unused p → IsTaken o old new lists next p unused.number
+taken-again o old new lists unused next some en em er p f = by p.spare refl
+  where
+    by : (xs : List ℕ) → p.spare ≡ xs → IsTaken o old new lists next p unused.number
+    by [] e = absurd (some (f.begins ∙ ap front e))
+    by (x ∷ rest) e =
+        let at = unused.number in
+        let ax : at ≡ x = f.begins ∙ ap front e in
+        let ns = nodes old in
+        let lr : length (rings old) ≡ length old = length-map old _ in
+        let ln : length ns ≡ length old = length-map old _ in
+        let line : Line (rings old) (x ∷ rest) = subst (Line (rings old)) e f.line in
+        let in_rings : at < length (rings old) = rw ax line.0 in
+        let inside : at < length ns = omega arith in
+        let on : 0 < occurs at (x ∷ rest) = omega (arith, same-self x, ap (λ v. same v x) ax) in
+        let free = spare-use o ns (rings old) lists unused p f at (subst (λ ys. 0 < occurs at ys) (sym e) on) in
+        let was : (node_at ns at).kind ≡ kind.Unused = unused_kind _ free.0 in
+        let here : node_at (nodes new) at ≡ renewed (node_at ns at) = rw em (get_or-set_same ns at (renewed (node_at ns at)) blank_node inside) in
+        let there : (i : ℕ) → (i ≡ at → ⊥) → node_at (nodes new) i ≡ node_at ns i = (λ i ne. rw em (get_or-set_other ns at i (renewed (node_at ns at)) blank_node ne)) in
+        let kinds : (i : ℕ) → (node_at (nodes new) i).kind ≡ (node_at ns i).kind = (λ i. elim (cases_eq i at) [ inl e ↦ rw e (ap (λ (n : Node). n.kind) here) | inr ne ↦ ap (λ (n : Node). n.kind) (there i ne) ]) in
+        let areas : (i : ℕ) → (node_at (nodes new) i).area ≡ (node_at ns i).area = (λ i. elim (cases_eq i at) [ inl e ↦ rw e (ap (λ (n : Node). n.area) here) | inr ne ↦ ap (λ (n : Node). n.area) (there i ne) ]) in
+        let q : Places = record p { spare = rest; hand = with_count p.hand x 1 } in
+        let taken : AreFiled o ns (rings old) lists next q = AreFiled-taken o ns (rings old) lists unused p f x rest next e (rw (← ax) en) in
+        let now : AreFiled o (nodes new) (rings old) lists next q = AreFiled-moved o ns (nodes new) (rings old) lists next q q.hand q.loose (λ i. inl (kinds i, areas i, refl)) (λ i l. ap (λ k. with_count p.hand x 1 i + use_count k) (kinds i)) taken in
+        let P : List Ring → List ℕ → ℕ → Type 0 = λ ts ys n. AreFiled o (nodes new) ts lists next (record p { spare = ys; hand = with_count p.hand n 1 }) in
+        let first : P (rings old) rest at = subst (P (rings old) rest) (sym ax) now in
+        let spared : P (rings old) (rest_of p.spare) at = subst (λ ys. P (rings old) ys at) (sym (ap rest_of e)) first in
+        record {
+          filed = subst (λ ts. P ts (rest_of p.spare) at) (sym er) spared;
+          inside = rw (sym (length-map new (λ (s : Slot). s.ring)), er) in_rings;
+          was_unused = was;
+          is_unused = kinds at ∙ was;
+          apart = λ k l h e. let z : p.hand k ≡ 0 = rw (← e) free.1 in absurd (omega arith);
+        }
 
 -- the same where the slots are seen through another name
-pub taken-again_by : (o : Options) (old items ys new : List Slot) (lists : List FreeList) (unused : Link) (ring : Ring) → items ≡ old → new ≡ ys → (unused.number ≡ no_slot → ⊥) → ring ≡ ring_at (rings old) unused.number → nodes ys ≡ set (nodes items) unused.number (renewed (node_at (nodes items) unused.number)) → rings ys ≡ rings items → (spare : List ℕ) (held : ℕ → List ℕ) (hand : ℕ → ℕ) (loose : ℕ → Bool) → AreFiled o (nodes old) (rings old) lists unused spare held hand loose → IsTaken o old new lists unused ring.next spare held hand loose unused.number
-taken-again_by o old items ys new lists unused ring ei ey some eg em er spare held hand loose f =
+pub taken-again_by : (o : Options) (old items ys new : List Slot) (lists : List FreeList) (unused : Link) (ring : Ring) → items ≡ old → new ≡ ys → (unused.number ≡ no_slot → ⊥) → ring ≡ ring_at (rings old) unused.number → nodes ys ≡ set (nodes items) unused.number (renewed (node_at (nodes items) unused.number)) → rings ys ≡ rings items → (p : Places) → AreFiled o (nodes old) (rings old) lists unused p → IsTaken o old new lists ring.next p unused.number
+taken-again_by o old items ys new lists unused ring ei ey some eg em er p f =
     let en : nodes new ≡ set (nodes old) unused.number (renewed (node_at (nodes old) unused.number)) = rw (ey, ← ei) em in
-    taken-again o old new lists unused ring.next some (ap (λ (r : Ring). r.next) eg) en (ap rings ey ∙ er ∙ ap rings ei) spare held hand loose f
+    taken-again o old new lists unused ring.next some (ap (λ (r : Ring). r.next) eg) en (ap rings ey ∙ er ∙ ap rings ei) p f
 
-pub given-by : (o : Options) (old new : List Slot) (lists : List FreeList) (unused at : Link) (ring : Ring) → at.number < length old → rings new ≡ set (rings old) at.number ring → nodes new ≡ nodes old → ring.next ≡ unused → (spare : List ℕ) (held : ℕ → List ℕ) (hand : ℕ → ℕ) (loose : ℕ → Bool) → AreFiled o (nodes old) (rings old) lists unused spare held hand loose → 0 < hand at.number → AreFiled o (nodes new) (rings new) lists at (at.number ∷ spare) held (with_count hand at.number 0) loose
-given-by o old new lists unused at ring li er en es spare held hand loose f h =
+pub given-by : (o : Options) (old new : List Slot) (lists : List FreeList) (unused at : Link) (ring : Ring) → at.number < length old → rings new ≡ set (rings old) at.number ring → nodes new ≡ nodes old → ring.next ≡ unused → (p : Places) → AreFiled o (nodes old) (rings old) lists unused p → 0 < p.hand at.number → AreFiled o (nodes new) (rings new) lists at (given_back p at.number)
+given-by o old new lists unused at ring li er en es p f h =
     let inside : at.number < length (rings old) = rw (length-map old (λ (s : Slot). s.ring)) li in
-    rw en (AreFiled-given o (nodes old) (rings old) lists unused spare held hand loose f (rings new) at.number ring at inside h er es refl)
+    rw en (AreFiled-given o (nodes old) (rings old) lists unused p f (rings new) at.number ring at inside h er es refl)
 
 empty-list : (rs : List Ring) → IsList rs blank_list []
 empty-list rs = record { chain = tt; head = refl; tail = refl; counted = refl; once = λ k. omega arith }
 
+-- slot 0 is loose, and nothing else stands anywhere
+abbrev pub one_loose : Places
+one_loose = record { spare = []; held = λ _. []; hand = λ _. 0; loose = with_mark (λ _. false) 0 true }
+
 -- one free slot, which is loose: the lists are empty
-pub AreFiled-one : (o : Options) (n : Node) (ring : Ring) (unused : Link) → n.kind ≡ kind.Free → unused.number ≡ no_slot → AreFiled o (n ∷ []) (ring ∷ []) (replicate 24 blank_list) unused [] (λ _. []) (λ _. 0) (with_mark (λ _. false) 0 true)
+pub AreFiled-one : (o : Options) (n : Node) (ring : Ring) (unused : Link) → n.kind ≡ kind.Free → unused.number ≡ no_slot → AreFiled o (n ∷ []) (ring ∷ []) (replicate 24 blank_list) unused one_loose
 AreFiled-one o n ring unused e none =
     record {
       free = λ k l.

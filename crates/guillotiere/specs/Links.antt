@@ -12,7 +12,7 @@ use Rattle.guillotiere.specs.Pixels.{box_of}
 use Rattle.guillotiere.specs.Rectangles.{IsUnsigned}
 use Rattle.guillotiere.specs.Choice.{Options}
 use Rattle.guillotiere.specs.Slots.{nodes, rings, node_at, ring_at}
-use Rattle.guillotiere.specs.Lists.{IsList, AreFiled, occurs, without}
+use Rattle.guillotiere.specs.Lists.{IsList, AreFiled, Places, occurs, without}
 
 -- the list is in order, and slot i stands in it
 abbrev pub IsListed : List Ring → FreeList → ℕ → Type 0
@@ -54,37 +54,46 @@ pub record IsExact (r : Rectangle) : Type 0 where
 -- the lists are in order, and slot i is not loose
 pub record IsKept (o : Options) (slots : List Slot) (lists : List FreeList) (i : ℕ) : Type 0 where
   pub unused : Link
-  pub spare : List ℕ
-  pub held : ℕ → List ℕ
-  pub hand : ℕ → ℕ
-  pub loose : ℕ → Bool
-  pub filed : AreFiled o (nodes slots) (rings slots) lists unused spare held hand loose
-  pub kept : loose i ≡ false
+  pub places : Places
+  pub filed : AreFiled o (nodes slots) (rings slots) lists unused places
+  pub kept : places.loose i ≡ false
 
 -- the lists are in order, and slot i is loose
 pub record IsLoose (o : Options) (slots : List Slot) (lists : List FreeList) (i : ℕ) : Type 0 where
   pub unused : Link
-  pub spare : List ℕ
-  pub held : ℕ → List ℕ
-  pub hand : ℕ → ℕ
-  pub loose : ℕ → Bool
-  pub filed : AreFiled o (nodes slots) (rings slots) lists unused spare held hand loose
-  pub is_loose : loose i ≡ true
+  pub places : Places
+  pub filed : AreFiled o (nodes slots) (rings slots) lists unused places
+  pub is_loose : places.loose i ≡ true
 
 -- the list but for its first
 abbrev pub rest_of : List ℕ → List ℕ
 rest_of [] = []
 rest_of (x ∷ xs) = xs
 
+-- slot i has left its list, and is loose
+abbrev pub unlisted : Places → ℕ → Places
+unlisted p i = record p { held = held_without p.held i; loose = with_mark p.loose i true }
+
+-- slot i stands first in list m, and is no longer loose
+abbrev pub listed : Places → (m i : ℕ) → Places
+listed p m i = record p { held = held_with p.held m i; loose = with_mark p.loose i false }
+
+-- the first spare slot, if there was one, is gone, and slot i is in hand
+abbrev pub in_hand : Places → ℕ → Places
+in_hand p i = record p { spare = rest_of p.spare; hand = with_count p.hand i 1 }
+
+-- slot i, which was in hand, is the first spare one
+abbrev pub given_back : Places → ℕ → Places
+given_back p i = record p { spare = i ∷ p.spare; hand = with_count p.hand i 0 }
+
 -- the node of an unused slot once it is taken again
 abbrev pub renewed : Node → Node
 renewed n = record n { generation = (n.generation + 1) % 256 }
 
 -- Slot `at` was taken: it is in hand, no longer spare, not used, and none of those that were in hand.
-pub record IsTaken (o : Options) (old new : List Slot) (lists : List FreeList) (unused unused' : Link)
-    (spare : List ℕ) (held : ℕ → List ℕ) (hand : ℕ → ℕ) (loose : ℕ → Bool) (at : ℕ) : Type 0 where
-  pub filed : AreFiled o (nodes new) (rings new) lists unused' (rest_of spare) held (with_count hand at 1) loose
+pub record IsTaken (o : Options) (old new : List Slot) (lists : List FreeList) (unused' : Link) (p : Places) (at : ℕ) : Type 0 where
+  pub filed : AreFiled o (nodes new) (rings new) lists unused' (in_hand p at)
   pub inside : at < length new
   pub was_unused : (node_at (nodes old) at).kind ≡ kind.Unused
   pub is_unused : (node_at (nodes new) at).kind ≡ kind.Unused
-  pub apart : (k : ℕ) → k < length old → 0 < hand k → at ≡ k → ⊥
+  pub apart : (k : ℕ) → k < length old → 0 < p.hand k → at ≡ k → ⊥

@@ -104,11 +104,17 @@ blank_list =
 abbrev pub list_at : List FreeList → ℕ → FreeList
 list_at lists k = slice_index_or lists k blank_list
 
--- The lists of free slots and the list of unused ones: `spare` are the unused, `hand i` counts a slot that is taken and
--- not used yet, and `loose` are free slots that stand in no list.
-pub record AreFiled (o : Options) (ns : List Node) (rs : List Ring) (lists : List FreeList) (unused : Link)
-    (spare : List ℕ) (held : ℕ → List ℕ) (hand : ℕ → ℕ) (loose : ℕ → Bool) : Type 0 where
-  pub free : (k : ℕ) → k < 24 → IsFiled o ns rs (list_at lists k) k (held k) loose
-  pub line : Line rs spare
-  pub begins : unused.number ≡ front spare
-  pub each : (i : ℕ) → i < length rs → occurs i spare + hand i + use_count (node_at ns i).kind ≡ 1
+-- Where slots stand: `spare` are the unused ones, `held k` those of list k, `hand i` counts a slot that is taken and not
+-- used yet, and `loose` are the free ones that stand in no list.
+pub record Places : Type 0 where
+  pub spare : List ℕ
+  pub held : ℕ → List ℕ
+  pub hand : ℕ → ℕ
+  pub loose : ℕ → Bool
+
+-- the lists of free slots and the list of unused ones hold what stands there
+pub record AreFiled (o : Options) (ns : List Node) (rs : List Ring) (lists : List FreeList) (unused : Link) (p : Places) : Type 0 where
+  pub free : (k : ℕ) → k < 24 → IsFiled o ns rs (list_at lists k) k (p.held k) p.loose
+  pub line : Line rs p.spare
+  pub begins : unused.number ≡ front p.spare
+  pub each : (i : ℕ) → i < length rs → occurs i p.spare + p.hand i + use_count (node_at ns i).kind ≡ 1

@@ -1,5 +1,5 @@
 -- The search through the lists of an atlas: what it needs, and what it answers. No public clause cites this module.
-use Rattle.std.specs.Prelude.{ℕ, ◌≡◌, ◌<◌, ◌≤◌, ◌==◌, Bool, false, List, map, Contains}
+use Rattle.std.specs.Prelude.{ℕ, ◌≡◌, ◌<◌, ◌≤◌, ◌==◌, false, List, map, Contains}
 use Rattle.guillotiere.specs.declared.slots.Slot.{Slot}
 use Rattle.guillotiere.specs.declared.slots.Link.{Link}
 use Rattle.guillotiere.specs.declared.slots.Node.{Node}
@@ -13,7 +13,7 @@ use Rattle.guillotiere.specs.Rectangles.{IsUnsigned}
 use Rattle.guillotiere.specs.Choice.{Options, class_of}
 use Rattle.guillotiere.specs.Searches.{Shown, shown_at, HasSeen, IsBestShown}
 use Rattle.guillotiere.specs.Slots.{nodes, rings, node_at}
-use Rattle.guillotiere.specs.Lists.{IsList, AreFiled, node_sides, band_of, occurs}
+use Rattle.guillotiere.specs.Lists.{IsList, AreFiled, Places, node_sides, band_of, occurs}
 use Rattle.guillotiere.specs.Links.{IsExact}
 
 abbrev pub node_box : Node → Box
@@ -37,12 +37,9 @@ IsShowable slots list = (xs : List ℕ) × IsList (rings slots) list xs × ((i :
 -- the lists are in order, each free slot stands in one, and has an exact rectangle
 pub record IsSearchable (o : Options) (slots : List Slot) (lists : List FreeList) : Type 0 where
   pub unused : Link
-  pub spare : List ℕ
-  pub held : ℕ → List ℕ
-  pub hand : ℕ → ℕ
-  pub loose : ℕ → Bool
-  pub filed : AreFiled o (nodes slots) (rings slots) lists unused spare held hand loose
-  pub all_listed : (i : ℕ) → loose i ≡ false
+  pub places : Places
+  pub filed : AreFiled o (nodes slots) (rings slots) lists unused places
+  pub all_listed : (i : ℕ) → places.loose i ≡ false
   pub exact : (i : ℕ) → IsFreeSlot (nodes slots) i → IsExact (node_at (nodes slots) i).area
 
 -- what was shown are free slots of a class, and among them is each one of a band below `band` that the request fits

@@ -13,7 +13,7 @@ use Rattle.guillotiere.specs.States.{State, IsSound}
 use Rattle.guillotiere.specs.Slots.{nodes, rings, no_slot}
 use Rattle.guillotiere.specs.Numbered.{Numbered, erase, first_slot, numbers}
 use Rattle.guillotiere.specs.Standing.{Sequence, Stands}
-use Rattle.guillotiere.specs.Lists.{AreFiled, occurs}
+use Rattle.guillotiere.specs.Lists.{AreFiled, Places, occurs}
 use Rattle.guillotiere.specs.Reading.{tree_of}
 
 -- the slots with their lists
@@ -56,11 +56,15 @@ pub record Holding : Type 0 where
   pub held : ℕ → List ℕ
   pub loose : ℕ → Bool
 
+-- where slots stand, once `hand i` counts a slot that is taken and not used yet
+abbrev pub places_of : (hand : ℕ → ℕ) → Holding → Places
+places_of hand h = record { spare = h.spare; held = h.held; hand = hand; loose = h.loose }
+
 -- The slots stand for a tree, and the lists are in order; `hand i` counts a slot that is taken and not used yet.
 pub record HoldsWith (hand : ℕ → ℕ) (v : Shelf) (h : Holding) : Type 0 where
   pub top : h.sequence.parent ≡ no_slot
   pub stands : Stands (nodes v.slots) h.sequence h.tree
-  pub filed : AreFiled (options_of v.options) (nodes v.slots) (rings v.slots) v.lists v.unused h.spare h.held hand h.loose
+  pub filed : AreFiled (options_of v.options) (nodes v.slots) (rings v.slots) v.lists v.unused (places_of hand h)
   pub short : length v.slots ≤ 16777216
   pub valid : AreValid (options_of v.options)
   -- extents are positive, and no box passes what an `i32` holds

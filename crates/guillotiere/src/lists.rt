@@ -5,9 +5,9 @@ ghost use Rattle.guillotiere.specs.Choice.{Options};
 ghost use Rattle.guillotiere.specs.Pixels.{box_of, options_of, sides_of};
 ghost use Rattle.guillotiere.specs.Slots.{blank_slot, nodes, rings, node_at, ring_at};
 ghost use Rattle.guillotiere.specs.Standing.{IsSlot};
-ghost use Rattle.guillotiere.specs.Lists.{AreFiled, IsList, Line, band_of, blank_list, bounds, front, list_of, node_sides, occurs, without};
+ghost use Rattle.guillotiere.specs.Lists.{AreFiled, IsList, Line, Places, band_of, blank_list, bounds, front, list_of, node_sides, occurs, without};
 ghost use Rattle.guillotiere.specs.declared.slots.NodeKind.TheVariants.{Free};
-ghost use Rattle.guillotiere.specs.Links.{IsExact, IsKept, IsListed, IsLoose, IsTaken, IsUnlisted, held_with, held_without, renewed, with_count, with_mark, with_next, with_ring_previous};
+ghost use Rattle.guillotiere.specs.Links.{IsExact, IsKept, IsListed, IsLoose, IsTaken, IsUnlisted, given_back, listed, renewed, unlisted, with_next, with_ring_previous};
 
 use crate::choice::class;
 use crate::cut::Orientation;
@@ -192,7 +192,7 @@ pub fn unlist(slots: &mut [Slot], lists: &mut [FreeList], options: &AllocatorOpt
     requires kept { IsKept (options_of options.now) slots.old lists.old at.number }
     requires count { length lists.old ≡ LISTS }
     requires short { length slots.old < 4294967295 }
-    ensures filed { (unused : Link) (spare : List ℕ) (held : ℕ → List ℕ) (hand : ℕ → ℕ) (loose : ℕ → Bool) → AreFiled (options_of options.now) (nodes slots.old) (rings slots.old) lists.old unused spare held hand loose → loose at.number ≡ false → AreFiled (options_of options.now) (nodes slots.new) (rings slots.new) lists.new unused spare (held_without held at.number) hand (with_mark loose at.number true) }
+    ensures filed { (unused : Link) (p : Places) → AreFiled (options_of options.now) (nodes slots.old) (rings slots.old) lists.old unused p → p.loose at.number ≡ false → AreFiled (options_of options.now) (nodes slots.new) (rings slots.new) lists.new unused (unlisted p at.number) }
     ensures same_nodes { nodes slots.new ≡ nodes slots.old }
 {
     let node = read_node(slots, at);
@@ -208,7 +208,7 @@ pub fn enlist(slots: &mut [Slot], lists: &mut [FreeList], options: &AllocatorOpt
     requires loose { IsLoose (options_of options.now) slots.old lists.old at.number }
     requires count { length lists.old ≡ LISTS }
     requires short { length slots.old < 4294967295 }
-    ensures filed { (unused : Link) (spare : List ℕ) (held : ℕ → List ℕ) (hand : ℕ → ℕ) (loose : ℕ → Bool) → AreFiled (options_of options.now) (nodes slots.old) (rings slots.old) lists.old unused spare held hand loose → loose at.number ≡ true → AreFiled (options_of options.now) (nodes slots.new) (rings slots.new) lists.new unused spare (held_with held (list_of (options_of options.now) (node_sides (node_at (nodes slots.old) at.number))) at.number) hand (with_mark loose at.number false) }
+    ensures filed { (unused : Link) (p : Places) → AreFiled (options_of options.now) (nodes slots.old) (rings slots.old) lists.old unused p → p.loose at.number ≡ true → AreFiled (options_of options.now) (nodes slots.new) (rings slots.new) lists.new unused (listed p (list_of (options_of options.now) (node_sides (node_at (nodes slots.old) at.number))) at.number) }
     ensures same_nodes { nodes slots.new ≡ nodes slots.old }
 {
     let node = read_node(slots, at);
@@ -261,7 +261,7 @@ pub fn take_slot<A: Allocator>(slots: &mut Vec<Slot, A>, unused: &mut Link) -> L
     requires listed { (spare : List ℕ) × Line (rings slots.old.items) spare × (unused.old.number ≡ front spare) }
     requires room { unused.old.number ≡ NO_SLOT → vec_len slots.old < vec_capacity slots.old }
     requires short { vec_len slots.old < 4294967295 }
-    ensures taken { (o : Options) (lists : List FreeList) (spare : List ℕ) (held : ℕ → List ℕ) (hand : ℕ → ℕ) (loose : ℕ → Bool) → AreFiled o (nodes slots.old.items) (rings slots.old.items) lists unused.old spare held hand loose → IsTaken o slots.old.items slots.new.items lists unused.old unused.new spare held hand loose result.number }
+    ensures taken { (o : Options) (lists : List FreeList) (p : Places) → AreFiled o (nodes slots.old.items) (rings slots.old.items) lists unused.old p → IsTaken o slots.old.items slots.new.items lists unused.new p result.number }
     ensures others { (k : ℕ) → (k ≡ result.number → ⊥) → node_at (nodes slots.new.items) k ≡ node_at (nodes slots.old.items) k }
     ensures again { (unused.old.number ≡ NO_SLOT → ⊥) → (result ≡ unused.old) × (nodes slots.new.items ≡ slice_set (nodes slots.old.items) result.number (renewed (node_at (nodes slots.old.items) result.number))) }
     ensures fresh { unused.old.number ≡ NO_SLOT → (result.number ≡ vec_len slots.old) × (slots.new.items ≡ slots.old.items ++ blank_slot ∷ []) }
@@ -283,7 +283,7 @@ pub fn take_slot<A: Allocator>(slots: &mut Vec<Slot, A>, unused: &mut Link) -> L
 /// Puts a slot that is in hand, and not used, in front of the unused ones.
 pub fn give_back(slots: &mut [Slot], unused: &mut Link, at: Link)
     requires { at.number < length slots.old }
-    ensures filed { (o : Options) (lists : List FreeList) (spare : List ℕ) (held : ℕ → List ℕ) (hand : ℕ → ℕ) (loose : ℕ → Bool) → AreFiled o (nodes slots.old) (rings slots.old) lists unused.old spare held hand loose → 0 < hand at.number → AreFiled o (nodes slots.new) (rings slots.new) lists unused.new (at.number ∷ spare) held (with_count hand at.number 0) loose }
+    ensures filed { (o : Options) (lists : List FreeList) (p : Places) → AreFiled o (nodes slots.old) (rings slots.old) lists unused.old p → 0 < p.hand at.number → AreFiled o (nodes slots.new) (rings slots.new) lists unused.new (given_back p at.number) }
     ensures same_nodes { nodes slots.new ≡ nodes slots.old }
 {
     let none = Link { number: NO_SLOT };

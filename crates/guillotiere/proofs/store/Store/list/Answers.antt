@@ -4,6 +4,7 @@ use Rattle.guillotiere.specs.Pixels.{options_of}
 use Rattle.guillotiere.specs.Slots.{nodes, node_at}
 use Rattle.guillotiere.specs.Lists.{list_of, node_sides}
 use Rattle.guillotiere.specs.Links.{held_with, with_mark}
+use Rattle.guillotiere.specs.Stored.{places_of}
 use Rattle.guillotiere.specs.Holdings.{shelf_of}
 use Rattle.guillotiere.proofs.StoreSteps.{listed-holds, leaf-exact}
 use Rattle.guillotiere.proofs.store.Store.list.Goals as goal
@@ -23,6 +24,6 @@ returns-clause-kept g c = λ h leaf.
             long = c.enlist.auto.slots;
           })
           c.enlist.ensures.same_nodes
-          (λ filed. c.enlist.ensures.filed c.args.self.now.unused h.spare h.held (λ i. 0) h.loose filed leaf.loose)
+          (λ filed. c.enlist.ensures.filed c.args.self.now.unused (places_of (λ i. 0) h) filed leaf.loose)
           leaf.holds,
     )

@@ -1,6 +1,7 @@
 use Rattle.std.proofs.Common.{◌∙◌, true}
 use Rattle.std.proofs.lemmas.List.{with_items_is}
 use Rattle.guillotiere.specs.Links.{held_without, with_mark}
+use Rattle.guillotiere.specs.Stored.{places_of}
 use Rattle.guillotiere.specs.Holdings.{shelf_of}
 use Rattle.guillotiere.proofs.StoreSteps.{listed-holds, leaf-exact}
 use Rattle.guillotiere.proofs.store.Store.unlist.Goals as goal
@@ -19,6 +20,6 @@ returns-clause-kept g c = λ h holds listed. (
         long = c.unlist.auto.slots;
       })
       c.unlist.ensures.same_nodes
-      (λ filed. c.unlist.ensures.filed c.args.self.now.unused h.spare h.held (λ i. 0) h.loose filed listed)
+      (λ filed. c.unlist.ensures.filed c.args.self.now.unused (places_of (λ i. 0) h) filed listed)
       holds,
 )
