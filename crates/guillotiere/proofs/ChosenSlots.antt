@@ -1,10 +1,10 @@
 -- the free slot that a request takes, and how it is granted
-use Rattle.std.proofs.Common.{ℕ, ◌<◌, ◌≡◌, List, [], length, true, false, refl, sym, ap, subst, ◌∙◌, inl, inr, arith}
+use Rattle.std.proofs.Common.{ℕ, ◌<◌, ◌≤◌, ◌≡◌, ◌≢◌, List, [], length, true, false, refl, sym, ap, subst, ◌∙◌, inl, inr, arith}
 use Rattle.std.proofs.lemmas.List.{length-map}
 use Rattle.guillotiere.specs.declared.slots.Slot.{Slot}
 use Rattle.guillotiere.specs.declared.slots.Node.{Node}
 use Rattle.guillotiere.specs.declared.slots.NodeKind.TheVariants as kind
-use Rattle.guillotiere.specs.declared.choice.Found.{Found}
+use Rattle.guillotiere.specs.declared.best.Found.{Found}
 use Rattle.guillotiere.specs.declared.requests.Chosen.{Chosen}
 use Rattle.guillotiere.specs.declared.tree.Plan.{Plan}
 use Rattle.guillotiere.specs.Boxes.{Sides, Box, origin, box_sides, Fits}
@@ -16,7 +16,9 @@ use Rattle.guillotiere.specs.Numbered.{erase, id_of}
 use Rattle.guillotiere.specs.Reading.{extent_of}
 use Rattle.guillotiere.specs.Picks.{AreFreeBoxes, IsFreeSlot, IsSearchable}
 use Rattle.guillotiere.specs.Stored.{Shelf, Holding, Holds, places_of}
-use Rattle.guillotiere.specs.Holdings.{node_in, across_of, with_loose, with_held}
+use Rattle.guillotiere.specs.Holdings.{node_in, across_of, with_loose, with_held, IsLow}
+use Rattle.guillotiere.specs.Bands.{list_of, number_of}
+use Rattle.guillotiere.specs.Lists.{node_sides, node_strip}
 use Rattle.guillotiere.specs.Planning.{IsPlanFor, IsFeasible, IsPlaceableAt, IsPlanned}
 use Rattle.guillotiere.specs.Chosen.{IsAtRest, IsChosen, IsGrantable, IsGrantMade}
 use Rattle.guillotiere.proofs.Filing.{with_mark-same}
@@ -25,23 +27,23 @@ use Rattle.guillotiere.proofs.FreeSlots.{AreFreeBoxes-stands, exact-free, search
 use Rattle.guillotiere.proofs.PlacingSteps.{only-more}
 
 module _ (v : Shelf) (h : Holding) (rest : IsAtRest v h) where
-  pub rest-searchable : (slots : List Slot) → slots ≡ v.slots → IsSearchable (options_of v.options) slots v.lists
+  pub rest-searchable : (slots : List Slot) → slots ≡ v.slots → IsSearchable (options_of v.options) slots v.heads
   rest-searchable slots e =
-      let P : List Slot → Type 0 = λ s. IsSearchable (options_of v.options) s v.lists in
-      subst P (sym e) (searchable (options_of v.options) v.slots v.lists v.unused (places_of (λ i. 0) h) h.sequence h.tree rest.holds.filed (λ i. rest.listed i refl) rest.holds.stands rest.holds.wide rest.holds.cut)
+      let P : List Slot → Type 0 = λ s. IsSearchable (options_of v.options) s v.heads in
+      subst P (sym e) (searchable (options_of v.options) v.slots v.heads v.unused (places_of (λ i. 0) h) h.sequence h.tree rest.holds.filed (λ i. rest.listed i refl) rest.holds.stands rest.holds.wide rest.holds.cut rest.holds.short rest.holds.valid)
 
   pub rest-free : AreFreeBoxes (nodes v.slots) (ungranted (leaves h.sequence.axis origin h.sequence.width (erase h.tree)))
   rest-free = AreFreeBoxes-stands (nodes v.slots) h.sequence h.tree rest.holds.stands rest.start
 
   -- the slot that was found, in the words of the store
-  module _ (slots : List Slot) (e : slots ≡ v.slots) (r : Sides) (found : Found) (leaf : Node) (le : leaf ≡ node_in v found.at)
-      (free : IsFreeSlot (nodes slots) found.at) (area : (node_at (nodes slots) found.at).area ≡ found.rectangle)
+  module _ (slots : List Slot) (e : slots ≡ v.slots) (r : Sides) (found : Found) (leaf : Node) (le : leaf ≡ node_in v found.at.number)
+      (free : IsFreeSlot (nodes slots) found.at.number) (area : (node_at (nodes slots) found.at.number).area ≡ found.rectangle)
       (picked : (free : List Box) → AreFreeBoxes (nodes slots) free → IsPick free (options_of v.options) r (box_of found.rectangle)) where
-    free_here : (node_in v found.at).kind ≡ kind.Free
-    free_here = subst (λ s. IsFreeSlot (nodes s) found.at) e free
+    free_here : (node_in v found.at.number).kind ≡ kind.Free
+    free_here = subst (λ s. IsFreeSlot (nodes s) found.at.number) e free
 
-    area_here : (node_in v found.at).area ≡ found.rectangle
-    area_here = subst (λ s. (node_at (nodes s) found.at).area ≡ found.rectangle) e area
+    area_here : (node_in v found.at.number).area ≡ found.rectangle
+    area_here = subst (λ s. (node_at (nodes s) found.at.number).area ≡ found.rectangle) e area
 
     picked_here : (free : List Box) → AreFreeBoxes (nodes v.slots) free → IsPick free (options_of v.options) r (box_of found.rectangle)
     picked_here = subst (λ s. (free : List Box) → AreFreeBoxes (nodes s) free → IsPick free (options_of v.options) r (box_of found.rectangle)) e picked
@@ -49,7 +51,7 @@ module _ (v : Shelf) (h : Holding) (rest : IsAtRest v h) where
     pub found-exact : leaf.area ≡ rectangle_of (box_of leaf.area)
     found-exact =
         subst (λ (n : Node). n.area ≡ rectangle_of (box_of n.area)) (sym le)
-        (exact-free (nodes v.slots) h.sequence h.tree rest.holds.stands rest.holds.wide rest.holds.cut found.at free_here).unsigned
+        (exact-free (nodes v.slots) h.sequence h.tree rest.holds.stands rest.holds.wide rest.holds.cut found.at.number free_here).unsigned
 
     pub found-fits : Fits r (box_sides (box_of leaf.area))
     found-fits =
@@ -57,14 +59,32 @@ module _ (v : Shelf) (h : Holding) (rest : IsAtRest v h) where
         subst (λ a. Fits r (box_sides (box_of a))) (sym is) (picked_here (ungranted (leaves h.sequence.axis origin h.sequence.width (erase h.tree))) rest-free).best.candidate.fitting.fits
 
     pub found-chosen : (plan : Plan) → IsPlanFor leaf r plan → IsFeasible plan (extent_of leaf) (across_of leaf)
-        → IsChosen v r (record { at = record { number = found.at }; area = found.rectangle; plan = plan })
-    found-chosen plan line feasible = record {
+        → (found.place.row < 52) × (found.place.column < 52) × (number_of found.place ≡ list_of (options_of v.options) (node_sides (node_at (nodes slots) found.at.number)))
+        → ((i : ℕ) → IsFreeSlot (nodes slots) i → i ≢ found.at.number → list_of (options_of v.options) (node_sides (node_at (nodes slots) i)) ≡ number_of found.place
+        → found.low ≤ node_strip (node_at (nodes slots) i))
+        → IsChosen v r (record { at = found.at; area = found.rectangle; place = found.place; low = found.low; plan = plan })
+    found-chosen plan line feasible place low = record {
       free = free_here;
       area = area_here;
       pick = picked_here;
+      row = place.0;
+      column = place.1;
+      place = subst (λ s. number_of found.place ≡ list_of (options_of v.options) (node_sides (node_at (nodes s) found.at.number))) e place.2;
+      low = subst (λ s. (i : ℕ) → IsFreeSlot (nodes s) i → i ≢ found.at.number → list_of (options_of v.options) (node_sides (node_at (nodes s) i)) ≡ number_of found.place
+          → found.low ≤ node_strip (node_at (nodes s) i)) e low;
       line = subst (λ n. IsPlanFor n r plan) le line;
       feasible = subst (λ n. IsFeasible plan (extent_of n) (across_of n)) le feasible;
     }
+
+-- once the slot is loose, no other slot of its list lies above the strip that the search saw
+chosen-low : (v u : Shelf) (r : Sides) (p : Chosen) → IsChosen v r p → nodes u.slots ≡ nodes v.slots → u.options ≡ v.options
+    → (h : Holding) → h.loose p.at.number ≡ true → IsLow u h (number_of p.place) p.low
+chosen-low v u r p w same options h is_loose i free kept list =
+    let n : node_in u i ≡ node_in v i = ap (λ ns. node_at ns i) same in
+    let other : i ≢ p.at.number = λ e. (let z : true ≡ false = sym is_loose ∙ (ap h.loose (sym e) ∙ kept) in cc) in
+    let there : list_of (options_of v.options) (node_sides (node_in v i)) ≡ number_of p.place =
+    ap (λ o. list_of (options_of o) (node_sides (node_in v i))) (sym options) ∙ (ap (λ m. list_of (options_of u.options) (node_sides m)) (sym n) ∙ list) in
+    subst (λ m. p.low ≤ node_strip m) (sym n) (w.low i (subst (λ (m : Node). m.kind ≡ kind.Free) n free) other there)
 
 -- what is told of a slot that leaves its list
 pub record IsUnlistedFrom (v v' : Shelf) (capacity capacity' at : ℕ) : Type 0 where
@@ -72,6 +92,23 @@ pub record IsUnlistedFrom (v v' : Shelf) (capacity capacity' at : ℕ) : Type 0 
   pub nodes : nodes v'.slots ≡ nodes v.slots
   pub long : length v'.slots ≡ length v.slots
   pub roomy : capacity' ≡ capacity
+
+-- the slot leaves its list, for which another strip is kept then
+pub unlisted-sharpened : (v u v' : Shelf) (capacity capacity' : ℕ) (r : Sides) (p : Chosen) → IsChosen v r p
+    → ((h : Holding) → Holds v h → h.loose p.at.number ≡ false → (held : ℕ → List ℕ) × Holds u (with_loose p.at.number true (with_held held h)))
+    → nodes u.slots ≡ nodes v.slots → length u.slots ≡ length v.slots → u.options ≡ v.options
+    → ((h : Holding) → Holds u h → IsLow u h (number_of p.place) p.low → Holds v' h)
+    → v'.slots ≡ u.slots → capacity' ≡ capacity → IsUnlistedFrom v v' capacity capacity' p.at.number
+unlisted-sharpened v u v' capacity capacity' r p w kept same long options sharp slots roomy =
+    record {
+      kept = λ h holds listed.
+          let left = kept h holds listed in
+          let now : Holding = with_loose p.at.number true (with_held left.0 h) in
+          (left.0, sharp now left.1 (chosen-low v u r p w same options now (with_mark-same h.loose p.at.number true)));
+      nodes = ap nodes slots ∙ same;
+      long = ap (λ s. length s) slots ∙ long;
+      roomy = roomy;
+    }
 
 module _ (v v' : Shelf) (capacity capacity' : ℕ) (r : Sides) (p : Chosen) (h : Holding) (w : IsGrantable v capacity r p h) (u : IsUnlistedFrom v v' capacity capacity' p.at.number) where
   left : (held : ℕ → List ℕ) × Holds v' (with_loose p.at.number true (with_held held h))

@@ -6,7 +6,7 @@ use Rattle.guillotiere.specs.declared.slots.Link.{Link}
 use Rattle.guillotiere.specs.declared.slots.Node.{Node}
 use Rattle.guillotiere.specs.declared.slots.Ring.{Ring}
 use Rattle.guillotiere.specs.declared.slots.NodeKind.TheVariants as kind
-use Rattle.guillotiere.specs.declared.lists.FreeList.{FreeList}
+use Rattle.guillotiere.specs.declared.table.ListHead.{ListHead}
 use Rattle.guillotiere.specs.declared.geometry.Size.{Size}
 use Rattle.guillotiere.specs.Boxes.{Axis, Sides, side, other, IsPositive}
 use Rattle.guillotiere.specs.Boxes.Axis.{Horizontal, Vertical}
@@ -40,7 +40,7 @@ record IsInBounds (h : Holding) : Type 0 where
 -- what is held once the slots changed, and the tree and its sequence with them
 held_anew : (hand hand' : ℕ → ℕ) (v : Shelf) (old mid new : List Slot) (h k : Holding) → AreSlots v.slots old mid new
     → HoldsWith hand v h → k.sequence.parent ≡ no_slot → Stands (nodes mid) k.sequence k.tree
-    → AreFiled (options_of v.options) (nodes mid) (rings mid) v.lists v.unused (places_of hand' k)
+    → AreFiled (options_of v.options) (nodes mid) (rings mid) v.heads v.unused (places_of hand' k)
     → IsInBounds k → HoldsWith hand' (record v { slots = new }) k
 held_anew hand hand' v old mid new h k a holds top stands filed bounds =
     let P : List Slot → Type 0 = λ slots. HoldsWith hand' (record v { slots = slots }) k in
@@ -65,10 +65,10 @@ record ChangesOne (ns ms : List Node) (i : ℕ) (hand hand' : ℕ → ℕ) (loos
   pub others : (k : ℕ) → k ≢ i → KeepsUse (node_at ns k) (node_at ms k)
 
 -- the lists stay in order where one slot changes
-filed-change : (o : Options) (ns ms : List Node) (rs ts : List Ring) (lists : List FreeList) (unused : Link) (p : Places) (hand' : ℕ → ℕ) (loose' : ℕ → Bool) (i : ℕ)
+filed-change : (o : Options) (ns ms : List Node) (rs ts : List Ring) (heads : List ListHead) (unused : Link) (p : Places) (hand' : ℕ → ℕ) (loose' : ℕ → Bool) (i : ℕ)
     → ts ≡ rs → ChangesOne ns ms i p.hand hand' p.loose loose'
-    → AreFiled o ns rs lists unused p → AreFiled o ms ts lists unused (record p { hand = hand'; loose = loose' })
-filed-change o ns ms rs ts lists unused p hand' loose' i same c filed =
+    → AreFiled o ns rs heads unused p → AreFiled o ms ts heads unused (record p { hand = hand'; loose = loose' })
+filed-change o ns ms rs ts heads unused p hand' loose' i same c filed =
     let M : ℕ → Type 0 = λ x. IsMoved (node_at ns x) (node_at ms x) (p.loose x) (loose' x) in
     let C : ℕ → Type 0 = λ x. hand' x + use_count (node_at ms x).kind ≡ p.hand x + use_count (node_at ns x).kind in
     let moved : (k : ℕ) → M k =
@@ -81,15 +81,15 @@ filed-change o ns ms rs ts lists unused p hand' loose' i same c filed =
       | inl e ↦ subst C (sym e) c.counted
       | inr ne ↦ omega (arith, use-kept (node_at ns k) (node_at ms k) (c.others k ne), c.hands k ne)
     ] in
-    subst (λ r. AreFiled o ms r lists unused (record p { hand = hand'; loose = loose' })) (sym same)
-    (AreFiled-moved o ns ms rs lists unused p hand' loose' moved counts filed)
+    subst (λ r. AreFiled o ms r heads unused (record p { hand = hand'; loose = loose' })) (sym same)
+    (AreFiled-moved o ns ms rs heads unused p hand' loose' moved counts filed)
 
 -- the same of the lists of a holding
 filed-after : (hand hand' : ℕ → ℕ) (v : Shelf) (old mid : List Slot) (h : Holding) (loose' : ℕ → Bool) (i : ℕ)
     → old ≡ v.slots → rings mid ≡ rings old → ChangesOne (nodes old) (nodes mid) i hand hand' h.loose loose'
-    → HoldsWith hand v h → AreFiled (options_of v.options) (nodes mid) (rings mid) v.lists v.unused (record { spare = h.spare; held = h.held; hand = hand'; loose = loose' })
+    → HoldsWith hand v h → AreFiled (options_of v.options) (nodes mid) (rings mid) v.heads v.unused (record { spare = h.spare; held = h.held; hand = hand'; loose = loose' })
 filed-after hand hand' v old mid h loose' i e same c holds =
-    filed-change (options_of v.options) (nodes old) (nodes mid) (rings old) (rings mid) v.lists v.unused (places_of hand h) hand' loose' i same c
+    filed-change (options_of v.options) (nodes old) (nodes mid) (rings old) (rings mid) v.heads v.unused (places_of hand h) hand' loose' i same c
     (filed-before hand v old h e holds)
 
 -- each side of a size is what an `i32` holds
@@ -106,7 +106,7 @@ pub record ChangesLeaf (v : Shelf) (old mid : List Slot) (at : ℕ) : Type 0 whe
 
 -- the lists stay in order where a loose leaf changes
 filed-leaf : (v : Shelf) (old mid : List Slot) (at : ℕ) (h : Holding) → ChangesLeaf v old mid at → IsLooseLeaf v at h
-    → AreFiled (options_of v.options) (nodes mid) (rings mid) v.lists v.unused (places_of (λ i. 0) h)
+    → AreFiled (options_of v.options) (nodes mid) (rings mid) v.heads v.unused (places_of (λ i. 0) h)
 filed-leaf v old mid at h w leaf =
     let one : ChangesOne (nodes old) (nodes mid) at (λ i. 0) (λ i. 0) h.loose h.loose = record {
       moved = inr (inl leaf.loose, inl leaf.loose);

@@ -1,12 +1,12 @@
 -- The free slots of slots that stand for a tree: their boxes are the tree's free boxes, and their rectangles are exact.
-use Rattle.std.proofs.Common.{ℕ, ◌+◌, ◌<◌, ◌≡◌, ◌⊎◌, inl, inr, List, ◌∷◌, ◌++◌, refl, sym, ap, ◌∙◌, arith, length, zero, suc, subst, false}
+use Rattle.std.proofs.Common.{ℕ, ◌+◌, ◌<◌, ◌≤◌, ◌≡◌, ◌⊎◌, inl, inr, List, ◌∷◌, ◌++◌, refl, sym, ap, ◌∙◌, arith, length, zero, suc, subst, false}
 use Rattle.std.specs.Prelude.{Contains, slice_index_or}
 use Rattle.std.proofs.lemmas.Bool.{cases_eq, cases_lt}
 use Rattle.std.proofs.lemmas.List.Elements.{filter_map-append, Contains-append_left, Contains-append_right, Contains-append_cases}
 use Rattle.guillotiere.specs.declared.slots.Slot.{Slot}
 use Rattle.guillotiere.specs.declared.slots.Link.{Link}
 use Rattle.guillotiere.specs.declared.slots.Node.{Node}
-use Rattle.guillotiere.specs.declared.lists.FreeList.{FreeList}
+use Rattle.guillotiere.specs.declared.table.ListHead.{ListHead}
 use Rattle.guillotiere.specs.declared.geometry.Rectangle.{Rectangle}
 use Rattle.guillotiere.specs.declared.slots.NodeKind.{NodeKind}
 use Rattle.guillotiere.specs.declared.slots.NodeKind.TheVariants as kind
@@ -17,7 +17,7 @@ use Rattle.guillotiere.specs.Trees.{Leaf, leaves, ungranted, free_at, IsCut}
 use Rattle.guillotiere.specs.Slots.{nodes, rings, node_at, use_count, no_slot}
 use Rattle.guillotiere.specs.Numbered.{Numbered, tally, erase, End, Free, Alloc, Seq}
 use Rattle.guillotiere.specs.Standing.{Sequence, Standing, Stands, spot, member_box, inside}
-use Rattle.guillotiere.specs.Choice.{Options}
+use Rattle.guillotiere.specs.Choice.{Options, AreValid}
 use Rattle.guillotiere.specs.Lists.{AreFiled, Places}
 use Rattle.guillotiere.specs.Links.{IsExact}
 use Rattle.guillotiere.specs.Picks.{node_box, IsFreeSlot, AreFreeBoxes, IsSearchable}
@@ -145,12 +145,14 @@ pub exact-free : (ns : List Node) (s : Sequence) (n : Numbered) → Stands ns s 
 exact-free ns s n h w cut i free = exact-stands ns s n h w cut i (omega (arith, ap use_count free))
 
 -- slots that stand for a tree of cuts, and whose free ones are all listed, can be searched
-pub searchable : (o : Options) (slots : List Slot) (lists : List FreeList) (unused : Link) (p : Places) (s : Sequence) (n : Numbered) → AreFiled o (nodes slots) (rings slots) lists unused p → ((i : ℕ) → p.loose i ≡ false) → Stands (nodes slots) s n → 0 < s.width → IsCut s.width (erase n) → IsSearchable o slots lists
-searchable o slots lists unused p s n f listed h w cut =
+pub searchable : (o : Options) (slots : List Slot) (heads : List ListHead) (unused : Link) (p : Places) (s : Sequence) (n : Numbered) → AreFiled o (nodes slots) (rings slots) heads unused p → ((i : ℕ) → p.loose i ≡ false) → Stands (nodes slots) s n → 0 < s.width → IsCut s.width (erase n) → length slots ≤ 16777216 → AreValid o → IsSearchable o slots heads
+searchable o slots heads unused p s n f listed h w cut short valid =
     record {
       unused = unused;
       places = p;
       filed = f;
       all_listed = listed;
       exact = exact-free (nodes slots) s n h w cut;
+      short = short;
+      valid = valid;
     }

@@ -56,8 +56,6 @@ pub mod Settling
 pub mod Cutting
 pub mod Occurrences
 pub mod Unlinking
-pub mod Banding
-pub mod ClassLists
 pub mod Filing
 pub mod Taking
 pub mod Choosing
@@ -73,9 +71,8 @@ pub mod Observing
 pub mod NamedSlots
 pub mod ShownLists
 pub mod Starting
-pub mod Walking
-pub mod Looking
 pub mod FreeSlots
+pub mod SlotLists
 pub mod Listing
 pub mod NumberedCuts
 pub mod StoreSteps

@@ -1,5 +1,5 @@
 -- An atlas of one free slot.
-use Rattle.std.proofs.Common.{ℕ, pos, zero, suc, ◌+◌, ◌<◌, ◌≤◌, ◌≡◌, ◌^◌, true, false, List, [], ◌∷◌, length, replicate, refl, sym, ap, subst, ◌∙◌, inl, inr, arith}
+use Rattle.std.proofs.Common.{ℕ, pos, zero, suc, ◌+◌, ◌<◌, ◌≤◌, ◌≡◌, ◌^◌, true, false, List, [], ◌∷◌, length, refl, sym, ap, subst, ◌∙◌, inl, inr, arith}
 use Rattle.std.proofs.lemmas.Bool.{cases_eq, eq-eqb, ne_eqb}
 use Rattle.std.proofs.lemmas.List.Elements.{All-nil}
 use Rattle.guillotiere.specs.declared.geometry.Size.{Size}
@@ -11,7 +11,7 @@ use Rattle.guillotiere.specs.States.{IsSound, started}
 use Rattle.guillotiere.specs.Slots.{nodes, node_at, use_count, no_slot}
 use Rattle.guillotiere.specs.Numbered.{tally, End, Free}
 use Rattle.guillotiere.specs.Standing.{Stands, member_box}
-use Rattle.guillotiere.specs.Lists.{blank_list}
+use Rattle.guillotiere.specs.Tables.{is_used_at}
 use Rattle.guillotiere.specs.Links.{with_mark}
 use Rattle.guillotiere.specs.Reading.{tree_of}
 use Rattle.guillotiere.specs.Stored.{Shelf, Stored, Holds, IsAtlas, state_of}
@@ -27,7 +27,7 @@ use Rattle.guillotiere.proofs.Sizes.{side_is, size_is}
 
 pub record IsStart (v : Shelf) (size : Size) : Type 0 where
   pub slots : v.slots ≡ one_free_slot size ∷ []
-  pub lists : v.lists ≡ replicate 24 blank_list
+  pub lists : (k : ℕ) → is_used_at v.heads k ≡ false
   pub unused : v.unused.number ≡ no_slot
   pub valid : AreValid (options_of v.options)
 
@@ -58,8 +58,8 @@ whole_holds v size s h wide high =
       top = refl;
       stands = subst (λ l. Stands (nodes l) (loose_holding (sides_of size)).sequence (loose_holding (sides_of size)).tree) (sym s.slots) (whole_stands size h);
       filed =
-          rw (s.slots, s.lists)
-          (AreFiled-one (options_of v.options) (one_free_slot size).node (one_free_slot size).ring v.unused refl s.unused);
+          rw s.slots
+          (AreFiled-one (options_of v.options) (one_free_slot size).node (one_free_slot size).ring v.heads v.unused refl s.lists s.unused);
       short = rw s.slots (omega arith);
       valid = s.valid;
       cut = (h.1, tt);

@@ -6,10 +6,11 @@ use Rattle.guillotiere.specs.declared.slots.Link.{Link}
 use Rattle.guillotiere.specs.declared.slots.Node.{Node}
 use Rattle.guillotiere.specs.declared.slots.Ring.{Ring}
 use Rattle.guillotiere.specs.declared.slots.NodeKind.TheVariants as kind
-use Rattle.guillotiere.specs.declared.lists.FreeList.{FreeList}
+use Rattle.guillotiere.specs.declared.table.ListHead.{ListHead}
 use Rattle.guillotiere.specs.Choice.{Options}
 use Rattle.guillotiere.specs.Pixels.{options_of}
 use Rattle.guillotiere.specs.Trees.{IsCut, total}
+use Rattle.guillotiere.specs.Tables.{head_of, low_of}
 use Rattle.guillotiere.specs.Slots.{nodes, rings, node_at, use_count, KeepsUse, no_slot}
 use Rattle.guillotiere.specs.Numbered.{Numbered, erase, tally, marked, joined, lifted, granted_at, split_at, wrapped_at}
 use Rattle.guillotiere.specs.Standing.{Sequence, Stands}
@@ -20,8 +21,8 @@ use Rattle.guillotiere.specs.Reading.{extent_of}
 use Rattle.guillotiere.specs.Parts.{front_node, back_node, inner_node}
 use Rattle.guillotiere.specs.Links.{with_mark, with_count, rest_of, given_back, IsExact, IsTaken}
 use Rattle.guillotiere.specs.Stored.{Shelf, Holding, Holds, HoldsWith, places_of}
-use Rattle.guillotiere.specs.Holdings.{node_in, IsLooseLeaf, IsReadyWith, HasSlotsFor, after_take, after_grant, after_mark, after_join, after_lift, after_split, after_wrap}
-use Rattle.guillotiere.proofs.Filing.{with_mark-same, with_mark-other, with_count-same, with_count-other}
+use Rattle.guillotiere.specs.Holdings.{node_in, IsLow, IsLooseLeaf, IsReadyWith, HasSlotsFor, after_take, after_grant, after_mark, after_join, after_lift, after_split, after_wrap}
+use Rattle.guillotiere.proofs.Filing.{AreFiled-sharpened, with_mark-same, with_mark-other, with_count-same, with_count-other}
 use Rattle.guillotiere.proofs.Taking.{AreFiled-moved, AreFiled-nodes, IsMoved}
 use Rattle.guillotiere.proofs.NumberedCuts.{total-marked, cut-marked, total-granted, cut-granted, total-joined, cut-joined, total-lifted, cut-lifted, total-split, cut-split, total-wrapped, cut-wrapped}
 use Rattle.guillotiere.proofs.SlotBoxes.{slot-exact}
@@ -29,7 +30,7 @@ use Rattle.guillotiere.proofs.SlotBoxes.{slot-exact}
 -- what is held once the slots and the unused list changed, and no list of free slots
 pub held_again : (hand hand' : ℕ → ℕ) (v : Shelf) (old mid new : List Slot) (unused : Link) (h : Holding) (tree : Numbered) (spare : List ℕ) (loose : ℕ → Bool)
     → old ≡ v.slots → new ≡ mid → length mid ≤ 16777216 → HoldsWith hand v h → Stands (nodes mid) h.sequence tree
-    → AreFiled (options_of v.options) (nodes mid) (rings mid) v.lists unused (record { spare = spare; held = h.held; hand = hand'; loose = loose })
+    → AreFiled (options_of v.options) (nodes mid) (rings mid) v.heads unused (record { spare = spare; held = h.held; hand = hand'; loose = loose })
     → IsCut h.sequence.width (erase tree) → total (erase tree) ≡ total (erase h.tree)
     → HoldsWith hand' (record v { slots = new; unused = unused }) (record h { tree = tree; spare = spare; loose = loose })
 held_again hand hand' v old mid new unused h tree spare loose eo en short holds stands filed cut whole =
@@ -54,11 +55,11 @@ pub use-kept : (n m : Node) → KeepsUse n m → use_count m.kind ≡ use_count 
 use-kept n m k = ap use_count k.kind
 
 -- one loose slot changes, and stays in use
-pub filed-one : (o : Options) (ns ms : List Node) (rs ts : List Ring) (lists : List _) (unused : Link) (p : Places) (i : ℕ) (mark : Bool)
+pub filed-one : (o : Options) (ns ms : List Node) (rs ts : List Ring) (heads : List ListHead) (unused : Link) (p : Places) (i : ℕ) (mark : Bool)
     → ts ≡ rs → IsMoved (node_at ns i) (node_at ms i) (p.loose i) mark → use_count (node_at ms i).kind ≡ use_count (node_at ns i).kind
     → ((k : ℕ) → k ≢ i → KeepsUse (node_at ns k) (node_at ms k))
-    → AreFiled o ns rs lists unused p → AreFiled o ms ts lists unused (record p { loose = with_mark p.loose i mark })
-filed-one o ns ms rs ts lists unused p i mark same here used others filed =
+    → AreFiled o ns rs heads unused p → AreFiled o ms ts heads unused (record p { loose = with_mark p.loose i mark })
+filed-one o ns ms rs ts heads unused p i mark same here used others filed =
     let moved : (k : ℕ) → IsMoved (node_at ns k) (node_at ms k) (p.loose k) (with_mark p.loose i mark k) =
     λ k. elim (cases_eq k i) [
       | inl e ↦ subst (λ x. IsMoved (node_at ns x) (node_at ms x) (p.loose x) (with_mark p.loose i mark x)) (sym e)
@@ -70,8 +71,8 @@ filed-one o ns ms rs ts lists unused p i mark same here used others filed =
       | inl e ↦ subst (λ x. p.hand x + use_count (node_at ms x).kind ≡ p.hand x + use_count (node_at ns x).kind) (sym e) (omega (arith, used))
       | inr ne ↦ omega (arith, use-kept (node_at ns k) (node_at ms k) (others k ne))
     ] in
-    subst (λ r. AreFiled o ms r lists unused (record p { loose = with_mark p.loose i mark })) (sym same)
-    (AreFiled-moved o ns ms rs lists unused p p.hand (with_mark p.loose i mark) moved counts filed)
+    subst (λ r. AreFiled o ms r heads unused (record p { loose = with_mark p.loose i mark })) (sym same)
+    (AreFiled-moved o ns ms rs heads unused p p.hand (with_mark p.loose i mark) moved counts filed)
 
 -- a loose leaf is granted
 pub granted-holds : (v : Shelf) (old mid new : List Slot) (at : ℕ)
@@ -85,13 +86,13 @@ granted-holds v old mid new at eo en long tree this others same h leaf =
     let P : List Slot → Type 0 = λ slots. (node_at (nodes slots) at).kind ≡ kind.Free in
     let was_free : (node_at (nodes old) at).kind ≡ kind.Free = subst P (sym eo) leaf.kind in
     let Q : List Slot → Type 0 = λ slots. Stands (nodes slots) h.sequence h.tree in
-    let F : List Slot → Type 0 = λ slots. AreFiled (options_of v.options) (nodes slots) (rings slots) v.lists v.unused (places_of (λ i. 0) h) in
+    let F : List Slot → Type 0 = λ slots. AreFiled (options_of v.options) (nodes slots) (rings slots) v.heads v.unused (places_of (λ i. 0) h) in
     let is_granted : (node_at (nodes mid) at).kind ≡ kind.Alloc = ap (λ n. n.kind) this in
     let G : List Slot → Type 0 = λ slots. Stands (nodes mid) h.sequence (granted_at at (node_at (nodes slots) at).generation h.tree) in
     held_again (λ i. 0) (λ i. 0) v old mid new v.unused h (granted_at at (node_in v at).generation h.tree) h.spare (with_mark h.loose at false) eo en
     (omega (arith, leaf.holds.short, ap (λ s. length s) eo, long)) leaf.holds
     (subst G eo (tree h.sequence h.tree (subst Q (sym eo) leaf.holds.stands)))
-    (filed-one (options_of v.options) (nodes old) (nodes mid) (rings old) (rings mid) v.lists v.unused (places_of (λ i. 0) h) at false same
+    (filed-one (options_of v.options) (nodes old) (nodes mid) (rings old) (rings mid) v.heads v.unused (places_of (λ i. 0) h) at false same
     (inr (inl leaf.loose, inr (ap is_free is_granted)))
     (ap use_count is_granted ∙ sym (ap use_count was_free)) others (subst F (sym eo) leaf.holds.filed))
     (cut-granted at (node_in v at).generation h.sequence.width h.tree leaf.holds.cut)
@@ -111,9 +112,9 @@ pub short-mid : (own old mid new : List Slot) → AreSlots own old mid new → l
 short-mid own old mid new a h = omega (arith, ap (λ s. length s) a.given, a.long, h)
 
 pub filed-before : (hand : ℕ → ℕ) (v : Shelf) (old : List Slot) (h : Holding) → old ≡ v.slots → HoldsWith hand v h
-    → AreFiled (options_of v.options) (nodes old) (rings old) v.lists v.unused (places_of hand h)
+    → AreFiled (options_of v.options) (nodes old) (rings old) v.heads v.unused (places_of hand h)
 filed-before hand v old h e holds =
-    let F : List Slot → Type 0 = λ slots. AreFiled (options_of v.options) (nodes slots) (rings slots) v.lists v.unused (places_of hand h) in
+    let F : List Slot → Type 0 = λ slots. AreFiled (options_of v.options) (nodes slots) (rings slots) v.heads v.unused (places_of hand h) in
     subst F (sym e) holds.filed
 
 pub stands-before : (hand : ℕ → ℕ) (v : Shelf) (old : List Slot) (h : Holding) → old ≡ v.slots → HoldsWith hand v h → Stands (nodes old) h.sequence h.tree
@@ -132,7 +133,7 @@ marked-holds v old mid new at a tree was_granted is_now_free others same h holds
     held_again (λ i. 0) (λ i. 0) v old mid new v.unused h (marked at h.tree) h.spare (with_mark h.loose at true) a.given a.left
     (short-mid v.slots old mid new a holds.short) holds
     (tree h.sequence h.tree (stands-before (λ i. 0) v old h a.given holds))
-    (filed-one (options_of v.options) (nodes old) (nodes mid) (rings old) (rings mid) v.lists v.unused (places_of (λ i. 0) h) at true same
+    (filed-one (options_of v.options) (nodes old) (nodes mid) (rings old) (rings mid) v.heads v.unused (places_of (λ i. 0) h) at true same
     (inr (inr (ap is_free was), inl refl))
     (ap use_count is_now_free ∙ sym (ap use_count was)) others (filed-before (λ i. 0) v old h a.given holds))
     (cut-marked at h.sequence.width h.tree holds.cut)
@@ -149,10 +150,10 @@ pub record ChangesTwo (ns ms : List Node) (i j : ℕ) (hand hand' : ℕ → ℕ)
   pub marks : (k : ℕ) → k ≢ i → k ≢ j → loose' k ≡ loose k
   pub others : (k : ℕ) → k ≢ i → k ≢ j → KeepsUse (node_at ns k) (node_at ms k)
 
-pub filed-two : (o : Options) (ns ms : List Node) (rs ts : List Ring) (lists : List _) (unused : Link) (p : Places) (hand' : ℕ → ℕ) (loose' : ℕ → Bool) (i j : ℕ)
+pub filed-two : (o : Options) (ns ms : List Node) (rs ts : List Ring) (heads : List ListHead) (unused : Link) (p : Places) (hand' : ℕ → ℕ) (loose' : ℕ → Bool) (i j : ℕ)
     → ts ≡ rs → ChangesTwo ns ms i j p.hand hand' p.loose loose'
-    → AreFiled o ns rs lists unused p → AreFiled o ms ts lists unused (record p { hand = hand'; loose = loose' })
-filed-two o ns ms rs ts lists unused p hand' loose' i j same c filed =
+    → AreFiled o ns rs heads unused p → AreFiled o ms ts heads unused (record p { hand = hand'; loose = loose' })
+filed-two o ns ms rs ts heads unused p hand' loose' i j same c filed =
     let M : ℕ → Type 0 = λ x. IsMoved (node_at ns x) (node_at ms x) (p.loose x) (loose' x) in
     let C : ℕ → Type 0 = λ x. hand' x + use_count (node_at ms x).kind ≡ p.hand x + use_count (node_at ns x).kind in
     let moved : (k : ℕ) → M k =
@@ -171,21 +172,21 @@ filed-two o ns ms rs ts lists unused p hand' loose' i j same c filed =
         | inr nf ↦ omega (arith, use-kept (node_at ns k) (node_at ms k) (c.others k nf ne), c.hands k ne)
       ]
     ] in
-    subst (λ r. AreFiled o ms r lists unused (record p { hand = hand'; loose = loose' })) (sym same)
-    (AreFiled-moved o ns ms rs lists unused p hand' loose' moved counts filed)
+    subst (λ r. AreFiled o ms r heads unused (record p { hand = hand'; loose = loose' })) (sym same)
+    (AreFiled-moved o ns ms rs heads unused p hand' loose' moved counts filed)
 
 -- what is in hand may be said in another way
-pub filed-hand : (o : Options) (ns : List Node) (rs : List Ring) (lists : List _) (unused : Link) (p : Places) (hand' : ℕ → ℕ)
-    → ((i : ℕ) → hand' i ≡ p.hand i) → AreFiled o ns rs lists unused p → AreFiled o ns rs lists unused (record p { hand = hand' })
-filed-hand o ns rs lists unused p hand' e filed =
-    AreFiled-nodes o ns ns rs lists unused p hand' p.loose (λ k i. refl) (λ i _. omega (arith, e i)) (λ k i _ _. refl) filed
+pub filed-hand : (o : Options) (ns : List Node) (rs : List Ring) (heads : List ListHead) (unused : Link) (p : Places) (hand' : ℕ → ℕ)
+    → ((i : ℕ) → hand' i ≡ p.hand i) → AreFiled o ns rs heads unused p → AreFiled o ns rs heads unused (record p { hand = hand' })
+filed-hand o ns rs heads unused p hand' e filed =
+    AreFiled-nodes o ns ns rs heads unused p hand' p.loose (λ k i. refl) (λ i _. omega (arith, e i)) (λ k i _ _. refl) filed
 
 pub holds-hand : (hand hand' : ℕ → ℕ) (v : Shelf) (h : Holding) → ((i : ℕ) → hand' i ≡ hand i) → HoldsWith hand v h → HoldsWith hand' v h
 holds-hand hand hand' v h e holds =
     record {
       top = holds.top;
       stands = holds.stands;
-      filed = filed-hand (options_of v.options) (nodes v.slots) (rings v.slots) v.lists v.unused (places_of hand h) hand' e holds.filed;
+      filed = filed-hand (options_of v.options) (nodes v.slots) (rings v.slots) v.heads v.unused (places_of hand h) hand' e holds.filed;
       short = holds.short;
       valid = holds.valid;
       cut = holds.cut;
@@ -203,13 +204,13 @@ hand-back hand j m none i =
     ]
 
 -- a free leaf leaves its list, or enters it: the nodes stay
-pub listed-holds : (v : Shelf) (old mid new : List Slot) (lists : List FreeList) (h : Holding) (held : ℕ → List ℕ) (loose : ℕ → Bool)
+pub listed-holds : (v : Shelf) (old mid new : List Slot) (heads : List ListHead) (h : Holding) (held : ℕ → List ℕ) (loose : ℕ → Bool)
     → AreSlots v.slots old mid new → nodes mid ≡ nodes old
-    → (AreFiled (options_of v.options) (nodes old) (rings old) v.lists v.unused (places_of (λ i. 0) h)
-    → AreFiled (options_of v.options) (nodes mid) (rings mid) lists v.unused (record (places_of (λ i. 0) h) { held = held; loose = loose }))
-    → Holds v h → Holds (record v { slots = new; lists = lists }) (record h { held = held; loose = loose })
-listed-holds v old mid new lists h held loose a same filed holds =
-    let Q : List Slot → Type 0 = λ slots. Holds (record v { slots = slots; lists = lists }) (record h { held = held; loose = loose }) in
+    → (AreFiled (options_of v.options) (nodes old) (rings old) v.heads v.unused (places_of (λ i. 0) h)
+    → AreFiled (options_of v.options) (nodes mid) (rings mid) heads v.unused (record (places_of (λ i. 0) h) { held = held; loose = loose }))
+    → Holds v h → Holds (record v { slots = new; heads = heads }) (record h { held = held; loose = loose })
+listed-holds v old mid new heads h held loose a same filed holds =
+    let Q : List Slot → Type 0 = λ slots. Holds (record v { slots = slots; heads = heads }) (record h { held = held; loose = loose }) in
     let S : List Node → Type 0 = λ ns. Stands ns h.sequence h.tree in
     subst Q (sym a.left) (record {
       top = holds.top;
@@ -222,6 +223,23 @@ listed-holds v old mid new lists h held loose a same filed holds =
       across = holds.across;
       along = holds.along;
     })
+
+-- another strip is kept of a list
+pub sharpened-holds : (v : Shelf) (heads : List ListHead) (m low : ℕ) (h : Holding)
+    → ((k : ℕ) → head_of heads k ≡ head_of v.heads k) → ((k : ℕ) → k ≢ m → low_of heads k ≡ low_of v.heads k) → low_of heads m ≡ low
+    → IsLow v h m low → Holds v h → Holds (record v { heads = heads }) h
+sharpened-holds v heads m low h firsts lows here below holds =
+    record {
+      top = holds.top;
+      stands = holds.stands;
+      filed = AreFiled-sharpened (options_of v.options) (nodes v.slots) (rings v.slots) v.heads heads v.unused (places_of (λ i. 0) h) m low firsts lows here below holds.filed;
+      short = holds.short;
+      valid = holds.valid;
+      cut = holds.cut;
+      wide = holds.wide;
+      across = holds.across;
+      along = holds.along;
+    }
 
 -- the rectangle of a free leaf is exact
 pub leaf-exact : (v : Shelf) (old : List Slot) (at : ℕ) (h : Holding) → old ≡ v.slots → Holds v h → (node_in v at).kind ≡ kind.Free
@@ -237,20 +255,20 @@ pub record GivesBack (v : Shelf) (mid old2 mid2 : List Slot) (unused : Link) (j 
   pub same_nodes : nodes mid2 ≡ nodes old2
   pub long : length mid2 ≡ length old2
   pub filed :
-      (o : Options) (lists : List FreeList) (p : Places)
-      → AreFiled o (nodes old2) (rings old2) lists v.unused p → 0 < p.hand j
-      → AreFiled o (nodes mid2) (rings mid2) lists unused (given_back p j)
+      (o : Options) (heads : List ListHead) (p : Places)
+      → AreFiled o (nodes old2) (rings old2) heads v.unused p → 0 < p.hand j
+      → AreFiled o (nodes mid2) (rings mid2) heads unused (given_back p j)
 
 -- what the lists hold once slot j, which is in hand, is given back
-given-filed : (v : Shelf) (mid old2 mid2 : List Slot) (unused : Link) (j : ℕ) (o : Options) (lists : List FreeList) (p : Places)
+given-filed : (v : Shelf) (mid old2 mid2 : List Slot) (unused : Link) (j : ℕ) (o : Options) (heads : List ListHead) (p : Places)
     → GivesBack v mid old2 mid2 unused j
-    → AreFiled o (nodes mid) (rings mid) lists v.unused (record p { hand = with_count (λ i. 0) j 1 })
-    → AreFiled o (nodes mid2) (rings mid2) lists unused (record p { spare = j ∷ p.spare; hand = λ i. 0 })
-given-filed v mid old2 mid2 unused j o lists p b filed =
-    let F : List Slot → Type 0 = λ slots. AreFiled o (nodes slots) (rings slots) lists v.unused (record p { hand = with_count (λ i. 0) j 1 }) in
-    filed-hand o (nodes mid2) (rings mid2) lists unused (given_back (record p { hand = with_count (λ i. 0) j 1 }) j) (λ i. 0)
+    → AreFiled o (nodes mid) (rings mid) heads v.unused (record p { hand = with_count (λ i. 0) j 1 })
+    → AreFiled o (nodes mid2) (rings mid2) heads unused (record p { spare = j ∷ p.spare; hand = λ i. 0 })
+given-filed v mid old2 mid2 unused j o heads p b filed =
+    let F : List Slot → Type 0 = λ slots. AreFiled o (nodes slots) (rings slots) heads v.unused (record p { hand = with_count (λ i. 0) j 1 }) in
+    filed-hand o (nodes mid2) (rings mid2) heads unused (given_back (record p { hand = with_count (λ i. 0) j 1 }) j) (λ i. 0)
     (λ i. sym (hand-back (λ k. 0) j 1 refl i))
-    (b.filed o lists (record p { hand = with_count (λ i. 0) j 1 }) (subst F (sym b.given) filed) (omega (arith, with_count-same (λ i. 0) j 1)))
+    (b.filed o heads (record p { hand = with_count (λ i. 0) j 1 }) (subst F (sym b.given) filed) (omega (arith, with_count-same (λ i. 0) j 1)))
 
 stands-given : (v : Shelf) (mid old2 mid2 : List Slot) (unused : Link) (j : ℕ) (s : Sequence) (n : Numbered) → GivesBack v mid old2 mid2 unused j → Stands (nodes mid) s n → Stands (nodes mid2) s n
 stands-given v mid old2 mid2 unused j s n b stands =
@@ -280,13 +298,13 @@ joined-holds v old mid old2 mid2 new unused i j eo long back en tree was_free is
       marks = λ k _ ne. with_mark-other h.loose j false k ne;
       others = others;
     } in
-    let filed : AreFiled (options_of v.options) (nodes mid) (rings mid) v.lists v.unused (record (places_of (with_count (λ k. 0) j 1) h) { loose = with_mark h.loose j false }) =
-    filed-two (options_of v.options) (nodes old) (nodes mid) (rings old) (rings mid) v.lists v.unused (places_of (λ k. 0) h) (with_count (λ k. 0) j 1) (with_mark h.loose j false) i j
+    let filed : AreFiled (options_of v.options) (nodes mid) (rings mid) v.heads v.unused (record (places_of (with_count (λ k. 0) j 1) h) { loose = with_mark h.loose j false }) =
+    filed-two (options_of v.options) (nodes old) (nodes mid) (rings old) (rings mid) v.heads v.unused (places_of (λ k. 0) h) (with_count (λ k. 0) j 1) (with_mark h.loose j false) i j
     same two (filed-before (λ k. 0) v old h eo holds) in
     held_again (λ k. 0) (λ k. 0) v old mid2 new unused h (joined i h.tree) (j ∷ h.spare) (with_mark h.loose j false) eo en
     (omega (arith, back.long, ap (λ s. length s) back.given, long, ap (λ s. length s) eo, holds.short)) holds
     (stands-given v mid old2 mid2 unused j h.sequence (joined i h.tree) back (tree h.sequence h.tree (stands-before (λ k. 0) v old h eo holds)))
-    (given-filed v mid old2 mid2 unused j (options_of v.options) v.lists (record (places_of (λ k. 0) h) { loose = with_mark h.loose j false }) back filed)
+    (given-filed v mid old2 mid2 unused j (options_of v.options) v.heads (record (places_of (λ k. 0) h) { loose = with_mark h.loose j false }) back filed)
     (cut-joined i h.sequence.width h.tree holds.cut) (total-joined i h.tree)
 
 -- a container gives way to its lone child, whose slot is given back
@@ -312,13 +330,13 @@ lifted-holds v old mid old2 mid2 new unused i c eo long back en tree was_contain
       marks = λ k ne nf. with_mark-other (with_mark h.loose i true) c false k nf ∙ with_mark-other h.loose i true k ne;
       others = λ k ne nf. others k nf ne;
     } in
-    let filed : AreFiled (options_of v.options) (nodes mid) (rings mid) v.lists v.unused (record (places_of (with_count (λ k. 0) c 1) h) { loose = with_mark (with_mark h.loose i true) c false }) =
-    filed-two (options_of v.options) (nodes old) (nodes mid) (rings old) (rings mid) v.lists v.unused (places_of (λ k. 0) h) (with_count (λ k. 0) c 1) (with_mark (with_mark h.loose i true) c false) i c
+    let filed : AreFiled (options_of v.options) (nodes mid) (rings mid) v.heads v.unused (record (places_of (with_count (λ k. 0) c 1) h) { loose = with_mark (with_mark h.loose i true) c false }) =
+    filed-two (options_of v.options) (nodes old) (nodes mid) (rings old) (rings mid) v.heads v.unused (places_of (λ k. 0) h) (with_count (λ k. 0) c 1) (with_mark (with_mark h.loose i true) c false) i c
     same two (filed-before (λ k. 0) v old h eo holds) in
     held_again (λ k. 0) (λ k. 0) v old mid2 new unused h (lifted i h.tree) (c ∷ h.spare) (with_mark (with_mark h.loose i true) c false) eo en
     (omega (arith, back.long, ap (λ s. length s) back.given, long, ap (λ s. length s) eo, holds.short)) holds
     (stands-given v mid old2 mid2 unused c h.sequence (lifted i h.tree) back (tree h.sequence h.tree holds.top (stands-before (λ k. 0) v old h eo holds)))
-    (given-filed v mid old2 mid2 unused c (options_of v.options) v.lists (record (places_of (λ k. 0) h) { loose = with_mark (with_mark h.loose i true) c false }) back filed)
+    (given-filed v mid old2 mid2 unused c (options_of v.options) v.heads (record (places_of (λ k. 0) h) { loose = with_mark (with_mark h.loose i true) c false }) back filed)
     (cut-lifted i h.sequence.width h.tree holds.cut) (total-lifted i h.tree)
 
 -- a fact of a node of a shelf is one of the slots that a call was given
@@ -370,7 +388,7 @@ stands-taken ns ms i s n was is others stands =
 pub taken-holds : (v : Shelf) (new : List Slot) (unused : Link) (at : ℕ) (h : Holding) (hand : ℕ → ℕ)
     → length new ≤ 16777216
     → ((k : ℕ) → k ≢ at → node_at (nodes new) k ≡ node_at (nodes v.slots) k)
-    → IsTaken (options_of v.options) v.slots new v.lists unused (places_of hand h) at
+    → IsTaken (options_of v.options) v.slots new v.heads unused (places_of hand h) at
     → HoldsWith hand v h → HoldsWith (with_count hand at 1) (record v { slots = new; unused = unused }) (after_take h)
 taken-holds v new unused at h hand short others taken holds =
     held_again hand (with_count hand at 1) v v.slots new new unused h h.tree (rest_of h.spare) h.loose refl refl short holds
@@ -444,7 +462,7 @@ split-holds v old mid new at fresh p after before a tree free_v unused_v positiv
     held_again hand (with_count hand fresh 0) v old mid new v.unused h (split_at at fresh p h.tree) h.spare (with_mark h.loose fresh true) a.given a.left
     (short-mid v.slots old mid new a r.holds.short) r.holds
     (tree h.sequence h.tree stands)
-    (filed-two (options_of v.options) (nodes old) (nodes mid) (rings old) (rings mid) v.lists v.unused (places_of hand h) (with_count hand fresh 0) (with_mark h.loose fresh true) at fresh
+    (filed-two (options_of v.options) (nodes old) (nodes mid) (rings old) (rings mid) v.heads v.unused (places_of hand h) (with_count hand fresh 0) (with_mark h.loose fresh true) at fresh
     same two (filed-before hand v old h a.given r.holds))
     (cut-split at fresh p (nodes old) h.sequence no_slot 0 h.tree positive less stands.standing r.holds.cut)
     (total-split at fresh p (nodes old) h.sequence no_slot 0 h.tree less stands.standing)
@@ -478,7 +496,7 @@ wrapped-holds v old mid new at fresh link a tree free_v unused_v outer inner oth
     held_again hand (with_count hand fresh 0) v old mid new v.unused h (wrapped_at at fresh h.sequence.width h.tree) h.spare (with_mark (with_mark h.loose fresh true) at false) a.given a.left
     (short-mid v.slots old mid new a r.holds.short) r.holds
     (tree h.sequence h.tree (stands-before hand v old h a.given r.holds))
-    (filed-two (options_of v.options) (nodes old) (nodes mid) (rings old) (rings mid) v.lists v.unused (places_of hand h) (with_count hand fresh 0) (with_mark (with_mark h.loose fresh true) at false) at fresh
+    (filed-two (options_of v.options) (nodes old) (nodes mid) (rings old) (rings mid) v.heads v.unused (places_of hand h) (with_count hand fresh 0) (with_mark (with_mark h.loose fresh true) at false) at fresh
     same two (filed-before hand v old h a.given r.holds))
     (cut-wrapped at fresh h.sequence.width h.tree r.holds.wide r.holds.cut)
     (total-wrapped at fresh h.sequence.width h.tree)

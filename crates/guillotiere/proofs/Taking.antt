@@ -1,21 +1,24 @@
 -- Slots are taken and given back, and the nodes change under the lists.
 use Rattle.std.proofs.Common.{ℕ, ◌+◌, ◌<◌, ◌≡◌, List, [], ◌∷◌, ◌++◌, refl, sym, ap, ◌∙◌, ◌⊎◌, inl, inr, arith, length, set, get_or-set_same, get_or-set_other, length-set, Bool, true, false, eqb, ◌&&◌, subst}
-use Rattle.std.specs.Prelude.{if◌then◌else◌, replicate}
-use Rattle.std.proofs.lemmas.Bool.{cases_eq, cases_lt, cond-false, and_left}
-use Rattle.std.proofs.lemmas.List.{get_or_past, length-map, get_or_append_left, get_or-replicate, get_or_push, length_push, map-append}
+use Rattle.std.specs.Prelude.{if◌then◌else◌, not, ◌≤◌}
+use Rattle.std.proofs.lemmas.Bool.{cases_eq, cases_lt, cond-false, and_left, ne_eqb}
+use Rattle.std.proofs.lemmas.List.{get_or_past, length-map, get_or_append_left, get_or_push, length_push, map-append}
 use Rattle.guillotiere.specs.declared.slots.Slot.{Slot}
 use Rattle.guillotiere.specs.declared.slots.Link.{Link}
 use Rattle.guillotiere.specs.declared.slots.Node.{Node}
 use Rattle.guillotiere.specs.declared.slots.Ring.{Ring}
 use Rattle.guillotiere.specs.declared.slots.NodeKind.{NodeKind}
 use Rattle.guillotiere.specs.declared.slots.NodeKind.TheVariants as kind
-use Rattle.guillotiere.specs.declared.lists.FreeList.{FreeList}
-use Rattle.guillotiere.specs.Boxes.{Fits, box_sides}
+use Rattle.guillotiere.specs.declared.table.ListHead.{ListHead}
+use Rattle.guillotiere.specs.Boxes.{box_sides}
 use Rattle.guillotiere.specs.Choice.{Options}
 use Rattle.guillotiere.specs.Pixels.{box_of}
 use Rattle.guillotiere.specs.Slots.{nodes, rings, node_at, ring_at, use_count, no_slot, blank_node, blank_ring, blank_slot}
 use Rattle.guillotiere.specs.Numbered.{same}
-use Rattle.guillotiere.specs.Lists.{AreFiled, Places, IsList, Line, blank_list, occurs, front, filed, list_of, list_at, node_sides, is_free, bounds}
+use Rattle.guillotiere.specs.Lists.{AreFiled, Places, IsList, Line, occurs, front, filed, node_sides, is_free}
+use Rattle.guillotiere.specs.Bands.{list_of, strip_of}
+use Rattle.guillotiere.specs.Tables.{head_of, low_of, is_used_at}
+use Rattle.guillotiere.specs.declared.geometry.Rectangle.{Rectangle}
 use Rattle.guillotiere.specs.Links.{with_count, with_mark, rest_of, renewed, given_back, IsTaken}
 use Rattle.guillotiere.proofs.Occurrences.{same-self, same-ne, ne-from_occurs}
 use Rattle.guillotiere.proofs.Unlinking.{IsList-kept, Line-kept, Line-inside, Line-given}
@@ -23,13 +26,13 @@ use Rattle.guillotiere.proofs.Filing.{unless-le, filed-use, with_mark-same, unle
 
 -- the lists stay in order where the nodes change: each slot is filed as before, is used or in hand as before, and keeps
 -- its rectangle if it stands in a list
-pub AreFiled-nodes : (o : Options) (ns ms : List Node) (rs : List Ring) (lists : List FreeList) (unused : Link) (p : Places) (hand' : ℕ → ℕ) (loose' : ℕ → Bool) → ((k i : ℕ) → unless_loose (loose' i) (filed o k (node_at ms i)) ≡ unless_loose (p.loose i) (filed o k (node_at ns i))) → ((i : ℕ) → i < length rs → hand' i + use_count (node_at ms i).kind ≡ p.hand i + use_count (node_at ns i).kind) → ((k i : ℕ) → k < 24 → 0 < occurs i (p.held k) → (node_at ms i).area ≡ (node_at ns i).area) → AreFiled o ns rs lists unused p → AreFiled o ms rs lists unused (record p { hand = hand'; loose = loose' })
-AreFiled-nodes o ns ms rs lists unused p hand' loose' files counts areas f =
+pub AreFiled-nodes : (o : Options) (ns ms : List Node) (rs : List Ring) (heads : List ListHead) (unused : Link) (p : Places) (hand' : ℕ → ℕ) (loose' : ℕ → Bool) → ((k i : ℕ) → unless_loose (loose' i) (filed o k (node_at ms i)) ≡ unless_loose (p.loose i) (filed o k (node_at ns i))) → ((i : ℕ) → i < length rs → hand' i + use_count (node_at ms i).kind ≡ p.hand i + use_count (node_at ns i).kind) → ((k i : ℕ) → k < 2704 → 0 < occurs i (p.held k) → (node_at ms i).area ≡ (node_at ns i).area) → AreFiled o ns rs heads unused p → AreFiled o ms rs heads unused (record p { hand = hand'; loose = loose' })
+AreFiled-nodes o ns ms rs heads unused p hand' loose' files counts areas f =
     record {
       free = λ k l. let mine = f.free k l in record {
         links = mine.links;
         each = λ i. mine.each i ∙ sym (files k i);
-        bounded = λ i h. subst (λ a. Fits (box_sides (box_of a)) (bounds (list_at lists k))) (sym (areas k i l h)) (mine.bounded i h);
+        low = λ i h. subst (λ (a : Rectangle). low_of heads k ≤ strip_of (box_of a).min.y) (sym (areas k i l h)) (mine.low i h);
       };
       line = f.line;
       begins = f.begins;
@@ -60,9 +63,9 @@ filed-same o k n m e a =
     ap (λ c. if is_free c && eqb (list_of o (node_sides m)) k then 1 else 0) e ∙ ap (λ r. if is_free n.kind && eqb (list_of o (box_sides (box_of r))) k then 1 else 0) a
 
 -- the lists stay in order where the nodes of slots that are out of them change
-pub AreFiled-moved : (o : Options) (ns ms : List Node) (rs : List Ring) (lists : List FreeList) (unused : Link) (p : Places) (hand' : ℕ → ℕ) (loose' : ℕ → Bool) → ((i : ℕ) → IsMoved (node_at ns i) (node_at ms i) (p.loose i) (loose' i)) → ((i : ℕ) → i < length rs → hand' i + use_count (node_at ms i).kind ≡ p.hand i + use_count (node_at ns i).kind) → AreFiled o ns rs lists unused p → AreFiled o ms rs lists unused (record p { hand = hand'; loose = loose' })
-AreFiled-moved o ns ms rs lists unused p hand' loose' moved counts f =
-    AreFiled-nodes o ns ms rs lists unused p hand' loose' (λ k i.
+pub AreFiled-moved : (o : Options) (ns ms : List Node) (rs : List Ring) (heads : List ListHead) (unused : Link) (p : Places) (hand' : ℕ → ℕ) (loose' : ℕ → Bool) → ((i : ℕ) → IsMoved (node_at ns i) (node_at ms i) (p.loose i) (loose' i)) → ((i : ℕ) → i < length rs → hand' i + use_count (node_at ms i).kind ≡ p.hand i + use_count (node_at ns i).kind) → AreFiled o ns rs heads unused p → AreFiled o ms rs heads unused (record p { hand = hand'; loose = loose' })
+AreFiled-moved o ns ms rs heads unused p hand' loose' moved counts f =
+    AreFiled-nodes o ns ms rs heads unused p hand' loose' (λ k i.
     elim (moved i) [
       | inl s ↦ ap (λ b. unless_loose b (filed o k (node_at ms i))) s.2 ∙ ap (unless_loose (p.loose i)) (filed-same o k (node_at ns i) (node_at ms i) s.0 s.1)
       | inr s ↦ filed-out o k (node_at ms i) (loose' i) s.1 ∙ sym (filed-out o k (node_at ns i) (p.loose i) s.0)
@@ -73,7 +76,7 @@ AreFiled-moved o ns ms rs lists unused p hand' loose' moved counts f =
     ]) f
 
 -- one more unused slot, which is in hand
-module _ (o : Options) (ns : List Node) (rs : List Ring) (lists : List FreeList) (unused : Link) (p : Places) (f : AreFiled o ns rs lists unused p) where
+module _ (o : Options) (ns : List Node) (rs : List Ring) (heads : List ListHead) (unused : Link) (p : Places) (f : AreFiled o ns rs heads unused p) where
   pub node_at-grown : (i : ℕ) → node_at (ns ++ blank_node ∷ []) i ≡ node_at ns i
   node_at-grown i =
       elim (cases_lt i (length ns)) [
@@ -94,13 +97,13 @@ module _ (o : Options) (ns : List Node) (rs : List Ring) (lists : List FreeList)
         ]
       ]
 
-  pub AreFiled-grown : length ns ≡ length rs → AreFiled o (ns ++ blank_node ∷ []) (rs ++ blank_ring ∷ []) lists unused (record p { hand = with_count p.hand (length rs) 1 })
+  pub AreFiled-grown : length ns ≡ length rs → AreFiled o (ns ++ blank_node ∷ []) (rs ++ blank_ring ∷ []) heads unused (record p { hand = with_count p.hand (length rs) 1 })
   AreFiled-grown el =
       let longer = length_push rs blank_ring in
       let ms = ns ++ blank_node ∷ [] in
-      let moved = AreFiled-nodes o ns ms rs lists unused p p.hand p.loose (λ k i. ap (λ n. unless_loose (p.loose i) (filed o k n)) (node_at-grown i)) (λ i l. ap (λ (n : Node). p.hand i + use_count n.kind) (node_at-grown i)) (λ k i l h. ap (λ (n : Node). n.area) (node_at-grown i)) f in
+      let moved = AreFiled-nodes o ns ms rs heads unused p p.hand p.loose (λ k i. ap (λ n. unless_loose (p.loose i) (filed o k n)) (node_at-grown i)) (λ i l. ap (λ (n : Node). p.hand i + use_count n.kind) (node_at-grown i)) (λ k i l h. ap (λ (n : Node). n.area) (node_at-grown i)) f in
       record {
-        free = λ k l. let mine = moved.free k l in record { links = IsList-kept rs (rs ++ blank_ring ∷ []) (list_at lists k) (p.held k) (omega arith) (λ j h. ring_at-grown j) mine.links; each = mine.each; bounded = mine.bounded };
+        free = λ k l. let mine = moved.free k l in record { links = IsList-kept rs (rs ++ blank_ring ∷ []) (head_of heads k) (p.held k) (omega arith) (λ j h. ring_at-grown j) mine.links; each = mine.each; low = mine.low };
         line = Line-kept rs (rs ++ blank_ring ∷ []) p.spare (omega arith) (λ j h. ring_at-grown j) f.line;
         begins = f.begins;
         each = λ i l. elim (cases_eq i (length rs)) [
@@ -114,7 +117,7 @@ module _ (o : Options) (ns : List Node) (rs : List Ring) (lists : List FreeList)
       }
 
   -- the first spare slot is taken
-  pub AreFiled-taken : (x : ℕ) (rest : List ℕ) (next : Link) → p.spare ≡ x ∷ rest → next ≡ (ring_at rs x).next → AreFiled o ns rs lists next (record p { spare = rest; hand = with_count p.hand x 1 })
+  pub AreFiled-taken : (x : ℕ) (rest : List ℕ) (next : Link) → p.spare ≡ x ∷ rest → next ≡ (ring_at rs x).next → AreFiled o ns rs heads next (record p { spare = rest; hand = with_count p.hand x 1 })
   AreFiled-taken x rest next es en =
       let line : Line rs (x ∷ rest) = rw es at f.line in
       record {
@@ -130,7 +133,7 @@ module _ (o : Options) (ns : List Node) (rs : List Ring) (lists : List FreeList)
       }
 
   -- a slot in hand becomes the first spare one
-  pub AreFiled-given : (ts : List Ring) (i : ℕ) (ring : Ring) (next : Link) → i < length rs → 0 < p.hand i → ts ≡ set rs i ring → ring.next ≡ unused → next.number ≡ i → AreFiled o ns ts lists next (given_back p i)
+  pub AreFiled-given : (ts : List Ring) (i : ℕ) (ring : Ring) (next : Link) → i < length rs → 0 < p.hand i → ts ≡ set rs i ring → ring.next ≡ unused → next.number ≡ i → AreFiled o ns ts heads next (given_back p i)
   AreFiled-given ts i ring next li hi et er en =
       let lt : length ts ≡ length rs = rw et (length-set rs i ring) in
       let now = f.each i li in
@@ -138,7 +141,7 @@ module _ (o : Options) (ns : List Node) (rs : List Ring) (lists : List FreeList)
       let same_at : (j : ℕ) → (j ≡ i → ⊥) → ring_at ts j ≡ ring_at rs j = (λ j ne. rw et (get_or-set_other rs i j ring blank_ring ne)) in
       let none : occurs i p.spare ≡ 0 = omega arith in
       record {
-        free = λ k l. let mine = f.free k l in record { links = IsList-kept rs ts (list_at lists k) (p.held k) (omega arith) (λ j h. same_at j (ne-from_occurs i j (p.held k) (unused-nowhere o ns rs lists unused p f k i l unused_now) h)) mine.links; each = mine.each; bounded = mine.bounded };
+        free = λ k l. let mine = f.free k l in record { links = IsList-kept rs ts (head_of heads k) (p.held k) (omega arith) (λ j h. same_at j (ne-from_occurs i j (p.held k) (unused-nowhere o ns rs heads unused p f k i l unused_now) h)) mine.links; each = mine.each; low = mine.low };
         line = Line-given rs ts i ring li et p.spare f.line (ap (λ (l : Link). l.number) er ∙ f.begins) none;
         begins = en;
         each = λ j l. elim (cases_eq j i) [
@@ -163,8 +166,8 @@ nil-from_inside rs [] short l e = refl
 nil-from_inside rs (x ∷ xs) short l e = absurd (omega (arith, l.0))
 
 -- no slot is unused: a new one is taken
-pub taken-fresh : (o : Options) (old new : List Slot) (slot : Slot) (lists : List FreeList) (unused : Link) (at : ℕ) → length old < 4294967295 → unused.number ≡ no_slot → at ≡ length old → new ≡ old ++ slot ∷ [] → slot ≡ blank_slot → (p : Places) → AreFiled o (nodes old) (rings old) lists unused p → IsTaken o old new lists unused p at
-taken-fresh o old new slot lists unused at short none ea en es p f =
+pub taken-fresh : (o : Options) (old new : List Slot) (slot : Slot) (heads : List ListHead) (unused : Link) (at : ℕ) → length old < 4294967295 → unused.number ≡ no_slot → at ≡ length old → new ≡ old ++ slot ∷ [] → slot ≡ blank_slot → (p : Places) → AreFiled o (nodes old) (rings old) heads unused p → IsTaken o old new heads unused p at
+taken-fresh o old new slot heads unused at short none ea en es p f =
     let ln : length (nodes old) ≡ length old = length-map old _ in
     let lr : length (rings old) ≡ length old = length-map old _ in
     let last : new ≡ old ++ blank_slot ∷ [] = en ∙ ap (λ s. old ++ s ∷ []) es in
@@ -172,9 +175,9 @@ taken-fresh o old new slot lists unused at short none ea en es p f =
     let rs : rings new ≡ rings old ++ blank_ring ∷ [] = ap rings last ∙ map-append (λ (s : Slot). s.ring) old (blank_slot ∷ []) in
     let empty : p.spare ≡ [] = nil-from_inside (rings old) p.spare (omega arith) f.line (sym f.begins ∙ none) in
     let same_rest : rest_of p.spare ≡ p.spare = ap rest_of empty ∙ sym empty in
-    let grown = AreFiled-grown o (nodes old) (rings old) lists unused p f (ln ∙ sym lr) in
-    let P : List Node → List Ring → List ℕ → ℕ → Type 0 = λ ms ts ys n. AreFiled o ms ts lists unused (record p { spare = ys; hand = with_count p.hand n 1 }) in
-    let at_node : (i : ℕ) → node_at (nodes new) i ≡ node_at (nodes old) i = (λ i. rw ns (node_at-grown o (nodes old) (rings old) lists unused p f i)) in
+    let grown = AreFiled-grown o (nodes old) (rings old) heads unused p f (ln ∙ sym lr) in
+    let P : List Node → List Ring → List ℕ → ℕ → Type 0 = λ ms ts ys n. AreFiled o ms ts heads unused (record p { spare = ys; hand = with_count p.hand n 1 }) in
+    let at_node : (i : ℕ) → node_at (nodes new) i ≡ node_at (nodes old) i = (λ i. rw ns (node_at-grown o (nodes old) (rings old) heads unused p f i)) in
     let blank : node_at (nodes old) at ≡ blank_node = get_or_past (nodes old) at blank_node (omega arith) in
     record {
       filed = rw (ns, rs, same_rest, ea, ← lr) grown;
@@ -185,10 +188,10 @@ taken-fresh o old new slot lists unused at short none ea en es p f =
     }
 
 -- the first unused slot is taken
-pub taken-again : (o : Options) (old new : List Slot) (lists : List FreeList) (unused next : Link) → (unused.number ≡ no_slot → ⊥) → next ≡ (ring_at (rings old) unused.number).next → nodes new ≡ set (nodes old) unused.number (renewed (node_at (nodes old) unused.number)) → rings new ≡ rings old → (p : Places) → AreFiled o (nodes old) (rings old) lists unused p → IsTaken o old new lists next p unused.number
-taken-again o old new lists unused next some en em er p f = by p.spare refl
+pub taken-again : (o : Options) (old new : List Slot) (heads : List ListHead) (unused next : Link) → (unused.number ≡ no_slot → ⊥) → next ≡ (ring_at (rings old) unused.number).next → nodes new ≡ set (nodes old) unused.number (renewed (node_at (nodes old) unused.number)) → rings new ≡ rings old → (p : Places) → AreFiled o (nodes old) (rings old) heads unused p → IsTaken o old new heads next p unused.number
+taken-again o old new heads unused next some en em er p f = by p.spare refl
   where
-    by : (xs : List ℕ) → p.spare ≡ xs → IsTaken o old new lists next p unused.number
+    by : (xs : List ℕ) → p.spare ≡ xs → IsTaken o old new heads next p unused.number
     by [] e = absurd (some (f.begins ∙ ap front e))
     by (x ∷ rest) e =
         let at = unused.number in
@@ -200,16 +203,16 @@ taken-again o old new lists unused next some en em er p f = by p.spare refl
         let in_rings : at < length (rings old) = rw ax line.0 in
         let inside : at < length ns = omega arith in
         let on : 0 < occurs at (x ∷ rest) = omega (arith, same-self x, ap (λ v. same v x) ax) in
-        let free = spare-use o ns (rings old) lists unused p f at (subst (λ ys. 0 < occurs at ys) (sym e) on) in
+        let free = spare-use o ns (rings old) heads unused p f at (subst (λ ys. 0 < occurs at ys) (sym e) on) in
         let was : (node_at ns at).kind ≡ kind.Unused = unused_kind _ free.0 in
         let here : node_at (nodes new) at ≡ renewed (node_at ns at) = rw em (get_or-set_same ns at (renewed (node_at ns at)) blank_node inside) in
         let there : (i : ℕ) → (i ≡ at → ⊥) → node_at (nodes new) i ≡ node_at ns i = (λ i ne. rw em (get_or-set_other ns at i (renewed (node_at ns at)) blank_node ne)) in
         let kinds : (i : ℕ) → (node_at (nodes new) i).kind ≡ (node_at ns i).kind = (λ i. elim (cases_eq i at) [ inl e ↦ rw e (ap (λ (n : Node). n.kind) here) | inr ne ↦ ap (λ (n : Node). n.kind) (there i ne) ]) in
         let areas : (i : ℕ) → (node_at (nodes new) i).area ≡ (node_at ns i).area = (λ i. elim (cases_eq i at) [ inl e ↦ rw e (ap (λ (n : Node). n.area) here) | inr ne ↦ ap (λ (n : Node). n.area) (there i ne) ]) in
         let q : Places = record p { spare = rest; hand = with_count p.hand x 1 } in
-        let taken : AreFiled o ns (rings old) lists next q = AreFiled-taken o ns (rings old) lists unused p f x rest next e (rw (← ax) en) in
-        let now : AreFiled o (nodes new) (rings old) lists next q = AreFiled-moved o ns (nodes new) (rings old) lists next q q.hand q.loose (λ i. inl (kinds i, areas i, refl)) (λ i l. ap (λ k. with_count p.hand x 1 i + use_count k) (kinds i)) taken in
-        let P : List Ring → List ℕ → ℕ → Type 0 = λ ts ys n. AreFiled o (nodes new) ts lists next (record p { spare = ys; hand = with_count p.hand n 1 }) in
+        let taken : AreFiled o ns (rings old) heads next q = AreFiled-taken o ns (rings old) heads unused p f x rest next e (rw (← ax) en) in
+        let now : AreFiled o (nodes new) (rings old) heads next q = AreFiled-moved o ns (nodes new) (rings old) heads next q q.hand q.loose (λ i. inl (kinds i, areas i, refl)) (λ i l. ap (λ k. with_count p.hand x 1 i + use_count k) (kinds i)) taken in
+        let P : List Ring → List ℕ → ℕ → Type 0 = λ ts ys n. AreFiled o (nodes new) ts heads next (record p { spare = ys; hand = with_count p.hand n 1 }) in
         let first : P (rings old) rest at = subst (P (rings old) rest) (sym ax) now in
         let spared : P (rings old) (rest_of p.spare) at = subst (λ ys. P (rings old) ys at) (sym (ap rest_of e)) first in
         record {
@@ -221,31 +224,37 @@ taken-again o old new lists unused next some en em er p f = by p.spare refl
         }
 
 -- the same where the slots are seen through another name
-pub taken-again_by : (o : Options) (old items ys new : List Slot) (lists : List FreeList) (unused : Link) (ring : Ring) → items ≡ old → new ≡ ys → (unused.number ≡ no_slot → ⊥) → ring ≡ ring_at (rings old) unused.number → nodes ys ≡ set (nodes items) unused.number (renewed (node_at (nodes items) unused.number)) → rings ys ≡ rings items → (p : Places) → AreFiled o (nodes old) (rings old) lists unused p → IsTaken o old new lists ring.next p unused.number
-taken-again_by o old items ys new lists unused ring ei ey some eg em er p f =
+pub taken-again_by : (o : Options) (old items ys new : List Slot) (heads : List ListHead) (unused : Link) (ring : Ring) → items ≡ old → new ≡ ys → (unused.number ≡ no_slot → ⊥) → ring ≡ ring_at (rings old) unused.number → nodes ys ≡ set (nodes items) unused.number (renewed (node_at (nodes items) unused.number)) → rings ys ≡ rings items → (p : Places) → AreFiled o (nodes old) (rings old) heads unused p → IsTaken o old new heads ring.next p unused.number
+taken-again_by o old items ys new heads unused ring ei ey some eg em er p f =
     let en : nodes new ≡ set (nodes old) unused.number (renewed (node_at (nodes old) unused.number)) = rw (ey, ← ei) em in
-    taken-again o old new lists unused ring.next some (ap (λ (r : Ring). r.next) eg) en (ap rings ey ∙ er ∙ ap rings ei) p f
+    taken-again o old new heads unused ring.next some (ap (λ (r : Ring). r.next) eg) en (ap rings ey ∙ er ∙ ap rings ei) p f
 
-pub given-by : (o : Options) (old new : List Slot) (lists : List FreeList) (unused at : Link) (ring : Ring) → at.number < length old → rings new ≡ set (rings old) at.number ring → nodes new ≡ nodes old → ring.next ≡ unused → (p : Places) → AreFiled o (nodes old) (rings old) lists unused p → 0 < p.hand at.number → AreFiled o (nodes new) (rings new) lists at (given_back p at.number)
-given-by o old new lists unused at ring li er en es p f h =
+pub given-by : (o : Options) (old new : List Slot) (heads : List ListHead) (unused at : Link) (ring : Ring) → at.number < length old → rings new ≡ set (rings old) at.number ring → nodes new ≡ nodes old → ring.next ≡ unused → (p : Places) → AreFiled o (nodes old) (rings old) heads unused p → 0 < p.hand at.number → AreFiled o (nodes new) (rings new) heads at (given_back p at.number)
+given-by o old new heads unused at ring li er en es p f h =
     let inside : at.number < length (rings old) = rw (length-map old (λ (s : Slot). s.ring)) li in
-    rw en (AreFiled-given o (nodes old) (rings old) lists unused p f (rings new) at.number ring at inside h er es refl)
+    rw en (AreFiled-given o (nodes old) (rings old) heads unused p f (rings new) at.number ring at inside h er es refl)
 
-empty-list : (rs : List Ring) → IsList rs blank_list []
-empty-list rs = record { chain = tt; head = refl; tail = refl; counted = refl; once = λ k. omega arith }
+empty-list : (rs : List Ring) (first : Link) → first.number ≡ no_slot → IsList rs first []
+empty-list rs first none = record { chain = tt; begins = none; once = λ k. omega arith }
 
 -- slot 0 is loose, and nothing else stands anywhere
 abbrev pub one_loose : Places
 one_loose = record { spare = []; held = λ _. []; hand = λ _. 0; loose = with_mark (λ _. false) 0 true }
 
+none-used : (heads : List ListHead) (k : ℕ) → is_used_at heads k ≡ false → (head_of heads k).number ≡ no_slot
+none-used heads k e =
+    elim (cases_eq (head_of heads k).number no_slot) [
+      | inl z ↦ z
+      | inr ne ↦ let t : true ≡ false = sym (ap (λ b. not b) (ne_eqb (head_of heads k).number no_slot ne)) ∙ e in cc
+    ]
+
 -- one free slot, which is loose: the lists are empty
-pub AreFiled-one : (o : Options) (n : Node) (ring : Ring) (unused : Link) → n.kind ≡ kind.Free → unused.number ≡ no_slot → AreFiled o (n ∷ []) (ring ∷ []) (replicate 24 blank_list) unused one_loose
-AreFiled-one o n ring unused e none =
+pub AreFiled-one : (o : Options) (n : Node) (ring : Ring) (heads : List ListHead) (unused : Link) → n.kind ≡ kind.Free → ((k : ℕ) → is_used_at heads k ≡ false) → unused.number ≡ no_slot → AreFiled o (n ∷ []) (ring ∷ []) heads unused one_loose
+AreFiled-one o n ring heads unused e empty none =
     record {
       free = λ k l.
-          let blank : list_at (replicate 24 blank_list) k ≡ blank_list = get_or-replicate 24 k blank_list blank_list l in
           record {
-            links = subst (λ (list : FreeList). IsList (ring ∷ []) list []) (sym blank) (empty-list (ring ∷ []));
+            links = empty-list (ring ∷ []) (head_of heads k) (none-used heads k (empty k));
             each = λ i. sym (elim (cases_eq i 0) [
               | inl z ↦ unless-loose (with_mark (λ _. false) 0 true i) (filed o k (node_at (n ∷ []) i)) (rw z (with_mark-same (λ _. false) 0 true))
               | inr z ↦
@@ -254,7 +263,7 @@ AreFiled-one o n ring unused e none =
                   let c = past-unused (n ∷ []) i (omega arith) in
                   omega arith
             ]);
-            bounded = λ i h. absurd (omega arith);
+            low = λ i h. absurd (omega arith);
           };
       line = tt;
       begins = none;

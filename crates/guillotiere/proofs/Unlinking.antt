@@ -1,15 +1,14 @@
 -- One slot leaves a list, and one joins it in front.
-use Rattle.std.proofs.Common.{ℕ, ◌+◌, ◌<◌, ◌≤◌, ◌≡◌, List, [], ◌∷◌, refl, sym, ap, ◌∙◌, ◌⊎◌, inl, inr, arith, length, set, get_or-set_same, get_or-set_other, length-set, eqb, zero, suc}
-use Rattle.std.proofs.lemmas.Bool.{cases_eq, cases_lt, cond_both, eqb-true, eqb-false, eq-eqb, cond-true}
+use Rattle.std.proofs.Common.{ℕ, ◌<◌, ◌≤◌, ◌≡◌, List, [], ◌∷◌, refl, sym, ap, ◌∙◌, ◌⊎◌, inl, inr, arith, length, set, get_or-set_same, get_or-set_other, length-set, eqb, zero, suc}
+use Rattle.std.proofs.lemmas.Bool.{cases_eq, cases_lt, cond_both, eqb-true, eqb-false, eq-eqb, ne_eqb, cond-true, cond-false}
 use Rattle.std.proofs.lemmas.List.{get_or_past}
 use Rattle.guillotiere.specs.declared.slots.Ring.{Ring}
 use Rattle.guillotiere.specs.declared.slots.Link.{Link}
-use Rattle.guillotiere.specs.declared.lists.FreeList.{FreeList}
 use Rattle.guillotiere.specs.Slots.{ring_at, blank_ring, no_slot}
 use Rattle.guillotiere.specs.Numbered.{same}
 use Rattle.guillotiere.specs.Standing.{IsSlot}
-use Rattle.guillotiere.specs.Lists.{IsList, Chain, Line, occurs, without, front, back}
-use Rattle.guillotiere.specs.Links.{IsListed, with_next, with_ring_previous}
+use Rattle.guillotiere.specs.Lists.{IsList, Chain, Line, occurs, without, front}
+use Rattle.guillotiere.specs.Links.{IsListed, first_without, with_next, with_ring_previous}
 use Rattle.guillotiere.proofs.Occurrences.{same-self, same-ne, ne-from_occurs, ne-from_same, front_in, front_of, is_first, front-without, occurs-without, length-without}
 
 -- a list stands where the rings of its slots are the same, and no slot is gone
@@ -22,9 +21,9 @@ Chain-kept rs ts b (x ∷ xs) e same_at h =
 pub Chain-same : (rs ts : List Ring) (b : ℕ) (xs : List ℕ) → length ts ≡ length rs → ((k : ℕ) → 0 < occurs k xs → ring_at ts k ≡ ring_at rs k) → Chain rs b xs → Chain ts b xs
 Chain-same rs ts b xs e same_at h = Chain-kept rs ts b xs (omega arith) same_at h
 
-pub IsList-kept : (rs ts : List Ring) (list : FreeList) (xs : List ℕ) → length rs ≤ length ts → ((k : ℕ) → 0 < occurs k xs → ring_at ts k ≡ ring_at rs k) → IsList rs list xs → IsList ts list xs
-IsList-kept rs ts list xs e same_at h =
-    record { chain = Chain-kept rs ts no_slot xs e same_at h.chain; head = h.head; tail = h.tail; counted = h.counted; once = h.once }
+pub IsList-kept : (rs ts : List Ring) (first : Link) (xs : List ℕ) → length rs ≤ length ts → ((k : ℕ) → 0 < occurs k xs → ring_at ts k ≡ ring_at rs k) → IsList rs first xs → IsList ts first xs
+IsList-kept rs ts first xs e same_at h =
+    record { chain = Chain-kept rs ts no_slot xs e same_at h.chain; begins = h.begins; once = h.once }
 
 pub Chain-inside : (rs : List Ring) (b i : ℕ) (xs : List ℕ) → Chain rs b xs → 0 < occurs i xs → i < length rs
 Chain-inside rs b i [] h l = absurd (omega arith)
@@ -127,11 +126,11 @@ pub record CanUnlink (rs : List Ring) (i : ℕ) : Type 0 where
   pub next : IsSlot (length rs) (ring_at rs i).next.number
   pub apart : (ring_at rs i).next.number ≡ (ring_at rs i).previous.number → (ring_at rs i).next.number ≡ no_slot
 
-pub can-unlink : (rs : List Ring) (list : FreeList) (i : ℕ) → IsListed rs list i → length rs < 4294967295 → CanUnlink rs i
-can-unlink rs list i t short =
-    let xs = t.0 in
-    let h = t.1 in
-    let l = t.2 in
+pub can-unlink : (rs : List Ring) (i : ℕ) → IsListed rs i → length rs < 4294967295 → CanUnlink rs i
+can-unlink rs i t short =
+    let xs = t.1 in
+    let h = t.2 in
+    let l = t.3 in
     record {
       inside = Chain-inside rs no_slot i xs h.chain l;
       previous = elim (cases_eq (front xs) i) [
@@ -164,78 +163,29 @@ unlinked-by rs ss ts i ring c er es et =
       others = λ k kp kn. rw (is, get_or-set_other xs n k r2 blank_ring kn, get_or-set_other rs p k r1 blank_ring kp) refl;
     }
 
--- the last of a list, or d
-abbrev back_or : ℕ → List ℕ → ℕ
-back_or d [] = d
-back_or d (x ∷ xs) = back_or x xs
-
-back-cons : (x : ℕ) (xs : List ℕ) → back (x ∷ xs) ≡ back_or x xs
-back-cons x [] = refl
-back-cons x (y ∷ ys) = back-cons y ys
-
-back-back_or : (xs : List ℕ) → back xs ≡ back_or no_slot xs
-back-back_or [] = refl
-back-back_or (x ∷ xs) = back-cons x xs
-
-nil-from_front : (xs : List ℕ) → occurs no_slot xs ≡ 0 → front xs ≡ no_slot → xs ≡ []
-nil-from_front [] z e = refl
-nil-from_front (x ∷ xs) z e = absurd (ne-from_same no_slot x (omega arith) e)
-
--- the last leaves: the one before it is the last
-back-without_last : (rs : List Ring) (b i : ℕ) (xs : List ℕ) → Chain rs b xs → 0 < occurs i xs → occurs no_slot xs ≡ 0 → (ring_at rs i).next.number ≡ no_slot → back_or b (without i xs) ≡ (ring_at rs i).previous.number
-back-without_last rs b i [] h l none e = absurd (omega arith)
-back-without_last rs b i (x ∷ xs) h l none e =
-    cond_both (eqb i x) xs (x ∷ without i xs) (λ ys. back_or b ys ≡ (ring_at rs i).previous.number) (λ t.
-    let q = eqb-true i x t in
-    let n : front xs ≡ no_slot = sym h.2 ∙ (rw q at e) in
-    rw (nil-from_front xs (omega arith) n, q) (sym h.1)) (λ f.
-    back-without_last rs x i xs h.3 (omega (arith, same-ne i x (eqb-false i x f))) (omega arith) e)
-
--- another leaves: the last stays
-back-without_other : (rs : List Ring) (b i d : ℕ) (xs : List ℕ) → Chain rs b xs → 0 < occurs i xs → ((ring_at rs i).next.number ≡ no_slot → ⊥) → back_or d (without i xs) ≡ back_or d xs
-back-without_other rs b i d [] h l ne = absurd (omega arith)
-back-without_other rs b i d (x ∷ xs) h l ne =
-    cond_both (eqb i x) xs (x ∷ without i xs) (λ ys. back_or d ys ≡ back_or x xs) (λ t.
-    let q = eqb-true i x t in
-    more d x xs (λ z. ne (rw q (h.2 ∙ z)))) (λ f.
-    back-without_other rs x i x xs h.3 (omega (arith, same-ne i x (eqb-false i x f))) ne)
-  where
-    more : (d x : ℕ) (xs : List ℕ) → (front xs ≡ no_slot → ⊥) → back_or d xs ≡ back_or x xs
-    more d x [] ne = absurd (ne refl)
-    more d x (y ∷ ys) ne = refl
-
--- the ends and the count of a list from which a slot with these neighbours is gone
-pub record IsShortened (list new : FreeList) (ring : Ring) : Type 0 where
-  pub new_head : ring.previous.number ≡ no_slot → new.head ≡ ring.next
-  pub same_head : (ring.previous.number ≡ no_slot → ⊥) → new.head ≡ list.head
-  pub new_tail : ring.next.number ≡ no_slot → new.tail ≡ ring.previous
-  pub same_tail : (ring.next.number ≡ no_slot → ⊥) → new.tail ≡ list.tail
-  pub counted : new.count + 1 ≡ list.count
-
 number-of : (l m : Link) → l ≡ m → l.number ≡ m.number
 number-of l m e = ap (λ (k : Link). k.number) e
 
-pub IsList-unlinked : (rs ts : List Ring) (list new : FreeList) (i : ℕ) (ring : Ring) → length rs < 4294967295 → IsUnlinked rs ts i (ring_at rs i).previous.number (ring_at rs i).next.number → ring ≡ ring_at rs i → IsShortened list new ring → (xs : List ℕ) → IsList rs list xs → 0 < occurs i xs → IsList ts new (without i xs)
-IsList-unlinked rs ts list new i ring short w er d xs h l =
+pub IsList-unlinked : (rs ts : List Ring) (first : Link) (i : ℕ) (ring : Ring) → length rs < 4294967295 → IsUnlinked rs ts i (ring_at rs i).previous.number (ring_at rs i).next.number → ring ≡ ring_at rs i → (xs : List ℕ) → IsList rs first xs → 0 < occurs i xs → IsList ts (first_without ring first) (without i xs)
+IsList-unlinked rs ts first i ring short w er xs h l =
     let none = none-occurs rs no_slot xs short h.chain in
     let previous : ring.previous.number ≡ (ring_at rs i).previous.number = ap (λ (r : Ring). r.previous.number) er in
     let next : ring.next.number ≡ (ring_at rs i).next.number = ap (λ (r : Ring). r.next.number) er in
     record {
       chain = Chain-unlinked rs ts i _ _ w no_slot xs h.once none none l h.chain;
-      head = elim (cases_eq (front xs) i) [
-        | inl e ↦ number-of _ _ (d.new_head (previous ∙ previous-first rs no_slot i xs h.chain l e)) ∙ next ∙ sym (front-without_first rs no_slot i xs h.chain l e)
-        | inr ne ↦ number-of _ _ (d.same_head (λ z. ne-from_occurs no_slot _ xs none (previous-in_list rs no_slot i xs h.chain l ne) (sym previous ∙ z))) ∙ h.head ∙ sym (front-without i xs ne)
+      begins = elim (cases_eq (front xs) i) [
+        | inl e ↦
+            let z : ring.previous.number ≡ no_slot = previous ∙ previous-first rs no_slot i xs h.chain l e in
+            number-of _ _ (cond-true (eqb ring.previous.number no_slot) ring.next first (eq-eqb _ _ z)) ∙ next ∙ sym (front-without_first rs no_slot i xs h.chain l e)
+        | inr ne ↦
+            let some : ring.previous.number ≡ no_slot → ⊥ = (λ z. ne-from_occurs no_slot _ xs none (previous-in_list rs no_slot i xs h.chain l ne) (sym previous ∙ z)) in
+            number-of _ _ (cond-false (eqb ring.previous.number no_slot) ring.next first (ne_eqb _ _ some)) ∙ h.begins ∙ sym (front-without i xs ne)
       ];
-      tail = elim (cases_eq ring.next.number no_slot) [
-        | inl e ↦ number-of _ _ (d.new_tail e) ∙ previous ∙ sym (back-without_last rs no_slot i xs h.chain l none (sym next ∙ e)) ∙ sym (back-back_or (without i xs))
-        | inr ne ↦ number-of _ _ (d.same_tail ne) ∙ h.tail ∙ back-back_or xs ∙ sym (back-without_other rs no_slot i no_slot xs h.chain l (λ z. ne (next ∙ z))) ∙ sym (back-back_or (without i xs))
-      ];
-      counted = omega (arith, d.counted, h.counted, length-without i xs l);
       once = λ k. omega (arith, occurs-without i xs l k, h.once k);
     }
 
-pub others-unlinked : (rs ts : List Ring) (list : FreeList) (i : ℕ) → length rs < 4294967295 → IsUnlinked rs ts i (ring_at rs i).previous.number (ring_at rs i).next.number → (xs : List ℕ) (k : ℕ) → IsList rs list xs → 0 < occurs i xs → occurs k xs ≡ 0 → ring_at ts k ≡ ring_at rs k
-others-unlinked rs ts list i short w xs k h l z =
+pub others-unlinked : (rs ts : List Ring) (first : Link) (i : ℕ) → length rs < 4294967295 → IsUnlinked rs ts i (ring_at rs i).previous.number (ring_at rs i).next.number → (xs : List ℕ) (k : ℕ) → IsList rs first xs → 0 < occurs i xs → occurs k xs ≡ 0 → ring_at ts k ≡ ring_at rs k
+others-unlinked rs ts first i short w xs k h l z =
     elim (cases_eq k no_slot) [
       | inl e ↦ rw e (get_or_past ts no_slot blank_ring (rw w.same_length (omega arith)) ∙ sym (get_or_past rs no_slot blank_ring (omega arith)))
       | inr nk ↦ w.others k (λ q. elim (cases_eq (front xs) i) [
@@ -244,42 +194,28 @@ others-unlinked rs ts list i short w xs k h l z =
       ]) (λ q. elim (next-in_list rs no_slot i xs h.chain l) [ inl e ↦ nk (q ∙ e) | inr y ↦ ne-from_occurs k _ xs z y (sym q) ])
     ]
 
--- the ends and the count of a list that a slot joins in front
-pub record IsLengthened (list new : FreeList) (slot : Link) : Type 0 where
-  pub head : new.head ≡ slot
-  pub new_tail : list.count ≡ 0 → new.tail ≡ slot
-  pub same_tail : 0 < list.count → new.tail ≡ list.tail
-  pub counted : new.count ≡ list.count + 1
-
-back-pushed : (list new : FreeList) (slot : Link) (xs : List ℕ) → list.tail.number ≡ back xs → list.count ≡ length xs → IsLengthened list new slot → new.tail.number ≡ back (slot.number ∷ xs)
-back-pushed list new slot [] e c d = number-of _ _ (d.new_tail (omega arith))
-back-pushed list new slot (x ∷ xs) e c d = number-of _ _ (d.same_tail (omega arith)) ∙ e
-
-pub IsList-pushed : (rs ss ts : List Ring) (list new : FreeList) (slot : Link) (ring : Ring) → length rs < 4294967295 → slot.number < length rs → ring.previous.number ≡ no_slot → ring.next ≡ list.head → ss ≡ set rs slot.number ring → ts ≡ with_ring_previous ss list.head.number slot → IsLengthened list new slot → (xs : List ℕ) → IsList rs list xs → occurs slot.number xs ≡ 0 → IsList ts new (slot.number ∷ xs)
-IsList-pushed rs ss ts list new slot ring short inside ep en es et d xs h z =
+pub IsList-pushed : (rs ss ts : List Ring) (head slot : Link) (ring : Ring) → length rs < 4294967295 → slot.number < length rs → ring.previous.number ≡ no_slot → ring.next ≡ head → ss ≡ set rs slot.number ring → ts ≡ with_ring_previous ss head.number slot → (xs : List ℕ) → IsList rs head xs → occurs slot.number xs ≡ 0 → IsList ts slot (slot.number ∷ xs)
+IsList-pushed rs ss ts head slot ring short inside ep en es et xs h z =
     let i = slot.number in
-    let head = list.head in
     let mid = set rs i ring in
     let is : ts ≡ with_ring_previous mid head.number slot = rw (et, es) refl in
     let ly : length mid ≡ length rs = length-set rs i ring in
     let lt : length ts ≡ length rs = rw is (length-set mid head.number _ ∙ ly) in
-    let hi : i ≡ head.number → ⊥ = (λ q. elim (front_in xs) [ inl e ↦ absurd (omega (arith, h.head, q, e)) | inr y ↦ ne-from_occurs i (front xs) xs z y (sym h.head ∙ sym q) ]) in
+    let hi : i ≡ head.number → ⊥ = (λ q. elim (front_in xs) [ inl e ↦ absurd (omega (arith, h.begins, q, e)) | inr y ↦ ne-from_occurs i (front xs) xs z y (sym h.begins ∙ sym q) ]) in
     let first : ring_at ts i ≡ ring = rw (is, get_or-set_other mid head.number i _ blank_ring hi) (get_or-set_same rs i ring blank_ring inside) in
     let other : (k : ℕ) → (k ≡ i → ⊥) → (k ≡ head.number → ⊥) → ring_at ts k ≡ ring_at rs k = (λ k ki kh. rw (is, get_or-set_other mid head.number k _ blank_ring kh) (get_or-set_other rs i k ring blank_ring ki)) in
     record {
-      chain = (rw lt inside, rw first ep, rw first (number-of _ _ en ∙ h.head), rest rs mid ts list slot is lt ly (get_or-set_other rs i head.number ring blank_ring (λ q. hi (sym q))) other xs h z);
-      head = number-of _ _ d.head;
-      tail = back-pushed list new slot xs h.tail h.counted d;
-      counted = omega (arith, d.counted, h.counted);
+      chain = (rw lt inside, rw first ep, rw first (number-of _ _ en ∙ h.begins), rest rs mid ts head slot is lt ly (get_or-set_other rs i head.number ring blank_ring (λ q. hi (sym q))) other xs h z);
+      begins = refl;
       once = λ k. elim (cases_eq k i) [ inl e ↦ omega (arith, same-self i, z, ap (λ v. same v i) e, ap (λ v. occurs v xs) e) | inr ne ↦ omega (arith, same-ne k i ne, h.once k) ];
     }
   where
-    rest : (rs mid ts : List Ring) (list : FreeList) (slot : Link) → ts ≡ with_ring_previous mid list.head.number slot → length ts ≡ length rs → length mid ≡ length rs → ring_at mid list.head.number ≡ ring_at rs list.head.number → ((k : ℕ) → (k ≡ slot.number → ⊥) → (k ≡ list.head.number → ⊥) → ring_at ts k ≡ ring_at rs k) → (xs : List ℕ) → IsList rs list xs → occurs slot.number xs ≡ 0 → Chain ts slot.number xs
-    rest rs mid ts list slot is lt ly at other [] h z = tt
-    rest rs mid ts list slot is lt ly at other (x ∷ xs) h z =
-        let hx : list.head.number ≡ x = h.head in
+    rest : (rs mid ts : List Ring) (head slot : Link) → ts ≡ with_ring_previous mid head.number slot → length ts ≡ length rs → length mid ≡ length rs → ring_at mid head.number ≡ ring_at rs head.number → ((k : ℕ) → (k ≡ slot.number → ⊥) → (k ≡ head.number → ⊥) → ring_at ts k ≡ ring_at rs k) → (xs : List ℕ) → IsList rs head xs → occurs slot.number xs ≡ 0 → Chain ts slot.number xs
+    rest rs mid ts head slot is lt ly at other [] h z = tt
+    rest rs mid ts head slot is lt ly at other (x ∷ xs) h z =
+        let hx : head.number ≡ x = h.begins in
         let one = h.once x in
-        let there : ring_at ts x ≡ record (ring_at rs x) { previous = slot } = rw (← hx, is, get_or-set_same mid list.head.number _ blank_ring (rw (ly, hx) h.chain.0), at) refl in (
+        let there : ring_at ts x ≡ record (ring_at rs x) { previous = slot } = rw (← hx, is, get_or-set_same mid head.number _ blank_ring (rw (ly, hx) h.chain.0), at) refl in (
           rw lt h.chain.0,
           rw there refl,
           rw there h.chain.2,
@@ -287,17 +223,17 @@ IsList-pushed rs ss ts list new slot ring short inside ep en es et d xs h z =
         )
 
 -- the ring of a slot that neither joins nor stands in the list stays
-pub others-pushed : (rs ss ts : List Ring) (list : FreeList) (slot : Link) (ring : Ring) → length rs < 4294967295 → ss ≡ set rs slot.number ring → ts ≡ with_ring_previous ss list.head.number slot → (xs : List ℕ) (k : ℕ) → IsList rs list xs → (k ≡ slot.number → ⊥) → occurs k xs ≡ 0 → ring_at ts k ≡ ring_at rs k
-others-pushed rs ss ts list slot ring short es et xs k h ki z =
+pub others-pushed : (rs ss ts : List Ring) (head slot : Link) (ring : Ring) → length rs < 4294967295 → ss ≡ set rs slot.number ring → ts ≡ with_ring_previous ss head.number slot → (xs : List ℕ) (k : ℕ) → IsList rs head xs → (k ≡ slot.number → ⊥) → occurs k xs ≡ 0 → ring_at ts k ≡ ring_at rs k
+others-pushed rs ss ts head slot ring short es et xs k h ki z =
     let mid = set rs slot.number ring in
-    let is : ts ≡ with_ring_previous mid list.head.number slot = rw (et, es) refl in
+    let is : ts ≡ with_ring_previous mid head.number slot = rw (et, es) refl in
     let ly : length mid ≡ length rs = length-set rs slot.number ring in
-    let lt : length ts ≡ length rs = rw is (length-set mid list.head.number _ ∙ ly) in
-    let in_place : (k ≡ list.head.number → ⊥) → ring_at ts k ≡ ring_at rs k = (λ kh. rw (is, get_or-set_other mid list.head.number k _ blank_ring kh) (get_or-set_other rs slot.number k ring blank_ring ki)) in
-    elim (cases_eq k list.head.number) [
+    let lt : length ts ≡ length rs = rw is (length-set mid head.number _ ∙ ly) in
+    let in_place : (k ≡ head.number → ⊥) → ring_at ts k ≡ ring_at rs k = (λ kh. rw (is, get_or-set_other mid head.number k _ blank_ring kh) (get_or-set_other rs slot.number k ring blank_ring ki)) in
+    elim (cases_eq k head.number) [
       | inl e ↦ elim (front_in xs) [
-        | inl n ↦ let past : k ≡ no_slot = e ∙ h.head ∙ n in rw past (get_or_past ts no_slot blank_ring (rw lt (omega arith)) ∙ sym (get_or_past rs no_slot blank_ring (omega arith)))
-        | inr y ↦ absurd (ne-from_occurs k (front xs) xs z y (sym (e ∙ h.head)))
+        | inl n ↦ let past : k ≡ no_slot = e ∙ h.begins ∙ n in rw past (get_or_past ts no_slot blank_ring (rw lt (omega arith)) ∙ sym (get_or_past rs no_slot blank_ring (omega arith)))
+        | inr y ↦ absurd (ne-from_occurs k (front xs) xs z y (sym (e ∙ h.begins)))
       ]
       | inr ne ↦ in_place ne
     ]
@@ -318,10 +254,6 @@ length-distinct (suc n) xs once inside =
           let fewer = length-distinct n xs once (λ k y. let b = inside k y in let ne : k ≡ n → ⊥ = ne-from_occurs n k xs (omega arith) y in omega arith) in
           omega arith
     ]
-
--- a list is no longer than there are slots
-pub length-list : (rs : List Ring) (list : FreeList) (xs : List ℕ) → IsList rs list xs → length xs ≤ length rs
-length-list rs list xs h = length-distinct (length rs) xs h.once (λ k l. Chain-inside rs no_slot k xs h.chain l)
 
 pub Line-kept : (rs ts : List Ring) (xs : List ℕ) → length rs ≤ length ts → ((k : ℕ) → 0 < occurs k xs → ring_at ts k ≡ ring_at rs k) → Line rs xs → Line ts xs
 Line-kept rs ts [] e same_at h = tt

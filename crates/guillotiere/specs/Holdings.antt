@@ -4,7 +4,9 @@ use Rattle.guillotiere.specs.declared.store.Store.{Store}
 use Rattle.guillotiere.specs.declared.slots.Node.{Node}
 use Rattle.guillotiere.specs.declared.slots.NodeKind.TheVariants as kind
 use Rattle.guillotiere.specs.Boxes.{side, other, box_sides}
-use Rattle.guillotiere.specs.Pixels.{box_of}
+use Rattle.guillotiere.specs.Pixels.{box_of, options_of}
+use Rattle.guillotiere.specs.Bands.{list_of}
+use Rattle.guillotiere.specs.Lists.{node_sides, node_strip}
 use Rattle.guillotiere.specs.Slots.{nodes, node_at, axis_of}
 use Rattle.guillotiere.specs.Links.{with_mark, rest_of}
 use Rattle.guillotiere.specs.Numbered.{Numbered, marked, joined, lifted, granted_at, split_at, wrapped_at}
@@ -12,7 +14,7 @@ use Rattle.guillotiere.specs.Stored.{Shelf, Holding, Holds, HoldsWith}
 
 -- the stored part of a store
 abbrev pub shelf_of : {A : Type 0} → Store A → Shelf
-shelf_of s = record { slots = s.slots.items; lists = s.lists; unused = s.unused; options = s.options }
+shelf_of s = record { slots = s.slots.items; heads = s.lists; unused = s.unused; options = s.options }
 
 -- slot i is loose, or isn't
 abbrev pub with_loose : (i : ℕ) → Bool → Holding → Holding
@@ -46,6 +48,12 @@ pub record IsLooseLeaf (v : Shelf) (i : ℕ) (h : Holding) : Type 0 where
   pub holds : Holds v h
   pub kind : (node_in v i).kind ≡ kind.Free
   pub loose : h.loose i ≡ true
+
+-- no free slot of list k, but those that are loose, lies above a strip
+abbrev pub IsLow : Shelf → Holding → (k low : ℕ) → Type 0
+IsLow v h k low =
+    (i : ℕ) → (node_in v i).kind ≡ kind.Free → h.loose i ≡ false → list_of (options_of v.options) (node_sides (node_in v i)) ≡ k
+    → low ≤ node_strip (node_in v i)
 
 -- there are as many slots, and room for as many
 pub record KeepsRoom {A : Type 0} (old new : Store A) : Type 0 where

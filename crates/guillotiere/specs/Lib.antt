@@ -39,7 +39,6 @@ pub mod Reading
 pub mod Parts
 pub mod Calm
 pub mod Stored
-pub mod ClassLists
 pub mod Links
 pub mod Picks
 pub mod Holdings

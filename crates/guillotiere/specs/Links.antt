@@ -5,22 +5,26 @@ use Rattle.guillotiere.specs.declared.slots.Link.{Link}
 use Rattle.guillotiere.specs.declared.slots.Node.{Node}
 use Rattle.guillotiere.specs.declared.slots.Ring.{Ring}
 use Rattle.guillotiere.specs.declared.slots.NodeKind.TheVariants as kind
-use Rattle.guillotiere.specs.declared.lists.FreeList.{FreeList}
+use Rattle.guillotiere.specs.declared.table.ListHead.{ListHead}
 use Rattle.guillotiere.specs.declared.geometry.Rectangle.{Rectangle}
 use Rattle.guillotiere.specs.Boxes.{IsNonempty}
 use Rattle.guillotiere.specs.Pixels.{box_of}
 use Rattle.guillotiere.specs.Rectangles.{IsUnsigned}
 use Rattle.guillotiere.specs.Choice.{Options}
-use Rattle.guillotiere.specs.Slots.{nodes, rings, node_at, ring_at}
+use Rattle.guillotiere.specs.Slots.{nodes, rings, node_at, ring_at, no_slot}
 use Rattle.guillotiere.specs.Lists.{IsList, AreFiled, Places, occurs, without}
 
--- the list is in order, and slot i stands in it
-abbrev pub IsListed : List Ring → FreeList → ℕ → Type 0
-IsListed rs list i = (xs : List ℕ) × IsList rs list xs × (0 < occurs i xs)
+-- slot i stands in a list that is in order
+abbrev pub IsListed : List Ring → ℕ → Type 0
+IsListed rs i = (first : Link) × (xs : List ℕ) × IsList rs first xs × (0 < occurs i xs)
 
--- the list is in order, and slot i does not stand in it
-abbrev pub IsUnlisted : List Ring → FreeList → ℕ → Type 0
-IsUnlisted rs list i = (xs : List ℕ) × IsList rs list xs × (occurs i xs ≡ 0)
+-- the list that begins with this link is in order, and slot i does not stand in it
+abbrev pub IsUnlisted : List Ring → Link → ℕ → Type 0
+IsUnlisted rs first i = (xs : List ℕ) × IsList rs first xs × (occurs i xs ≡ 0)
+
+-- what a list begins with once a slot with these neighbours left it
+abbrev pub first_without : Ring → Link → Link
+first_without ring first = if ring.previous.number == no_slot then ring.next else first
 
 -- `link` comes after slot i in its list; nothing happens where i is no slot
 abbrev pub with_next : List Ring → ℕ → Link → List Ring
@@ -52,17 +56,17 @@ pub record IsExact (r : Rectangle) : Type 0 where
   pub nonempty : IsNonempty (box_of r)
 
 -- the lists are in order, and slot i is not loose
-pub record IsKept (o : Options) (slots : List Slot) (lists : List FreeList) (i : ℕ) : Type 0 where
+pub record IsKept (o : Options) (slots : List Slot) (heads : List ListHead) (i : ℕ) : Type 0 where
   pub unused : Link
   pub places : Places
-  pub filed : AreFiled o (nodes slots) (rings slots) lists unused places
+  pub filed : AreFiled o (nodes slots) (rings slots) heads unused places
   pub kept : places.loose i ≡ false
 
 -- the lists are in order, and slot i is loose
-pub record IsLoose (o : Options) (slots : List Slot) (lists : List FreeList) (i : ℕ) : Type 0 where
+pub record IsLoose (o : Options) (slots : List Slot) (heads : List ListHead) (i : ℕ) : Type 0 where
   pub unused : Link
   pub places : Places
-  pub filed : AreFiled o (nodes slots) (rings slots) lists unused places
+  pub filed : AreFiled o (nodes slots) (rings slots) heads unused places
   pub is_loose : places.loose i ≡ true
 
 -- the list but for its first
@@ -91,8 +95,8 @@ abbrev pub renewed : Node → Node
 renewed n = record n { generation = (n.generation + 1) % 256 }
 
 -- Slot `at` was taken: it is in hand, no longer spare, not used, and none of those that were in hand.
-pub record IsTaken (o : Options) (old new : List Slot) (lists : List FreeList) (unused' : Link) (p : Places) (at : ℕ) : Type 0 where
-  pub filed : AreFiled o (nodes new) (rings new) lists unused' (in_hand p at)
+pub record IsTaken (o : Options) (old new : List Slot) (heads : List ListHead) (unused' : Link) (p : Places) (at : ℕ) : Type 0 where
+  pub filed : AreFiled o (nodes new) (rings new) heads unused' (in_hand p at)
   pub inside : at < length new
   pub was_unused : (node_at (nodes old) at).kind ≡ kind.Unused
   pub is_unused : (node_at (nodes new) at).kind ≡ kind.Unused

@@ -2,7 +2,7 @@
 use Rattle.std.specs.Prelude.{ℕ, ◌≡◌, ◌+◌, ◌<◌, ◌≤◌, ◌^◌, Bool, false, List, [], length}
 use Rattle.guillotiere.specs.declared.slots.Slot.{Slot}
 use Rattle.guillotiere.specs.declared.slots.Link.{Link}
-use Rattle.guillotiere.specs.declared.lists.FreeList.{FreeList}
+use Rattle.guillotiere.specs.declared.table.ListHead.{ListHead}
 use Rattle.guillotiere.specs.declared.geometry.Size.{Size}
 use Rattle.guillotiere.specs.declared.options.AllocatorOptions.{AllocatorOptions}
 use Rattle.guillotiere.specs.Boxes.{other, side}
@@ -19,7 +19,7 @@ use Rattle.guillotiere.specs.Reading.{tree_of}
 -- the slots with their lists
 pub record Shelf : Type 0 where
   pub slots : List Slot
-  pub lists : List FreeList
+  pub heads : List ListHead
   pub unused : Link
   pub options : AllocatorOptions
 
@@ -64,7 +64,7 @@ places_of hand h = record { spare = h.spare; held = h.held; hand = hand; loose =
 pub record HoldsWith (hand : ℕ → ℕ) (v : Shelf) (h : Holding) : Type 0 where
   pub top : h.sequence.parent ≡ no_slot
   pub stands : Stands (nodes v.slots) h.sequence h.tree
-  pub filed : AreFiled (options_of v.options) (nodes v.slots) (rings v.slots) v.lists v.unused (places_of hand h)
+  pub filed : AreFiled (options_of v.options) (nodes v.slots) (rings v.slots) v.heads v.unused (places_of hand h)
   pub short : length v.slots ≤ 16777216
   pub valid : AreValid (options_of v.options)
   -- extents are positive, and no box passes what an `i32` holds
@@ -81,7 +81,7 @@ Holds v h = HoldsWith (λ i. 0) v h
 abbrev pub IsLooseOnly : List ℕ → Holding → Type 0
 IsLooseOnly ks h = (i : ℕ) → occurs i ks ≡ 0 → h.loose i ≡ false
 
--- what each stored atlas keeps; `ClassLists` says of it that each free slot stands once in the lists of its class
+-- what each stored atlas keeps
 pub record IsAtlas (v : Stored) : Type 0 where
   pub holding : Holding
   pub holds : Holds v.shelf holding

@@ -27,12 +27,12 @@ use crate::cut::granted;
 use crate::error::AtlasError;
 use crate::geometry::{Rectangle, Size};
 use crate::growth::{grow_tree, grow_whole, growth_for, slots_for};
-use crate::lists::empty_lists;
 use crate::options::{AllocatorOptions, DEFAULT_OPTIONS};
 use crate::refit::{refit, sort_for_refit};
 use crate::requests::{choose, grant, make_room};
 use crate::slots::{Link, NO_SLOT, NodeKind};
 use crate::store::Store;
+use crate::table::Table;
 use crate::tree::{free_leaf, slots_needed};
 use crate::turns::Turns;
 use crate::walks::{
@@ -131,7 +131,7 @@ impl<A: Allocator + Copy> AtlasAllocator<A> {
         let none = Link { number: NO_SLOT };
         let mut store = Store {
             slots: Vec::with_capacity(alloc, 1)?,
-            lists: empty_lists(),
+            lists: Table::new(alloc)?,
             unused: none,
             options: *options,
             turns: Turns::new(),

@@ -10,6 +10,7 @@ ghost use Rattle.guillotiere.specs.Holdings.{shelf_of};
 ghost use Rattle.guillotiere.specs.Chosen.{IsAtRest, IsChosen, IsGrantable, IsGrantMade, IsShortOf};
 
 use crate::allocation::AllocId;
+use crate::bands::Place;
 use crate::error::AtlasError;
 use crate::geometry::{Rectangle, Size};
 use crate::pick::pick;
@@ -19,11 +20,14 @@ use crate::tree::{Plan, place, plan_for};
 use crate::walks::slot_id;
 use std::alloc::Allocator;
 
-/// The free slot that a request takes, its rectangle, and how it gives way.
+/// The free slot that a request takes, its rectangle, the list where it stands, a strip that no other slot of that list
+/// lies above, and how the slot gives way.
 #[derive(Clone, Copy)]
 pub struct Chosen {
     pub at: Link,
     pub area: Rectangle,
+    pub place: Place,
+    pub low: u8,
     pub plan: Plan,
 }
 
@@ -35,13 +39,12 @@ pub fn choose<A: Allocator>(store: &Store<A>, size: Size) -> Option<Chosen>
     ensures some { IfSome result (IsChosen (shelf_of store.now) (sides_of size)) }
 {
     let found = pick(&store.slots, &store.lists, &store.options, size)?;
-    let at = Link {
-        number: found.at as u32,
-    };
-    let leaf = store.node(at);
+    let leaf = store.node(found.at);
     Some(Chosen {
-        at,
+        at: found.at,
         area: found.rectangle,
+        place: found.place,
+        low: found.low,
         plan: plan_for(&leaf, size),
     })
 }
@@ -82,6 +85,7 @@ pub fn grant<A: Allocator>(store: &mut Store<A>, chosen: Chosen) -> AllocId
     ensures turns { store.new.turns ≡ store.old.turns }
 {
     store.unlist(chosen.at);
+    store.sharpen(chosen.place, chosen.low);
     let slot = place(store, chosen.at, chosen.plan);
     let node = store.node(slot);
     slot_id(slot.number as usize, node.generation)

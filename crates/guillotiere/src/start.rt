@@ -9,7 +9,6 @@ ghost use Rattle.guillotiere.specs.Starts.{one_free_slot, start_holding};
 
 use crate::cut::Orientation;
 use crate::geometry::{Rectangle, Size};
-use crate::lists::empty_lists;
 use crate::options::AllocatorOptions;
 use crate::slots::{Link, NO_SLOT, Node, NodeKind, Ring, Slot};
 use crate::store::Store;
@@ -53,7 +52,7 @@ impl<A: Allocator> Store<A> {
     {
         self.slots.clear();
         self.slots.push_reserved(whole_slot(size));
-        self.lists = empty_lists();
+        self.lists.clear();
         self.unused = Link { number: NO_SLOT };
         self.options = *options;
         self.list(Link { number: 0 });

@@ -2,6 +2,7 @@
 ghost use Rattle.std.specs.Prelude.{◌≡◌, ◌≢◌, ◌+◌, ◌-◌, ◌<◌, ◌≤◌, ◌↔◌, ◌⊎◌, ℕ, List, true, false, IsTrue, IfOk, vec_capacity, length};
 ghost use Rattle.guillotiere.specs.declared.slots.NodeKind.TheVariants.{Alloc, Free, Container, Unused};
 ghost use Rattle.guillotiere.specs.Pixels.{natural};
+ghost use Rattle.guillotiere.specs.Bands.{number_of};
 ghost use Rattle.guillotiere.specs.Calm.{IsCalmAt, IsCalmBut};
 ghost use Rattle.guillotiere.specs.Slots.{nodes, KeepsUse, no_slot};
 ghost use Rattle.guillotiere.specs.Links.{with_count};
@@ -11,10 +12,12 @@ ghost use Rattle.guillotiere.specs.Parts.{front_node, back_node, inner_node};
 ghost use Rattle.guillotiere.specs.declared.slots.Node.{Node};
 ghost use Rattle.guillotiere.specs.Stored.{Holding, Holds, HoldsWith};
 
-use crate::lists::{FreeList, enlist, give_back, take_slot, unlist};
+use crate::bands::Place;
+use crate::lists::{enlist, give_back, take_slot, unlist};
 use crate::options::AllocatorOptions;
 use crate::placing::{grant_leaf, split_leaf, wrap_leaf};
 use crate::slots::{Link, NO_SLOT, Node, NodeKind, Slot, join_next, lift, mark_free, read_node};
+use crate::table::Table;
 use crate::turns::Turns;
 use std::alloc::{AllocError, Allocator};
 
@@ -23,14 +26,14 @@ use std::alloc::{AllocError, Allocator};
 #[derive(Drop)]
 pub struct Store<A: Allocator> {
     pub slots: Vec<Slot, A>,
-    pub lists: [FreeList; 24],
+    pub lists: Table<A>,
     pub unused: Link,
     pub options: AllocatorOptions,
     pub turns: Turns,
 }
 
 impl<A: Allocator> Store<A> {
-    ghost use Rattle.guillotiere.specs.Holdings.{shelf_of, node_in, across_of, HasSlotsFor, IsHeld, IsLooseLeaf, IsReadyWith, KeepsRoom, with_held, with_loose, with_spare, after_take, after_grant, after_split, after_wrap, after_mark, after_join, after_lift};
+    ghost use Rattle.guillotiere.specs.Holdings.{shelf_of, node_in, across_of, HasSlotsFor, IsHeld, IsLooseLeaf, IsLow, IsReadyWith, KeepsRoom, with_held, with_loose, with_spare, after_take, after_grant, after_split, after_wrap, after_mark, after_join, after_lift};
 
     /// A copy: the same slots and lists, in new memory of the same allocator. No turn was taken in it yet.
     pub fn copy(&self) -> Result<Store<A>, AllocError>
@@ -40,9 +43,10 @@ impl<A: Allocator> Store<A> {
         ensures turns { IfOk result (λ it. it.turns.count ≡ 0) }
     {
         let slots = Vec::from_slice(*self.slots.allocator(), &self.slots)?;
+        let lists = self.lists.copy()?;
         Ok(Store {
             slots,
-            lists: self.lists,
+            lists,
             unused: self.unused,
             options: self.options,
             turns: Turns::new(),
@@ -77,6 +81,18 @@ impl<A: Allocator> Store<A> {
         ensures turns { self.new.turns ≡ self.old.turns }
     {
         unlist(&mut self.slots, &mut self.lists, &self.options, at);
+    }
+
+    /// No slot of a list lies above this strip.
+    pub fn sharpen(&mut self, place: Place, low: u8)
+        requires row { place.row < 52 }
+        requires column { place.column < 52 }
+        ensures kept { (h : Holding) → Holds (shelf_of self.old) h → IsLow (shelf_of self.old) h (number_of place) low → Holds (shelf_of self.new) h }
+        ensures slots { self.new.slots ≡ self.old.slots }
+        ensures options { self.new.options ≡ self.old.options }
+        ensures turns { self.new.turns ≡ self.old.turns }
+    {
+        self.lists.set_low(place, low);
     }
 
     /// Puts a loose leaf into its list.

@@ -2,7 +2,8 @@ use Rattle.std.proofs.Common.{◌∙◌, false}
 use Rattle.std.proofs.lemmas.List.{with_items_is}
 use Rattle.guillotiere.specs.Pixels.{options_of}
 use Rattle.guillotiere.specs.Slots.{nodes, node_at}
-use Rattle.guillotiere.specs.Lists.{list_of, node_sides}
+use Rattle.guillotiere.specs.Bands.{list_of}
+use Rattle.guillotiere.specs.Lists.{node_sides}
 use Rattle.guillotiere.specs.Links.{held_with, with_mark}
 use Rattle.guillotiere.specs.Stored.{places_of}
 use Rattle.guillotiere.specs.Holdings.{shelf_of}

@@ -11,7 +11,7 @@ list-requires g c =
     record {
       ready = (
         loose_holding (sides_of c.args.size),
-        whole_leaf _ c.args.size (record { slots = search rules; lists = c.empty_lists-self.ensures; unused = refl; valid = c.requires.options }) c.requires.size wide high,
+        whole_leaf _ c.args.size (record { slots = search rules; lists = c.clear-2.ensures; unused = refl; valid = c.requires.options }) c.requires.size wide high,
       );
     }
 
@@ -20,4 +20,4 @@ returns-clause-holds g c =
     let wide : natural c.args.size.width < 2 ^ 31 = search rules in
     let high : natural c.args.size.height < 2 ^ 31 = search rules in
     c.list.ensures.kept (loose_holding (sides_of c.args.size))
-    (whole_leaf _ c.args.size (record { slots = search rules; lists = c.empty_lists-self.ensures; unused = refl; valid = c.requires.options }) c.requires.size wide high)
+    (whole_leaf _ c.args.size (record { slots = search rules; lists = c.clear-2.ensures; unused = refl; valid = c.requires.options }) c.requires.size wide high)
