@@ -1,3 +1,7 @@
+pub mod FreeItems
+pub mod CuttingBoxes
+pub mod BoxStoring
+pub mod ItemPaths
 pub mod BandLaws
 pub mod TableHeads
 pub mod MarkWrites
@@ -73,7 +77,6 @@ pub mod ShownLists
 pub mod Starting
 pub mod FreeSlots
 pub mod SlotLists
-pub mod Listing
 pub mod NumberedCuts
 pub mod StoreSteps
 pub mod SlotIds
@@ -86,8 +89,6 @@ pub mod SlotPlans
 pub mod PlannedTrees
 pub mod PlacingSteps
 pub mod StoreTakes
-pub mod PickingFromLists
-pub mod ListedBoxes
 pub mod CuttingFromLists
 pub mod Storing
 pub mod SimpleGrants
@@ -136,3 +137,4 @@ mod Adding
 mod AddingLines
 mod ClassSearching
 mod ItemPicks
+mod GrantingBoxes

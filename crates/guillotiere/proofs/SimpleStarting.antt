@@ -10,7 +10,7 @@ use Rattle.std.proofs.lemmas.List.Sums.{sum_by-append}
 use Rattle.guillotiere.specs.declared.geometry.Size.{Size}
 use Rattle.guillotiere.specs.declared.geometry.Rectangle.{Rectangle}
 use Rattle.guillotiere.specs.declared.options.AllocatorOptions.{AllocatorOptions}
-use Rattle.guillotiere.specs.Boxes.{Axis, Box, Sides, box_sides, whole_box, Fits, IsNonempty, IsWithin, AreSameBoxes}
+use Rattle.guillotiere.specs.Boxes.{Axis, Box, Sides, box_sides, whole_box, Fits, IsPositive, IsNonempty, IsWithin, AreSameBoxes}
 use Rattle.guillotiere.specs.Boxes.Axis.{Horizontal, Vertical}
 use Rattle.guillotiere.specs.Cuts.{cut_axis, split_along, leftover_along}
 use Rattle.guillotiere.specs.Choice.{Options, AreValid}
@@ -19,26 +19,31 @@ use Rattle.guillotiere.specs.Rectangles.{IsUnsigned}
 use Rattle.guillotiere.specs.Replies.{IsExact}
 use Rattle.guillotiere.specs.States.{State, free_in, IsSound}
 use Rattle.guillotiere.specs.Visits.{AreFreeAreas}
-use Rattle.guillotiere.specs.Simple.{SimpleState, IsSimple, SimplyGrows, StartsFrom, is_kept, kept_rest, added_by}
-use Rattle.guillotiere.specs.FreeLists.{items_at, listed, IsStoredIn, AreInClasses, IsStoredState, state_of}
+use Rattle.guillotiere.specs.Simple.{SimpleState, IsSimple, simple_start, SimplyGrows, StartsFrom, is_kept, kept_rest, added_by}
+use Rattle.guillotiere.specs.FreeLists.{IsStoredState, state_of}
+use Rattle.guillotiere.specs.BoxShelves.{BoxShelf, free_boxes, AreKept}
+use Rattle.guillotiere.specs.Items.{Item}
+use Rattle.guillotiere.proofs.Storing.{whole_rectangle, whole-box}
 use Rattle.guillotiere.proofs.BoxLists.{free_in_place}
-use Rattle.guillotiere.proofs.SimpleGrants.{count-none, none-count, misplaced, well_placed, not_misplaced}
+use Rattle.guillotiere.proofs.SimpleGrants.{start-simple, count-none, none-count, misplaced, well_placed, not_misplaced}
 use Rattle.guillotiere.proofs.SimpleSteps.{grow-simple, starts-simple}
 
 -- a growth
 
-pub grows-stored : {Z : Type 0} (old new : List (Vec Rectangle Z)) (size n : Size) (options : AllocatorOptions)
-    → AreSameBoxes (listed new) (kept_rest (options_of options) (whole_box (sides_of n)) (sides_of size) ++ listed old)
+pub grows-stored : (old new : List Item) (size n : Size) (options : AllocatorOptions)
+    → AreSameBoxes (free_boxes new) (kept_rest (options_of options) (whole_box (sides_of n)) (sides_of size) ++ free_boxes old)
     → SimplyGrows (state_of old (sides_of size) options) (sides_of n) (state_of new (sides_of n) options)
 grows-stored old new size n options boxes = record { free = boxes; size = refl; options = refl }
 
-pub grown-stored : {Z : Type 0} (old new : List (Vec Rectangle Z)) (size n : Size) (options : AllocatorOptions)
-    → IsStoredState old size options → Fits (sides_of size) (sides_of n) → AreInClasses (options_of options) new
-    → AreSameBoxes (listed new) (kept_rest (options_of options) (whole_box (sides_of n)) (sides_of size) ++ listed old)
+pub grown-stored : (old new : BoxShelf) (size n : Size) (options : AllocatorOptions)
+    → IsStoredState old size options → Fits (sides_of size) (sides_of n) → AreKept (options_of options) new
+    → AreSameBoxes (free_boxes new.entries) (kept_rest (options_of options) (whole_box (sides_of n)) (sides_of size) ++ free_boxes old.entries)
     → IsStoredState new n options
-grown-stored old new size n options stored fits classes boxes = record {
-  simple = grow-simple (state_of old (sides_of size) options) (state_of new (sides_of n) options) (sides_of n) stored.simple fits (grows-stored old new size n options boxes);
-  classes = classes;
+grown-stored old new size n options stored fits kept boxes = record {
+  simple =
+      grow-simple (state_of old.entries (sides_of size) options) (state_of new.entries (sides_of n) options) (sides_of n) stored.simple fits
+      (grows-stored old.entries new.entries size n options boxes);
+  kept = kept;
 }
 
 -- a part without area is never kept
@@ -94,32 +99,40 @@ areas-filed s areas sound are =
     let placed = All-weaker (λ b. bad b ≡ false) IsNonempty (λ b h. (well_placed s.size b h).0) (map box_of areas) (none-count bad (map box_of areas) none) in
     boxed-all IsNonempty areas placed are.exact
 
-listed-none : {Z : Type 0} (lists : List (Vec Rectangle Z)) → ((k : ℕ) → items_at lists k ≡ []) → listed lists ≡ []
-listed-none lists none =
-    let F : List Rectangle → List Rectangle → List Rectangle → List Box = λ a b c. map box_of a ++ (map box_of b ++ map box_of c) in
-    ap (λ a. F a (items_at lists 1) (items_at lists 2)) (none 0) ∙ (ap (λ b. F [] b (items_at lists 2)) (none 1) ∙ ap (λ c. F [] [] c) (none 2))
-
-pub none-classes : {Z : Type 0} (o : Options) (lists : List (Vec Rectangle Z)) → ((k : ℕ) → items_at lists k ≡ []) → AreInClasses o lists
-none-classes o lists none k h = subst (All (IsStoredIn o k)) (sym (none k)) (All-nil (IsStoredIn o k))
-
-pub starts-from : {Z : Type 0} (source : State) (areas : List Rectangle) (empty lists : List (Vec Rectangle Z)) (size : Size) (options : AllocatorOptions)
-    → IsSound source → AreFreeAreas source areas → ((k : ℕ) → items_at empty k ≡ [])
-    → AreSameBoxes (listed lists) (map box_of areas ++ listed empty) → size ≡ size_of source.size → options_of options ≡ source.options
-    → StartsFrom source (state_of lists (sides_of size) options)
-starts-from source areas empty lists size options sound are none boxes same_size same_options = record {
+pub starts-from : (source : State) (areas : List Rectangle) (empty new : List Item) (size : Size) (options : AllocatorOptions)
+    → IsSound source → AreFreeAreas source areas → empty ≡ []
+    → AreSameBoxes (free_boxes new) (map box_of areas ++ free_boxes empty) → size ≡ size_of source.size → options_of options ≡ source.options
+    → StartsFrom source (state_of new (sides_of size) options)
+starts-from source areas empty new size options sound are none boxes same_size same_options = record {
   sound = sound;
   free = λ p.
-      let e : count_by p (listed empty) ≡ 0 = ap (count_by p) (listed-none empty none) in
-      omega (arith, boxes p, sum_by-append (λ b. cond {A = ℕ} (p b) 1 0) (map box_of areas) (listed empty), e, are.list p);
+      let e : count_by p (free_boxes empty) ≡ 0 = ap (λ (l : List Item). count_by p (free_boxes l)) none in
+      omega (arith, boxes p, sum_by-append (λ b. cond {A = ℕ} (p b) 1 0) (map box_of areas) (free_boxes empty), e, are.list p);
   size = ap sides_of same_size;
   options = same_options;
 }
 
-pub started-stored : {Z : Type 0} (source : State) (areas : List Rectangle) (empty lists : List (Vec Rectangle Z)) (size : Size) (options : AllocatorOptions)
-    → IsSound source → AreFreeAreas source areas → ((k : ℕ) → items_at empty k ≡ [])
-    → AreSameBoxes (listed lists) (map box_of areas ++ listed empty) → size ≡ size_of source.size → options_of options ≡ source.options
-    → AreInClasses (options_of options) lists → IsStoredState lists size options
-started-stored source areas empty lists size options sound are none boxes same_size same_options classes = record {
-  simple = starts-simple source (state_of lists (sides_of size) options) (starts-from source areas empty lists size options sound are none boxes same_size same_options);
-  classes = classes;
+pub started-stored : (source : State) (areas : List Rectangle) (empty : List Item) (new : BoxShelf) (size : Size) (options : AllocatorOptions)
+    → IsSound source → AreFreeAreas source areas → empty ≡ []
+    → AreSameBoxes (free_boxes new.entries) (map box_of areas ++ free_boxes empty) → size ≡ size_of source.size → options_of options ≡ source.options
+    → AreKept (options_of options) new → IsStoredState new size options
+started-stored source areas empty new size options sound are none boxes same_size same_options kept = record {
+  simple =
+      starts-simple source (state_of new.entries (sides_of size) options)
+      (starts-from source areas empty new.entries size options sound are none boxes same_size same_options);
+  kept = kept;
+}
+
+-- a reset
+
+pub restart-state : (es : List Item) (size : Size) (options : AllocatorOptions) (r : Rectangle) → r ≡ whole_rectangle size → free_boxes es ≡ box_of r ∷ []
+    → state_of es (sides_of size) options ≡ simple_start (sides_of size) (options_of options)
+restart-state es size options r e alone =
+    ap (λ free. record { free = free; size = sides_of size; options = options_of options }) (alone ∙ ap (λ b. b ∷ []) (ap box_of e ∙ whole-box size))
+
+pub restarted-stored : (v : BoxShelf) (size : Size) (options : AllocatorOptions) (r : Rectangle) → IsPositive (sides_of size) → AreValid (options_of options)
+    → r ≡ whole_rectangle size → free_boxes v.entries ≡ box_of r ∷ [] → AreKept (options_of options) v → IsStoredState v size options
+restarted-stored v size options r positive valid e alone kept = record {
+  simple = subst IsSimple (sym (restart-state v.entries size options r e alone)) (start-simple (sides_of size) (options_of options) positive valid);
+  kept = kept;
 }

@@ -59,3 +59,4 @@ pub mod Refitted
 pub mod Sessions
 pub mod Callers
 pub mod Codes
+pub mod BoxShelves

@@ -9,6 +9,7 @@ mod atlas;
 mod bands;
 mod batch;
 mod best;
+mod boxes;
 mod change;
 mod choice;
 mod cut;

@@ -2,7 +2,8 @@
 ghost use Rattle.std.specs.Prelude.{◌≡◌, ◌≢◌, ◌<◌, ◌++◌, ℕ, [], ◌∷◌, List, All, map, Ok, OnOk, OnErr, IsOkUnless};
 ghost use Rattle.guillotiere.specs.Boxes.{AreSameBoxes, Box, Fits, IsNonempty, IsPositive};
 ghost use Rattle.guillotiere.specs.Choice.{AreValid};
-ghost use Rattle.guillotiere.specs.FreeLists.{AreInClasses, items_at, kept_beyond, listed};
+ghost use Rattle.guillotiere.specs.BoxShelves.{AreKept, box_shelf, free_boxes};
+ghost use Rattle.guillotiere.specs.FreeLists.{kept_beyond};
 ghost use Rattle.guillotiere.specs.Pixels.{box_of, options_of, sides_of};
 ghost use Rattle.guillotiere.specs.Rectangles.{IsUnsigned};
 ghost use Rattle.guillotiere.specs.Simple.{IsGuarded, IsSimple, SimpleStep, live_boxes, simple_done};
@@ -11,9 +12,9 @@ ghost use Rattle.guillotiere.specs.Slots.{nodes};
 ghost use Rattle.guillotiere.specs.Stored.{state_of};
 ghost use Rattle.guillotiere.specs.Visits.{free_areas};
 
-use super::{SimpleAtlasAllocator, home, keep, make_room};
+use super::{SimpleAtlasAllocator, is_kept, keep};
 use crate::atlas::AtlasAllocator;
-use crate::choice::class;
+use crate::boxes::FreeBoxes;
 use crate::cut::guillotine;
 use crate::error::AtlasError;
 use crate::geometry::{Rectangle, Size};
@@ -38,7 +39,7 @@ impl<A: Allocator + Copy> SimpleAtlasAllocator<A> {
         if new_size == self.size {
             return Ok(());
         }
-        add_rest(&mut self.lists, self.size, new_size, &self.options)?;
+        add_rest(&mut self.boxes, self.size, new_size, &self.options)?;
         self.size = new_size;
         Ok(())
     }
@@ -66,7 +67,7 @@ impl<A: Allocator + Copy> SimpleAtlasAllocator<A> {
         ensures guarded { OnOk result (IsGuarded self.new []) }
         ensures simple { IsSimple self.new }
     {
-        keep_only(&mut self.lists, class(size, options), Rectangle::from(size))?;
+        self.boxes.restart(Rectangle::from(size), options)?;
         self.size = size;
         self.options = *options;
         Ok(())
@@ -82,9 +83,9 @@ impl<A: Allocator + Copy> SimpleAtlasAllocator<A> {
     {
         let size = source.size();
         let store = source.store();
-        let mut lists = no_boxes(*self.lists[0].allocator());
-        file_free(&mut lists, store.slots.as_slice(), &store.options)?;
-        self.lists = lists;
+        let mut boxes = FreeBoxes::new(*self.boxes.entries.allocator())?;
+        file_free(&mut boxes, store.slots.as_slice(), &store.options)?;
+        self.boxes = boxes;
         self.size = size;
         self.options = store.options;
         Ok(())
@@ -93,7 +94,7 @@ impl<A: Allocator + Copy> SimpleAtlasAllocator<A> {
 
 // Adds what is kept of a size cut for another that fits it.
 fn add_rest<A: Allocator>(
-    lists: &mut [Vec<Rectangle, A>; 3],
+    boxes: &mut FreeBoxes<A>,
     size: Size,
     new_size: Size,
     options: &AllocatorOptions,
@@ -101,126 +102,40 @@ fn add_rest<A: Allocator>(
     requires valid { AreValid (options_of options.now) }
     requires positive { IsPositive (sides_of size) }
     requires larger { Fits (sides_of size) (sides_of new_size) }
-    requires classes { AreInClasses (options_of options.now) lists.old }
+    requires kept { AreKept (options_of options.now) (box_shelf boxes.old) }
     ensures unless { IsOkUnless result AtlasError.Memory }
-    ensures classes { AreInClasses (options_of options.now) lists.new }
+    ensures kept { AreKept (options_of options.now) (box_shelf boxes.new) }
     ensures ok { OnOk result
-        (AreSameBoxes (listed lists.new) (kept_beyond options.now size new_size ++ listed lists.old)) }
-    ensures err { OnErr result ((k : ℕ) → items_at lists.new k ≡ items_at lists.old k) }
+        (AreSameBoxes (free_boxes (box_shelf boxes.new).entries) (kept_beyond options.now size new_size ++ free_boxes (box_shelf boxes.old).entries)) }
+    ensures err { OnErr result (box_shelf boxes.new ≡ box_shelf boxes.old) }
     ensures needed { OnErr result (kept_beyond options.now size new_size ≢ []) }
 {
     let rest = guillotine(Rectangle::from(new_size), size);
-    let split_home = home(rest.split, options);
-    let leftover_home = home(rest.leftover, options);
-    make_room(lists, split_home)?;
-    make_room(lists, leftover_home)?;
-    keep(lists, split_home, rest.split);
-    keep(lists, leftover_home, rest.leftover);
-    Ok(())
-}
-
-// Leaves one rectangle in a list, in the room that the list has.
-fn replace_all<A: Allocator>(
-    list: &mut Vec<Rectangle, A>,
-    rectangle: Rectangle,
-) -> Result<(), AtlasError>
-    ensures unless { IsOkUnless result AtlasError.Memory }
-    ensures ok { OnOk result (list.new.items ≡ rectangle ∷ []) }
-    ensures err { OnErr result (list.new.items ≡ list.old.items) }
-{
-    if list.capacity() == 0 {
-        list.reserve(1)?;
+    if is_kept(rest.split, options) || is_kept(rest.leftover, options) {
+        boxes.make_room(2)?;
     }
-    list.clear();
-    list.push_reserved(rectangle);
+    keep(boxes, rest.split, options);
+    keep(boxes, rest.leftover, options);
     Ok(())
 }
 
-// Empties a list, which keeps its room.
-fn empty_list<A: Allocator>(lists: &mut [Vec<Rectangle, A>; 3], class: usize)
-    requires { class < 3 }
-    ensures emptied { items_at lists.new class ≡ [] }
-    ensures others { (k : ℕ) → k ≢ class → items_at lists.new k ≡ items_at lists.old k }
-{
-    lists[class].clear();
-}
-
-// Leaves one rectangle in the list of a class, and none in the others.
-fn keep_only<A: Allocator>(
-    lists: &mut [Vec<Rectangle, A>; 3],
-    class: usize,
-    rectangle: Rectangle,
-) -> Result<(), AtlasError>
-    requires { class < 3 }
-    ensures unless { IsOkUnless result AtlasError.Memory }
-    ensures added { OnOk result (items_at lists.new class ≡ rectangle ∷ []) }
-    ensures others { OnOk result ((k : ℕ) → k < 3 → k ≢ class → items_at lists.new k ≡ []) }
-    ensures err { OnErr result ((k : ℕ) → items_at lists.new k ≡ items_at lists.old k) }
-{
-    replace_all(&mut lists[class], rectangle)?;
-    for k in 0..3 {
-        if k != class {
-            empty_list(lists, k);
-        }
-    }
-    Ok(())
-}
-
-// Three empty lists, without memory.
-fn no_boxes<A: Allocator + Copy>(alloc: A) -> [Vec<Rectangle, A>; 3]
-    ensures { (k : ℕ) → items_at result k ≡ [] }
-{
-    [Vec::new(alloc), Vec::new(alloc), Vec::new(alloc)]
-}
-
-// Adds a rectangle to a list.
-fn append<A: Allocator>(
-    lists: &mut [Vec<Rectangle, A>; 3],
-    class: usize,
-    rectangle: Rectangle,
-) -> Result<(), AtlasError>
-    requires { class < 3 }
-    ensures unless { IsOkUnless result AtlasError.Memory }
-    ensures added { OnOk result (items_at lists.new class ≡ items_at lists.old class ++ rectangle ∷ []) }
-    ensures others { (k : ℕ) → k ≢ class → items_at lists.new k ≡ items_at lists.old k }
-{
-    lists[class].push(rectangle)?;
-    Ok(())
-}
-
-// Adds a rectangle to the list of its class.
-fn file<A: Allocator>(
-    lists: &mut [Vec<Rectangle, A>; 3],
-    area: Rectangle,
-    options: &AllocatorOptions,
-) -> Result<(), AtlasError>
-    requires unsigned { IsUnsigned area }
-    requires nonempty { IsNonempty (box_of area) }
-    ensures unless { IsOkUnless result AtlasError.Memory }
-    ensures classes { OnOk result
-        (AreInClasses (options_of options.now) lists.old → AreInClasses (options_of options.now) lists.new) }
-    ensures boxes { OnOk result (AreSameBoxes (listed lists.new) (box_of area ∷ listed lists.old)) }
-{
-    let size = area.size();
-    append(lists, class(size, options), area)
-}
-
-// Adds the rectangle of each free slot to the list of its class.
+// Adds the rectangle of each free slot.
 fn file_free<A: Allocator>(
-    lists: &mut [Vec<Rectangle, A>; 3],
+    boxes: &mut FreeBoxes<A>,
     slots: &[Slot],
     options: &AllocatorOptions,
 ) -> Result<(), AtlasError>
     requires areas { All (λ r. IsUnsigned r × IsNonempty (box_of r)) (free_areas (nodes slots.now)) }
-    requires classes { AreInClasses (options_of options.now) lists.old }
+    requires kept { AreKept (options_of options.now) (box_shelf boxes.old) }
     ensures unless { IsOkUnless result AtlasError.Memory }
-    ensures classes { OnOk result (AreInClasses (options_of options.now) lists.new) }
+    ensures kept { OnOk result (AreKept (options_of options.now) (box_shelf boxes.new)) }
     ensures boxes { OnOk result
-        (AreSameBoxes (listed lists.new) (map box_of (free_areas (nodes slots.now)) ++ listed lists.old)) }
+        (AreSameBoxes (free_boxes (box_shelf boxes.new).entries) (map box_of (free_areas (nodes slots.now)) ++ free_boxes (box_shelf boxes.old).entries)) }
 {
     for slot in slots {
         if slot.node.kind == NodeKind::Free {
-            file(lists, slot.node.area, options)?;
+            boxes.make_room(1)?;
+            boxes.add(slot.node.area, options);
         }
     }
     Ok(())

@@ -1,6 +1,7 @@
 use Rattle.std.proofs.Common.{sym, subst, ◌∙◌}
 use Rattle.guillotiere.specs.Boxes.{Fits}
 use Rattle.guillotiere.specs.Pixels.{sides_of}
+use Rattle.guillotiere.specs.BoxShelves.{box_shelf}
 use Rattle.guillotiere.specs.FreeLists.{state_of}
 use Rattle.guillotiere.proofs.SimpleSteps.{grow-guarded}
 use Rattle.guillotiere.proofs.SimpleStarting.{grows-stored, grown-stored, equal-grows, same-sides}
@@ -11,28 +12,28 @@ returns-then-eq-clause-step g c =
     let a = c.self.inside in
     let same = same-sides c.args.new_size a.size (sym c.eq.ensures ∙ c.if-eq.true) in
     rw (← c.self.view_is)
-    (equal-grows (state_of a.lists (sides_of a.size) a.options) (sides_of c.args.new_size) c.self.invariant.simple same)
+    (equal-grows (state_of (box_shelf a.boxes).entries (sides_of a.size) a.options) (sides_of c.args.new_size) c.self.invariant.simple same)
 
 pub invariant_of-self-2 : goal.invariant_of-self-2
 invariant_of-self-2 g c =
     let a = c.self.inside in
     let fits = subst (λ w. Fits w.size (sides_of c.args.new_size)) (sym c.self.view_is) c.requires in
-    grown-stored a.lists c.add_rest.new.lists a.size c.args.new_size a.options c.self.invariant fits c.in_ok-add_rest.ensures.classes c.in_ok-add_rest.ensures.ok
+    grown-stored (box_shelf a.boxes) (box_shelf c.add_rest.new.boxes) a.size c.args.new_size a.options c.self.invariant fits c.in_ok-add_rest.ensures.kept c.in_ok-add_rest.ensures.ok
 
 pub returns-clause-step : goal.returns-clause-step
 returns-clause-step g c =
     let a = c.self.inside in
-    (c.requires, rw (← c.self.view_is) (grows-stored a.lists c.add_rest.new.lists a.size c.args.new_size a.options c.in_ok-add_rest.ensures.ok))
+    (c.requires, rw (← c.self.view_is) (grows-stored (box_shelf a.boxes).entries (box_shelf c.add_rest.new.boxes).entries a.size c.args.new_size a.options c.in_ok-add_rest.ensures.ok))
 
 pub returns-clause-guarded : goal.returns-clause-guarded
 returns-clause-guarded g c held guarded =
     let a = c.self.inside in
     let fits = subst (λ w. Fits w.size (sides_of c.args.new_size)) (sym c.self.view_is) c.requires in
-    grow-guarded (state_of a.lists (sides_of a.size) a.options) (state_of c.add_rest.new.lists (sides_of c.args.new_size) a.options) (sides_of c.args.new_size) held
-    c.self.invariant.simple fits (grows-stored a.lists c.add_rest.new.lists a.size c.args.new_size a.options c.in_ok-add_rest.ensures.ok) (rw c.self.view_is guarded)
+    grow-guarded (state_of (box_shelf a.boxes).entries (sides_of a.size) a.options) (state_of (box_shelf c.add_rest.new.boxes).entries (sides_of c.args.new_size) a.options) (sides_of c.args.new_size) held
+    c.self.invariant.simple fits (grows-stored (box_shelf a.boxes).entries (box_shelf c.add_rest.new.boxes).entries a.size c.args.new_size a.options c.in_ok-add_rest.ensures.ok) (rw c.self.view_is guarded)
 
 pub returns-clause-simple : goal.returns-clause-simple
 returns-clause-simple g c =
     let a = c.self.inside in
     let fits = subst (λ w. Fits w.size (sides_of c.args.new_size)) (sym c.self.view_is) c.requires in
-    (grown-stored a.lists c.add_rest.new.lists a.size c.args.new_size a.options c.self.invariant fits c.in_ok-add_rest.ensures.classes c.in_ok-add_rest.ensures.ok).simple
+    (grown-stored (box_shelf a.boxes) (box_shelf c.add_rest.new.boxes) a.size c.args.new_size a.options c.self.invariant fits c.in_ok-add_rest.ensures.kept c.in_ok-add_rest.ensures.ok).simple

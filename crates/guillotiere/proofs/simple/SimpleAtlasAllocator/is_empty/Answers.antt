@@ -1,12 +1,13 @@
-use Rattle.std.proofs.Common.{arith}
-use Rattle.guillotiere.specs.Pixels.{options_of, sides_of}
-use Rattle.guillotiere.proofs.Picking.{class_of-below}
+use Rattle.std.proofs.Common.{◌≡◌, ◌↔◌, refl, subst}
+use Rattle.std.specs.Bool.{IsTrue}
+use Rattle.std.specs.List.{Any}
+use Rattle.guillotiere.specs.BoxShelves.{box_shelf}
 use Rattle.guillotiere.proofs.Storing.{whole-listed}
 use Rattle.guillotiere.proofs.simple.SimpleAtlasAllocator.is_empty.Goals as goal
 
 pub returns : goal.returns
 returns g c =
     let a = c.self.inside in
+    let says = subst (λ bs. IsTrue c.is_listed.result ↔ Any (λ b. b.area ≡ c.from.result) bs) c.deref.ensures.value c.is_listed.ensures in
     rw (← c.self.view_is)
-    (whole-listed a.lists a.size a.options c.class.result c.from.result c.is_listed.result c.self.invariant
-    (omega (arith, c.class.ensures, class_of-below (options_of a.options) (sides_of a.size))) c.class.ensures c.from.ensures c.is_listed.ensures)
+    (whole-listed (box_shelf a.boxes) a.boxes.entries.items a.size a.options c.from.result c.is_listed.result refl c.self.invariant c.from.ensures says)
