@@ -1,19 +1,15 @@
 -- The search for the box that a request takes, and that what it finds is the pick.
-use Rattle.std.proofs.Common.{◌≡◌, ◌≢◌, ℕ, ◌-◌, ◌<◌, ◌≤◌, ◌↔◌, ◌⊎◌, min, Bool, true, false, List, [], ◌∷◌, ◌++◌, ℤ, pos, negsuc, ◌-ℤ◌, ◌≤ℤ◌, ◌<ℤ◌, refl, ap, sym, ◌∙◌, subst, inl, inr, Option, Some, None, arith}
+use Rattle.std.proofs.Common.{◌≡◌, ◌≢◌, ℕ, ◌-◌, ◌<◌, ◌≤◌, ◌↔◌, ◌⊎◌, min, Bool, true, false, List, [], ◌∷◌, ◌++◌, ℤ, pos, negsuc, ◌-ℤ◌, ◌≤ℤ◌, ◌<ℤ◌, refl, ap, sym, ◌∙◌, subst, inl, inr, arith}
 use Rattle.std.proofs.lemmas.Int.{ints}
-use Rattle.std.specs.Option.{MatchOption}
-use Rattle.std.proofs.lemmas.Option.{MatchOption-at_some, MatchOption-at_none}
 use Rattle.std.proofs.lemmas.Bool.{cases_eq, cases_order, cases_lt}
 use Rattle.std.proofs.lemmas.List.Elements.{Contains-push, Contains-push_cases, Contains-append_left}
 use Rattle.guillotiere.specs.declared.geometry.Rectangle.{Rectangle}
-use Rattle.guillotiere.specs.declared.choice.Found.{Found}
-use Rattle.guillotiere.specs.declared.choice.Search.{Search}
 use Rattle.guillotiere.specs.Boxes.{Sides, Box, box_sides, Fits}
 use Rattle.guillotiere.specs.Choice.{least_margin, HasEqualSide, ComesFirst}
 use Rattle.guillotiere.specs.Pixels.{natural, box_of, rectangle_of, sides_of}
 use Rattle.guillotiere.specs.Requests.{IsBefore, IsBetterMargin, Precedes}
 use Rattle.guillotiere.specs.Rectangles.{IsUnsigned}
-use Rattle.guillotiere.specs.Searches.{Shown, shown_at, IsAsGood, IsBestShown, FitsNone, IsFound, HasSeen}
+use Rattle.guillotiere.specs.Searches.{Shown, shown_at, IsAsGood, IsBestShown, FitsNone}
 
 -- what a side leaves of a stretch
 
@@ -223,25 +219,6 @@ best_only is_large r shown c none fits = record {
       ];
 }
 
--- what a search knows once it was shown one box more
-
-found_kept : (is_large : Bool) (r : Sides) (shown : List Shown) (found : Found) (c : Shown) → IsFound is_large r shown found
-    → (Fits r (box_sides c.box) → IsAsGood is_large r (box_of found.rectangle) c.box × (IsAsGood is_large r c.box (box_of found.rectangle) → ComesFirst (box_of found.rectangle) c.box))
-    → IsFound is_large r (shown ++ c ∷ []) found
-found_kept is_large r shown found c f worse =
-    record { unsigned = f.unsigned; margin = f.margin; best = best_kept is_large r shown (shown_at (box_of found.rectangle) found.at) c f.best worse }
-
--- it does not fit
-pub seen-unfit : (s : Search) (is_large : Bool) (r : Sides) (shown : List Shown) (c : Shown) → HasSeen s is_large r shown
-    → (Fits r (box_sides c.box) → ⊥) → HasSeen s is_large r (shown ++ c ∷ [])
-seen-unfit s is_large r shown c seen misfit =
-    record { positive = seen.positive; size = seen.size; large = seen.large; best = by_best s.best seen.best }
-  where
-    by_best : (best : Option Found) → MatchOption best (FitsNone r shown) (IsFound is_large r shown)
-        → MatchOption best (FitsNone r (shown ++ c ∷ [])) (IsFound is_large r (shown ++ c ∷ []))
-    by_best None none = none_more r shown c none misfit
-    by_best (Some found) f = found_kept is_large r shown found c f (λ fits. absurd (misfit fits))
-
 -- the margin and the place in the order of a rectangle that stands for a box
 pub at_box : (is_large : Bool) (margin other : ℤ) (m n : ℕ) (a b : Rectangle) → margin ≡ pos m → other ≡ pos n → IsUnsigned a → IsUnsigned b
     → Precedes is_large margin other a.min b.min → Precedes is_large (pos m) (pos n) (rectangle_of (box_of a)).min (rectangle_of (box_of b)).min
@@ -260,70 +237,3 @@ not_at_box is_large margin other m n a b p q u v h =
     let h2 = subst (λ j. P margin j (rectangle_of (box_of a)) (rectangle_of (box_of b))) (sym q) h1 in
     let h3 = subst (λ x. P margin other x (rectangle_of (box_of b))) (sym u) h2 in
     subst (λ y. P margin other a y) (sym v) h3
-
--- the best one shown before is kept
-pub seen-kept : (s : Search) (is_large : Bool) (r : Sides) (shown : List Shown) (found : Found) (a : Rectangle) (at : ℕ) (margin : ℤ)
-    → HasSeen s is_large r shown → s.best ≡ Some found → IsUnsigned a → margin ≡ pos (least_margin r (box_of a)) → Fits r (box_sides (box_of a))
-    → (Precedes s.is_large margin found.margin a.min found.rectangle.min → ⊥)
-    → HasSeen s is_large r (shown ++ shown_at (box_of a) at ∷ [])
-seen-kept s is_large r shown found a at margin seen is u e fits later =
-    let f : IsFound is_large r shown found = MatchOption-at_some (FitsNone r shown) (IsFound is_large r shown) found is seen.best in
-    let later' : Precedes is_large margin found.margin a.min found.rectangle.min → ⊥ = subst (λ l. Precedes l margin found.margin a.min found.rectangle.min → ⊥) seen.large later in
-    let worse = not_precedes-good is_large r (box_of a) (box_of found.rectangle) fits f.best.fits
-    (λ h. later' (not_at_box is_large margin found.margin _ _ a found.rectangle e f.margin u f.unsigned h)) in
-    record {
-      positive = seen.positive;
-      size = seen.size;
-      large = seen.large;
-      best = subst (λ o. MatchOption o (FitsNone r (shown ++ shown_at (box_of a) at ∷ [])) (IsFound is_large r (shown ++ shown_at (box_of a) at ∷ []))) (sym is)
-          (found_kept is_large r shown found (shown_at (box_of a) at) f (λ _. worse));
-    }
-
--- it is better than the best one shown before
-pub seen-replaced : (s s' : Search) (is_large : Bool) (r : Sides) (shown : List Shown) (found : Found) (a : Rectangle) (at : ℕ) (margin : ℤ)
-    → HasSeen s is_large r shown → s.best ≡ Some found → IsUnsigned a → margin ≡ pos (least_margin r (box_of a)) → Fits r (box_sides (box_of a))
-    → Precedes s.is_large margin found.margin a.min found.rectangle.min
-    → s'.size ≡ s.size → s'.is_large ≡ s.is_large → s'.best ≡ Some (record { rectangle = a; at = at; margin = margin })
-    → HasSeen s' is_large r (shown ++ shown_at (box_of a) at ∷ [])
-seen-replaced s s' is_large r shown found a at margin seen is u e fits h size large is' =
-    let f : IsFound is_large r shown found = MatchOption-at_some (FitsNone r shown) (IsFound is_large r shown) found is seen.best in
-    let h' : Precedes is_large margin found.margin a.min found.rectangle.min = subst (λ l. Precedes l margin found.margin a.min found.rectangle.min) seen.large h in
-    let better = precedes-good is_large r (box_of a) (box_of found.rectangle) fits f.best.fits
-    (at_box is_large margin found.margin _ _ a found.rectangle e f.margin u f.unsigned h') in
-    record {
-      positive = seen.positive;
-      size = size ∙ seen.size;
-      large = large ∙ seen.large;
-      best = subst (λ o. MatchOption o (FitsNone r (shown ++ shown_at (box_of a) at ∷ [])) (IsFound is_large r (shown ++ shown_at (box_of a) at ∷ []))) (sym is')
-          (record {
-            unsigned = u;
-            margin = e;
-            best = best_replaced is_large r shown (shown_at (box_of found.rectangle) found.at) (shown_at (box_of a) at) f.best fits better;
-          });
-    }
-
--- it is the first that fits
-pub seen-first : (s s' : Search) (is_large : Bool) (r : Sides) (shown : List Shown) (a : Rectangle) (at : ℕ) (margin : ℤ)
-    → HasSeen s is_large r shown → s.best ≡ None → IsUnsigned a → margin ≡ pos (least_margin r (box_of a)) → Fits r (box_sides (box_of a))
-    → s'.size ≡ s.size → s'.is_large ≡ s.is_large → s'.best ≡ Some (record { rectangle = a; at = at; margin = margin })
-    → HasSeen s' is_large r (shown ++ shown_at (box_of a) at ∷ [])
-seen-first s s' is_large r shown a at margin seen is u e fits size large is' =
-    let none : FitsNone r shown = MatchOption-at_none (FitsNone r shown) (IsFound is_large r shown) is seen.best in
-    record {
-      positive = seen.positive;
-      size = size ∙ seen.size;
-      large = large ∙ seen.large;
-      best = subst (λ o. MatchOption o (FitsNone r (shown ++ shown_at (box_of a) at ∷ [])) (IsFound is_large r (shown ++ shown_at (box_of a) at ∷ []))) (sym is')
-          (record {
-            unsigned = u;
-            margin = e;
-            best = best_only is_large r shown (shown_at (box_of a) at) none fits;
-          });
-    }
-
--- a fact about the size of a search is one about the request, and the other way round
-pub seen-request : (P : Sides → Type 0) (s : Search) (is_large : Bool) (r : Sides) (shown : List Shown) → HasSeen s is_large r shown → P (sides_of s.size) → P r
-seen-request P s is_large r shown seen h = subst P (ap sides_of seen.size) h
-
-pub request-seen : (P : Sides → Type 0) (s : Search) (is_large : Bool) (r : Sides) (shown : List Shown) → HasSeen s is_large r shown → P r → P (sides_of s.size)
-request-seen P s is_large r shown seen h = subst P (sym (ap sides_of seen.size)) h

@@ -1,11 +1,7 @@
--- The search for the box that a request takes: what it knows once it was shown some boxes, in any order.
-use Rattle.std.specs.Prelude.{◌≡◌, ℕ, ◌≤◌, pos, Bool, true, false, ◌⊎◌, List, Contains, MatchOption}
-use Rattle.guillotiere.specs.declared.choice.Found.{Found}
-use Rattle.guillotiere.specs.declared.choice.Search.{Search}
-use Rattle.guillotiere.specs.Boxes.{Sides, Box, box_sides, Fits, IsPositive}
+-- The search for the box that a request takes: the best of the boxes that it was shown, in any order.
+use Rattle.std.specs.Prelude.{◌≡◌, ℕ, ◌≤◌, Bool, true, false, ◌⊎◌, List, Contains}
+use Rattle.guillotiere.specs.Boxes.{Sides, Box, box_sides, Fits}
 use Rattle.guillotiere.specs.Choice.{Options, class_of, least_margin, HasEqualSide, IsFitting, ComesFirst}
-use Rattle.guillotiere.specs.Pixels.{box_of, size_of}
-use Rattle.guillotiere.specs.Rectangles.{IsUnsigned}
 
 -- a box, and the number by which who shows it finds it again
 pub record Shown : Type 0 where
@@ -31,19 +27,6 @@ pub record IsBestShown (is_large : Bool) (r : Sides) (shown : List Shown) (f : S
 -- the request fits none of the boxes shown
 abbrev pub FitsNone : (r : Sides) (shown : List Shown) → Type 0
 FitsNone r shown = (c : Shown) → Contains shown c → Fits r (box_sides c.box) → ⊥
-
--- what is kept of the best box shown
-pub record IsFound (is_large : Bool) (r : Sides) (shown : List Shown) (found : Found) : Type 0 where
-  pub unsigned : IsUnsigned found.rectangle
-  pub margin : found.margin ≡ pos (least_margin r (box_of found.rectangle))
-  pub best : IsBestShown is_large r shown (shown_at (box_of found.rectangle) found.at)
-
--- what a search knows once it was shown these boxes
-pub record HasSeen (search : Search) (is_large : Bool) (r : Sides) (shown : List Shown) : Type 0 where
-  pub positive : IsPositive r
-  pub size : search.size ≡ size_of r
-  pub large : search.is_large ≡ is_large
-  pub best : MatchOption search.best (FitsNone r shown) (IsFound is_large r shown)
 
 -- each free box that the request fits has at least this class
 abbrev pub FitsOnlyFrom : (class : ℕ) (free : List Box) → Options → (r : Sides) → Type 0

@@ -1,10 +1,10 @@
-//! The free box that a request takes: rounding, classes, and a search that is shown boxes one by one.
-ghost use Rattle.std.specs.Prelude.{◌≡◌, ◌-◌, ◌<◌, ◌≤◌, ◌++◌, [], ◌∷◌, List, Bool, pos, ◌<ℤ◌, ◌≤ℤ◌, ◌↔◌, IsTrue, SomeIff};
+//! Rounded sizes and classes, and what a search compares of the boxes that it is shown.
+ghost use Rattle.std.specs.Prelude.{◌≡◌, ◌-◌, ◌<◌, ◌≤◌, pos, ◌<ℤ◌, ◌≤ℤ◌, ◌↔◌, IsTrue, SomeIff};
 ghost use Rattle.guillotiere.specs.Boxes.{Fits, IsNonempty, IsPositive, Sides, box_sides};
 ghost use Rattle.guillotiere.specs.Choice.{AreValid, class_of, least_margin, reaches, rounded, up};
 ghost use Rattle.guillotiere.specs.Pixels.{box_of, natural, options_of, sides_of, size_of};
 ghost use Rattle.guillotiere.specs.Rectangles.{IsUnsigned};
-ghost use Rattle.guillotiere.specs.Requests.{CanBeRounded, IsBefore, IsBetterMargin, Precedes};
+ghost use Rattle.guillotiere.specs.Requests.{CanBeRounded, IsBefore};
 
 use crate::geometry::{Point, Rectangle, Size};
 use crate::options::AllocatorOptions;
@@ -61,50 +61,12 @@ pub fn class(size: Size, options: &AllocatorOptions) -> usize
         0
     }
 }
-/// The best box that a search was shown.
-#[derive(Clone, Copy)]
-pub struct Found {
-    pub rectangle: Rectangle,
-    /// The number with which the box was shown.
-    pub at: usize,
-    // The smaller of the two side differences.
-    margin: i32,
-}
-
-/// A search for the box that a request takes among the boxes of one class. It is shown them in any order, and keeps the
-/// best of those that the request fits.
-#[derive(Clone, Copy)]
-pub struct Search {
-    size: Size,
-    is_large: bool,
-    best: Option<Found>,
-    ghost positive: { IsPositive (sides_of size) },
-}
-
-// Whether a box with the one least margin is strictly better than a box with the other.
-fn is_better(is_large: bool, margin: i32, other: i32) -> bool
-    ensures { IsTrue result ↔ IsBetterMargin is_large margin other }
-{
-    if is_large {
-        other != 0 && (margin == 0 || margin > other)
-    } else {
-        margin < other
-    }
-}
 
 // Whether a box whose `min` is `point` comes before a box whose `min` is `other`.
 pub fn is_before(point: Point, other: Point) -> bool
     ensures { IsTrue result ↔ IsBefore point other }
 {
     point.y < other.y || (point.y == other.y && point.x < other.x)
-}
-
-// Whether a box with this least margin and this `min` is to be kept rather than `best`.
-fn precedes(is_large: bool, margin: i32, point: Point, best: Found) -> bool
-    ensures { IsTrue result ↔ Precedes is_large margin best.margin point best.rectangle.min }
-{
-    is_better(is_large, margin, best.margin)
-        || (margin == best.margin && is_before(point, best.rectangle.min))
 }
 
 // What a side leaves of a stretch, which is below 0 exactly if it does not fit.
@@ -129,49 +91,4 @@ pub fn margin_in(rectangle: Rectangle, size: Size) -> i32
     let width = spare(rectangle.min.x, rectangle.max.x, size.width);
     let height = spare(rectangle.min.y, rectangle.max.y, size.height);
     if width < height { width } else { height }
-}
-
-impl Search {
-    ghost use Rattle.guillotiere.specs.Searches.{HasSeen, Shown, shown_at};
-
-    /// A search for a request of this rounded size that was shown no box yet.
-    pub fn new(size: Size, is_large: bool) -> Search
-        requires { IsPositive (sides_of size) }
-        ensures { HasSeen result is_large (sides_of size) [] }
-    {
-        Search {
-            size,
-            is_large,
-            best: None,
-        }
-    }
-
-    /// Shows a box, and a number by which the caller finds it again.
-    pub fn look(&mut self, rectangle: Rectangle, at: usize)
-        requires unsigned { IsUnsigned rectangle }
-        requires nonempty { IsNonempty (box_of rectangle) }
-        ensures { (is_large : Bool) → (r : Sides) → (shown : List Shown) → HasSeen self.old is_large r shown → HasSeen self.new is_large r (shown ++ shown_at (box_of rectangle) at ∷ []) }
-    {
-        let margin = margin_in(rectangle, self.size);
-        if margin < 0 {
-            return;
-        }
-        if let Some(best) = self.best {
-            if !precedes(self.is_large, margin, rectangle.min, best) {
-                return;
-            }
-        }
-        self.best = Some(Found {
-            rectangle,
-            at,
-            margin,
-        });
-    }
-
-    /// The best of the boxes shown.
-    pub fn best(&self) -> Option<Found>
-        ensures { result ≡ self.now.best }
-    {
-        self.best
-    }
 }
