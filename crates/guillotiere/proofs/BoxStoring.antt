@@ -1,9 +1,9 @@
 -- The free boxes of the simple allocator, after an entry is taken, filled or emptied.
-use Rattle.std.proofs.Common.{◌≡◌, ◌≢◌, ℕ, zero, suc, ◌+◌, ◌*◌, ◌<◌, ◌≤◌, ◌⊎◌, inl, inr, Bool, true, false, List, [], ◌∷◌, ◌++◌, map, length, slice_set, get_or, cond, pos, refl, sym, ap, ◌∙◌, subst, arith}
-use Rattle.std.specs.Prelude.{◌==◌, int_lt, if◌then◌else◌}
+use Rattle.std.proofs.Common.{◌≡◌, ◌≢◌, ℕ, zero, suc, ◌+◌, ◌<◌, ◌≤◌, ◌⊎◌, inl, inr, Bool, true, false, List, [], ◌∷◌, ◌++◌, map, length, slice_set, get_or, cond, refl, sym, ap, ◌∙◌, subst, arith}
+use Rattle.std.specs.Prelude.{◌==◌, if◌then◌else◌}
 use Rattle.std.specs.List.{count_by}
 use Rattle.std.proofs.lemmas.Bool.{cases_eq, cases_Bool, both_ways, cond-true, cond-false, cond_both, lt-ltb, eqb-true, not-false}
-use Rattle.std.proofs.lemmas.List.{get_or-set_same, get_or-set_other, get_or-map, length-set, length-map, map-set}
+use Rattle.std.proofs.lemmas.List.{get_or-set_same, get_or-set_other, get_or-map, length-set, map-set}
 use Rattle.guillotiere.specs.declared.best.Found.{Found}
 use Rattle.guillotiere.specs.declared.boxes.FreeBox.{FreeBox}
 use Rattle.guillotiere.specs.declared.geometry.Rectangle.{Rectangle}
@@ -11,7 +11,7 @@ use Rattle.guillotiere.specs.declared.slots.Link.{Link}
 use Rattle.guillotiere.specs.declared.table.ListHead.{ListHead}
 use Rattle.guillotiere.specs.Bands.{list_of, strip_of, number_of}
 use Rattle.guillotiere.specs.Boxes.{Box, AreSameBoxes, same_box}
-use Rattle.guillotiere.specs.BoxShelves.{BoxShelf, has_width, item_of, free_boxes, idle_item, with_after, AreKept, IsInHand}
+use Rattle.guillotiere.specs.BoxShelves.{has_width, item_of, free_boxes, idle_item, with_after, AreKept, IsInHand}
 use Rattle.guillotiere.specs.Choice.{Options, AreValid}
 use Rattle.guillotiere.specs.Items.{Item, no_item, item_at, item_box, item_sides, IsPath}
 use Rattle.guillotiere.specs.Links.{IsExact}
@@ -25,7 +25,7 @@ use Rattle.guillotiere.proofs.Counting.{count_by-cons}
 use Rattle.guillotiere.proofs.ItemPaths.{path-frame, path-next, path-bypassed, path-begun, list_at, listed-without, listed-with}
 use Rattle.guillotiere.proofs.Occurrences.{same-self, same-ne}
 use Rattle.guillotiere.proofs.TreeBasics.{same_box-true, same_box-itself}
-use Rattle.guillotiere.proofs.Showing.{path-inside, path-stop}
+use Rattle.guillotiere.proofs.Showing.{path-inside}
 
 -- ---- counts of free boxes
 
@@ -44,8 +44,8 @@ unit-free p t f = cond-true t.is_free (if p (item_box t) then 1 else 0) 0 f
 count-free : (p : Box → Bool) (e : Item) (es : List Item) → count_by p (free_boxes (e ∷ es)) ≡ unit p e + count_by p (free_boxes es)
 count-free p e es =
     cond_both e.is_free (item_box e ∷ free_boxes es) (free_boxes es) (λ bs. count_by p bs ≡ unit p e + count_by p (free_boxes es))
-      (λ t. omega (arith, count_by-cons p (item_box e) (free_boxes es), unit-free p e t))
-      (λ f. omega (arith, unit-idle p e f))
+    (λ t. omega (arith, count_by-cons p (item_box e) (free_boxes es), unit-free p e t))
+    (λ f. omega (arith, unit-idle p e f))
 
 count-set : (p : Box → Bool) (es : List Item) (i : ℕ) (e : Item) → i < length es
     → count_by p (free_boxes (slice_set es i e)) + unit p (item_at es i) ≡ count_by p (free_boxes es) + unit p e
@@ -132,20 +132,20 @@ pub taken-new : (o : Options) (heads : List ListHead) (es : List Item) (unused :
 taken-new o heads es unused short kept =
     record {
       kept =
-        record {
-          listed = listed-same o heads es (es ++ no_item ∷ []) (item_at-more es) (omega (arith, length-more es)) (omega (arith, length-more es, short)) kept.listed;
-          spare = kept.spare;
-          chain = path-frame es (es ++ no_item ∷ []) unused.number kept.spare no_slot (omega (arith, length-more es)) (λ i h. ap (λ (t : Item). t.after) (item_at-more es i)) kept.chain;
-          idle = λ i h. ap (λ (t : Item). t.is_free) (item_at-more es i) ∙ kept.idle i h;
-          once = kept.once;
-        };
+          record {
+            listed = listed-same o heads es (es ++ no_item ∷ []) (item_at-more es) (omega (arith, length-more es)) (omega (arith, length-more es, short)) kept.listed;
+            spare = kept.spare;
+            chain = path-frame es (es ++ no_item ∷ []) unused.number kept.spare no_slot (omega (arith, length-more es)) (λ i h. ap (λ (t : Item). t.after) (item_at-more es i)) kept.chain;
+            idle = λ i h. ap (λ (t : Item). t.is_free) (item_at-more es i) ∙ kept.idle i h;
+            once = kept.once;
+          };
       inside = omega (arith, length-more es);
       idle = ap (λ (t : Item). t.is_free) (item_at-more es (length es)) ∙ past-idle es;
       apart =
-        elim (cases_eq (occurs (length es) kept.spare) 0) [
-          inl none ↦ none
-        | inr some ↦ absurd (omega (arith, path-inside es unused.number kept.spare no_slot kept.chain (length es) (omega arith)))
-        ];
+          elim (cases_eq (occurs (length es) kept.spare) 0) [
+            | inl none ↦ none
+            | inr some ↦ absurd (omega (arith, path-inside es unused.number kept.spare no_slot kept.chain (length es) (omega arith)))
+          ];
     }
 
 pub unused-inside : (o : Options) (heads : List ListHead) (es : List Item) (unused : Link) → unused.number ≢ no_slot
@@ -168,13 +168,13 @@ taken-again o heads es unused after some leads kept = go kept.spare kept.chain k
     go (x ∷ xs) p idle once =
         record {
           kept =
-            record {
-              listed = kept.listed;
-              spare = xs;
-              chain = subst (λ n. IsPath es n xs no_slot) (ap (λ n. (item_at es n).after) (sym p.0) ∙ sym leads) p.2;
-              idle = λ i h. idle i (omega (arith, h));
-              once = λ i. omega (arith, once i);
-            };
+              record {
+                listed = kept.listed;
+                spare = xs;
+                chain = subst (λ n. IsPath es n xs no_slot) (ap (λ n. (item_at es n).after) (sym p.0) ∙ sym leads) p.2;
+                idle = λ i h. idle i (omega (arith, h));
+                once = λ i. omega (arith, once i);
+              };
           inside = omega (arith, p.0, p.1);
           idle = idle unused.number (omega (arith, same-self x, ap (λ n. same n x) p.0));
           apart = omega (arith, once unused.number, same-self x, ap (λ n. same n x) p.0);
@@ -192,11 +192,11 @@ pub put-kept : (o : Options) (heads heads' : List ListHead) (es : List Item) (un
 put-kept o heads heads' es unused x k e hand free after exact list few head other_heads low lower other_lows =
     record {
       listed =
-        listed-with o heads heads' es (slice_set es x e) hand.kept.listed x k e hand.idle hand.inside (length-set es x e) (item_at-same es x e hand.inside)
+          listed-with o heads heads' es (slice_set es x e) hand.kept.listed x k e hand.idle hand.inside (length-set es x e) (item_at-same es x e hand.inside)
           (λ i ne. item_at-other es x i e ne) free after exact list head other_heads low lower other_lows few;
       spare = hand.kept.spare;
       chain = path-frame es (slice_set es x e) unused.number hand.kept.spare no_slot (omega (arith, length-set es x e))
-        (λ i h. ap (λ (t : Item). t.after) (item_at-other es x i e (not_x i h))) hand.kept.chain;
+          (λ i h. ap (λ (t : Item). t.after) (item_at-other es x i e (not_x i h))) hand.kept.chain;
       idle = λ i h. ap (λ (t : Item). t.is_free) (item_at-other es x i e (not_x i h)) ∙ hand.kept.idle i h;
       once = hand.kept.once;
     }
@@ -236,11 +236,11 @@ linked-after es es1 b after inside is = (ap length is ∙ length-set es b _, at,
     at : (i : ℕ) → ((item_at es1 i).area ≡ (item_at es i).area) × ((item_at es1 i).is_free ≡ (item_at es i).is_free)
     at i =
         elim (cases_eq i b) [
-          inl e ↦ subst (λ n. ((item_at es1 n).area ≡ (item_at es n).area) × ((item_at es1 n).is_free ≡ (item_at es n).is_free)) (sym e)
+          | inl e ↦ subst (λ n. ((item_at es1 n).area ≡ (item_at es n).area) × ((item_at es1 n).is_free ≡ (item_at es n).is_free)) (sym e)
               (ap (λ (t : Item). t.area) at_b, ap (λ (t : Item). t.is_free) at_b)
-        | inr ne ↦
-            let same_item = ap (λ ts. item_at ts i) is ∙ item_at-other es b i _ ne in
-            (ap (λ (t : Item). t.area) same_item, ap (λ (t : Item). t.is_free) same_item)
+          | inr ne ↦
+              let same_item = ap (λ ts. item_at ts i) is ∙ item_at-other es b i _ ne in
+              (ap (λ (t : Item). t.area) same_item, ap (λ (t : Item). t.is_free) same_item)
         ]
 
 pub boxes-left : (es es1 : List Item) (x : ℕ) (e : Item) (area : Rectangle) → IsSameButLinks es es1 → (item_at es x).is_free ≡ true → (item_at es x).area ≡ area
@@ -250,7 +250,7 @@ boxes-left es es1 x e area links free is idle =
     let inside : x < length es1 = omega (arith, free-inside es x free, links.0) in
     let here = boxes-without es1 x e inside ((links.1 x).1 ∙ free) idle in
     subst (λ bs. AreSameBoxes (box_of area ∷ free_boxes (slice_set es1 x e)) bs) links.2
-      (subst (λ r. AreSameBoxes (box_of r ∷ free_boxes (slice_set es1 x e)) (free_boxes es1)) ((links.1 x).0 ∙ is) here)
+    (subst (λ r. AreSameBoxes (box_of r ∷ free_boxes (slice_set es1 x e)) (free_boxes es1)) ((links.1 x).0 ∙ is) here)
 
 module _ (o : Options) (heads heads' : List ListHead) (es es1 : List Item) (unused : Link) (found : Found)
     (kept : AreKept o (record { entries = es; heads = heads; unused = unused })) (standing : IsStanding o heads es found)
@@ -275,8 +275,8 @@ module _ (o : Options) (heads heads' : List ListHead) (es es1 : List Item) (unus
   not_spare : occurs x kept.spare ≡ 0
   not_spare =
       elim (cases_eq (occurs x kept.spare) 0) [
-        inl none ↦ none
-      | inr some ↦ absurd (both_ways _ (kept.idle x (omega arith)) standing.free)
+        | inl none ↦ none
+        | inr some ↦ absurd (both_ways _ (kept.idle x (omega arith)) standing.free)
       ]
 
   in_list : 0 < occurs x (kept.listed.held k)
@@ -294,17 +294,16 @@ module _ (o : Options) (heads heads' : List ListHead) (es es1 : List Item) (unus
   finish long same_box here links spare_links =
       record {
         listed =
-          listed-without o heads heads' es es' kept.listed x k standing.free standing.list (length-set es1 x _ ∙ long)
+            listed-without o heads heads' es es' kept.listed x k standing.free standing.list (length-set es1 x _ ∙ long)
             (ap (λ (t : Item). t.is_free) this) same_kept (λ _. here) (λ j i ne l h. still i (in_other j i ne l h) ∙ links j i ne l h) heads_stay lows lows_stay;
         spare = x ∷ kept.spare;
-        chain =
-          (
-            refl,
-            omega (arith, length-set es1 x (idle_item unused.number), long, inside),
-            subst (λ n. IsPath es' n kept.spare no_slot) (ap (λ (t : Item). t.after) (sym this))
+        chain = (
+          refl,
+          omega (arith, length-set es1 x (idle_item unused.number), long, inside),
+          subst (λ n. IsPath es' n kept.spare no_slot) (ap (λ (t : Item). t.after) (sym this))
               (path-frame es es' unused.number kept.spare no_slot (omega (arith, length-set es1 x (idle_item unused.number), long))
-                (λ i h. still i (not_x_spare i h) ∙ spare_links i h) kept.chain),
-          );
+              (λ i h. still i (not_x_spare i h) ∙ spare_links i h) kept.chain),
+        );
         idle = λ i h. idle_by i h (cases_eq i x);
         once = λ i. once_by i (cases_eq i x);
       }
@@ -340,22 +339,22 @@ module _ (o : Options) (heads heads' : List ListHead) (es es1 : List Item) (unus
       → AreKept o (record { entries = es'; heads = heads'; unused = found.at })
   first-removed leads was_first is =
       let begins = path-begun es es' x (kept.listed.held k) (omega (arith, length-set es1 x (idle_item unused.number), ap length is)) (λ i. kept.listed.once k i few) in_list
-            (λ i ne. ap (λ (t : Item). t.after) (item_at-other es1 x i (idle_item unused.number) ne ∙ ap (λ ts. item_at ts i) is))
-            (subst (λ n. IsPath es n (kept.listed.held k) no_slot) was_first (kept.listed.path k few)) in
+      (λ i ne. ap (λ (t : Item). t.after) (item_at-other es1 x i (idle_item unused.number) ne ∙ ap (λ ts. item_at ts i) is))
+      (subst (λ n. IsPath es n (kept.listed.held k) no_slot) was_first (kept.listed.path k few)) in
       finish (ap length is) (λ i. (ap (λ ts. (item_at ts i).area) is, ap (λ ts. (item_at ts i).is_free) is))
-        (subst (λ n. IsPath es' n (without x (kept.listed.held k)) no_slot) (sym leads) begins)
-        (λ j i _ _ _. ap (λ ts. (item_at ts i).after) is) (λ i _. ap (λ ts. (item_at ts i).after) is)
+      (subst (λ n. IsPath es' n (without x (kept.listed.held k)) no_slot) (sym leads) begins)
+      (λ j i _ _ _. ap (λ ts. (item_at ts i).after) is) (λ i _. ap (λ ts. (item_at ts i).after) is)
 
   -- any other one, after b
   pub next-removed : (b : ℕ) → (item_at es b).is_free ≡ true → list_at o es b ≡ k → (item_at es b).after ≡ x → head_of heads' k ≡ head_of heads k
       → es1 ≡ with_after es b (item_at es x).after → AreKept o (record { entries = es'; heads = heads'; unused = found.at })
   next-removed b b_free b_list b_next heads_same is =
       finish long same_box
-        (subst (λ h. IsPath es' h.number (without x (kept.listed.held k)) no_slot) (sym heads_same)
-          (path-bypassed es es' x b (head_of heads k).number (kept.listed.held k) no_slot (omega (arith, length-set es1 x (idle_item unused.number), long)) (λ z. omega (arith, z, inside, kept.listed.short))
-            (λ i. kept.listed.once k i few) b_in b_next skip others_after (kept.listed.path k few)))
-        (λ j i ne l h. other_after i (λ e. ne (sym (kept.listed.own j i l h).1 ∙ ap (list_at o es) e ∙ b_list)))
-        (λ i h. other_after i (λ e. both_ways _ (kept.idle i h) (ap (λ n. (item_at es n).is_free) e ∙ b_free)))
+      (subst (λ h. IsPath es' h.number (without x (kept.listed.held k)) no_slot) (sym heads_same)
+      (path-bypassed es es' x b (head_of heads k).number (kept.listed.held k) no_slot (omega (arith, length-set es1 x (idle_item unused.number), long)) (λ z. omega (arith, z, inside, kept.listed.short))
+      (λ i. kept.listed.once k i few) b_in b_next skip others_after (kept.listed.path k few)))
+      (λ j i ne l h. other_after i (λ e. ne (sym (kept.listed.own j i l h).1 ∙ ap (list_at o es) e ∙ b_list)))
+      (λ i h. other_after i (λ e. both_ways _ (kept.idle i h) (ap (λ n. (item_at es n).is_free) e ∙ b_free)))
     where
       leads_to : Item
       leads_to = record (item_at es b) { after = (item_at es x).after }
@@ -381,9 +380,9 @@ module _ (o : Options) (heads heads' : List ListHead) (es es1 : List Item) (unus
       same_box : (i : ℕ) → ((item_at es1 i).area ≡ (item_at es i).area) × ((item_at es1 i).is_free ≡ (item_at es i).is_free)
       same_box i =
           elim (cases_eq i b) [
-            inl e ↦ subst (λ n. ((item_at es1 n).area ≡ (item_at es n).area) × ((item_at es1 n).is_free ≡ (item_at es n).is_free)) (sym e)
+            | inl e ↦ subst (λ n. ((item_at es1 n).area ≡ (item_at es n).area) × ((item_at es1 n).is_free ≡ (item_at es n).is_free)) (sym e)
                 (ap (λ (t : Item). t.area) at_b, ap (λ (t : Item). t.is_free) at_b)
-          | inr ne ↦ (ap (λ (t : Item). t.area) (not_b i ne), ap (λ (t : Item). t.is_free) (not_b i ne))
+            | inr ne ↦ (ap (λ (t : Item). t.area) (not_b i ne), ap (λ (t : Item). t.is_free) (not_b i ne))
           ]
 
       apart : b ≢ x
@@ -393,10 +392,10 @@ module _ (o : Options) (heads heads' : List ListHead) (es es1 : List Item) (unus
           no_loop [] from once h p = omega (arith, h)
           no_loop (y ∷ ys) from once h p =
               elim (path-next es from y ys no_slot b p h) [
-                inl z ↦ omega (arith, sym z ∙ b_next, inside, kept.listed.short)
-              | inr g ↦
-                  let g_b : 0 < occurs b ys = subst (λ n. 0 < occurs n ys) (b_next ∙ sym e) g in
-                  no_loop ys (item_at es y).after (λ i. omega (arith, once i)) g_b p.2
+                | inl z ↦ omega (arith, sym z ∙ b_next, inside, kept.listed.short)
+                | inr g ↦
+                    let g_b : 0 < occurs b ys = subst (λ n. 0 < occurs n ys) (b_next ∙ sym e) g in
+                    no_loop ys (item_at es y).after (λ i. omega (arith, once i)) g_b p.2
               ]
 
       skip : (item_at es' b).after ≡ (item_at es x).after
@@ -412,17 +411,17 @@ pub empty-kept : (o : Options) (heads : List ListHead) (unused : Link) → AreVa
 empty-kept o heads unused valid none last =
     record {
       listed =
-        record {
-          held = λ k. [];
-          valid = valid;
-          short = omega arith;
-          path = λ k l. eqb-true (head_of heads k).number no_slot (not-false ((head_of heads k).number == no_slot) (none k));
-          own = λ k i l h. absurd (omega (arith, h));
-          each = λ i f. absurd (both_ways false refl f);
-          once = λ k i l. omega arith;
-          exact = λ i f. absurd (both_ways false refl f);
-          low = λ i f. absurd (both_ways false refl f);
-        };
+          record {
+            held = λ k. [];
+            valid = valid;
+            short = omega arith;
+            path = λ k l. eqb-true (head_of heads k).number no_slot (not-false ((head_of heads k).number == no_slot) (none k));
+            own = λ k i l h. absurd (omega (arith, h));
+            each = λ i f. absurd (both_ways false refl f);
+            once = λ k i l. omega arith;
+            exact = λ i f. absurd (both_ways false refl f);
+            low = λ i f. absurd (both_ways false refl f);
+          };
       spare = [];
       chain = last;
       idle = λ i h. absurd (omega (arith, h));
@@ -434,9 +433,9 @@ pub alone : (xs : List Box) (b : Box) → AreSameBoxes xs (b ∷ []) → xs ≡ 
 alone [] b same_boxes = absurd (omega (arith, same_boxes (λ _. true), count_by-cons (λ _. true) b []))
 alone (x ∷ []) b same_boxes =
     elim (cases_Bool (same_box b x)) [
-      inl t ↦ ap (λ y. y ∷ []) (sym (same_box-true b x t))
-    | inr f ↦
-        absurd
+      | inl t ↦ ap (λ y. y ∷ []) (sym (same_box-true b x t))
+      | inr f ↦
+          absurd
           (omega (
             arith,
             same_boxes (same_box b),
@@ -448,10 +447,10 @@ alone (x ∷ []) b same_boxes =
     ]
 alone (x ∷ y ∷ zs) b same_boxes =
     absurd
-      (omega (
-        arith,
-        same_boxes (λ _. true),
-        count_by-cons (λ _. true) b [],
-        count_by-cons (λ _. true) x (y ∷ zs),
-        count_by-cons (λ _. true) y zs,
-      ))
+    (omega (
+      arith,
+      same_boxes (λ _. true),
+      count_by-cons (λ _. true) b [],
+      count_by-cons (λ _. true) x (y ∷ zs),
+      count_by-cons (λ _. true) y zs,
+    ))

@@ -6,10 +6,10 @@ use Rattle.std.proofs.lemmas.List.Elements.{Contains-push, Contains-push_cases, 
 use Rattle.guillotiere.specs.declared.geometry.Rectangle.{Rectangle}
 use Rattle.guillotiere.specs.Boxes.{Sides, Box, box_sides, Fits}
 use Rattle.guillotiere.specs.Choice.{least_margin, HasEqualSide, ComesFirst}
-use Rattle.guillotiere.specs.Pixels.{natural, box_of, rectangle_of, sides_of}
+use Rattle.guillotiere.specs.Pixels.{natural, box_of, rectangle_of}
 use Rattle.guillotiere.specs.Requests.{IsBefore, IsBetterMargin, Precedes}
 use Rattle.guillotiere.specs.Rectangles.{IsUnsigned}
-use Rattle.guillotiere.specs.Searches.{Shown, shown_at, IsAsGood, IsBestShown, FitsNone}
+use Rattle.guillotiere.specs.Searches.{Shown, IsAsGood, IsBestShown, FitsNone}
 
 -- what a side leaves of a stretch
 

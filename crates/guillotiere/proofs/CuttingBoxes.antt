@@ -11,7 +11,7 @@ use Rattle.guillotiere.specs.Boxes.{Box, Sides, box_sides, AreSameBoxes}
 use Rattle.guillotiere.specs.Choice.{Options}
 use Rattle.guillotiere.specs.Cuts.{cut_axis, split_along, leftover_along}
 use Rattle.guillotiere.specs.FreeLists.{kept_of}
-use Rattle.guillotiere.specs.Items.{Item, item_at}
+use Rattle.guillotiere.specs.Items.{Item}
 use Rattle.guillotiere.specs.Links.{IsExact}
 use Rattle.guillotiere.specs.Lookups.{AreListed, IsStanding}
 use Rattle.guillotiere.specs.Pixels.{box_of}

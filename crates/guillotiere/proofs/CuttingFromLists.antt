@@ -1,24 +1,14 @@
 -- A picked box of the simple allocator gives way to what is kept of it.
-use Rattle.std.proofs.Common.{◌≡◌, ℕ, ◌+◌, ◌-◌, ◌<◌, ◌≤◌, Bool, cond, List, [], ◌∷◌, ◌++◌, map, Vec, Option, Some, None, ℤ, pos, negsuc, ◌-ℤ◌, ◌≤ℤ◌, ◌<ℤ◌, FitsSigned, w32, refl, ap, sym, ◌∙◌, subst, arith}
-use Rattle.std.specs.Bool.{⊤}
-use Rattle.std.specs.Option.{MatchOption}
-use Rattle.std.specs.List.{count_by}
+use Rattle.std.proofs.Common.{◌≡◌, ℕ, ◌-◌, ◌<◌, ◌≤◌, ℤ, pos, negsuc, ◌-ℤ◌, ◌≤ℤ◌, ◌<ℤ◌, FitsSigned, w32, refl, ap, sym, subst, arith}
 use Rattle.std.proofs.lemmas.Int.{ints}
-use Rattle.std.proofs.lemmas.List.Elements.{filter-append}
-use Rattle.std.proofs.lemmas.List.Sums.{sum_by-cons, sum_by-append}
-use Rattle.std.proofs.lemmas.Option.{slice_get_within, get_or_from_slice_get}
 use Rattle.guillotiere.specs.declared.geometry.Size.{Size}
 use Rattle.guillotiere.specs.declared.geometry.Rectangle.{Rectangle}
-use Rattle.guillotiere.specs.declared.cut.Rest.{Rest}
-use Rattle.guillotiere.specs.declared.options.AllocatorOptions.{AllocatorOptions}
-use Rattle.guillotiere.specs.Boxes.{Box, Sides, box_at, box_sides, Fits, IsPositive, AreSameBoxes}
-use Rattle.guillotiere.specs.Cuts.{cut_axis, split_along, leftover_along}
-use Rattle.guillotiere.specs.Choice.{Options, AreValid, rounded, IsPick}
-use Rattle.guillotiere.specs.Pixels.{natural, box_of, rectangle_of, sides_of, size_of, options_of, IsMeasurable}
-use Rattle.guillotiere.specs.Rectangles.{FitsInto, IsRestOf, IsUnsigned}
+use Rattle.guillotiere.specs.Boxes.{Box, Sides, box_sides, Fits, IsPositive}
+use Rattle.guillotiere.specs.Choice.{Options, AreValid, rounded}
+use Rattle.guillotiere.specs.Pixels.{natural, box_of, rectangle_of, sides_of, size_of, IsMeasurable}
+use Rattle.guillotiere.specs.Rectangles.{FitsInto, IsUnsigned}
 use Rattle.guillotiere.specs.Requests.{CanBeRounded}
-use Rattle.guillotiere.specs.Simple.{is_kept, kept_rest, SimplyGrants}
-use Rattle.guillotiere.proofs.Picking.{class_of-below, up-le}
+use Rattle.guillotiere.proofs.Picking.{up-le}
 
 -- rectangles with no corner below 0
 

@@ -1,5 +1,5 @@
 -- The boxes of the free entries are those that a search picks among.
-use Rattle.std.proofs.Common.{◌≡◌, ℕ, zero, suc, ◌<◌, inl, inr, Bool, true, false, List, [], ◌∷◌, length, get_or, refl, sym, subst, arith}
+use Rattle.std.proofs.Common.{◌≡◌, ℕ, zero, suc, ◌<◌, inl, inr, true, false, List, [], ◌∷◌, length, get_or, refl, sym, subst, arith}
 use Rattle.std.specs.List.{Contains}
 use Rattle.std.proofs.lemmas.Bool.{cases_Bool, both_ways, cond-true, cond-false}
 use Rattle.guillotiere.specs.Boxes.{Box}
@@ -29,8 +29,8 @@ entry_of : (es : List Item) (b : Box) → Contains (free_boxes es) b → Entry e
 entry_of [] b h = absurd (omega (arith, h.1))
 entry_of (t ∷ es) b h =
     elim (cases_Bool t.is_free) [
-      inl f ↦ (let has = subst (λ bs. Contains bs b) (free-first t es f) h in split t es b has.0 f has.1 has.2 (λ r. entry_of es b r))
-    | inr f ↦ later t es b (entry_of es b (subst (λ bs. Contains bs b) (idle-first t es f) h))
+      | inl f ↦ (let has = subst (λ bs. Contains bs b) (free-first t es f) h in split t es b has.0 f has.1 has.2 (λ r. entry_of es b r))
+      | inr f ↦ later t es b (entry_of es b (subst (λ bs. Contains bs b) (idle-first t es f) h))
     ]
 
 box_of_entry : (es : List Item) (i : ℕ) → (item_at es i).is_free ≡ true → Contains (free_boxes es) (item_box (item_at es i))
@@ -39,8 +39,8 @@ box_of_entry (t ∷ es) zero f = subst (λ bs. Contains bs (item_box t)) (sym (f
 box_of_entry (t ∷ es) (suc i) f =
     let h = box_of_entry es i f in
     elim (cases_Bool t.is_free) [
-      inl g ↦ subst (λ bs. Contains bs (item_box (item_at es i))) (sym (free-first t es g)) (suc h.0, omega (arith, h.1), h.2)
-    | inr g ↦ subst (λ bs. Contains bs (item_box (item_at es i))) (sym (idle-first t es g)) h
+      | inl g ↦ subst (λ bs. Contains bs (item_box (item_at es i))) (sym (free-first t es g)) (suc h.0, omega (arith, h.1), h.2)
+      | inr g ↦ subst (λ bs. Contains bs (item_box (item_at es i))) (sym (idle-first t es g)) h
     ]
 
 pub are-free : (es : List Item) → AreFreeItems es (free_boxes es)

@@ -3,7 +3,7 @@ use Rattle.std.proofs.Common.{◌≡◌, List, ◌∷◌, ◌++◌, refl, ap, �
 use Rattle.guillotiere.specs.declared.geometry.Rectangle.{Rectangle}
 use Rattle.guillotiere.specs.declared.geometry.Size.{Size}
 use Rattle.guillotiere.specs.declared.options.AllocatorOptions.{AllocatorOptions}
-use Rattle.guillotiere.specs.Boxes.{Box, Sides, box_at, AreSameBoxes}
+use Rattle.guillotiere.specs.Boxes.{Sides, box_at, AreSameBoxes}
 use Rattle.guillotiere.specs.BoxShelves.{free_boxes}
 use Rattle.guillotiere.specs.Choice.{rounded, IsPick}
 use Rattle.guillotiere.specs.FreeLists.{state_of}

@@ -1,13 +1,12 @@
 -- Lists of entries after one is taken out of them, or put in front.
-use Rattle.std.proofs.Common.{◌≡◌, ◌≢◌, ℕ, ◌+◌, ◌<◌, ◌≤◌, ◌⊎◌, inl, inr, Bool, true, false, List, [], ◌∷◌, length, refl, sym, ap, ◌∙◌, subst, arith}
-use Rattle.std.specs.Prelude.{◌==◌, if◌then◌else◌}
-use Rattle.std.proofs.lemmas.Bool.{cases_eq, both_ways, cond-true, cond-false, eq-eqb, ne_eqb, not_from_true, ltb-true}
-use Rattle.guillotiere.specs.declared.slots.Link.{Link}
+use Rattle.std.proofs.Common.{◌≡◌, ◌≢◌, ℕ, ◌+◌, ◌<◌, ◌≤◌, ◌⊎◌, inl, inr, true, false, List, [], ◌∷◌, length, refl, sym, ap, ◌∙◌, subst, arith}
+use Rattle.std.specs.Prelude.{◌==◌}
+use Rattle.std.proofs.lemmas.Bool.{cases_eq, both_ways, cond-true, cond-false, eq-eqb, ne_eqb}
 use Rattle.guillotiere.specs.declared.table.ListHead.{ListHead}
 use Rattle.guillotiere.specs.Bands.{list_of, strip_of}
 use Rattle.guillotiere.specs.Choice.{Options}
 use Rattle.guillotiere.specs.Items.{Item, item_at, item_box, item_sides, IsPath}
-use Rattle.guillotiere.specs.Links.{IsExact, held_with, held_without}
+use Rattle.guillotiere.specs.Links.{IsExact, held_with}
 use Rattle.guillotiere.specs.Lists.{occurs, without}
 use Rattle.guillotiere.specs.Lookups.{AreListed}
 use Rattle.guillotiere.specs.Numbered.{same}
@@ -22,32 +21,31 @@ use Rattle.guillotiere.proofs.TableHeads.{slot-is}
 pub path-frame : (es es' : List Item) (from : ℕ) (xs : List ℕ) (to : ℕ) → length es ≤ length es'
     → ((i : ℕ) → 0 < occurs i xs → (item_at es' i).after ≡ (item_at es i).after) → IsPath es from xs to → IsPath es' from xs to
 path-frame es es' from [] to l same_after p = p
-path-frame es es' from (x ∷ xs) to l same_after p =
-    (
-      p.0,
-      omega (arith, l, p.1),
-      subst (λ n. IsPath es' n xs to) (sym (same_after x (omega (arith, same-self x))))
-        (path-frame es es' (item_at es x).after xs to l (λ i h. same_after i (omega arith)) p.2),
-    )
+path-frame es es' from (x ∷ xs) to l same_after p = (
+  p.0,
+  omega (arith, l, p.1),
+  subst (λ n. IsPath es' n xs to) (sym (same_after x (omega (arith, same-self x))))
+      (path-frame es es' (item_at es x).after xs to l (λ i h. same_after i (omega arith)) p.2),
+)
 
 -- after each entry comes the end of the path or an entry that isn't its first
 pub path-next : (es : List Item) (from x : ℕ) (xs : List ℕ) (to b : ℕ) → IsPath es from (x ∷ xs) to → 0 < occurs b (x ∷ xs)
     → ((item_at es b).after ≡ to) ⊎ (0 < occurs (item_at es b).after xs)
 path-next es from x [] to b p h =
     elim (cases_eq b x) [
-      inl e ↦ inl (ap (λ n. (item_at es n).after) e ∙ p.2)
-    | inr ne ↦ absurd (omega (arith, same-ne b x ne))
+      | inl e ↦ inl (ap (λ n. (item_at es n).after) e ∙ p.2)
+      | inr ne ↦ absurd (omega (arith, same-ne b x ne))
     ]
 path-next es from x (y ∷ ys) to b p h =
     elim (cases_eq b x) [
-      inl e ↦
-        let first : (item_at es b).after ≡ y = ap (λ n. (item_at es n).after) e ∙ p.2.0 in
-        inr (subst (λ n. 0 < occurs n (y ∷ ys)) (sym first) (omega (arith, same-self y)))
-    | inr ne ↦
-        elim (path-next es (item_at es x).after y ys to b p.2 (omega (arith, same-ne b x ne))) [
-          inl e ↦ inl e
-        | inr g ↦ inr (omega (arith, g))
-        ]
+      | inl e ↦
+          let first : (item_at es b).after ≡ y = ap (λ n. (item_at es n).after) e ∙ p.2.0 in
+          inr (subst (λ n. 0 < occurs n (y ∷ ys)) (sym first) (omega (arith, same-self y)))
+      | inr ne ↦
+          elim (path-next es (item_at es x).after y ys to b p.2 (omega (arith, same-ne b x ne))) [
+            | inl e ↦ inl e
+            | inr g ↦ inr (omega (arith, g))
+          ]
     ]
 
 -- the entry b leads past x from now on
@@ -69,8 +67,8 @@ path-bypassed es es' x b from (y ∷ ys) to l past once has_b next skip others p
     not_first : x ≡ y → ⊥
     not_first e =
         elim (path-next es from y ys to b p has_b) [
-          inl z ↦ past (sym z ∙ next)
-        | inr g ↦ omega (arith, once x, same-self x, ap (same x) e, subst (λ n. 0 < occurs n ys) next g)
+          | inl z ↦ past (sym z ∙ next)
+          | inr g ↦ omega (arith, once x, same-self x, ap (same x) e, subst (λ n. 0 < occurs n ys) next g)
         ]
 
     past_b : (zs : List ℕ) → x ≢ y → y ≡ b → ys ≡ zs → IsPath es (item_at es y).after zs to → IsPath es' (item_at es' y).after (without x zs) to
@@ -81,10 +79,10 @@ path-bypassed es es' x b from (y ∷ ys) to l past once has_b next skip others p
         let count : (i : ℕ) → same i y + (same i z + occurs i zs) ≤ 1 = λ i. omega (arith, once i, ap (occurs i) is) in
         let leads : (item_at es' y).after ≡ (item_at es z).after = ap (λ n. (item_at es' n).after) e ∙ skip ∙ ap (λ n. (item_at es n).after) (sym zx) in
         let still : (i : ℕ) → 0 < occurs i zs → (item_at es' i).after ≡ (item_at es i).after =
-              λ i h. others i (λ ix. omega (arith, h, count z, same-self z, ap (λ n. occurs n zs) (ix ∙ sym zx)))
-                (λ ib. omega (arith, h, count y, same-self y, ap (λ n. occurs n zs) (ib ∙ sym e))) in
+        λ i h. others i (λ ix. omega (arith, h, count z, same-self z, ap (λ n. occurs n zs) (ix ∙ sym zx)))
+        (λ ib. omega (arith, h, count y, same-self y, ap (λ n. occurs n zs) (ib ∙ sym e))) in
         subst (λ w. IsPath es' (item_at es' y).after w to) (sym gone)
-          (subst (λ n. IsPath es' n zs to) (sym leads) (path-frame es es' (item_at es z).after zs to l still q.2))
+        (subst (λ n. IsPath es' n zs to) (sym leads) (path-frame es es' (item_at es z).after zs to l still q.2))
 
     rest : Rest → x ≢ y → (y ≡ b) ⊎ (y ≢ b) → IsPath es' (item_at es' y).after (without x ys) to
     rest later ne (inl e) = past_b ys ne e refl p.2
@@ -92,7 +90,7 @@ path-bypassed es es' x b from (y ∷ ys) to l past once has_b next skip others p
         let less : (i : ℕ) → occurs i ys ≤ 1 = λ i. omega (arith, once i) in
         let has : 0 < occurs b ys = omega (arith, has_b, same-ne b y (λ z. other (sym z))) in
         subst (λ n. IsPath es' n (without x ys) to) (sym (others y (λ z. ne (sym z)) other))
-          (later less has p.2)
+        (later less has p.2)
 
     go : Rest → (x ≡ y) ⊎ (x ≢ y) → (y ≡ b) ⊎ (y ≢ b) → IsPath es' from (without x (y ∷ ys)) to
     go later (inl e) _ = absurd (not_first e)
@@ -106,31 +104,31 @@ path-begun es es' x [] l once has_x others p = absurd (omega (arith, has_x))
 path-begun es es' x (y ∷ ys) l once has_x others p =
     let gone : without x (y ∷ ys) ≡ ys = cond-true (x == y) ys (y ∷ without x ys) (eq-eqb x y p.0) in
     let still : (i : ℕ) → 0 < occurs i ys → (item_at es' i).after ≡ (item_at es i).after =
-          λ i h. others i (λ ix. omega (arith, h, once y, same-self y, ap (λ n. occurs n ys) (ix ∙ p.0))) in
+    λ i h. others i (λ ix. omega (arith, h, once y, same-self y, ap (λ n. occurs n ys) (ix ∙ p.0))) in
     subst (λ w. IsPath es' (item_at es x).after w no_slot) (sym gone)
-      (subst (λ n. IsPath es' (item_at es n).after ys no_slot) (sym p.0) (path-frame es es' (item_at es y).after ys no_slot l still p.2))
+    (subst (λ n. IsPath es' (item_at es n).after ys no_slot) (sym p.0) (path-frame es es' (item_at es y).after ys no_slot l still p.2))
 
 -- ---- what stands in the lists
 
 occurs-without_other : (x i : ℕ) (xs : List ℕ) → i ≢ x → occurs i (without x xs) ≡ occurs i xs
 occurs-without_other x i xs ne =
     elim (cases_eq (occurs x xs) 0) [
-      inl none ↦ ap (occurs i) (without-none x xs none)
-    | inr some ↦ omega (arith, occurs-without x xs (omega arith) i, same-ne i x ne)
+      | inl none ↦ ap (occurs i) (without-none x xs none)
+      | inr some ↦ omega (arith, occurs-without x xs (omega arith) i, same-ne i x ne)
     ]
 
 occurs-without_le : (x i : ℕ) (xs : List ℕ) → occurs i (without x xs) ≤ occurs i xs
 occurs-without_le x i xs =
     elim (cases_eq (occurs x xs) 0) [
-      inl none ↦ omega (arith, ap (occurs i) (without-none x xs none))
-    | inr some ↦ omega (arith, occurs-without x xs (omega arith) i)
+      | inl none ↦ omega (arith, ap (occurs i) (without-none x xs none))
+      | inr some ↦ omega (arith, occurs-without x xs (omega arith) i)
     ]
 
 occurs-without_self : (x : ℕ) (xs : List ℕ) → occurs x xs ≤ 1 → occurs x (without x xs) ≡ 0
 occurs-without_self x xs once =
     elim (cases_eq (occurs x xs) 0) [
-      inl none ↦ ap (occurs x) (without-none x xs none) ∙ none
-    | inr some ↦ omega (arith, occurs-without x xs (omega arith) x, same-self x)
+      | inl none ↦ ap (occurs x) (without-none x xs none) ∙ none
+      | inr some ↦ omega (arith, occurs-without x xs (omega arith) x, same-self x)
     ]
 
 -- the list of an entry
@@ -159,8 +157,8 @@ module _ (o : Options) (heads heads' : List ListHead) (es es' : List Item) (list
   not_in : (j : ℕ) → j < 2704 → j ≢ k → occurs x (listed.held j) ≡ 0
   not_in j l ne =
       elim (cases_eq (occurs x (listed.held j)) 0) [
-        inl none ↦ none
-      | inr some ↦ absurd (ne (sym (listed.own j x l (omega arith)).1 ∙ list))
+        | inl none ↦ none
+        | inr some ↦ absurd (ne (sym (listed.own j x l (omega arith)).1 ∙ list))
       ]
 
   paths : (j : ℕ) → j < 2704 → (j ≡ k) ⊎ (j ≢ k) → IsPath es' (head_of heads' j).number (without x (listed.held j)) no_slot
@@ -168,8 +166,8 @@ module _ (o : Options) (heads heads' : List ListHead) (es es' : List Item) (list
   paths j l (inr ne) =
       let all : without x (listed.held j) ≡ listed.held j = without-none x (listed.held j) (not_in j l ne) in
       subst (λ xs. IsPath es' (head_of heads' j).number xs no_slot) (sym all)
-        (subst (λ h. IsPath es' h.number (listed.held j) no_slot) (sym (other_heads j ne))
-          (path-frame es es' (head_of heads j).number (listed.held j) no_slot (omega (arith, long)) (λ i h. links j i ne l h) (listed.path j l)))
+      (subst (λ h. IsPath es' h.number (listed.held j) no_slot) (sym (other_heads j ne))
+      (path-frame es es' (head_of heads j).number (listed.held j) no_slot (omega (arith, long)) (λ i h. links j i ne l h) (listed.path j l)))
 
   owned : (j i : ℕ) → j < 2704 → 0 < occurs i (without x (listed.held j)) → (i ≡ x) ⊎ (i ≢ x)
       → ((item_at es' i).is_free ≡ true) × (list_at o es' i ≡ j)
@@ -195,14 +193,14 @@ module _ (o : Options) (heads heads' : List ListHead) (es es' : List Item) (list
         each = λ i f.
             let ne = not_x i f in
             subst (λ n. 0 < occurs i (without x (listed.held n))) (sym (same_list i ne))
-              (omega (arith, listed.each i (was_free i ne f), occurs-without_other x i (listed.held (list_at o es i)) ne));
+            (omega (arith, listed.each i (was_free i ne f), occurs-without_other x i (listed.held (list_at o es i)) ne));
         once = λ j i l. omega (arith, listed.once j i l, occurs-without_le x i (listed.held j));
         exact = λ i f. (let ne = not_x i f in subst IsExact (sym (kept i ne).0) (listed.exact i (was_free i ne f)));
         low = λ i f.
             let ne = not_x i f in
             let old = lows i ne (was_free i ne f) (cases_eq (list_at o es i) k) in
             subst (λ n. low_of heads' n ≤ strip_of (item_box (item_at es' i)).min.y) (sym (same_list i ne))
-              (subst (λ r. low_of heads' (list_at o es i) ≤ strip_of (item_box (record { area = r; after = 0; is_free = true })).min.y) (sym (kept i ne).0) old);
+            (subst (λ r. low_of heads' (list_at o es i) ≤ strip_of (item_box (record { area = r; after = 0; is_free = true })).min.y) (sym (kept i ne).0) old);
       }
 
 -- An entry e, at x, comes first in its list k: the others stay.
@@ -226,24 +224,24 @@ module _ (o : Options) (heads heads' : List ListHead) (es es' : List Item) (list
   not_held : (j : ℕ) → j < 2704 → occurs x (listed.held j) ≡ 0
   not_held j l =
       elim (cases_eq (occurs x (listed.held j)) 0) [
-        inl none ↦ none
-      | inr some ↦ absurd (both_ways _ idle (listed.own j x l (omega arith)).0)
+        | inl none ↦ none
+        | inr some ↦ absurd (both_ways _ idle (listed.own j x l (omega arith)).0)
       ]
 
   frame : (j : ℕ) → j < 2704 → IsPath es' (head_of heads j).number (listed.held j) no_slot
   frame j l =
       path-frame es es' (head_of heads j).number (listed.held j) no_slot (omega (arith, long))
-        (λ i h. ap (λ (t : Item). t.after) (others i (λ ix. omega (arith, h, not_held j l, ap (λ n. occurs n (listed.held j)) ix)))) (listed.path j l)
+      (λ i h. ap (λ (t : Item). t.after) (others i (λ ix. omega (arith, h, not_held j l, ap (λ n. occurs n (listed.held j)) ix)))) (listed.path j l)
 
   added-paths : (j : ℕ) → j < 2704 → (j ≡ k) ⊎ (j ≢ k) → IsPath es' (head_of heads' j).number (added j) no_slot
   added-paths j l (inl is) =
       let leads : (item_at es' x).after ≡ (head_of heads k).number = ap (λ (t : Item). t.after) this ∙ after in
       subst (λ n. IsPath es' (head_of heads' n).number (added n) no_slot) (sym is)
-        (subst (λ xs. IsPath es' (head_of heads' k).number xs no_slot) (sym added-here)
-          (head, omega (arith, inside, long), subst (λ n. IsPath es' n (listed.held k) no_slot) (sym leads) (frame k (omega arith))))
+      (subst (λ xs. IsPath es' (head_of heads' k).number xs no_slot) (sym added-here)
+      (head, omega (arith, inside, long), subst (λ n. IsPath es' n (listed.held k) no_slot) (sym leads) (frame k (omega arith))))
   added-paths j l (inr ne) =
       subst (λ xs. IsPath es' (head_of heads' j).number xs no_slot) (sym (added-other j ne))
-        (subst (λ h. IsPath es' h.number (listed.held j) no_slot) (sym (other_heads j ne)) (frame j l))
+      (subst (λ h. IsPath es' h.number (listed.held j) no_slot) (sym (other_heads j ne)) (frame j l))
 
   x-list : list_at o es' x ≡ k
   x-list = ap (λ (t : Item). list_of o (item_sides t)) this ∙ list
@@ -263,10 +261,10 @@ module _ (o : Options) (heads heads' : List ListHead) (es es' : List Item) (list
   own-added : (j i : ℕ) → j < 2704 → 0 < occurs i (added j) → (i ≡ x) ⊎ (i ≢ x) → ((item_at es' i).is_free ≡ true) × (list_at o es' i ≡ j)
   own-added j i l h (inl is) =
       let at_k : j ≡ k =
-            elim (cases_eq j k) [
-              inl jk ↦ jk
-            | inr ne ↦ absurd (omega (arith, subst (λ n. 0 < occurs n (added j)) is h, ap (occurs x) (added-other j ne), not_held j l))
-            ] in
+      elim (cases_eq j k) [
+        | inl jk ↦ jk
+        | inr ne ↦ absurd (omega (arith, subst (λ n. 0 < occurs n (added j)) is h, ap (occurs x) (added-other j ne), not_held j l))
+      ] in
       (ap (λ n. (item_at es' n).is_free) is ∙ ap (λ (t : Item). t.is_free) this ∙ free, ap (list_at o es') is ∙ x-list ∙ sym at_k)
   own-added j i l h (inr ne) =
       let old = listed.own j i l (omega (arith, h, occurs-added_back j i ne (cases_eq j k))) in
@@ -275,16 +273,16 @@ module _ (o : Options) (heads heads' : List ListHead) (es es' : List Item) (list
   each-added : (i : ℕ) → (item_at es' i).is_free ≡ true → (i ≡ x) ⊎ (i ≢ x) → 0 < occurs i (added (list_at o es' i))
   each-added i f (inl is) =
       subst (λ n. 0 < occurs n (added (list_at o es' n))) (sym is)
-        (subst (λ j. 0 < occurs x (added j)) (sym x-list) (omega (arith, ap (occurs x) added-here, same-self x)))
+      (subst (λ j. 0 < occurs x (added j)) (sym x-list) (omega (arith, ap (occurs x) added-here, same-self x)))
   each-added i f (inr ne) =
       let old = listed.each i (ap (λ (t : Item). t.is_free) (sym (others i ne)) ∙ f) in
       subst (λ j. 0 < occurs i (added j)) (sym (list-same i ne))
-        (omega (arith, old, occurs-added (list_at o es i) i (cases_eq (list_at o es i) k)))
+      (omega (arith, old, occurs-added (list_at o es i) i (cases_eq (list_at o es i) k)))
 
   once-added : (j i : ℕ) → j < 2704 → (i ≡ x) ⊎ (i ≢ x) → (j ≡ k) ⊎ (j ≢ k) → occurs i (added j) ≤ 1
   once-added j i l (inl is) (inl jk) =
       subst (λ n. occurs n (added j) ≤ 1) (sym is)
-        (subst (λ n. occurs x (added n) ≤ 1) (sym jk) (omega (arith, ap (occurs x) added-here, same-self x, not_held k (omega arith))))
+      (subst (λ n. occurs x (added n) ≤ 1) (sym jk) (omega (arith, ap (occurs x) added-here, same-self x, not_held k (omega arith))))
   once-added j i l (inl is) (inr ne) = omega (arith, listed.once j i l, ap (occurs i) (added-other j ne))
   once-added j i l (inr apart) c = omega (arith, listed.once j i l, occurs-added_back j i apart c)
 
@@ -299,8 +297,8 @@ module _ (o : Options) (heads heads' : List ListHead) (es es' : List Item) (list
   low-added : k < 2704 → (i : ℕ) → (item_at es' i).is_free ≡ true → (i ≡ x) ⊎ (i ≢ x) → low_of heads' (list_at o es' i) ≤ strip_of (item_box (item_at es' i)).min.y
   low-added l i f (inl is) =
       subst (λ n. low_of heads' (list_at o es' n) ≤ strip_of (item_box (item_at es' n)).min.y) (sym is)
-        (subst (λ t. low_of heads' (list_of o (item_sides t)) ≤ strip_of (item_box t).min.y) (sym this)
-          (subst (λ j. low_of heads' j ≤ strip_of (item_box e).min.y) (sym list) low))
+      (subst (λ t. low_of heads' (list_of o (item_sides t)) ≤ strip_of (item_box t).min.y) (sym this)
+      (subst (λ j. low_of heads' j ≤ strip_of (item_box e).min.y) (sym list) low))
   low-added l i f (inr ne) =
       subst (λ t. low_of heads' (list_of o (item_sides t)) ≤ strip_of (item_box t).min.y) (sym (others i ne)) (old (cases_eq (list_at o es i) k))
     where

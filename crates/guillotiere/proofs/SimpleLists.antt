@@ -1,10 +1,8 @@
 -- The boxes of a simple allocator that grows or begins anew.
-use Rattle.std.proofs.Common.{◌≡◌, ◌≢◌, ℕ, ◌+◌, ◌-◌, ◌<◌, ◌≤◌, Bool, true, false, cond, List, [], ◌∷◌, ◌++◌, map, drop, get_or, length, Vec, Option, Some, None, pos, ◌-ℤ◌, ap, sym, ◌∙◌, inl, inr, subst, arith}
+use Rattle.std.proofs.Common.{◌≡◌, ◌≢◌, ℕ, ◌+◌, ◌<◌, ◌≤◌, Bool, true, false, cond, List, [], ◌∷◌, ◌++◌, map, drop, get_or, length, ap, sym, ◌∙◌, subst, arith}
 use Rattle.std.specs.List.{All, count_by}
-use Rattle.std.proofs.lemmas.Bool.{cases_eq, false≢true}
-use Rattle.std.proofs.lemmas.Int.{ints}
 use Rattle.std.proofs.lemmas.List.{at_drop_more}
-use Rattle.std.proofs.lemmas.List.Elements.{All-nil, All-cons, All-head, All-tail, All-append}
+use Rattle.std.proofs.lemmas.List.Elements.{All-head, All-tail}
 use Rattle.std.proofs.lemmas.List.Sums.{sum_by-cons, sum_by-append}
 use Rattle.guillotiere.specs.declared.geometry.Size.{Size}
 use Rattle.guillotiere.specs.declared.geometry.Rectangle.{Rectangle}
@@ -13,10 +11,10 @@ use Rattle.guillotiere.specs.declared.slots.Slot.{Slot}
 use Rattle.guillotiere.specs.declared.slots.NodeKind.TheVariants as kind
 use Rattle.guillotiere.specs.contracts.slots.NodeKind.{the_type}
 use denote.Enum.Bare.{sameb}
-use Rattle.guillotiere.specs.Boxes.{Box, Sides, box_sides, whole_box, Fits, IsPositive, IsNonempty, AreSameBoxes}
-use Rattle.guillotiere.specs.Choice.{Options, class_of}
-use Rattle.guillotiere.specs.Pixels.{natural, box_of, rectangle_of, sides_of}
-use Rattle.guillotiere.specs.Rectangles.{FitsInto, IsRestOf, IsUnsigned, measured}
+use Rattle.guillotiere.specs.Boxes.{Box, Sides, box_sides, whole_box, Fits, IsPositive, AreSameBoxes}
+use Rattle.guillotiere.specs.Choice.{Options}
+use Rattle.guillotiere.specs.Pixels.{box_of, rectangle_of, sides_of}
+use Rattle.guillotiere.specs.Rectangles.{FitsInto, IsRestOf}
 use Rattle.guillotiere.specs.Slots.{nodes}
 use Rattle.guillotiere.specs.Lists.{is_free}
 use Rattle.guillotiere.specs.Visits.{free_areas}

@@ -1,12 +1,9 @@
 -- The state that a simple allocator stores.
-use Rattle.std.proofs.Common.{◌≡◌, ◌≢◌, ℕ, ◌+◌, ◌-◌, ◌<◌, ◌≤◌, Bool, true, ◌&&◌, List, [], ◌∷◌, ◌++◌, map, length, get_or, zero, suc, Vec, Result, Option, ℤ, pos, negsuc, FitsSigned, w32, ◌↔◌, inl, inr, ap, sym, ◌∙◌, subst, arith}
-use Rattle.std.specs.Bool.{Decides, IsTrue}
-use Rattle.std.specs.Ordering.{int_eq}
-use Rattle.std.specs.List.{All, Any, Contains, IsAnyAnswer}
-use Rattle.std.proofs.lemmas.Bool.Decides.{Decides-and, Decides-like, Decides-int_eq}
+use Rattle.std.proofs.Common.{◌≡◌, ℕ, ◌+◌, ◌-◌, ◌<◌, ◌≤◌, Bool, true, List, map, length, get_or, Result, Option, ℤ, pos, negsuc, FitsSigned, w32, ◌↔◌, ap, sym, ◌∙◌, subst, arith}
+use Rattle.std.specs.Bool.{IsTrue}
+use Rattle.std.specs.List.{Any, Contains}
 use Rattle.std.proofs.lemmas.Int.{ints}
-use Rattle.std.proofs.lemmas.Bool.{cases_eq}
-use Rattle.std.proofs.lemmas.List.Elements.{All-nil, All-cons, All-contains, contains_decides, Decides-contains}
+use Rattle.std.proofs.lemmas.List.Elements.{All-contains}
 use Rattle.guillotiere.specs.declared.geometry.Size.{Size}
 use Rattle.guillotiere.specs.declared.geometry.Rectangle.{Rectangle}
 use Rattle.guillotiere.specs.declared.error.AtlasError.{AtlasError}
@@ -21,13 +18,12 @@ use Rattle.guillotiere.specs.declared.table.ListHead.{ListHead}
 use Rattle.guillotiere.proofs.BoxStoring.{exact-width, free-inside, read-item}
 use Rattle.guillotiere.proofs.FreeItems.{are-free}
 use Rattle.std.proofs.lemmas.List.{get_or_default, length-map}
-use Rattle.guillotiere.specs.Choice.{Options, AreValid, class_of}
+use Rattle.guillotiere.specs.Choice.{Options}
 use Rattle.guillotiere.specs.Pixels.{natural, box_of, rectangle_of, sides_of, options_of}
 use Rattle.guillotiere.specs.Rectangles.{IsUnsigned}
 use Rattle.guillotiere.specs.Simple.SimpleAtlasCall.{Allocate}
-use Rattle.guillotiere.specs.Simple.{IsSimple, SimpleStep, simple_answer, simple_start}
+use Rattle.guillotiere.specs.Simple.{SimpleStep, simple_answer}
 use Rattle.guillotiere.specs.FreeLists.{IsStoredState, state_of}
-use Rattle.guillotiere.proofs.SimpleGrants.{start-simple}
 use Rattle.guillotiere.proofs.SimpleSteps.{step-simple}
 use Rattle.guillotiere.proofs.Sizes.{size_is}
 
@@ -99,7 +95,7 @@ pub whole-listed : (v : BoxShelf) (bs : List FreeBox) (size : Size) (options : A
 whole-listed v bs size options r answer are stored e says = (
   λ t. there (subst (λ es. Contains (free_boxes es) (box_of r)) (sym are) (boxed bs r (exact-width r exact) (says.0 t))),
   λ any. says.1 (unboxed (options_of options) v.heads bs r (subst (AreListed (options_of options) v.heads) are stored.kept.listed) exact.unsigned
-    (subst (λ es. Contains (free_boxes es) (box_of r)) are (back any))),
+      (subst (λ es. Contains (free_boxes es) (box_of r)) are (back any))),
 )
   where
     exact : IsExact r

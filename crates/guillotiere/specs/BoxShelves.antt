@@ -1,6 +1,6 @@
 -- The free boxes that the simple allocator stores: entries in the lists of a table, and a chain of unused entries. No
 -- public clause cites this module.
-use Rattle.std.specs.Prelude.{ℕ, ◌+◌, ◌≡◌, ◌≢◌, ◌<◌, ◌≤◌, ◌⊎◌, Bool, false, List, [], ◌∷◌, map, length, slice_set, int_lt, if◌then◌else◌}
+use Rattle.std.specs.Prelude.{ℕ, ◌≡◌, ◌<◌, ◌≤◌, Bool, false, List, [], ◌∷◌, map, length, slice_set, int_lt, if◌then◌else◌}
 use Rattle.guillotiere.specs.declared.boxes.FreeBox.{FreeBox}
 use Rattle.guillotiere.specs.declared.boxes.FreeBoxes.{FreeBoxes}
 use Rattle.guillotiere.specs.declared.geometry.Rectangle.{Rectangle}

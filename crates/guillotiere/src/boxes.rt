@@ -161,11 +161,7 @@ impl<A: Allocator> FreeBoxes<A> {
     }
 
     /// Leaves this box alone, in the room that there is. The only error is `Memory`, and after it all boxes stay.
-    pub fn restart(
-        &mut self,
-        area: Rectangle,
-        options: &AllocatorOptions,
-    ) -> Result<(), AtlasError>
+    pub fn restart(&mut self, area: Rectangle, options: &AllocatorOptions) -> Result<(), AtlasError>
         requires exact { IsExact area }
         requires valid { AreValid (options_of options.now) }
         ensures unless { IsOkUnless result AtlasError.Memory }

@@ -1,9 +1,8 @@
-use Rattle.std.proofs.Common.{List, ◌∷◌, map, subst, ap, ◌∙◌}
+use Rattle.std.proofs.Common.{List, ◌∷◌, map, subst, ap}
 use Rattle.guillotiere.specs.Boxes.{Box, AreSameBoxes}
 use Rattle.guillotiere.specs.BoxShelves.{BoxShelf, free_boxes, item_of}
 use Rattle.guillotiere.specs.Pixels.{box_of, options_of, sides_of}
 use Rattle.guillotiere.proofs.CuttingBoxes.{picked-exact, cut-same}
-use Rattle.guillotiere.proofs.FreeItems.{are-free}
 use Rattle.guillotiere.proofs.simple.cut_picked.Goals as goal
 
 pub returns-clause-ok : goal.returns-clause-ok
@@ -13,7 +12,7 @@ returns-clause-ok g c =
     let es = map item_of c.args.boxes.now.entries.items in
     let exact = picked-exact o c.args.boxes.now.table es c.args.found c.requires.kept.listed c.requires.standing in
     let took = subst (λ (bs : List Box). AreSameBoxes (box_of r ∷ free_boxes (map item_of c.remove.new.self.entries.items)) bs)
-          (ap (λ (v : BoxShelf). free_boxes v.entries) c.in_ok-make_room.ensures.same) c.remove.ensures.boxes in
+    (ap (λ (v : BoxShelf). free_boxes v.entries) c.in_ok-make_room.ensures.same) c.remove.ensures.boxes in
     cut-same o r (sides_of c.args.size) c.guillotine-rest.result (free_boxes es) (free_boxes (map item_of c.remove.new.self.entries.items))
-      (free_boxes (map item_of c.keep.new.boxes.entries.items)) (free_boxes (map item_of c.keep-2.new.boxes.entries.items))
-      (c.guillotine-rest.ensures.boxes (box_of r) exact.unsigned) took c.keep.ensures.boxes c.keep-2.ensures.boxes
+    (free_boxes (map item_of c.keep.new.boxes.entries.items)) (free_boxes (map item_of c.keep-2.new.boxes.entries.items))
+    (c.guillotine-rest.ensures.boxes (box_of r) exact.unsigned) took c.keep.ensures.boxes c.keep-2.ensures.boxes

@@ -48,8 +48,7 @@ returns-in_default-pick-clause-step g c size wide high simple =
     let o = options_of c.args.options.now in
     let es = map item_of c.args.boxes.now.entries.items in
     let r = sides_of c.in-Some.size in
-    let none = subst (λ xs. (free : List Box) → AreFreeItems (map item_of xs) free → (b : Box) → IsFitting free r b → ⊥) c.deref.ensures.value (c.in_default-pick.ensures.no_room refl) in
-    (
+    let none = subst (λ xs. (free : List Box) → AreFreeItems (map item_of xs) free → (b : Box) → IsFitting free r b → ⊥) c.deref.ensures.value (c.in_default-pick.ensures.no_room refl) in (
       λ room. none (free_boxes es) (are-free es) room.box (subst (λ q. IsFitting (free_boxes es) q room.box) (sym (ap sides_of c.in-Some.ensures.1)) room.fitting),
       refl,
     )

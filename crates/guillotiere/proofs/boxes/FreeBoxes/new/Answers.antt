@@ -7,4 +7,4 @@ use Rattle.guillotiere.proofs.boxes.FreeBoxes.new.Goals as goal
 pub returns-clause-kept : goal.returns-clause-kept
 returns-clause-kept g c = λ o valid.
     subst (λ (ts : List Item). AreKept o (record { entries = ts; heads = c.in_ok-table.table; unused = record { number = 4294967295 } }))
-      (sym (ap (map item_of) c.new-2.ensures.items)) (empty-kept o c.in_ok-table.table (record { number = 4294967295 }) valid c.in_ok-table.ensures refl)
+    (sym (ap (map item_of) c.new-2.ensures.items)) (empty-kept o c.in_ok-table.table (record { number = 4294967295 }) valid c.in_ok-table.ensures refl)

@@ -1,13 +1,12 @@
-use Rattle.std.proofs.Common.{◌≡◌, ◌+◌, ◌*◌, ◌<◌, ◌≤◌, ◌∙◌, List, ◌∷◌, map, slice_set, subst, sym, ap, arith}
-use Rattle.std.proofs.lemmas.Int.{to_z-of_z}
-use Rattle.std.proofs.lemmas.List.{map-set, length-map}
+use Rattle.std.proofs.Common.{◌<◌, ◌≤◌, ◌∙◌, List, ◌∷◌, map, subst, sym, ap, arith}
+use Rattle.std.proofs.lemmas.List.{map-set}
 use Rattle.guillotiere.specs.declared.slots.Link.{Link}
-use Rattle.guillotiere.specs.Bands.{list_of, number_of, strip_of}
-use Rattle.guillotiere.specs.Boxes.{Box, AreSameBoxes}
-use Rattle.guillotiere.specs.BoxShelves.{AreKept, free_boxes, has_width, item_of}
+use Rattle.guillotiere.specs.Bands.{list_of, number_of}
+use Rattle.guillotiere.specs.Boxes.{AreSameBoxes}
+use Rattle.guillotiere.specs.BoxShelves.{AreKept, free_boxes, item_of}
 use Rattle.guillotiere.specs.Items.{Item}
-use Rattle.guillotiere.specs.Pixels.{box_of, options_of, natural}
-use Rattle.guillotiere.specs.Tables.{head_of, low_of}
+use Rattle.guillotiere.specs.Pixels.{box_of, options_of}
+use Rattle.guillotiere.specs.Tables.{low_of}
 use Rattle.guillotiere.proofs.BoxStoring.{put-kept, boxes-with, exact-width}
 use Rattle.guillotiere.proofs.boxes.FreeBoxes.put.Goals as goal
 
@@ -22,15 +21,15 @@ returns-clause-kept g c =
     let list = ap (list_of o) (sym c.exact_size.ensures.sides) ∙ sym place.number in
     let low = subst (λ n. low_of c.push.new.self k ≤ n) c.strip_in.ensures c.push.ensures.low in
     subst (λ (ts : List Item). AreKept o (record { entries = ts; heads = c.push.new.self; unused = c.args.self.now.unused }))
-      (sym (map-set item_of c.args.self.now.entries.items c.args.at.number (record { area = c.args.area; after = c.head-after.result })))
-      (put-kept o c.args.self.now.table c.push.new.self es c.args.self.now.unused c.args.at.number k e c.requires.hand
-        (exact-width c.args.area c.requires.exact) (ap (λ (l : Link). l.number) c.head-after.ensures) c.requires.exact list few
-        (ap (λ (l : Link). l.number) c.push.ensures.head) c.push.ensures.heads low c.push.ensures.lower c.push.ensures.lows)
+    (sym (map-set item_of c.args.self.now.entries.items c.args.at.number (record { area = c.args.area; after = c.head-after.result })))
+    (put-kept o c.args.self.now.table c.push.new.self es c.args.self.now.unused c.args.at.number k e c.requires.hand
+    (exact-width c.args.area c.requires.exact) (ap (λ (l : Link). l.number) c.head-after.ensures) c.requires.exact list few
+    (ap (λ (l : Link). l.number) c.push.ensures.head) c.push.ensures.heads low c.push.ensures.lower c.push.ensures.lows)
 
 pub returns-clause-boxes : goal.returns-clause-boxes
 returns-clause-boxes g c =
     let es = map item_of c.args.self.now.entries.items in
     let e = item_of (record { area = c.args.area; after = c.head-after.result }) in
     subst (λ (ts : List Item). AreSameBoxes (free_boxes ts) (box_of c.args.area ∷ free_boxes es))
-      (sym (map-set item_of c.args.self.now.entries.items c.args.at.number (record { area = c.args.area; after = c.head-after.result })))
-      (boxes-with es c.args.at.number e c.requires.hand.inside c.requires.hand.idle (exact-width c.args.area c.requires.exact))
+    (sym (map-set item_of c.args.self.now.entries.items c.args.at.number (record { area = c.args.area; after = c.head-after.result })))
+    (boxes-with es c.args.at.number e c.requires.hand.inside c.requires.hand.idle (exact-width c.args.area c.requires.exact))

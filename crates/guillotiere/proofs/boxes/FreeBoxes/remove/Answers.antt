@@ -1,11 +1,11 @@
 use Rattle.std.proofs.Common.{ℕ, ◌≡◌, ◌≢◌, ◌<◌, ◌∷◌, ◌∙◌, List, map, length, slice_set, subst, sym, ap, inl, inr, refl, arith}
-use Rattle.std.proofs.lemmas.List.{map-set, length-map, length-set}
+use Rattle.std.proofs.lemmas.List.{map-set, length-map}
 use Rattle.guillotiere.specs.declared.boxes.FreeBox.{FreeBox}
 use Rattle.guillotiere.specs.declared.slots.Link.{Link}
 use Rattle.guillotiere.specs.Bands.{number_of}
 use Rattle.guillotiere.specs.Boxes.{AreSameBoxes}
 use Rattle.guillotiere.specs.BoxShelves.{AreKept, free_boxes, idle_item, item_of, with_after}
-use Rattle.guillotiere.specs.Items.{Item, item_at, item_box}
+use Rattle.guillotiere.specs.Items.{Item}
 use Rattle.guillotiere.specs.Pixels.{box_of, options_of}
 use Rattle.guillotiere.specs.Tables.{head_of, low_of}
 use Rattle.guillotiere.proofs.BoxStoring.{first-removed, next-removed, free-inside, read-item, IsSameButLinks, same-links, linked-after, boxes-left}
@@ -33,19 +33,19 @@ returns-clause-kept g c =
     let heads_stay : (j : ℕ) → j ≢ k → head_of heads' j ≡ head_of heads j = λ j ne. c.set_low.ensures.heads j ∙ c.lead.ensures.heads j ne in
     let lows_stay : (j : ℕ) → j ≢ k → low_of heads' j ≡ low_of heads j = λ j ne. c.set_low.ensures.lows j ne ∙ c.lead.ensures.lows j in
     subst (λ (ts : List Item). AreKept o (record { entries = ts; heads = heads'; unused = c.args.found.at }))
-      (sym (entries-are c.lead.new.self.entries.items x c.unused_box.result c.lead.new.self.unused c.args.self.now.unused c.unused_box.ensures c.lead.ensures.unused))
-      (elim standing.before [
-        inl first ↦
+    (sym (entries-are c.lead.new.self.entries.items x c.unused_box.result c.lead.new.self.unused c.args.self.now.unused c.unused_box.ensures c.lead.ensures.unused))
+    (elim standing.before [
+      | inl first ↦
           let led = c.lead.ensures.first first.0 in
           first-removed o heads heads' es es1 c.args.self.now.unused c.args.found c.requires.kept standing heads_stay c.set_low.ensures.low lows_stay
-            (ap (λ (l : Link). l.number) (c.set_low.ensures.heads k ∙ led.0) ∙ read) first.1 led.1
+          (ap (λ (l : Link). l.number) (c.set_low.ensures.heads k ∙ led.0) ∙ read) first.1 led.1
       | inr next ↦
           let b = c.args.found.before.number in
           let some : b ≢ 4294967295 = λ z. absurd (omega (arith, z, free-inside es b next.0, c.requires.kept.listed.short)) in
           let led = c.lead.ensures.next some in
           next-removed o heads heads' es es1 c.args.self.now.unused c.args.found c.requires.kept standing heads_stay c.set_low.ensures.low lows_stay
-            b next.0 next.1 next.2 (c.set_low.ensures.heads k ∙ ap (λ hs. head_of hs k) led.0) (led.1 ∙ ap (with_after es b) read)
-      ])
+          b next.0 next.1 next.2 (c.set_low.ensures.heads k ∙ ap (λ hs. head_of hs k) led.0) (led.1 ∙ ap (with_after es b) read)
+    ])
 
 pub returns-clause-boxes : goal.returns-clause-boxes
 returns-clause-boxes g c =
@@ -54,13 +54,13 @@ returns-clause-boxes g c =
     let x = c.args.found.at.number in
     let standing = c.requires.standing in
     let links : IsSameButLinks es es1 =
-          elim standing.before [
-            inl first ↦ same-links es es1 (c.lead.ensures.first first.0).1
-          | inr next ↦
-              let b = c.args.found.before.number in
-              let some : b ≢ 4294967295 = λ z. absurd (omega (arith, z, free-inside es b next.0, c.requires.kept.listed.short)) in
-              linked-after es es1 b c.index.result.now.after.number (free-inside es b next.0) (c.lead.ensures.next some).1
-          ] in
+    elim standing.before [
+      | inl first ↦ same-links es es1 (c.lead.ensures.first first.0).1
+      | inr next ↦
+          let b = c.args.found.before.number in
+          let some : b ≢ 4294967295 = λ z. absurd (omega (arith, z, free-inside es b next.0, c.requires.kept.listed.short)) in
+          linked-after es es1 b c.index.result.now.after.number (free-inside es b next.0) (c.lead.ensures.next some).1
+    ] in
     subst (λ (ts : List Item). AreSameBoxes (box_of c.args.found.rectangle ∷ free_boxes ts) (free_boxes es))
-      (sym (entries-are c.lead.new.self.entries.items x c.unused_box.result c.lead.new.self.unused c.args.self.now.unused c.unused_box.ensures c.lead.ensures.unused))
-      (boxes-left es es1 x (idle_item c.args.self.now.unused.number) c.args.found.rectangle links standing.free standing.area refl)
+    (sym (entries-are c.lead.new.self.entries.items x c.unused_box.result c.lead.new.self.unused c.args.self.now.unused c.unused_box.ensures c.lead.ensures.unused))
+    (boxes-left es es1 x (idle_item c.args.self.now.unused.number) c.args.found.rectangle links standing.free standing.area refl)

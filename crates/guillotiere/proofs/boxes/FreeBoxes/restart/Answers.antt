@@ -1,4 +1,4 @@
-use Rattle.std.proofs.Common.{List, [], ◌∷◌, map, subst, sym, ap, refl}
+use Rattle.std.proofs.Common.{List, ◌∷◌, map, subst, sym, ap, refl}
 use Rattle.guillotiere.specs.Boxes.{AreSameBoxes}
 use Rattle.guillotiere.specs.BoxShelves.{AreKept, free_boxes, item_of}
 use Rattle.guillotiere.specs.Items.{Item}
@@ -9,10 +9,10 @@ use Rattle.guillotiere.proofs.boxes.FreeBoxes.restart.Goals as goal
 pub add-requires-clause-kept : goal.add-requires-clause-kept
 add-requires-clause-kept g c =
     subst (λ (ts : List Item). AreKept (options_of c.args.options.now) (record { entries = ts; heads = c.clear-2.new.self; unused = record { number = 4294967295 } }))
-      (sym (ap (map item_of) c.clear.ensures.items)) (empty-kept (options_of c.args.options.now) c.clear-2.new.self (record { number = 4294967295 }) c.requires.valid c.clear-2.ensures refl)
+    (sym (ap (map item_of) c.clear.ensures.items)) (empty-kept (options_of c.args.options.now) c.clear-2.new.self (record { number = 4294967295 }) c.requires.valid c.clear-2.ensures refl)
 
 pub returns-clause-alone : goal.returns-clause-alone
 returns-clause-alone g c =
     alone (free_boxes (map item_of c.add.new.self.entries.items)) (box_of c.args.area)
-      (subst (λ (ts : List Item). AreSameBoxes (free_boxes (map item_of c.add.new.self.entries.items)) (box_of c.args.area ∷ free_boxes ts))
-        (ap (map item_of) c.clear.ensures.items) c.add.ensures.boxes)
+    (subst (λ (ts : List Item). AreSameBoxes (free_boxes (map item_of c.add.new.self.entries.items)) (box_of c.args.area ∷ free_boxes ts))
+    (ap (map item_of) c.clear.ensures.items) c.add.ensures.boxes)

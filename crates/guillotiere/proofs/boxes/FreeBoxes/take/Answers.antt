@@ -1,7 +1,6 @@
-use Rattle.std.proofs.Common.{◌≡◌, ◌<◌, ◌++◌, ◌∷◌, [], ◌∙◌, List, map, length, vec_len, subst, sym, ap, arith}
+use Rattle.std.proofs.Common.{◌≡◌, ◌<◌, ◌++◌, ◌∷◌, [], ◌∙◌, List, map, length, subst, sym, ap, arith}
 use Rattle.std.proofs.lemmas.List.{map-append, length-map}
-use Rattle.guillotiere.specs.declared.slots.Link.{Link}
-use Rattle.guillotiere.specs.BoxShelves.{AreKept, IsInHand, free_boxes, item_of}
+use Rattle.guillotiere.specs.BoxShelves.{IsInHand, free_boxes, item_of}
 use Rattle.guillotiere.specs.Items.{Item, no_item}
 use Rattle.guillotiere.proofs.BoxStoring.{taken-new, taken-again, unused-inside, boxes-more, read-item}
 use Rattle.guillotiere.proofs.boxes.FreeBoxes.take.Goals as goal
@@ -16,20 +15,20 @@ pub returns-then-at-clause-taken : goal.returns-then-at-clause-taken
 returns-then-at-clause-taken g c = λ o kept.
     let old = map item_of c.args.self.now.entries.items in
     let new : map item_of c.push_reserved.new.self.items ≡ old ++ no_item ∷ [] =
-          ap (map item_of) c.push_reserved.ensures.items ∙ map-append item_of c.args.self.now.entries.items (c.unused_box.result ∷ [])
-          ∙ ap (λ (t : Item). old ++ t ∷ []) c.unused_box.ensures in
+    ap (map item_of) c.push_reserved.ensures.items ∙ map-append item_of c.args.self.now.entries.items (c.unused_box.result ∷ [])
+    ∙ ap (λ (t : Item). old ++ t ∷ []) c.unused_box.ensures in
     let count : c.len-number.result ≡ length old = omega (arith, c.len-number.ensures, length-map c.args.self.now.entries.items item_of, c.args.self.now.entries.ok) in
     let short : length old < 4294967295 = omega (arith, c.requires.short, length-map c.args.self.now.entries.items item_of, c.args.self.now.entries.ok) in
     subst (λ (ts : List Item). IsInHand o (record { entries = ts; heads = c.args.self.now.table; unused = c.args.self.now.unused }) c.len-number.result) (sym new)
-      (subst (λ n. IsInHand o (record { entries = old ++ no_item ∷ []; heads = c.args.self.now.table; unused = c.args.self.now.unused }) n) (sym count)
-        (taken-new o c.args.self.now.table old c.args.self.now.unused short kept))
+    (subst (λ n. IsInHand o (record { entries = old ++ no_item ∷ []; heads = c.args.self.now.table; unused = c.args.self.now.unused }) n) (sym count)
+    (taken-new o c.args.self.now.table old c.args.self.now.unused short kept))
 
 pub returns-then-at-clause-boxes : goal.returns-then-at-clause-boxes
 returns-then-at-clause-boxes g c =
     let old = map item_of c.args.self.now.entries.items in
     let new : map item_of c.push_reserved.new.self.items ≡ old ++ no_item ∷ [] =
-          ap (map item_of) c.push_reserved.ensures.items ∙ map-append item_of c.args.self.now.entries.items (c.unused_box.result ∷ [])
-          ∙ ap (λ (t : Item). old ++ t ∷ []) c.unused_box.ensures in
+    ap (map item_of) c.push_reserved.ensures.items ∙ map-append item_of c.args.self.now.entries.items (c.unused_box.result ∷ [])
+    ∙ ap (λ (t : Item). old ++ t ∷ []) c.unused_box.ensures in
     ap free_boxes new ∙ boxes-more old
 
 pub returns-else-at-clause-taken : goal.returns-else-at-clause-taken
@@ -38,4 +37,4 @@ returns-else-at-clause-taken g c = λ o kept.
     let l = unused-inside o c.args.self.now.table old c.args.self.now.unused c.if-at.false kept in
     let inside : c.args.self.now.unused.number < length c.args.self.now.entries.items = omega (arith, l, length-map c.args.self.now.entries.items item_of) in
     taken-again o c.args.self.now.table old c.args.self.now.unused c.index.result.now.after c.if-at.false
-      (ap (λ (t : Item). t.after) (read-item c.args.self.now.entries.items c.args.self.now.unused.number c.index.result.now inside c.index.ensures)) kept
+    (ap (λ (t : Item). t.after) (read-item c.args.self.now.entries.items c.args.self.now.unused.number c.index.result.now inside c.index.ensures)) kept
