@@ -1,5 +1,5 @@
 -- Recordings without rearrangings.
-use Rattle.std.proofs.Common.{◌≡◌, suc, true, false, List, [], ◌∷◌, refl, ap, sym, ◌∙◌, subst, take, All}
+use Rattle.std.proofs.Common.{◌≡◌, suc, true, List, [], ◌∷◌, refl, sym, ◌∙◌, subst, take}
 use Rattle.std.proofs.lemmas.Bool.{false≢true}
 use Rattle.std.proofs.lemmas.List.Elements.{All-append, All-cons, All-nil, All-take}
 use Rattle.guillotiere_recording.specs.declared.replay.ReplayFault.{ReplayFault}
