@@ -1,5 +1,5 @@
 //! A cache of glyphs in an atlas: the least recently used glyph is the first to go.
-ghost use Rattle.std.specs.Prelude.{◌≡◌, ◌<◌, ◌≤◌, ◌*◌, ◌++◌, ◌∷◌, ◌↔◌, [], drop, length, vec_len, vec_capacity, false, None, Some, Ok, option_map, IsTrue, IfOk, IfSome, IfNone, OnSome, OnErr, IsOkUnless, All, ◌+ℤ◌, ◌-ℤ◌, pos, FitsSigned};
+ghost use Rattle.std.specs.Prelude.{◌≡◌, ◌<◌, ◌≤◌, ◌*◌, ◌++◌, ◌∷◌, ◌↔◌, [], drop, length, vec_len, vec_capacity, false, None, Some, Ok, option_map, IsTrue, IfErr, IfOk, IfSome, IfNone, OnSome, OnErr, IsOkUnless, All, ◌+ℤ◌, ◌-ℤ◌, pos, FitsSigned};
 ghost use Rattle.std.specs.Int.{w32};
 ghost use Rattle.std.specs.List.{HoldsAt};
 ghost use Rattle.guillotiere.specs.Boxes.{box_sides, Fits, IsPositive};
@@ -8,6 +8,7 @@ ghost use Rattle.guillotiere.specs.Pixels.{box_of, sides_of, size_of};
 ghost use Rattle.guillotiere.specs.States.{free_in, live_in};
 ghost use Rattle.uses.specs.declared.glyph_cache.Glyph.{Glyph as Entry};
 ghost use Rattle.uses.specs.Glyphs.{area_in, inset, square, padded, AddsLast, HasBorder, HasPlace, IsEvicted, IsKept, IsLast, IsPlaced, NeverOverlap};
+ghost use Rattle.uses.specs.Shortages.{IsShortage};
 
 use guillotiere::{AllocId, AtlasAllocator, AtlasError, Rectangle, Size, point2, size2};
 use std::alloc::{Allocator, Global};
@@ -177,7 +178,8 @@ impl<A: Allocator + Copy> GlyphCache<A> {
 
     /// The box of a glyph of `width` by `height` pixels: the one that it has, or a new one, for which the atlas doubles and
     /// then glyphs go, the least recently used first. The glyph is then the most recently used. None exactly if it isn't
-    /// held, and with its padding it is empty or larger than the greatest atlas.
+    /// held, and with its padding it is empty or larger than the greatest atlas. After an error, `Memory` or `Slots`, the
+    /// atlas may have doubled, and glyphs, the least recently used, may have gone.
     pub fn insert(
         &mut self,
         number: u32,
@@ -195,6 +197,7 @@ impl<A: Allocator + Copy> GlyphCache<A> {
         ensures added { area_in self.old number ≡ None → IfOk result (λ placed. IfSome placed (λ area.
             AddsLast self.old self.new number area)) }
         ensures refused { OnErr result (IsEvicted self.old self.new self.new.glyphs) }
+        ensures errors { IfErr result IsShortage }
         ensures most { self.new.most ≡ self.old.most }
         ensures padding { self.new.padding ≡ self.old.padding }
     {
@@ -255,6 +258,7 @@ impl<A: Allocator + Copy> GlyphCache<A> {
         ensures none { IfOk result (λ placed. placed ≡ None → (self.new ≡ self.old)
             × HasNoRoom (free_in self.old.atlas) self.old.atlas.options (sides_of size)) }
         ensures refused { OnErr result (self.new ≡ self.old) }
+        ensures errors { IfErr result IsShortage }
     {
         self.glyphs.reserve(1)?;
         let Some(granted) = self.atlas.allocate(size)? else {
@@ -280,6 +284,7 @@ impl<A: Allocator + Copy> GlyphCache<A> {
         ensures full { IfOk result (λ grown. grown ≡ false → (self.new ≡ self.old)
             × (self.old.atlas.size ≡ square self.old.most)) }
         ensures refused { OnErr result (self.new ≡ self.old) }
+        ensures errors { IfErr result IsShortage }
     {
         let side = self.atlas.size().width;
         let most = i32::from(self.most);

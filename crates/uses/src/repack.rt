@@ -1,5 +1,5 @@
 //! A cache of pictures in an atlas, which packs them anew and says which pixels to copy where.
-ghost use Rattle.std.specs.Prelude.{◌≡◌, ◌==◌, ◌≤◌, ◌++◌, ◌∷◌, [], find, length, vec_capacity, None, Ok, IfOk, IfSome, IsOkUnless, OnErr};
+ghost use Rattle.std.specs.Prelude.{◌≡◌, ◌==◌, ◌≤◌, ◌++◌, ◌∷◌, [], find, length, vec_capacity, None, Ok, IfErr, IfOk, IfSome, IsOkUnless, OnErr};
 ghost use Rattle.std.specs.List.{filter_map};
 ghost use Rattle.guillotiere.specs.Boxes.{IsPositive, box_sides};
 ghost use Rattle.guillotiere.specs.Choice.{HasNoRoom, rounded};
@@ -8,6 +8,7 @@ ghost use Rattle.guillotiere.specs.States.{free_in};
 ghost use Rattle.guillotiere.specs.Stored.{state_of};
 ghost use Rattle.guillotiere.specs.declared.error.AtlasError.TheVariants as error;
 ghost use Rattle.uses.specs.Pictures.{IsRepacked, area_in, kept_by, loss_by, move_by};
+ghost use Rattle.uses.specs.Shortages.{IsShortage};
 
 use guillotiere::{AllocId, Allocation, AtlasAllocator, AtlasError, Change, Rectangle, Size};
 use std::alloc::Global;
@@ -96,6 +97,7 @@ impl PictureCache {
             HasNoRoom (free_in (state_of self.old.atlas)) (state_of self.old.atlas).options (sides_of size) }
         ensures none { result ≡ Ok None → self.new ≡ self.old }
         ensures refused { OnErr result (self.new ≡ self.old) }
+        ensures errors { IfErr result IsShortage }
     {
         let PictureCache { atlas, held } = self;
         atlas.prove_sound();
@@ -114,6 +116,7 @@ impl PictureCache {
         ensures repacked { IfOk result (λ done.
             IsRepacked (state_of self.old.atlas).size self.old done.moves.items done.lost.items self.new) }
         ensures refused { OnErr result (self.new ≡ self.old) }
+        ensures errors { IfErr result IsShortage }
     {
         let size = self.atlas.size();
         self.resize(size)
@@ -126,6 +129,7 @@ impl PictureCache {
         ensures repacked { IfOk result (λ done.
             IsRepacked (sides_of size) self.old done.moves.items done.lost.items self.new) }
         ensures refused { OnErr result (self.new ≡ self.old) }
+        ensures errors { IfErr result IsShortage }
     {
         let PictureCache { atlas, held } = self;
         atlas.prove_sound();

@@ -1,0 +1,8 @@
+-- Why an atlas can't do what it is asked to.
+use Rattle.std.specs.Prelude.{◌≡◌, ◌⊎◌}
+use Rattle.guillotiere.specs.declared.error.AtlasError.{AtlasError}
+use Rattle.guillotiere.specs.declared.error.AtlasError.TheVariants.{Memory, Slots}
+
+-- memory was refused, or the slots of the atlas don't suffice
+abbrev pub IsShortage : AtlasError → Type 0
+IsShortage error = (error ≡ Memory) ⊎ (error ≡ Slots)
