@@ -1,10 +1,10 @@
 -- What grants and freeings make of the glyphs that a cache holds.
 use Rattle.std.proofs.Common.{◌≡◌, ℕ, zero, suc, ◌+◌, ◌*◌, ◌<◌, ◌≤◌, ◌==◌, ◌&&◌, Bool, true, false, not, List, [], ◌∷◌, ◌++◌, map, length, drop, remove, get_or, refl, ap, subst, sym, ◌∙◌, arith, All, Contains, IsPermutation, Option, Some, None, IsSome, option_map}
 use Rattle.std.specs.List.{count_by, find}
-use Rattle.std.proofs.lemmas.Bool.{eq-eqb, eqb-true}
+use Rattle.std.proofs.lemmas.Bool.{eq-eqb, eqb-true, and_parts}
 use Rattle.std.proofs.lemmas.Int.{ints}
 use Rattle.std.proofs.lemmas.List.{drop-drop, nil_from_length}
-use Rattle.std.proofs.lemmas.List.Sorted.{IsPermutation-to_front, IsPermutation-remove, IsPermutation-sym, IsPermutation-trans, All-permutation}
+use Rattle.std.proofs.lemmas.List.Sorted.{IsPermutation-to_front, IsPermutation-remove, IsPermutation-sym, IsPermutation-trans, All-permutation, IsPermutation-map}
 use Rattle.guillotiere.specs.Boxes.{Sides, whole_box, covers, Fits, IsPositive}
 use Rattle.guillotiere.specs.Choice.{up, HasRoom}
 use Rattle.guillotiere.specs.Pixels.{box_of}
@@ -17,22 +17,17 @@ use Rattle.guillotiere.specs.Steps.AtlasReply.{Allocated, Done}
 use Rattle.guillotiere.specs.StepLaws.{IsGrantStep, IsFreeingStep}
 use Rattle.guillotiere.proofs.TreeBasics.{one_if}
 use Rattle.guillotiere.proofs.TreeIds.{Contains-first}
-use Rattle.guillotiere.proofs.Counting.{count_by-cons}
-use Rattle.guillotiere.proofs.CallerLemmas.{count_by-permutation, count_by-all, count_by-map, find-counted, find-counted_once, find-uncounted, uncounted-find}
+use Rattle.guillotiere.proofs.Counting.{count_by-cons, count_by-weaker}
+use Rattle.guillotiere.proofs.CallerLemmas.{count_by-permutation, count_by-all, count_by-map, find-counted, find-counted_once, find-uncounted, uncounted-find, find-permutation, Contains-find}
 use Rattle.guillotiere.proofs.LiveBoxes.{live_have_boxes, sound_is_tiled}
 use Rattle.guillotiere.proofs.Guarding.{live_are_guarded}
 use Rattle.guillotiere.proofs.StepKeeping.{steps_keep}
 use Rattle.guillotiere.proofs.StepEffects.{grants_lie_inside, freeings_remove_one}
 use Rattle.guillotiere_recording.proofs.Counts.{count_filter}
 use Rattle.uses.specs.declared.glyph_cache.Glyph.{Glyph}
-use Rattle.uses.specs.Glyphs.{Cache, has_number, square, HasBorder, HoldsLive, IsEvicted, IsKept}
-use Rattle.std.proofs.lemmas.Bool.{and_parts}
+use Rattle.uses.specs.Glyphs.{Cache, has_number, square, HasBorder, HoldsLive, IsEvicted, IsKept, NeverOverlap}
 use Rattle.std.proofs.lemmas.List.Filters.{sum_by-filter_both}
 use Rattle.std.proofs.lemmas.List.Elements.{All-cons, All-tail, All-contains, Contains-append_right}
-use Rattle.std.proofs.lemmas.List.Sorted.{IsPermutation-map}
-use Rattle.guillotiere.proofs.Counting.{count_by-weaker}
-use Rattle.guillotiere.proofs.CallerLemmas.{find-permutation, Contains-find}
-use Rattle.uses.specs.Glyphs.{NeverOverlap}
 
 abbrev held : Glyph → Grant
 held g = grant g.id (box_of g.area)
@@ -121,11 +116,14 @@ module _ (c : Cache) (at : ℕ) (g : Glyph) (kept : IsKept c) (below : at < leng
         order =
             IsPermutation-trans c.glyphs (g ∷ rest) (rest ++ g ∷ []) (IsPermutation-remove c.glyphs at g below is) (last_to_first g rest)
 
+  counted : (p : Grant → Bool) → one_if (p (held g)) + count_by p (map held rest) ≡ count_by p (live_in c.atlas)
+  counted p = sym (count_by-cons p (held g) (map held rest)) ∙ first.live p
+
   -- it is live
   pub is_live : IsLive c.atlas g.id
   is_live =
       let one : one_if (g.id == g.id) ≡ 1 = ap one_if (eq-eqb g.id g.id refl) in
-      let found = find-counted has_id (live_in c.atlas) (omega (arith, first.live has_id, count_by-cons has_id (held g) (map held rest), one)) in
+      let found = find-counted has_id (live_in c.atlas) (omega (arith, counted has_id, one)) in
       (live_have_boxes c.atlas g.id).1 (subst (λ o. IsSome (option_map (λ (k : Grant). k.box) o)) (sym found.1) refl)
 
   -- it is freed
@@ -159,12 +157,9 @@ module _ (c : Cache) (at : ℕ) (g : Glyph) (kept : IsKept c) (below : at < leng
             count_filter has_id p (live_in c.atlas),
             sum_by-filter_both has_id (λ k. not (has_id k)) (λ k. refl) (λ k. one_if (p k)) (live_in c.atlas),
             count_by-weaker q has_id (λ k e. (and_parts (has_id k) (p k) e).0) (map held rest),
-            first.live p,
-            first.live q,
-            first.live has_id,
-            count_by-cons p (held g) (map held rest),
-            count_by-cons q (held g) (map held rest),
-            count_by-cons has_id (held g) (map held rest),
+            counted p,
+            counted q,
+            counted has_id,
           )
 
 -- as many are live as glyphs are held
@@ -197,7 +192,7 @@ no_area None e = refl
 no_area (Some g) e = cc
 
 -- an empty cache of the greatest size has room for what fits it
-pub room_when_empty : (c : Cache) (s : Sides) → IsKept c → (1 ≤ length c.glyphs → ⊥) → c.atlas.size ≡ square c.most
+pub room_when_empty : (c : Cache) (s : Sides) → IsKept c → c.glyphs ≡ [] → c.atlas.size ≡ square c.most
     → IsPositive s → Fits s (square c.most) → HasRoom (free_in c.atlas) c.atlas.options s
 room_when_empty c s kept none full positive fits =
     record {
@@ -214,12 +209,7 @@ room_when_empty c s kept none full positive fits =
     up_one n = omega arith
 
     alone : free_in c.atlas ≡ whole_box c.atlas.size ∷ []
-    alone = (sound_is_tiled c.atlas kept.sound).alone
-        (nil_from_length (live_in c.atlas) (sym (as_many c kept) ∙ none_left (length c.glyphs) none))
-      where
-        none_left : (n : ℕ) → (1 ≤ n → ⊥) → n ≡ 0
-        none_left zero h = refl
-        none_left (suc n) h = absurd (h (omega arith))
+    alone = (sound_is_tiled c.atlas kept.sound).alone (nil_from_length (live_in c.atlas) (sym (as_many c kept) ∙ ap length none))
 
 -- the atlas was doubled
 pub doubled : (old now new : Cache) → IsEvicted old now now.glyphs → new.glyphs ≡ now.glyphs → now.atlas.size.width < now.most

@@ -299,7 +299,8 @@ impl<A: Allocator + Copy> GlyphCache<A> {
     // Lets the least recently used glyph go; `false` if there is none.
     fn evict(&mut self) -> bool
         ensures gone { self.new.glyphs ≡ drop 1 self.old.glyphs }
-        ensures some { IsTrue result ↔ (1 ≤ length self.old.glyphs) }
+        ensures some { IsTrue result → 1 ≤ length self.old.glyphs }
+        ensures none { result ≡ false → self.old.glyphs ≡ [] }
         ensures size { self.new.atlas.size ≡ self.old.atlas.size }
         ensures most { self.new.most ≡ self.old.most }
         ensures padding { self.new.padding ≡ self.old.padding }
