@@ -16,8 +16,11 @@ invariant_of-self g c =
 pub returns-clause-area : goal.returns-clause-area
 returns-clause-area g c =
     let at = rw c.deref.ensures.value at c.in_ok-at.ensures in
-    rw (← c.self.view_is, was_found _ c.in_ok-at.at c.remove-glyph.result c.self.invariant at.inside c.remove-glyph.ensures.value
-    c.args.number (at.found c.remove-glyph.result))
+    rw (
+      ← c.self.view_is,
+      was_found _ c.in_ok-at.at c.remove-glyph.result c.self.invariant at.inside c.remove-glyph.ensures.value
+          c.args.number (at.found c.remove-glyph.result),
+    )
     refl
 
 pub returns-clause-here : goal.returns-clause-here
