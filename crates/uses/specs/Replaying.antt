@@ -5,9 +5,6 @@ use Rattle.guillotiere.specs.Replies.{grant_of}
 use Rattle.guillotiere_recording.specs.Books.{AreSameGrants}
 use Rattle.guillotiere_recording.specs.Events.{EventValue}
 use Rattle.guillotiere_recording.specs.Twins.{is_plain}
-use Rattle.guillotiere_recording.specs.declared.replay.ReplayFault.TheVariants.{Memory}
-use Rattle.uses.specs.declared.replayed.ReplayedError.{ReplayedError}
-use Rattle.uses.specs.declared.replayed.ReplayedError.TheVariants.{Recording, Replay}
 
 -- the same names with the same boxes, each as often
 abbrev pub AreSame : List Allocation → List Allocation → Type 0
@@ -16,8 +13,3 @@ AreSame found held = AreSameGrants (map grant_of found) (map grant_of held)
 -- each event is a request, a freeing or a growth
 abbrev pub ArePlain : List EventValue → Type 0
 ArePlain events = All (λ e. is_plain e ≡ true) events
-
--- the recording was refused, or the replay wanted memory
-abbrev pub IsNoFault : ReplayedError → Type 0
-IsNoFault (Recording error) = Unit {0}
-IsNoFault (Replay fault) = fault ≡ Memory

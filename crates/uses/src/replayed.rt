@@ -4,38 +4,18 @@ ghost use Rattle.guillotiere.specs.Boxes.{IsPositive};
 ghost use Rattle.guillotiere.specs.Pixels.{sides_of};
 ghost use Rattle.guillotiere_recording.specs.Recordings.{AreBooked};
 ghost use Rattle.guillotiere_recording.specs.Replays.{IsRecorded};
-ghost use Rattle.uses.specs.Replaying.{ArePlain, AreSame, IsNoFault};
+ghost use Rattle.uses.specs.Replaying.{ArePlain, AreSame};
+ghost use Rattle.guillotiere_recording.specs.declared.replay.ReplayFault.TheVariants.{Memory};
 
 use guillotiere::{AllocId, Allocation, Size};
 use guillotiere_recording::{Recording, RecordingAllocator, RecordingError, ReplayFault};
 use std::alloc::{Allocator, Global};
-use thiserror::Error;
 
 /// A recorded session, and the names that are live at its end with their boxes, by rising name.
 #[derive(Drop)]
 pub struct Session<A: Allocator + Copy = Global> {
     pub recording: Recording<A>,
     pub held: Vec<Allocation, A>,
-}
-
-/// Why a session wasn't recorded or wasn't replayed.
-#[derive(Clone, Copy, Debug, PartialEq, Eq, Error)]
-pub enum ReplayedError {
-    #[error("recording: {0}")]
-    Recording(RecordingError),
-    #[error("replay: {0}")]
-    Replay(ReplayFault),
-}
-
-impl From<RecordingError> for ReplayedError {
-    ghost use Rattle.std.specs.Prelude.{◌≡◌};
-    ghost use Rattle.uses.specs.declared.replayed.ReplayedError.TheVariants.{Recording};
-
-    ghost from_gives = { λ error e. e ≡ Recording error };
-
-    fn from(error: RecordingError) -> ReplayedError {
-        ReplayedError::Recording(error)
-    }
 }
 
 #[tactic(auto, using(crate::proofs::Recordings::plain_more))]
@@ -85,53 +65,43 @@ pub fn record<A: Allocator + Copy>(
     Ok(Session { recording, held })
 }
 
-/// What a replay of a recorded session lists, by rising name.
-#[derive(Drop)]
-pub struct Replayed<A: Allocator + Copy = Global> {
-    /// What the recorded allocator held at the end.
-    pub held: Vec<Allocation, A>,
-    /// What the replay's atlas held at the end.
-    pub replayed: Vec<Allocation, A>,
-}
-
-/// Records a session and replays it: both hold the same boxes under the same names. Of a replay `Memory` is the only
-/// fault. Asks a size that isn't empty.
-pub fn replay<A: Allocator + Copy>(
-    alloc: A,
-    size: Size,
-    glyphs: &[Size],
-) -> Result<Replayed<A>, ReplayedError>
-    requires { IsPositive (sides_of size) }
-    ensures same { IfOk result (λ both. AreSame both.replayed.items both.held.items) }
-    ensures fault { IfErr result IsNoFault }
+/// Replays what was recorded, and lists what the replay's atlas holds at the end: the same boxes under the same names.
+/// Asks a session that was recorded, as `record` gives it. `Memory` is the only fault.
+pub fn replay<A: Allocator + Copy>(session: &Session<A>) -> Result<Vec<Allocation, A>, ReplayFault>
+    requires recorded { IsRecorded session.now.recording }
+    requires held { AreBooked session.now.recording.events session.now.held.items }
+    requires plain { ArePlain session.now.recording.events }
+    ensures same { IfOk result (λ live. AreSame live.items session.now.held.items) }
+    ensures fault { IfErr result (λ fault. fault ≡ Memory) }
 {
-    let session = record(alloc, size, glyphs)?;
     match session.recording.replay() {
-        Ok(stats) => Ok(Replayed {
-            held: session.held,
-            replayed: stats.live,
-        }),
-        Err(fault) => Err(ReplayedError::Replay(fault)),
+        Ok(stats) => Ok(stats.live),
+        Err(fault) => Err(fault),
     }
 }
 
 #[cfg(test)]
 mod tests {
-    use super::{ReplayedError, replay};
+    use super::{record, replay};
     use guillotiere::{AllocId, Allocation, Rectangle, point2, size2};
+    use guillotiere_recording::RecordingError;
 
     // Three of 16 by 16 one below the other in 16 by 48: the fourth takes the place of the first, the fifth that of the second.
     #[test]
-    fn a_replay_holds_the_same(rt: HostRuntime) -> Result<(), ReplayedError> {
+    fn a_replay_holds_the_same(rt: HostRuntime) -> Result<(), RecordingError> {
         let glyph = size2(16, 16);
-        let both = replay(
+        let session = record(
             rt.alloc(),
             size2(16, 48),
             &[glyph, glyph, glyph, glyph, glyph],
         )?;
         let expected: [(u32, i32); 3] = [(2, 32), (3, 0), (4, 16)];
-        assert_eq!(rt; both.held.len(), 3);
-        assert_eq!(rt; both.replayed.len(), 3);
+        let Ok(replayed) = replay(&session) else {
+            assert!(rt; false);
+            return Ok(());
+        };
+        assert_eq!(rt; session.held.len(), 3);
+        assert_eq!(rt; replayed.len(), 3);
         for (i, (name, top)) in expected.iter().enumerate() {
             let wanted = Allocation {
                 id: AllocId::deserialize(*name),
@@ -140,8 +110,8 @@ mod tests {
                     max: point2(16, *top + 16),
                 },
             };
-            assert_eq!(rt; both.held.get(i), Some(&wanted));
-            assert_eq!(rt; both.replayed.get(i), Some(&wanted));
+            assert_eq!(rt; session.held.get(i), Some(&wanted));
+            assert_eq!(rt; replayed.get(i), Some(&wanted));
         }
         Ok(())
     }
