@@ -1,7 +1,7 @@
 -- The lines that spell jobs.
-use Rattle.std.specs.Prelude.{◌≡◌, ℕ, ◌≤◌, ◌⊎◌, List, [], ◌∷◌, ◌++◌}
+use Rattle.std.specs.Prelude.{◌≡◌, ℕ, ◌≤◌, List, [], ◌∷◌, ◌++◌}
 use Rattle.atlas_lines.specs.Grammar.{SpellsUnsigned}
-use Rattle.atlas_lines.specs.Lines.{HasNoEnd}
+use Rattle.atlas_lines.specs.Lines.{BeginsWithLine}
 use Rattle.atlas_bench.specs.declared.workload.Job.{Job}
 use Rattle.atlas_bench.specs.Workloads.{name, most_size}
 
@@ -12,11 +12,6 @@ pub record Spells (job : Job) (line : List ℕ) : Type 0 where
   pub size : SpellsUnsigned job.size digits
   pub least : 1 ≤ job.size
   pub most : job.size ≤ most_size job.workload
-
--- a first line and what stands after its LF; the last line may lack it
-pub record BeginsWithLine (text line rest : List ℕ) : Type 0 where
-  pub no_end : HasNoEnd line
-  pub whole : (text ≡ line ++ 10 ∷ rest) ⊎ ((text ≡ line) × (rest ≡ []))
 
 -- these bytes are lines that spell these jobs, one each, in order
 abbrev pub SpellsAll : List Job → List ℕ → Type 0

@@ -1,11 +1,11 @@
 //! The jobs that lines of input spell.
 ghost use Rattle.std.specs.Prelude.{◌≡◌, ℕ, List, Err, IfSome, IfOk, IsSomeAnd};
 ghost use Rattle.atlas_bench.specs.declared.workload.Job.{Job};
-ghost use Rattle.atlas_bench.specs.Grammar.{Spells, BeginsWithLine, SpellsAll};
+ghost use Rattle.atlas_bench.specs.Grammar.{Spells, SpellsAll};
 
 use crate::error::BenchError;
 use crate::workload::{Job, Workload};
-use atlas_lines::{first_word, unsigned};
+use atlas_lines::{first_line, first_word, unsigned};
 use std::alloc::{AllocError, Global};
 
 // The job that the bytes of a line, without its LF, spell.
@@ -21,18 +21,6 @@ fn parse_line(line: &[u8]) -> Option<Job>
         return None;
     }
     Some(Job { workload, size })
-}
-
-// The bytes before the first LF, and those after it.
-fn first_line(text: &[u8]) -> (&[u8], &[u8])
-    ensures { BeginsWithLine text.now result.0.now result.1.now }
-{
-    for (i, byte) in text.iter().enumerate() {
-        if *byte == b'\n' {
-            return (&text[..i], &text[i + 1..]);
-        }
-    }
-    (text, &[])
 }
 
 /// The jobs that the lines of a text spell. `BadLine` at the first line that spells none.

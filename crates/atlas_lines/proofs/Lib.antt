@@ -8,5 +8,6 @@ pub mod Joins
 pub mod Outcomes
 pub mod Readings
 pub mod Blocks
+pub mod FirstLines
 pub mod Lists
 pub mod Holes

@@ -1,10 +1,15 @@
 -- The lines of an input.
-use Rattle.std.specs.Prelude.{◌≡◌, ℕ, ◌≢◌, List, [], ◌∷◌, ◌++◌, flat_map}
+use Rattle.std.specs.Prelude.{◌≡◌, ℕ, ◌≢◌, ◌⊎◌, List, [], ◌∷◌, ◌++◌, flat_map}
 use Rattle.std.specs.List.{AllByRecursion}
 
 -- no byte of it is an LF
 abbrev pub HasNoEnd : List ℕ → Type 0
 HasNoEnd line = AllByRecursion (λ byte. byte ≢ 10) line
+
+-- a first line and what stands after its LF; the last line may lack it
+pub record BeginsWithLine (text line rest : List ℕ) : Type 0 where
+  pub no_end : HasNoEnd line
+  pub whole : (text ≡ line ++ 10 ∷ rest) ⊎ ((text ≡ line) × (rest ≡ []))
 
 -- a line with its LF
 abbrev pub ended : List ℕ → List ℕ

@@ -24,4 +24,4 @@ pub use run::{ToolEnd, ToolFault, run_lines};
 pub use standard::StdInput;
 pub use standard_output::StdOutput;
 // The words and numbers of lines, for other programs that read lines.
-pub use words::{first_word, unsigned};
+pub use words::{first_line, first_word, unsigned};

@@ -3,6 +3,7 @@ ghost use Rattle.std.specs.Prelude.{◌≡◌, ◌<◌, ℕ, ℤ, List, Some, If
 ghost use Rattle.guillotiere.specs.declared.geometry.Size.{Size};
 ghost use Rattle.guillotiere.specs.declared.options.AllocatorOptions.{AllocatorOptions};
 ghost use Rattle.atlas_lines.specs.Grammar.{SpellsUnsigned, SpellsNumber, SpellsSize, SpellsAtlas, SpellsId};
+ghost use Rattle.atlas_lines.specs.Lines.{BeginsWithLine};
 ghost use Rattle.atlas_lines.specs.Words.{BeginsWithWord, BeginsWithNumber, BeginsWithSize, SpellsOptions};
 
 use guillotiere::{AllocId, AllocatorOptions, DEFAULT_OPTIONS, Size, size2};
@@ -18,6 +19,19 @@ pub fn first_word(text: &[u8]) -> (&[u8], &[u8])
         }
     }
     text.split_at(text.len())
+}
+
+/// The bytes before the first LF, all of them where there is none, and those after it. For programs that read lines of
+/// their own, as `atlas_bench` and `atlas_svg`. It takes no memory.
+pub fn first_line(text: &[u8]) -> (&[u8], &[u8])
+    ensures { BeginsWithLine text.now result.0.now result.1.now }
+{
+    for (i, byte) in text.iter().enumerate() {
+        if *byte == b'\n' {
+            return (&text[..i], &text[i + 1..]);
+        }
+    }
+    (text, &[])
 }
 
 /// The number that one or more decimal digits write, where it fits a `u32`; None for every other text. For programs that
@@ -121,4 +135,25 @@ pub fn id_argument(text: &[u8]) -> Option<AllocId>
         return None;
     }
     Some(AllocId::deserialize(unsigned(word)?))
+}
+
+#[cfg(test)]
+mod tests {
+    use super::*;
+
+    #[test]
+    fn parts_texts(rt: HostRuntime) {
+        let (line, rest) = first_line(b"ok\nid 0\n");
+        assert_eq!(rt; line, b"ok");
+        assert_eq!(rt; rest, b"id 0\n");
+        let (line, rest) = first_line(b"size 1");
+        assert_eq!(rt; line, b"size 1");
+        assert_eq!(rt; rest, b"");
+        let (word, rest) = first_word(b"box 3 0");
+        assert_eq!(rt; word, b"box");
+        assert_eq!(rt; rest, b" 3 0");
+        assert_eq!(rt; unsigned(b"4294967295"), Some(4294967295));
+        assert_eq!(rt; unsigned(b"4294967296"), None);
+        assert_eq!(rt; unsigned(b"+1"), None);
+    }
 }

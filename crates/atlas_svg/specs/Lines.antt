@@ -1,7 +1,7 @@
 -- What a line of the tool says.
 use Rattle.std.specs.Prelude.{◌≡◌, ℕ, ◌⊎◌, List, [], ◌∷◌, ◌++◌, Contains, codes}
 use Rattle.atlas_lines.specs.Grammar.{SpellsUnsigned}
-use Rattle.atlas_lines.specs.Lines.{HasNoEnd}
+use Rattle.atlas_lines.specs.Lines.{BeginsWithLine}
 use Rattle.atlas_lines.specs.Words.{BeginsWithWord, IsEmptyOrSpaced}
 use Rattle.atlas_svg.specs.declared.lines.Corners.{Corners}
 use Rattle.atlas_svg.specs.declared.lines.Line.{Line}
@@ -47,11 +47,6 @@ Says (Size sides) line = (rest : List ℕ) × (line ≡ codes "size" ++ rest) ×
 Says (Live named) line = (rest : List ℕ) × (line ≡ codes "box" ++ rest) × SpellsAll (named.id ∷ corner_numbers named.corners) rest
 Says (Free corners) line = (rest : List ℕ) × (line ≡ codes "hole" ++ rest) × SpellsAll (corner_numbers corners) rest
 Says Other line = IsOther line
-
--- a first line and what stands after its LF; the last line may lack it
-pub record BeginsWithLine (text line rest : List ℕ) : Type 0 where
-  pub no_end : HasNoEnd line
-  pub whole : (text ≡ line ++ 10 ∷ rest) ⊎ ((text ≡ line) × (rest ≡ []))
 
 -- these bytes are lines that say this, in order
 abbrev pub SayAll : List Line → List ℕ → Type 0

@@ -2,7 +2,7 @@
 ghost use Rattle.std.specs.Prelude.{◌≡◌, ℕ, List, IfSome, IsSome, IsSomeAnd, IsTrue, Contains, ◌↔◌, ◌∷◌, []};
 ghost use Rattle.atlas_svg.specs.declared.lines.Corners.{Corners};
 ghost use Rattle.atlas_svg.specs.declared.lines.Line.{Line};
-ghost use Rattle.atlas_svg.specs.Lines.{BeginsWithUnsigned, SpellsAll, corner_numbers, call_words, answer_words, list_words, Says, BeginsWithLine};
+ghost use Rattle.atlas_svg.specs.Lines.{BeginsWithUnsigned, SpellsAll, corner_numbers, call_words, answer_words, list_words, Says};
 
 use atlas_lines::{first_word, unsigned};
 
@@ -180,18 +180,6 @@ pub fn read_line(line: &[u8]) -> Option<Line>
         return Some(Line::Other);
     }
     None
-}
-
-/// The bytes before the first LF, and those after it.
-pub fn first_line(text: &[u8]) -> (&[u8], &[u8])
-    ensures { BeginsWithLine text.now result.0.now result.1.now }
-{
-    for (i, byte) in text.iter().enumerate() {
-        if *byte == b'\n' {
-            return (&text[..i], &text[i + 1..]);
-        }
-    }
-    (text, &[])
 }
 
 #[cfg(test)]

@@ -7,7 +7,8 @@ ghost use Rattle.std.specs.List.{AllByRecursion};
 ghost use Rattle.atlas_svg.specs.declared.error.SvgError.{SvgError};
 
 use crate::error::SvgError;
-use crate::lines::{Corners, Line, Named, Sides, first_line, read_line};
+use crate::lines::{Corners, Line, Named, Sides, read_line};
+use atlas_lines::first_line;
 use std::alloc::{AllocError, Global};
 
 /// What a picture shows: the last size, and the boxes that lines after it tell.

@@ -2,7 +2,8 @@ use Rattle.std.proofs.Common.{◌≡◌, ◌≢◌, [], ◌∷◌, ◌++◌, len
 use Rattle.std.proofs.lemmas.List.{nil_from_length}
 use Rattle.atlas_bench.specs.declared.workload.Job.{Job}
 use Rattle.atlas_bench.specs.Grammar.{SpellsAll}
-use Rattle.atlas_bench.proofs.Lines.{next_spelled, rest_shorter}
+use Rattle.atlas_lines.proofs.FirstLines.{rest_shorter}
+use Rattle.atlas_bench.proofs.Lines.{next_spelled}
 use Rattle.atlas_bench.proofs.jobs.jobs.Goals as goal
 
 pub returns-clause-found : goal.returns-clause-found

@@ -1,0 +1,28 @@
+-- The first line of a text, and what stands after it.
+use Rattle.std.proofs.Common.{◌≡◌, ℕ, ◌≢◌, ◌<◌, ◌⊎◌, List, [], ◌∷◌, ◌++◌, length, sym, ap, ◌∙◌, inl, inr, arith, length-append}
+use Rattle.std.proofs.lemmas.List.{nil_from_length}
+use Rattle.atlas_lines.specs.Lines.{HasNoEnd, BeginsWithLine}
+use Rattle.atlas_lines.proofs.Readings.{same_first, no_first}
+
+parts : (t l r m s : List ℕ) → HasNoEnd l → HasNoEnd m
+    → (t ≡ l ++ 10 ∷ r) ⊎ ((t ≡ l) × (r ≡ [])) → (t ≡ m ++ 10 ∷ s) ⊎ ((t ≡ m) × (s ≡ [])) → (l ≡ m) × (r ≡ s)
+parts t l r m s hl hm (inl a) (inl b) = same_first l m r s hl hm (sym a ∙ b)
+parts t l r m s hl hm (inl a) (inr b) = absurd (no_first l r m hm (sym b.0 ∙ a))
+parts t l r m s hl hm (inr a) (inl b) = absurd (no_first m s l hl (sym a.0 ∙ b))
+parts t l r m s hl hm (inr a) (inr b) = (sym a.0 ∙ b.0, a.1 ∙ sym b.1)
+
+-- a text has one first line
+pub one_first_line : (text line rest other others : List ℕ)
+    → BeginsWithLine text line rest → BeginsWithLine text other others → (line ≡ other) × (rest ≡ others)
+one_first_line text line rest other others a b = parts text line rest other others a.no_end b.no_end a.whole b.whole
+
+-- what follows a first line is shorter
+pub rest_shorter : (text line rest : List ℕ) → text ≢ [] → BeginsWithLine text line rest → length rest < length text
+rest_shorter text line rest some begins =
+    elim begins.whole [
+      | inl a ↦ rw (a, length-append) (omega arith)
+      | inr b ↦
+          let none : length rest ≡ 0 = ap length b.1 in
+          let more : (length text ≡ 0) → ⊥ = (λ e. some (nil_from_length text e)) in
+          omega (arith, none, more)
+    ]
