@@ -6,6 +6,8 @@ use Rattle.guillotiere.specs.declared.slots.Link.{Link}
 use Rattle.guillotiere.specs.declared.slots.NodeKind.TheVariants as kind
 use Rattle.guillotiere.specs.Slots.{node_at, blank_node, no_slot}
 use Rattle.guillotiere.specs.Numbered.{Numbered, tally, first_slot, same, End, Free, Alloc, Seq}
+use Rattle.guillotiere.specs.SlotCalls.{IsFreePair}
+use Rattle.guillotiere.specs.Parts.{joined_node}
 use Rattle.guillotiere.specs.Standing.{Sequence, Standing, IsTree, IsSlot, with_previous}
 use Rattle.guillotiere.proofs.Frames.{same-self}
 use Rattle.guillotiere.proofs.Closing.{next-in, first-in}
@@ -103,17 +105,25 @@ joined-by ns ms i j a n1 n2 short c fi nj fj na e1 e2 e =
       others = λ k ki kj ka. rw (e, get_or-set_other ys j k n2 blank_node kj, get_or-set_other xs a k _ blank_node ka, get_or-set_other ns i k n1 blank_node ki) refl;
     }
 
-pub IsSlot-after : (ns : List Node) (slot : Link) (this next : Node) (k : ℕ) → length ns < no_slot → IsTree ns → (node_at ns slot.number).kind ≡ kind.Free → (node_at ns (node_at ns slot.number).next.number).kind ≡ kind.Free → this ≡ node_at ns slot.number → next ≡ node_at ns this.next.number → k ≡ length ns → IsSlot k next.next.number
-IsSlot-after ns slot this next k short t fi fj et en ek =
-    rw (ek, en, et) ((can-join ns slot.number _ _ short t fi refl fj refl).after)
+pub IsSlot-after : (ns : List Node) (slot : Link) (this next : Node) (k : ℕ) → length ns < no_slot → IsTree ns
+    → IsFreePair ns slot.number → this ≡ node_at ns slot.number → next ≡ node_at ns this.next.number → k ≡ length ns
+    → IsSlot k next.next.number
+IsSlot-after ns slot this next k short t free et en ek =
+    rw (ek, en, et) ((can-join ns slot.number _ _ short t free.free refl free.next_free refl).after)
 
-pub join_next_is : (ns ms1 ms2 ms : List Node) (slot : Link) (this next : Node) → length ns < no_slot → IsTree ns → (node_at ns slot.number).kind ≡ kind.Free → (node_at ns (node_at ns slot.number).next.number).kind ≡ kind.Free → this ≡ node_at ns slot.number → next ≡ node_at ns this.next.number → ms1 ≡ set ns slot.number (record this { next = next.next; area = record this.area { max = next.area.max } }) → ms2 ≡ with_previous ms1 next.next.number slot → ms ≡ set ms2 this.next.number (record next { kind = kind.Unused }) → IsJoined ns ms slot.number (node_at ns slot.number).next.number (node_at ns (node_at ns slot.number).next.number).next.number
-join_next_is ns ms1 ms2 ms slot this next short t fi fj et en e1 e2 e =
+pub join_next_is : (ns ms1 ms2 ms : List Node) (slot : Link) (this next : Node) → length ns < no_slot → IsTree ns
+    → IsFreePair ns slot.number → this ≡ node_at ns slot.number → next ≡ node_at ns this.next.number
+    → ms1 ≡ set ns slot.number (joined_node this next) → ms2 ≡ with_previous ms1 next.next.number slot
+    → ms ≡ set ms2 this.next.number (record next { kind = kind.Unused })
+    → IsJoined ns ms slot.number (node_at ns slot.number).next.number (node_at ns (node_at ns slot.number).next.number).next.number
+join_next_is ns ms1 ms2 ms slot this next short t free et en e1 e2 e =
     let i = slot.number in
     let j = (node_at ns i).next.number in
     let a = (node_at ns j).next.number in
-    let n1 : Node = record this { next = next.next; area = record this.area { max = next.area.max } } in
+    let n1 : Node = joined_node this next in
     let n2 : Node = record next { kind = kind.Unused } in
     let ej : this.next.number ≡ j = rw et refl in
     let ea : next.next.number ≡ a = rw (en, ej) refl in
-    joined-by ns ms i j a n1 n2 short (can-join ns i j a short t fi refl fj refl) fi refl fj refl (rw (en, et) refl) (rw (en, ej) refl) (rw (e, e2, e1, ej, ea) refl)
+    let can = can-join ns i j a short t free.free refl free.next_free refl in
+    joined-by ns ms i j a n1 n2 short can free.free refl free.next_free refl (rw (en, et) refl) (rw (en, ej) refl)
+    (rw (e, e2, e1, ej, ea) refl)

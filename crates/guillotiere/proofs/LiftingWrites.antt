@@ -1,16 +1,19 @@
 -- what the writes of `lift` make
-use Rattle.std.proofs.Common.{ℕ, ◌+◌, ◌<◌, ◌≡◌, List, refl, ◌∙◌, ◌⊎◌, inl, inr, arith, length, set, get_or-set_same, get_or-set_other, length-set}
+use Rattle.std.proofs.Common.{ℕ, ◌+◌, ◌<◌, ◌≡◌, List, refl, sym, ap, subst, ◌∙◌, ◌⊎◌, inl, inr, arith, length, set, get_or-set_same, get_or-set_other, length-set}
 use Rattle.std.proofs.lemmas.Bool.{cases_eq}
+use Rattle.guillotiere.specs.declared.slots.Slot.{Slot}
 use Rattle.guillotiere.specs.declared.slots.Node.{Node}
 use Rattle.guillotiere.specs.declared.slots.Link.{Link}
 use Rattle.guillotiere.specs.declared.slots.NodeKind.TheVariants as kind
-use Rattle.guillotiere.specs.Slots.{node_at, blank_node, no_slot}
+use Rattle.guillotiere.specs.Slots.{nodes, rings, node_at, blank_node, no_slot}
 use Rattle.guillotiere.specs.Numbered.{Numbered, tally, first_slot, End, Free, Alloc, Seq}
 use Rattle.guillotiere.specs.Standing.{Sequence, Standing, Stands, IsWhole, inside}
-use Rattle.guillotiere.proofs.Frames.{same-ne}
+use Rattle.guillotiere.specs.SlotCalls.{IsLoneLeaf, IsChildLifted}
+use Rattle.guillotiere.proofs.Frames.{same-ne, keeps-same}
 use Rattle.guillotiere.proofs.Joining.{split_pos}
 use Rattle.guillotiere.proofs.JoiningWrites.{used-inside, none-unused}
-use Rattle.guillotiere.proofs.Lifting.{IsLifted}
+use Rattle.guillotiere.proofs.Lifting.{IsLifted, Stands-lifted}
+use Rattle.guillotiere.proofs.Calm.{calm-lifted}
 
 -- a member's parent holds the top sequence, or is a container
 pub parent-kind : (ns : List Node) (k : ℕ) (s : Sequence) (b p : ℕ) (n : Numbered) → Standing ns s b p n → 0 < tally k n → ((node_at ns k).parent.number ≡ s.parent) ⊎ ((node_at ns (node_at ns k).parent.number).kind ≡ kind.Container)
@@ -33,13 +36,19 @@ container-kind ns k s n top h f np =
     let here : 0 < tally k n = rw (h.numbered k, f) (omega arith) in
     elim (parent-kind ns k s no_slot 0 n h.standing here) [ inl x ↦ absurd (np (x ∙ top)) | inr y ↦ y ]
 
-pub lift_is : (ns ms1 ms : List Node) (child : Link) (inner outer : Node) → length ns < no_slot → (node_at ns child.number).kind ≡ kind.Free → (node_at ns child.number).previous.number ≡ no_slot → (node_at ns child.number).next.number ≡ no_slot → ((node_at ns child.number).parent.number ≡ no_slot → ⊥) → inner ≡ node_at ns child.number → outer ≡ node_at ns inner.parent.number → ms1 ≡ set ns inner.parent.number (record outer { kind = kind.Free }) → ms ≡ set ms1 child.number (record inner { kind = kind.Unused }) → (s : Sequence) (n : Numbered) → s.parent ≡ no_slot → Stands ns s n → IsLifted ns ms (node_at ns child.number).parent.number child.number
-lift_is ns ms1 ms child inner outer short f first_slot last np ei eo e1 e s n top h =
+pub lift_is : (ns ms1 ms : List Node) (child : Link) (inner outer : Node) → length ns < no_slot → IsWhole ns
+    → IsLoneLeaf ns child.number → inner ≡ node_at ns child.number → outer ≡ node_at ns inner.parent.number
+    → ms1 ≡ set ns inner.parent.number (record outer { kind = kind.Free })
+    → ms ≡ set ms1 child.number (record inner { kind = kind.Unused })
+    → IsLifted ns ms (node_at ns child.number).parent.number child.number
+lift_is ns ms1 ms child inner outer short t lone ei eo e1 e =
+    let f = lone.free in
+    let np = lone.nested in
     let k = child.number in
     let c = (node_at ns k).parent.number in
     let n1 : Node = record outer { kind = kind.Free } in
     let n2 : Node = record inner { kind = kind.Unused } in
-    let isbox : (node_at ns c).kind ≡ kind.Container = container-kind ns k s n top h f np in
+    let isbox : (node_at ns c).kind ≡ kind.Container = container-kind ns k t.0 t.1 t.2 t.3 f np in
     let lc : c < length ns = used-inside ns c (rw isbox (omega arith)) in
     let lk : k < length ns = used-inside ns k (rw f (omega arith)) in
     let ck : c ≡ k → ⊥ = (λ x. let y : (node_at ns c).kind ≡ kind.Free = rw (x, f) refl in cc) in
@@ -51,8 +60,8 @@ lift_is ns ms1 ms child inner outer short f first_slot last np ei eo e1 e s n to
       ends = none-unused ns short;
       free = f;
       parent = refl;
-      alone_before = first_slot;
-      alone_after = last;
+      alone_before = lone.first;
+      alone_after = lone.last;
       nested = np;
       outer = rw (all, get_or-set_other xs k c n2 blank_node ck, get_or-set_same ns c n1 blank_node lc, eo, ei) refl;
       apart = ck;
@@ -62,6 +71,27 @@ lift_is ns ms1 ms child inner outer short f first_slot last np ei eo e1 e s n to
       others = λ x xc xk. rw (all, get_or-set_other xs k x n2 blank_node xk, get_or-set_other ns c x n1 blank_node xc) refl;
     }
 
-pub container-inside : (ns : List Node) (child : Link) (inner : Node) (m : ℕ) → IsWhole ns → (node_at ns child.number).kind ≡ kind.Free → ((node_at ns child.number).parent.number ≡ no_slot → ⊥) → inner ≡ node_at ns child.number → m ≡ length ns → inner.parent.number < m
-container-inside ns child inner m t f np ei em =
-    rw (em, ei) (used-inside ns (node_at ns child.number).parent.number (rw (container-kind ns child.number t.0 t.1 t.2 t.3 f np) (omega arith)))
+pub container-inside : (ns : List Node) (child : Link) (inner : Node) (m : ℕ) → IsWhole ns → IsLoneLeaf ns child.number
+    → inner ≡ node_at ns child.number → m ≡ length ns → inner.parent.number < m
+container-inside ns child inner m t lone ei em =
+    let box = container-kind ns child.number t.0 t.1 t.2 t.3 lone.free lone.nested in
+    rw (em, ei) (used-inside ns (node_at ns child.number).parent.number (rw box (omega arith)))
+
+-- what `lift` leaves, where the container is said in another way
+pub child-lifted : (old new : List Slot) (ms1 : List Node) (child : Link) (inner outer : Node) → length (nodes old) < no_slot
+    → IsWhole (nodes old) → IsLoneLeaf (nodes old) child.number
+    → inner ≡ node_at (nodes old) child.number → outer ≡ node_at (nodes old) inner.parent.number
+    → ms1 ≡ set (nodes old) inner.parent.number (record outer { kind = kind.Free })
+    → nodes new ≡ set ms1 child.number (record inner { kind = kind.Unused }) → rings new ≡ rings old
+    → IsChildLifted old new inner.parent.number child.number
+child-lifted old new ms1 child inner outer short t lone ei eo e1 e same =
+    let w = lift_is (nodes old) ms1 (nodes new) child inner outer short t lone ei eo e1 e in
+    subst (λ x. IsChildLifted old new x child.number) (sym (ap (λ (n : Node). n.parent.number) ei)) (record {
+      tree = λ s n top h. Stands-lifted _ _ _ _ w s n top h w.container;
+      calm = calm-lifted _ _ _ _ w;
+      container = w.container;
+      leaf = w.outer;
+      given = w.given;
+      others = λ x xi xc. keeps-same _ _ (w.others x xi xc);
+      same_rings = same;
+    })

@@ -9,6 +9,7 @@ use Rattle.guillotiere.specs.Slots.{node_at, blank_node, use_count, no_slot, Kee
 use Rattle.guillotiere.specs.Numbered.{Numbered, tally, first_slot, same, End, Free, Alloc, Seq}
 use Rattle.guillotiere.specs.Standing.{Sequence, Standing, IsTree, IsSlot, with_previous}
 use Rattle.guillotiere.specs.Reading.{extent_of}
+use Rattle.guillotiere.specs.SlotCalls.{CanSplitInto}
 use Rattle.guillotiere.specs.Parts.{front_node, back_node}
 use Rattle.guillotiere.proofs.Frames.{same-self}
 use Rattle.guillotiere.proofs.Closing.{next-in, first-in}
@@ -57,12 +58,18 @@ can-split ns i k a short t fi uk lk na =
       after = elim is_in [ inl z ↦ inl z | inr y ↦ inr (used-inside ns a (rw (← h.numbered a) y)) ];
     }
 
-pub split-by : (ns ms1 ms2 ms : List Node) (at fresh : Link) (leaf unused : Node) (q : ℕ) (n1 n2 : Node) → length ns < no_slot → IsTree ns → (node_at ns at.number).kind ≡ kind.Free → (node_at ns fresh.number).kind ≡ kind.Unused → fresh.number < length ns → q < extent_of (node_at ns at.number) → leaf ≡ node_at ns at.number → unused ≡ node_at ns fresh.number → n1 ≡ front_node leaf q fresh → n2 ≡ back_node leaf q at unused → ms1 ≡ set ns at.number n1 → ms2 ≡ set ms1 fresh.number n2 → ms ≡ with_previous ms2 leaf.next.number fresh → IsSplit ns ms at fresh (node_at ns at.number).next.number q
-split-by ns ms1 ms2 ms at fresh leaf unused q n1 n2 short t fi uk lk less el eu en1 en2 e1 e2 e =
+pub split-by : (ns ms1 ms2 ms : List Node) (at fresh : Link) (leaf unused : Node) (q : ℕ) (n1 n2 : Node)
+    → length ns < no_slot → IsTree ns → CanSplitInto ns at.number fresh.number q → fresh.number < length ns
+    → leaf ≡ node_at ns at.number → unused ≡ node_at ns fresh.number
+    → n1 ≡ front_node leaf q fresh → n2 ≡ back_node leaf q at unused
+    → ms1 ≡ set ns at.number n1 → ms2 ≡ set ms1 fresh.number n2 → ms ≡ with_previous ms2 leaf.next.number fresh
+    → IsSplit ns ms at fresh (node_at ns at.number).next.number q
+split-by ns ms1 ms2 ms at fresh leaf unused q n1 n2 short t can lk el eu en1 en2 e1 e2 e =
+    let fi = can.free in
     let i = at.number in
     let k = fresh.number in
     let a = (node_at ns i).next.number in
-    let c = can-split ns i k a short t fi uk lk refl in
+    let c = can-split ns i k a short t fi can.unused lk refl in
     let ki = c.apart.0 in
     let ai = c.apart.1 in
     let ak = c.apart.2 in
@@ -82,8 +89,8 @@ split-by ns ms1 ms2 ms at fresh leaf unused q n1 n2 short t fi uk lk less el eu 
       ends = none-unused ns short;
       free = fi;
       after = refl;
-      unused = uk;
-      less = less;
+      unused = can.unused;
+      less = can.less;
       front = rw (all, get_or-set_other ys a i _ blank_node ia, get_or-set_other xs k i n2 blank_node ik, get_or-set_same ns i n1 blank_node li, en1, el) refl;
       back = rw (all, get_or-set_other ys a k _ blank_node ka, get_or-set_same xs k n2 blank_node (omega arith), en2, el, eu) refl;
       moved = λ x. rw (all, get_or-set_same ys a _ blank_node (omega (arith, is_inside x)), at_a) refl;
@@ -102,5 +109,8 @@ others-split ns ms at fresh a q w x xi xk =
       ]
     ]
 
-pub IsSlot-split : (ns : List Node) (at fresh : Link) (leaf : Node) (m : ℕ) → length ns < no_slot → IsTree ns → (node_at ns at.number).kind ≡ kind.Free → (node_at ns fresh.number).kind ≡ kind.Unused → fresh.number < length ns → leaf ≡ node_at ns at.number → m ≡ length ns → IsSlot m leaf.next.number
-IsSlot-split ns at fresh leaf m short t fi uk lk el em = rw (em, el) ((can-split ns at.number fresh.number _ short t fi uk lk refl).after)
+pub IsSlot-split : (ns : List Node) (at fresh : Link) (leaf : Node) (m q : ℕ) → length ns < no_slot → IsTree ns
+    → CanSplitInto ns at.number fresh.number q → fresh.number < length ns → leaf ≡ node_at ns at.number → m ≡ length ns
+    → IsSlot m leaf.next.number
+IsSlot-split ns at fresh leaf m q short t can lk el em =
+    rw (em, el) ((can-split ns at.number fresh.number _ short t can.free can.unused lk refl).after)

@@ -38,6 +38,7 @@ pub mod Bests
 pub mod Reading
 pub mod Parts
 pub mod Calm
+pub mod SlotCalls
 pub mod Stored
 pub mod Links
 pub mod Picks

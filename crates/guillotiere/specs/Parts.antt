@@ -54,3 +54,8 @@ inner_node container at unused =
       axis = flipped container.axis;
       generation = unused.generation;
     }
+
+-- a leaf that has taken in the next one
+abbrev pub joined_node : (leaf next : Node) → Node
+joined_node leaf next =
+    record leaf { next = next.next; area = record leaf.area { max = next.area.max } }

@@ -1,14 +1,13 @@
 //! The three calls by which a request is placed in the tree of slots: a leaf is cut in two, is put in a container of its
 //! own, or is granted. They leave the lists alone.
-ghost use Rattle.std.specs.Prelude.{◌≡◌, ◌≢◌, ◌<◌, ◌+◌, ℕ, length};
-ghost use Rattle.guillotiere.specs.declared.slots.NodeKind.TheVariants.{Alloc, Free, Container, Unused};
+ghost use Rattle.std.specs.Prelude.{◌≡◌, ◌<◌, length};
+ghost use Rattle.guillotiere.specs.declared.slots.NodeKind.TheVariants.{Free, Unused};
 ghost use Rattle.guillotiere.specs.Boxes.{side, box_sides};
 ghost use Rattle.guillotiere.specs.Pixels.{natural, box_of, rectangle_of};
-ghost use Rattle.guillotiere.specs.Slots.{nodes, rings, node_at, axis_of, KeepsUse};
-ghost use Rattle.guillotiere.specs.Numbered.{Numbered, granted_at, split_at, wrapped_at, numbers};
-ghost use Rattle.guillotiere.specs.Standing.{Sequence, Stands, IsTree};
-ghost use Rattle.guillotiere.specs.Reading.{extent_of};
-ghost use Rattle.guillotiere.specs.Parts.{front_part, back_part, flipped, front_node, back_node, inner_node};
+ghost use Rattle.guillotiere.specs.Slots.{nodes, node_at, axis_of};
+ghost use Rattle.guillotiere.specs.SlotCalls.{CanSplitInto, IsLeafGranted, IsLeafSplit, IsLeafWrapped};
+ghost use Rattle.guillotiere.specs.Standing.{IsTree};
+ghost use Rattle.guillotiere.specs.Parts.{front_part, back_part, flipped};
 
 use crate::cut::Orientation;
 use crate::geometry::{Rectangle, point2};
@@ -18,11 +17,7 @@ use crate::slots::{Link, NO_SLOT, Node, NodeKind, Slot, read_node, set_previous,
 pub fn grant_leaf(slots: &mut [Slot], at: Link)
     requires inside { at.number < length slots.old }
     requires free { (node_at (nodes slots.old) at.number).kind ≡ Free }
-    ensures tree { (s : Sequence) (n : Numbered) → Stands (nodes slots.old) s n
-        → Stands (nodes slots.new) s (granted_at at.number (node_at (nodes slots.old) at.number).generation n) }
-    ensures granted { node_at (nodes slots.new) at.number ≡ record (node_at (nodes slots.old) at.number) { kind = Alloc } }
-    ensures others { (k : ℕ) → k ≢ at.number → KeepsUse (node_at (nodes slots.old) k) (node_at (nodes slots.new) k) }
-    ensures same_rings { rings slots.new ≡ rings slots.old }
+    ensures { IsLeafGranted slots.old slots.new at.number }
 {
     let mut node = read_node(slots, at);
     node.kind = NodeKind::Alloc;
@@ -71,23 +66,10 @@ fn back(area: Rectangle, axis: Orientation, extent: i32) -> Rectangle
 /// free leaf after it.
 pub fn split_leaf(slots: &mut [Slot], at: Link, fresh: Link, extent: i32)
     requires stands { IsTree (nodes slots.old) }
-    requires free { (node_at (nodes slots.old) at.number).kind ≡ Free }
+    requires ready { CanSplitInto (nodes slots.old) at.number fresh.number (natural extent) }
     requires inside { fresh.number < length slots.old }
-    requires unused { (node_at (nodes slots.old) fresh.number).kind ≡ Unused }
-    requires positive { 0 < natural extent }
-    requires less { natural extent < extent_of (node_at (nodes slots.old) at.number) }
     requires short { length slots.old < NO_SLOT }
-    ensures tree { (s : Sequence) (n : Numbered) → Stands (nodes slots.old) s n
-        → Stands (nodes slots.new) s (split_at at.number fresh.number (natural extent) n) }
-    ensures more { (s : Sequence) (n : Numbered) → Stands (nodes slots.old) s n
-        → numbers (split_at at.number fresh.number (natural extent) n) ≡ numbers n + 1 }
-    ensures front { node_at (nodes slots.new) at.number
-        ≡ front_node (node_at (nodes slots.old) at.number) (natural extent) fresh }
-    ensures back { node_at (nodes slots.new) fresh.number
-        ≡ back_node (node_at (nodes slots.old) at.number) (natural extent) at (node_at (nodes slots.old) fresh.number) }
-    ensures others { (k : ℕ) → k ≢ at.number → k ≢ fresh.number
-        → KeepsUse (node_at (nodes slots.old) k) (node_at (nodes slots.new) k) }
-    ensures same_rings { rings slots.new ≡ rings slots.old }
+    ensures { IsLeafSplit slots.old slots.new at fresh (natural extent) }
 {
     let leaf = read_node(slots, at);
     let unused = read_node(slots, fresh);
@@ -114,17 +96,7 @@ pub fn wrap_leaf(slots: &mut [Slot], at: Link, fresh: Link)
     requires inside { fresh.number < length slots.old }
     requires unused { (node_at (nodes slots.old) fresh.number).kind ≡ Unused }
     requires short { length slots.old < NO_SLOT }
-    ensures tree { (s : Sequence) (n : Numbered) → Stands (nodes slots.old) s n
-        → Stands (nodes slots.new) s (wrapped_at at.number fresh.number s.width n) }
-    ensures more { (s : Sequence) (n : Numbered) → Stands (nodes slots.old) s n
-        → numbers (wrapped_at at.number fresh.number s.width n) ≡ numbers n + 1 }
-    ensures outer { node_at (nodes slots.new) at.number
-        ≡ record (node_at (nodes slots.old) at.number) { kind = Container } }
-    ensures inner { node_at (nodes slots.new) fresh.number
-        ≡ inner_node (node_at (nodes slots.old) at.number) at (node_at (nodes slots.old) fresh.number) }
-    ensures others { (k : ℕ) → k ≢ at.number → k ≢ fresh.number
-        → KeepsUse (node_at (nodes slots.old) k) (node_at (nodes slots.new) k) }
-    ensures same_rings { rings slots.new ≡ rings slots.old }
+    ensures { IsLeafWrapped slots.old slots.new at fresh }
 {
     let leaf = read_node(slots, at);
     let unused = read_node(slots, fresh);

@@ -1,10 +1,9 @@
 //! The slots of an atlas: the tree's part and the lists' part of each, and the calls that read and write them.
-ghost use Rattle.std.specs.Prelude.{◌≡◌, ◌≢◌, ◌<◌, ◌+◌, ◌↔◌, ◌⊎◌, ℕ, IsTrue, length, slice_set};
-ghost use Rattle.guillotiere.specs.Slots.{nodes, rings, node_at, ring_at, no_slot, KeepsUse};
-ghost use Rattle.guillotiere.specs.Numbered.{Numbered, marked, joined, lifted, numbers};
-ghost use Rattle.guillotiere.specs.Standing.{Sequence, Stands, IsTree, IsWhole, IsSlot, with_previous};
-ghost use Rattle.guillotiere.specs.Calm.{IsCalmAt, IsCalmBut};
-ghost use Rattle.guillotiere.specs.declared.slots.NodeKind.TheVariants.{Alloc, Container, Free, Unused};
+ghost use Rattle.std.specs.Prelude.{◌≡◌, ◌<◌, length, slice_set};
+ghost use Rattle.guillotiere.specs.Slots.{nodes, rings, node_at, ring_at};
+ghost use Rattle.guillotiere.specs.SlotCalls.{IsChildLifted, IsFreePair, IsLeafFreed, IsLoneLeaf, IsNextJoined};
+ghost use Rattle.guillotiere.specs.Standing.{IsTree, IsWhole, IsSlot, with_previous};
+ghost use Rattle.guillotiere.specs.declared.slots.NodeKind.TheVariants.{Alloc};
 
 use crate::cut::Orientation;
 use crate::geometry::Rectangle;
@@ -92,19 +91,10 @@ pub fn write_ring(slots: &mut [Slot], at: Link, ring: Ring)
     slot.ring = ring;
 }
 
-/// Whether this is the slot of a free leaf; `NO_SLOT` isn't.
-pub fn is_free(slots: &[Slot], slot: Link) -> bool
-    requires inside { IsSlot (length slots.now) slot.number }
-    requires short { length slots.now < no_slot }
-    ensures { IsTrue result ↔ ((node_at (nodes slots.now) slot.number).kind ≡ Free) }
-{
-    slot.number != NO_SLOT && read_node(slots, slot).kind == NodeKind::Free
-}
-
 /// What stands at `at`, if that is a slot, follows `previous` from now on.
 pub fn set_previous(slots: &mut [Slot], at: Link, previous: Link)
     requires inside { IsSlot (length slots.old) at.number }
-    requires short { length slots.old < no_slot }
+    requires short { length slots.old < NO_SLOT }
     ensures written { nodes slots.new ≡ with_previous (nodes slots.old) at.number previous }
     ensures same_rings { rings slots.new ≡ rings slots.old }
 {
@@ -119,12 +109,7 @@ pub fn set_previous(slots: &mut [Slot], at: Link, previous: Link)
 pub fn mark_free(slots: &mut [Slot], slot: Link)
     requires inside { slot.number < length slots.old }
     requires allocated { (node_at (nodes slots.old) slot.number).kind ≡ Alloc }
-    ensures tree { (s : Sequence) (n : Numbered) → Stands (nodes slots.old) s n → Stands (nodes slots.new) s (marked slot.number n) }
-    ensures calm { ((k : ℕ) → IsCalmAt (nodes slots.old) k) → IsCalmBut (nodes slots.new) slot.number }
-    ensures free { (node_at (nodes slots.new) slot.number).kind ≡ Free }
-    ensures this { node_at (nodes slots.new) slot.number ≡ record (node_at (nodes slots.old) slot.number) { kind = Free } }
-    ensures others { (k : ℕ) → k ≢ slot.number → KeepsUse (node_at (nodes slots.old) k) (node_at (nodes slots.new) k) }
-    ensures same_rings { rings slots.new ≡ rings slots.old }
+    ensures { IsLeafFreed slots.old slots.new slot.number }
 {
     let mut node = read_node(slots, slot);
     node.kind = NodeKind::Free;
@@ -135,20 +120,10 @@ pub fn mark_free(slots: &mut [Slot], slot: Link)
 /// which is no longer used.
 pub fn join_next(slots: &mut [Slot], slot: Link) -> Link
     requires stands { IsTree (nodes slots.old) }
-    requires free { (node_at (nodes slots.old) slot.number).kind ≡ Free }
-    requires next_free { (node_at (nodes slots.old) (node_at (nodes slots.old) slot.number).next.number).kind ≡ Free }
-    requires short { length slots.old < no_slot }
-    ensures tree { (s : Sequence) (n : Numbered) → Stands (nodes slots.old) s n → Stands (nodes slots.new) s (joined slot.number n) }
+    requires free { IsFreePair (nodes slots.old) slot.number }
+    requires short { length slots.old < NO_SLOT }
     ensures next { result ≡ (node_at (nodes slots.old) slot.number).next }
-    ensures fewer { (s : Sequence) (n : Numbered) → Stands (nodes slots.old) s n → numbers (joined slot.number n) + 1 ≡ numbers n }
-    ensures calm { (at : ℕ) → IsCalmBut (nodes slots.old) at → (at ≡ slot.number) ⊎ (at ≡ result.number) → IsCalmBut (nodes slots.new) slot.number }
-    ensures free { (node_at (nodes slots.new) slot.number).kind ≡ Free }
-    ensures area { (node_at (nodes slots.new) slot.number).area ≡ record (node_at (nodes slots.old) slot.number).area { max = (node_at (nodes slots.old) result.number).area.max } }
-    ensures generation { (node_at (nodes slots.new) slot.number).generation ≡ (node_at (nodes slots.old) slot.number).generation }
-    ensures apart { result.number ≢ slot.number }
-    ensures given { node_at (nodes slots.new) result.number ≡ record (node_at (nodes slots.old) result.number) { kind = Unused } }
-    ensures others { (k : ℕ) → k ≢ slot.number → k ≢ result.number → KeepsUse (node_at (nodes slots.old) k) (node_at (nodes slots.new) k) }
-    ensures same_rings { rings slots.new ≡ rings slots.old }
+    ensures joined { IsNextJoined slots.old slots.new slot.number result.number }
 {
     let mut this = read_node(slots, slot);
     let next_slot = this.next;
@@ -167,22 +142,10 @@ pub fn join_next(slots: &mut [Slot], slot: Link) -> Link
 /// container's slot; the leaf's is no longer used.
 pub fn lift(slots: &mut [Slot], child: Link) -> Link
     requires stands { IsWhole (nodes slots.old) }
-    requires free { (node_at (nodes slots.old) child.number).kind ≡ Free }
-    requires first { (node_at (nodes slots.old) child.number).previous.number ≡ no_slot }
-    requires last { (node_at (nodes slots.old) child.number).next.number ≡ no_slot }
-    requires nested { (node_at (nodes slots.old) child.number).parent.number ≢ no_slot }
-    requires short { length slots.old < no_slot }
-    ensures tree { (s : Sequence) (n : Numbered) → s.parent ≡ no_slot → Stands (nodes slots.old) s n → Stands (nodes slots.new) s (lifted result.number n) }
+    requires lone { IsLoneLeaf (nodes slots.old) child.number }
+    requires short { length slots.old < NO_SLOT }
     ensures parent { result ≡ (node_at (nodes slots.old) child.number).parent }
-    ensures fewer { (s : Sequence) (n : Numbered) → s.parent ≡ no_slot → Stands (nodes slots.old) s n → numbers (lifted result.number n) + 1 ≡ numbers n }
-    ensures calm { IsCalmBut (nodes slots.old) child.number → IsCalmBut (nodes slots.new) result.number }
-    ensures free { (node_at (nodes slots.new) result.number).kind ≡ Free }
-    ensures container { (node_at (nodes slots.old) result.number).kind ≡ Container }
-    ensures apart { result.number ≢ child.number }
-    ensures this { node_at (nodes slots.new) result.number ≡ record (node_at (nodes slots.old) result.number) { kind = Free } }
-    ensures given { node_at (nodes slots.new) child.number ≡ record (node_at (nodes slots.old) child.number) { kind = Unused } }
-    ensures others { (k : ℕ) → k ≢ child.number → k ≢ result.number → KeepsUse (node_at (nodes slots.old) k) (node_at (nodes slots.new) k) }
-    ensures same_rings { rings slots.new ≡ rings slots.old }
+    ensures lifted { IsChildLifted slots.old slots.new result.number child.number }
 {
     let mut inner = read_node(slots, child);
     let container = inner.parent;
