@@ -6,7 +6,7 @@ use Rattle.guillotiere.specs.declared.slots.Node.{Node}
 use Rattle.guillotiere.specs.declared.slots.Link.{Link}
 use Rattle.guillotiere.specs.declared.slots.NodeKind.TheVariants as kind
 use Rattle.guillotiere.specs.Slots.{nodes, rings, node_at, blank_node, no_slot}
-use Rattle.guillotiere.specs.Numbered.{Numbered, tally, first_slot, End, Free, Alloc, Seq}
+use Rattle.guillotiere.specs.Numbered.{Numbered, tally, End, Free, Alloc, Seq}
 use Rattle.guillotiere.specs.Standing.{Sequence, Standing, Stands, IsWhole, inside}
 use Rattle.guillotiere.specs.SlotCalls.{IsLoneLeaf, IsChildLifted}
 use Rattle.guillotiere.proofs.Frames.{same-ne, keeps-same}

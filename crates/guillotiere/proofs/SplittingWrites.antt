@@ -8,7 +8,6 @@ use Rattle.guillotiere.specs.declared.slots.NodeKind.TheVariants as kind
 use Rattle.guillotiere.specs.Slots.{node_at, blank_node, use_count, no_slot, KeepsUse}
 use Rattle.guillotiere.specs.Numbered.{Numbered, tally, first_slot, same, End, Free, Alloc, Seq}
 use Rattle.guillotiere.specs.Standing.{Sequence, Standing, IsTree, IsSlot, with_previous}
-use Rattle.guillotiere.specs.Reading.{extent_of}
 use Rattle.guillotiere.specs.SlotCalls.{CanSplitInto}
 use Rattle.guillotiere.specs.Parts.{front_node, back_node}
 use Rattle.guillotiere.proofs.Frames.{same-self}

@@ -14,11 +14,10 @@ use Rattle.guillotiere.specs.Tables.{head_of, low_of}
 use Rattle.guillotiere.specs.Slots.{nodes, rings, node_at, use_count, KeepsUse, no_slot}
 use Rattle.guillotiere.specs.Numbered.{Numbered, erase, tally, marked, joined, lifted, granted_at, split_at, wrapped_at}
 use Rattle.guillotiere.specs.Standing.{Sequence, Stands}
+use Rattle.guillotiere.specs.SlotCalls.{CanSplitInto, IsLeafFreed, IsLeafGranted, IsNextJoined, IsChildLifted, IsLeafSplit, IsLeafWrapped}
 use Rattle.guillotiere.proofs.Frames.{Standing-same}
 use Rattle.guillotiere.specs.Lists.{AreFiled, Places, Line, front, is_free}
 use Rattle.std.proofs.lemmas.List.{length-map, length_push}
-use Rattle.guillotiere.specs.Reading.{extent_of}
-use Rattle.guillotiere.specs.Parts.{front_node, back_node, inner_node}
 use Rattle.guillotiere.specs.Links.{with_mark, with_count, rest_of, given_back, IsExact, IsTaken}
 use Rattle.guillotiere.specs.Stored.{Shelf, Holding, Holds, HoldsWith, places_of}
 use Rattle.guillotiere.specs.Holdings.{node_in, IsLow, IsLooseLeaf, IsReadyWith, HasSlotsFor, after_take, after_grant, after_mark, after_join, after_lift, after_split, after_wrap}
@@ -28,14 +27,15 @@ use Rattle.guillotiere.proofs.NumberedCuts.{total-marked, cut-marked, total-gran
 use Rattle.guillotiere.proofs.SlotBoxes.{slot-exact}
 
 -- what is held once the slots and the unused list changed, and no list of free slots
-pub held_again : (hand hand' : ℕ → ℕ) (v : Shelf) (old mid new : List Slot) (unused : Link) (h : Holding) (tree : Numbered) (spare : List ℕ) (loose : ℕ → Bool)
-    → old ≡ v.slots → new ≡ mid → length mid ≤ 16777216 → HoldsWith hand v h → Stands (nodes mid) h.sequence tree
-    → AreFiled (options_of v.options) (nodes mid) (rings mid) v.heads unused (record { spare = spare; held = h.held; hand = hand'; loose = loose })
+pub held_again : (hand hand' : ℕ → ℕ) (v : Shelf) (new : List Slot) (unused : Link) (h : Holding) (tree : Numbered)
+    (spare : List ℕ) (loose : ℕ → Bool)
+    → length new ≤ 16777216 → HoldsWith hand v h → Stands (nodes new) h.sequence tree
+    → AreFiled (options_of v.options) (nodes new) (rings new) v.heads unused
+        (record { spare = spare; held = h.held; hand = hand'; loose = loose })
     → IsCut h.sequence.width (erase tree) → total (erase tree) ≡ total (erase h.tree)
     → HoldsWith hand' (record v { slots = new; unused = unused }) (record h { tree = tree; spare = spare; loose = loose })
-held_again hand hand' v old mid new unused h tree spare loose eo en short holds stands filed cut whole =
-    let P : List Slot → Type 0 = λ slots. HoldsWith hand' (record v { slots = slots; unused = unused }) (record h { tree = tree; spare = spare; loose = loose }) in
-    subst P (sym en) (record {
+held_again hand hand' v new unused h tree spare loose short holds stands filed cut whole =
+    record {
       top = holds.top;
       stands = stands;
       filed = filed;
@@ -45,7 +45,7 @@ held_again hand hand' v old mid new unused h tree spare loose eo en short holds 
       wide = holds.wide;
       across = holds.across;
       along = omega (arith, holds.along, whole);
-    })
+    }
 
 -- a slot that keeps its use stays as it was for the lists
 pub moved-kept : (n m : Node) (loose loose' : Bool) → KeepsUse n m → loose' ≡ loose → IsMoved n m loose loose'
@@ -75,38 +75,32 @@ filed-one o ns ms rs ts heads unused p i mark same here used others filed =
     (AreFiled-moved o ns ms rs heads unused p p.hand (with_mark p.loose i mark) moved counts filed)
 
 -- a loose leaf is granted
-pub granted-holds : (v : Shelf) (old mid new : List Slot) (at : ℕ)
-    → old ≡ v.slots → new ≡ mid → length mid ≡ length old
-    → ((s : Sequence) (n : Numbered) → Stands (nodes old) s n → Stands (nodes mid) s (granted_at at (node_at (nodes old) at).generation n))
-    → node_at (nodes mid) at ≡ record (node_at (nodes old) at) { kind = kind.Alloc }
-    → ((k : ℕ) → k ≢ at → KeepsUse (node_at (nodes old) k) (node_at (nodes mid) k))
-    → rings mid ≡ rings old
-    → (h : Holding) → IsLooseLeaf v at h → Holds (record v { slots = new }) (after_grant at (node_in v at).generation h)
-granted-holds v old mid new at eo en long tree this others same h leaf =
-    let P : List Slot → Type 0 = λ slots. (node_at (nodes slots) at).kind ≡ kind.Free in
-    let was_free : (node_at (nodes old) at).kind ≡ kind.Free = subst P (sym eo) leaf.kind in
-    let Q : List Slot → Type 0 = λ slots. Stands (nodes slots) h.sequence h.tree in
-    let F : List Slot → Type 0 = λ slots. AreFiled (options_of v.options) (nodes slots) (rings slots) v.heads v.unused (places_of (λ i. 0) h) in
-    let is_granted : (node_at (nodes mid) at).kind ≡ kind.Alloc = ap (λ n. n.kind) this in
-    let G : List Slot → Type 0 = λ slots. Stands (nodes mid) h.sequence (granted_at at (node_at (nodes slots) at).generation h.tree) in
-    held_again (λ i. 0) (λ i. 0) v old mid new v.unused h (granted_at at (node_in v at).generation h.tree) h.spare (with_mark h.loose at false) eo en
-    (omega (arith, leaf.holds.short, ap (λ s. length s) eo, long)) leaf.holds
-    (subst G eo (tree h.sequence h.tree (subst Q (sym eo) leaf.holds.stands)))
-    (filed-one (options_of v.options) (nodes old) (nodes mid) (rings old) (rings mid) v.heads v.unused (places_of (λ i. 0) h) at false same
-    (inr (inl leaf.loose, inr (ap is_free is_granted)))
-    (ap use_count is_granted ∙ sym (ap use_count was_free)) others (subst F (sym eo) leaf.holds.filed))
-    (cut-granted at (node_in v at).generation h.sequence.width h.tree leaf.holds.cut)
-    (total-granted at (node_in v at).generation h.tree)
-
--- a fact of the slots of a shelf is one of the slots that a call was given, and back
-pub carried : (P Q : List Slot → Type 0) (own old mid new : List Slot) → old ≡ own → new ≡ mid → (P old → Q mid) → P own → Q new
-carried P Q own old mid new eo en f p = subst Q (sym en) (f (subst P (sym eo) p))
+pub granted-holds : (v : Shelf) (new : List Slot) (at : ℕ) → length new ≡ length v.slots → IsLeafGranted v.slots new at
+    → (h : Holding) → IsLooseLeaf v at h
+    → Holds (record v { slots = new }) (after_grant at (node_in v at).generation h)
+granted-holds v new at long w h leaf =
+    let is_granted : (node_at (nodes new) at).kind ≡ kind.Alloc = ap (λ n. n.kind) w.leaf in
+    let age : ℕ = (node_in v at).generation in
+    held_again (λ i. 0) (λ i. 0) v new v.unused h (granted_at at age h.tree) h.spare (with_mark h.loose at false)
+    (omega (arith, leaf.holds.short, long)) leaf.holds (w.tree h.sequence h.tree leaf.holds.stands)
+    (filed-one (options_of v.options) (nodes v.slots) (nodes new) (rings v.slots) (rings new) v.heads v.unused
+        (places_of (λ i. 0) h) at false w.same_rings (inr (inl leaf.loose, inr (ap is_free is_granted)))
+        (ap use_count is_granted ∙ sym (ap use_count leaf.kind)) w.others leaf.holds.filed)
+    (cut-granted at age h.sequence.width h.tree leaf.holds.cut) (total-granted at age h.tree)
 
 -- the slots of a shelf, and those that a call left
 pub record AreSlots (own old mid new : List Slot) : Type 0 where
   pub given : old ≡ own
   pub left : new ≡ mid
   pub long : length mid ≡ length old
+
+-- what a call says of the slots that it was given and of those that it left is so of the shelf's
+pub over-shelf : (P : List Slot → List Slot → Type 0) (own old mid new : List Slot) → AreSlots own old mid new → P old mid
+    → P own new
+over-shelf P own old mid new a p = subst (λ s. P s new) a.given (subst (P old) (sym a.left) p)
+
+pub long-over : (own old mid new : List Slot) → AreSlots own old mid new → length new ≡ length own
+long-over own old mid new a = ap (λ s. length s) a.left ∙ a.long ∙ ap (λ s. length s) a.given
 
 pub short-mid : (own old mid new : List Slot) → AreSlots own old mid new → length own ≤ 16777216 → length mid ≤ 16777216
 short-mid own old mid new a h = omega (arith, ap (λ s. length s) a.given, a.long, h)
@@ -121,23 +115,16 @@ pub stands-before : (hand : ℕ → ℕ) (v : Shelf) (old : List Slot) (h : Hold
 stands-before hand v old h e holds = let Q : List Slot → Type 0 = λ slots. Stands (nodes slots) h.sequence h.tree in subst Q (sym e) holds.stands
 
 -- a granted leaf becomes free
-pub marked-holds : (v : Shelf) (old mid new : List Slot) (at : ℕ) → AreSlots v.slots old mid new
-    → ((s : Sequence) (n : Numbered) → Stands (nodes old) s n → Stands (nodes mid) s (marked at n))
-    → (node_in v at).kind ≡ kind.Alloc → (node_at (nodes mid) at).kind ≡ kind.Free
-    → ((k : ℕ) → k ≢ at → KeepsUse (node_at (nodes old) k) (node_at (nodes mid) k))
-    → rings mid ≡ rings old
-    → (h : Holding) → Holds v h → Holds (record v { slots = new }) (after_mark at h)
-marked-holds v old mid new at a tree was_granted is_now_free others same h holds =
-    let P : List Slot → Type 0 = λ slots. (node_at (nodes slots) at).kind ≡ kind.Alloc in
-    let was : (node_at (nodes old) at).kind ≡ kind.Alloc = subst P (sym a.given) was_granted in
-    held_again (λ i. 0) (λ i. 0) v old mid new v.unused h (marked at h.tree) h.spare (with_mark h.loose at true) a.given a.left
-    (short-mid v.slots old mid new a holds.short) holds
-    (tree h.sequence h.tree (stands-before (λ i. 0) v old h a.given holds))
-    (filed-one (options_of v.options) (nodes old) (nodes mid) (rings old) (rings mid) v.heads v.unused (places_of (λ i. 0) h) at true same
-    (inr (inr (ap is_free was), inl refl))
-    (ap use_count is_now_free ∙ sym (ap use_count was)) others (filed-before (λ i. 0) v old h a.given holds))
-    (cut-marked at h.sequence.width h.tree holds.cut)
-    (total-marked at h.tree)
+pub marked-holds : (v : Shelf) (new : List Slot) (at : ℕ) → length new ≡ length v.slots → IsLeafFreed v.slots new at
+    → (node_in v at).kind ≡ kind.Alloc → (h : Holding) → Holds v h → Holds (record v { slots = new }) (after_mark at h)
+marked-holds v new at long w was h holds =
+    let is_now_free : (node_at (nodes new) at).kind ≡ kind.Free = ap (λ n. n.kind) w.leaf in
+    held_again (λ i. 0) (λ i. 0) v new v.unused h (marked at h.tree) h.spare (with_mark h.loose at true)
+    (omega (arith, holds.short, long)) holds (w.tree h.sequence h.tree holds.stands)
+    (filed-one (options_of v.options) (nodes v.slots) (nodes new) (rings v.slots) (rings new) v.heads v.unused
+        (places_of (λ i. 0) h) at true w.same_rings (inr (inr (ap is_free was), inl refl))
+        (ap use_count is_now_free ∙ sym (ap use_count was)) w.others holds.filed)
+    (cut-marked at h.sequence.width h.tree holds.cut) (total-marked at h.tree)
 
 -- Two slots change: i stays in use, and j goes to hand or comes from there.
 pub record ChangesTwo (ns ms : List Node) (i j : ℕ) (hand hand' : ℕ → ℕ) (loose loose' : ℕ → Bool) : Type 0 where
@@ -249,123 +236,86 @@ leaf-exact v old at h e holds free =
     let used : 0 < use_count (node_in v at).kind = omega (arith, ap use_count free) in
     subst P (sym e) (slot-exact (nodes v.slots) at h.sequence h.tree holds.stands holds.cut holds.wide used)
 
--- a slot that was used and loose is given back
-pub record GivesBack (v : Shelf) (mid old2 mid2 : List Slot) (unused : Link) (j : ℕ) : Type 0 where
-  pub given : old2 ≡ mid
-  pub same_nodes : nodes mid2 ≡ nodes old2
-  pub long : length mid2 ≡ length old2
+-- slot j, which was in hand, is given back
+pub record GivesBack (v : Shelf) (old new : List Slot) (unused : Link) (j : ℕ) : Type 0 where
+  pub same_nodes : nodes new ≡ nodes old
+  pub long : length new ≡ length old
   pub filed :
       (o : Options) (heads : List ListHead) (p : Places)
-      → AreFiled o (nodes old2) (rings old2) heads v.unused p → 0 < p.hand j
-      → AreFiled o (nodes mid2) (rings mid2) heads unused (given_back p j)
+      → AreFiled o (nodes old) (rings old) heads v.unused p → 0 < p.hand j
+      → AreFiled o (nodes new) (rings new) heads unused (given_back p j)
 
 -- what the lists hold once slot j, which is in hand, is given back
-given-filed : (v : Shelf) (mid old2 mid2 : List Slot) (unused : Link) (j : ℕ) (o : Options) (heads : List ListHead) (p : Places)
-    → GivesBack v mid old2 mid2 unused j
-    → AreFiled o (nodes mid) (rings mid) heads v.unused (record p { hand = with_count (λ i. 0) j 1 })
-    → AreFiled o (nodes mid2) (rings mid2) heads unused (record p { spare = j ∷ p.spare; hand = λ i. 0 })
-given-filed v mid old2 mid2 unused j o heads p b filed =
-    let F : List Slot → Type 0 = λ slots. AreFiled o (nodes slots) (rings slots) heads v.unused (record p { hand = with_count (λ i. 0) j 1 }) in
-    filed-hand o (nodes mid2) (rings mid2) heads unused (given_back (record p { hand = with_count (λ i. 0) j 1 }) j) (λ i. 0)
+given-filed : (v : Shelf) (old new : List Slot) (unused : Link) (j : ℕ) (o : Options) (heads : List ListHead) (p : Places)
+    → GivesBack v old new unused j
+    → AreFiled o (nodes old) (rings old) heads v.unused (record p { hand = with_count (λ i. 0) j 1 })
+    → AreFiled o (nodes new) (rings new) heads unused (record p { spare = j ∷ p.spare; hand = λ i. 0 })
+given-filed v old new unused j o heads p b filed =
+    filed-hand o (nodes new) (rings new) heads unused (given_back (record p { hand = with_count (λ i. 0) j 1 }) j) (λ i. 0)
     (λ i. sym (hand-back (λ k. 0) j 1 refl i))
-    (b.filed o heads (record p { hand = with_count (λ i. 0) j 1 }) (subst F (sym b.given) filed) (omega (arith, with_count-same (λ i. 0) j 1)))
+    (b.filed o heads (record p { hand = with_count (λ i. 0) j 1 }) filed (omega (arith, with_count-same (λ i. 0) j 1)))
 
-stands-given : (v : Shelf) (mid old2 mid2 : List Slot) (unused : Link) (j : ℕ) (s : Sequence) (n : Numbered) → GivesBack v mid old2 mid2 unused j → Stands (nodes mid) s n → Stands (nodes mid2) s n
-stands-given v mid old2 mid2 unused j s n b stands =
-    let P : List Slot → Type 0 = λ slots. Stands (nodes slots) s n in
-    let Q : List Node → Type 0 = λ ns. Stands ns s n in
-    subst Q (sym b.same_nodes) (subst P (sym b.given) stands)
+-- what is held once slot j went to hand, and was given back from there
+given-holds : (v : Shelf) (mid new : List Slot) (unused : Link) (i j : ℕ) (h : Holding) (tree : Numbered) (loose : ℕ → Bool)
+    → length mid ≡ length v.slots → rings mid ≡ rings v.slots → GivesBack v mid new unused j → Holds v h
+    → ChangesTwo (nodes v.slots) (nodes mid) i j (λ k. 0) (with_count (λ k. 0) j 1) h.loose loose
+    → Stands (nodes mid) h.sequence tree → IsCut h.sequence.width (erase tree) → total (erase tree) ≡ total (erase h.tree)
+    → Holds (record v { slots = new; unused = unused }) (record h { tree = tree; spare = j ∷ h.spare; loose = loose })
+given-holds v mid new unused i j h tree loose long same back holds two stands cut whole =
+    let S : List Node → Type 0 = λ ns. Stands ns h.sequence tree in
+    let filed : AreFiled (options_of v.options) (nodes mid) (rings mid) v.heads v.unused
+        (record (places_of (with_count (λ k. 0) j 1) h) { loose = loose }) =
+    filed-two (options_of v.options) (nodes v.slots) (nodes mid) (rings v.slots) (rings mid) v.heads v.unused
+    (places_of (λ k. 0) h) (with_count (λ k. 0) j 1) loose i j same two holds.filed in
+    held_again (λ k. 0) (λ k. 0) v new unused h tree (j ∷ h.spare) loose
+    (omega (arith, back.long, long, holds.short)) holds (subst S (sym back.same_nodes) stands)
+    (given-filed v mid new unused j (options_of v.options) v.heads (record (places_of (λ k. 0) h) { loose = loose }) back filed)
+    cut whole
 
 -- a loose leaf takes in the next one, whose slot is given back
-pub joined-holds : (v : Shelf) (old mid old2 mid2 new : List Slot) (unused : Link) (i j : ℕ)
-    → old ≡ v.slots → length mid ≡ length old → GivesBack v mid old2 mid2 unused j → new ≡ mid2
-    → ((s : Sequence) (n : Numbered) → Stands (nodes old) s n → Stands (nodes mid) s (joined i n))
-    → (node_at (nodes old) i).kind ≡ kind.Free → (node_at (nodes mid) i).kind ≡ kind.Free → j ≢ i
-    → (node_at (nodes old) j).kind ≡ kind.Free
-    → node_at (nodes mid) j ≡ record (node_at (nodes old) j) { kind = kind.Unused }
-    → ((k : ℕ) → k ≢ i → k ≢ j → KeepsUse (node_at (nodes old) k) (node_at (nodes mid) k))
-    → rings mid ≡ rings old
-    → (h : Holding) → Holds v h → h.loose i ≡ true → h.loose j ≡ true → Holds (record v { slots = new; unused = unused }) (after_join i j h)
-joined-holds v old mid old2 mid2 new unused i j eo long back en tree was_free is_free_now apart other_free gone others same h holds loose_i loose_j =
-    let gone_kind : (node_at (nodes mid) j).kind ≡ kind.Unused = ap (λ n. n.kind) gone in
-    let two : ChangesTwo (nodes old) (nodes mid) i j (λ k. 0) (with_count (λ k. 0) j 1) h.loose (with_mark h.loose j false) = record {
-      apart = λ e. apart (sym e);
-      first = inr (inl loose_i, inl (with_mark-other h.loose j false i (λ e. apart (sym e)) ∙ loose_i));
-      second = inr (inl loose_j, inr (ap is_free gone_kind));
-      used = ap use_count is_free_now ∙ sym (ap use_count was_free);
-      counted = omega (arith, with_count-same (λ k. 0) j 1, ap use_count gone_kind, ap use_count other_free);
+pub joined-holds : (v : Shelf) (mid new : List Slot) (unused : Link) (i j : ℕ) → length mid ≡ length v.slots
+    → IsNextJoined v.slots mid i j → GivesBack v mid new unused j → (node_in v j).kind ≡ kind.Free
+    → (h : Holding) → IsLooseLeaf v i h → h.loose j ≡ true
+    → Holds (record v { slots = new; unused = unused }) (after_join i j h)
+joined-holds v mid new unused i j long w back other_free h leaf loose_j =
+    let gone : (node_at (nodes mid) j).kind ≡ kind.Unused = ap (λ n. n.kind) w.given in
+    let apart : i ≢ j = λ e. w.apart (sym e) in
+    given-holds v mid new unused i j h (joined i h.tree) (with_mark h.loose j false) long w.same_rings back leaf.holds (record {
+      apart = apart;
+      first = inr (inl leaf.loose, inl (with_mark-other h.loose j false i apart ∙ leaf.loose));
+      second = inr (inl loose_j, inr (ap is_free gone));
+      used = ap (λ n. use_count n.kind) w.leaf;
+      counted = omega (arith, with_count-same (λ k. 0) j 1, ap use_count gone, ap use_count other_free);
       hands = λ k ne. with_count-other (λ k. 0) j 1 k ne;
       marks = λ k _ ne. with_mark-other h.loose j false k ne;
-      others = others;
-    } in
-    let filed : AreFiled (options_of v.options) (nodes mid) (rings mid) v.heads v.unused (record (places_of (with_count (λ k. 0) j 1) h) { loose = with_mark h.loose j false }) =
-    filed-two (options_of v.options) (nodes old) (nodes mid) (rings old) (rings mid) v.heads v.unused (places_of (λ k. 0) h) (with_count (λ k. 0) j 1) (with_mark h.loose j false) i j
-    same two (filed-before (λ k. 0) v old h eo holds) in
-    held_again (λ k. 0) (λ k. 0) v old mid2 new unused h (joined i h.tree) (j ∷ h.spare) (with_mark h.loose j false) eo en
-    (omega (arith, back.long, ap (λ s. length s) back.given, long, ap (λ s. length s) eo, holds.short)) holds
-    (stands-given v mid old2 mid2 unused j h.sequence (joined i h.tree) back (tree h.sequence h.tree (stands-before (λ k. 0) v old h eo holds)))
-    (given-filed v mid old2 mid2 unused j (options_of v.options) v.heads (record (places_of (λ k. 0) h) { loose = with_mark h.loose j false }) back filed)
-    (cut-joined i h.sequence.width h.tree holds.cut) (total-joined i h.tree)
+      others = w.others;
+    })
+    (w.tree h.sequence h.tree leaf.holds.stands) (cut-joined i h.sequence.width h.tree leaf.holds.cut) (total-joined i h.tree)
 
 -- a container gives way to its lone child, whose slot is given back
-pub lifted-holds : (v : Shelf) (old mid old2 mid2 new : List Slot) (unused : Link) (i c : ℕ)
-    → old ≡ v.slots → length mid ≡ length old → GivesBack v mid old2 mid2 unused c → new ≡ mid2
-    → ((s : Sequence) (n : Numbered) → s.parent ≡ no_slot → Stands (nodes old) s n → Stands (nodes mid) s (lifted i n))
-    → (node_at (nodes old) i).kind ≡ kind.Container → (node_at (nodes mid) i).kind ≡ kind.Free → i ≢ c
-    → (node_at (nodes old) c).kind ≡ kind.Free
-    → node_at (nodes mid) c ≡ record (node_at (nodes old) c) { kind = kind.Unused }
-    → ((k : ℕ) → k ≢ c → k ≢ i → KeepsUse (node_at (nodes old) k) (node_at (nodes mid) k))
-    → rings mid ≡ rings old
-    → (h : Holding) → Holds v h → h.loose c ≡ true → Holds (record v { slots = new; unused = unused }) (after_lift i c h)
-lifted-holds v old mid old2 mid2 new unused i c eo long back en tree was_container is_free_now apart child_free gone others same h holds loose_c =
-    let gone_kind : (node_at (nodes mid) c).kind ≡ kind.Unused = ap (λ n. n.kind) gone in
-    let loose' : ℕ → Bool = with_mark (with_mark h.loose i true) c false in
-    let two : ChangesTwo (nodes old) (nodes mid) i c (λ k. 0) (with_count (λ k. 0) c 1) h.loose (with_mark (with_mark h.loose i true) c false) = record {
+pub lifted-holds : (v : Shelf) (mid new : List Slot) (unused : Link) (i c : ℕ) → length mid ≡ length v.slots
+    → IsChildLifted v.slots mid i c → GivesBack v mid new unused c → (h : Holding) → IsLooseLeaf v c h
+    → Holds (record v { slots = new; unused = unused }) (after_lift i c h)
+lifted-holds v mid new unused i c long w back h leaf =
+    let gone : (node_at (nodes mid) c).kind ≡ kind.Unused = ap (λ n. n.kind) w.given in
+    let free : (node_at (nodes mid) i).kind ≡ kind.Free = ap (λ n. n.kind) w.leaf in
+    let apart : i ≢ c =
+    (λ e. let z : kind.Container ≡ kind.Free = sym w.container ∙ ap (λ x. (node_in v x).kind) e ∙ leaf.kind in cc) in
+    given-holds v mid new unused i c h (lifted i h.tree) (with_mark (with_mark h.loose i true) c false) long w.same_rings back leaf.holds (record {
       apart = apart;
-      first = inr (inr (ap is_free was_container), inl (with_mark-other (with_mark h.loose i true) c false i apart ∙ with_mark-same h.loose i true));
-      second = inr (inl loose_c, inr (ap is_free gone_kind));
-      used = ap use_count is_free_now ∙ sym (ap use_count was_container);
-      counted = omega (arith, with_count-same (λ k. 0) c 1, ap use_count gone_kind, ap use_count child_free);
+      first = inr (inr (ap is_free w.container), inl (with_mark-other (with_mark h.loose i true) c false i apart ∙ with_mark-same h.loose i true));
+      second = inr (inl leaf.loose, inr (ap is_free gone));
+      used = ap use_count free ∙ sym (ap use_count w.container);
+      counted = omega (arith, with_count-same (λ k. 0) c 1, ap use_count gone, ap use_count leaf.kind);
       hands = λ k ne. with_count-other (λ k. 0) c 1 k ne;
       marks = λ k ne nf. with_mark-other (with_mark h.loose i true) c false k nf ∙ with_mark-other h.loose i true k ne;
-      others = λ k ne nf. others k nf ne;
-    } in
-    let filed : AreFiled (options_of v.options) (nodes mid) (rings mid) v.heads v.unused (record (places_of (with_count (λ k. 0) c 1) h) { loose = with_mark (with_mark h.loose i true) c false }) =
-    filed-two (options_of v.options) (nodes old) (nodes mid) (rings old) (rings mid) v.heads v.unused (places_of (λ k. 0) h) (with_count (λ k. 0) c 1) (with_mark (with_mark h.loose i true) c false) i c
-    same two (filed-before (λ k. 0) v old h eo holds) in
-    held_again (λ k. 0) (λ k. 0) v old mid2 new unused h (lifted i h.tree) (c ∷ h.spare) (with_mark (with_mark h.loose i true) c false) eo en
-    (omega (arith, back.long, ap (λ s. length s) back.given, long, ap (λ s. length s) eo, holds.short)) holds
-    (stands-given v mid old2 mid2 unused c h.sequence (lifted i h.tree) back (tree h.sequence h.tree holds.top (stands-before (λ k. 0) v old h eo holds)))
-    (given-filed v mid old2 mid2 unused c (options_of v.options) v.heads (record (places_of (λ k. 0) h) { loose = with_mark (with_mark h.loose i true) c false }) back filed)
-    (cut-lifted i h.sequence.width h.tree holds.cut) (total-lifted i h.tree)
+      others = w.others;
+    })
+    (w.tree h.sequence h.tree leaf.holds.top leaf.holds.stands) (cut-lifted i h.sequence.width h.tree leaf.holds.cut) (total-lifted i h.tree)
 
 -- a fact of a node of a shelf is one of the slots that a call was given
 pub node-before : (P : Node → Type 0) (v : Shelf) (old : List Slot) (i : ℕ) → old ≡ v.slots → P (node_in v i) → P (node_at (nodes old) i)
 node-before P v old i e p = let Q : List Slot → Type 0 = λ slots. P (node_at (nodes slots) i) in subst Q (sym e) p
-
--- the same where the slot that is given back is said in another way
-pub joined-holds_at : (v : Shelf) (old mid old2 mid2 new : List Slot) (unused : Link) (i j k : ℕ) → j ≡ k
-    → old ≡ v.slots → length mid ≡ length old → GivesBack v mid old2 mid2 unused j → new ≡ mid2
-    → ((s : Sequence) (n : Numbered) → Stands (nodes old) s n → Stands (nodes mid) s (joined i n))
-    → (node_in v i).kind ≡ kind.Free → (node_at (nodes mid) i).kind ≡ kind.Free → j ≢ i
-    → (node_in v k).kind ≡ kind.Free
-    → node_at (nodes mid) j ≡ record (node_at (nodes old) j) { kind = kind.Unused }
-    → ((x : ℕ) → x ≢ i → x ≢ j → KeepsUse (node_at (nodes old) x) (node_at (nodes mid) x))
-    → rings mid ≡ rings old
-    → (h : Holding) → Holds v h → h.loose i ≡ true → h.loose k ≡ true → Holds (record v { slots = new; unused = unused }) (after_join i k h)
-joined-holds_at v old mid old2 mid2 new unused i j k e eo long back en tree was_free is_free_now apart other_free gone others same h holds loose_i loose_k =
-    let P : ℕ → Type 0 = λ x. Holds (record v { slots = new; unused = unused }) (after_join i x h) in
-    let K : ℕ → Type 0 = λ x. (node_in v x).kind ≡ kind.Free in
-    let L : ℕ → Type 0 = λ x. h.loose x ≡ true in
-    subst P e
-    (joined-holds v old mid old2 mid2 new unused i j eo long back en tree (node-before (λ n. n.kind ≡ kind.Free) v old i eo was_free) is_free_now apart
-    (node-before (λ n. n.kind ≡ kind.Free) v old j eo (subst K (sym e) other_free)) gone others same h holds loose_i (subst L (sym e) loose_k))
-
--- a fact of the nodes after a call and a giving back
-pub given-nodes : (P : List Node → Type 0) (v : Shelf) (mid old2 mid2 new : List Slot) (unused : Link) (j : ℕ) → GivesBack v mid old2 mid2 unused j → new ≡ mid2 → P (nodes mid) → P (nodes new)
-given-nodes P v mid old2 mid2 new unused j b en p =
-    let Q : List Slot → Type 0 = λ slots. P (nodes slots) in
-    subst Q (sym en) (subst P (sym b.same_nodes) (subst Q (sym b.given) p))
 
 -- the tree stays where a slot that isn't used changes, and stays unused
 pub stands-taken : (ns ms : List Node) (i : ℕ) (s : Sequence) (n : Numbered) → (node_at ns i).kind ≡ kind.Unused → (node_at ms i).kind ≡ kind.Unused
@@ -391,7 +341,7 @@ pub taken-holds : (v : Shelf) (new : List Slot) (unused : Link) (at : ℕ) (h : 
     → IsTaken (options_of v.options) v.slots new v.heads unused (places_of hand h) at
     → HoldsWith hand v h → HoldsWith (with_count hand at 1) (record v { slots = new; unused = unused }) (after_take h)
 taken-holds v new unused at h hand short others taken holds =
-    held_again hand (with_count hand at 1) v v.slots new new unused h h.tree (rest_of h.spare) h.loose refl refl short holds
+    held_again hand (with_count hand at 1) v new unused h h.tree (rest_of h.spare) h.loose short holds
     (stands-taken (nodes v.slots) (nodes new) at h.sequence h.tree taken.was_unused taken.is_unused others holds.stands)
     taken.filed holds.cut refl
 
@@ -433,94 +383,54 @@ apart-kinds ns i j free unused e =
     let z : kind.Free ≡ kind.Unused = sym free ∙ ap (λ x. (node_at ns x).kind) e ∙ unused in cc
 
 -- the slot in hand takes what a loose leaf doesn't keep
-pub split-holds : (v : Shelf) (old mid new : List Slot) (at fresh p : ℕ) (after before : Link) → AreSlots v.slots old mid new
-    → ((s : Sequence) (n : Numbered) → Stands (nodes old) s n → Stands (nodes mid) s (split_at at fresh p n))
-    → (node_in v at).kind ≡ kind.Free → (node_in v fresh).kind ≡ kind.Unused → 0 < p → p < extent_of (node_in v at)
-    → node_at (nodes mid) at ≡ front_node (node_at (nodes old) at) p after
-    → node_at (nodes mid) fresh ≡ back_node (node_at (nodes old) at) p before (node_at (nodes old) fresh)
-    → ((k : ℕ) → k ≢ at → k ≢ fresh → KeepsUse (node_at (nodes old) k) (node_at (nodes mid) k))
-    → rings mid ≡ rings old
-    → (h : Holding) (hand : ℕ → ℕ) → IsReadyWith hand v at fresh h
-    → HoldsWith (with_count hand fresh 0) (record v { slots = new }) (after_split at fresh p h)
-split-holds v old mid new at fresh p after before a tree free_v unused_v positive less_v front back others same h hand r =
-    let free : (node_at (nodes old) at).kind ≡ kind.Free = node-before (λ n. n.kind ≡ kind.Free) v old at a.given free_v in
-    let unused : (node_at (nodes old) fresh).kind ≡ kind.Unused = node-before (λ n. n.kind ≡ kind.Unused) v old fresh a.given unused_v in
-    let less : p < extent_of (node_at (nodes old) at) = node-before (λ n. p < extent_of n) v old at a.given less_v in
-    let apart : at ≢ fresh = apart-kinds (nodes old) at fresh free unused in
-    let back_free : (node_at (nodes mid) fresh).kind ≡ kind.Free = ap (λ n. n.kind) back in
-    let stands : Stands (nodes old) h.sequence h.tree = stands-before hand v old h a.given r.holds in
-    let two : ChangesTwo (nodes old) (nodes mid) at fresh hand (with_count hand fresh 0) h.loose (with_mark h.loose fresh true) = record {
+pub split-holds : (v : Shelf) (new : List Slot) (at fresh : Link) (p : ℕ) → length new ≡ length v.slots
+    → IsLeafSplit v.slots new at fresh p → CanSplitInto (nodes v.slots) at.number fresh.number p
+    → (h : Holding) (hand : ℕ → ℕ) → IsReadyWith hand v at.number fresh.number h
+    → HoldsWith (with_count hand fresh.number 0) (record v { slots = new }) (after_split at.number fresh.number p h)
+split-holds v new at fresh p long w can h hand r =
+    let i : ℕ = at.number in
+    let k : ℕ = fresh.number in
+    let apart : i ≢ k = apart-kinds (nodes v.slots) i k can.free can.unused in
+    let back_free : (node_at (nodes new) k).kind ≡ kind.Free = ap (λ n. n.kind) w.back in
+    held_again hand (with_count hand k 0) v new v.unused h (split_at i k p h.tree) h.spare (with_mark h.loose k true)
+    (omega (arith, long, r.holds.short)) r.holds (w.tree h.sequence h.tree r.holds.stands)
+    (filed-two (options_of v.options) (nodes v.slots) (nodes new) (rings v.slots) (rings new) v.heads v.unused (places_of hand h)
+        (with_count hand k 0) (with_mark h.loose k true) i k w.same_rings (record {
       apart = apart;
-      first = inr (inl r.loose, inl (with_mark-other h.loose fresh true at apart ∙ r.loose));
-      second = inr (inr (ap is_free unused), inl (with_mark-same h.loose fresh true));
-      used = ap (λ n. use_count n.kind) front;
-      counted = omega (arith, with_count-same hand fresh 0, ap use_count back_free, ap use_count unused, r.in_hand);
-      hands = λ k ne. with_count-other hand fresh 0 k ne;
-      marks = λ k _ ne. with_mark-other h.loose fresh true k ne;
-      others = others;
-    } in
-    held_again hand (with_count hand fresh 0) v old mid new v.unused h (split_at at fresh p h.tree) h.spare (with_mark h.loose fresh true) a.given a.left
-    (short-mid v.slots old mid new a r.holds.short) r.holds
-    (tree h.sequence h.tree stands)
-    (filed-two (options_of v.options) (nodes old) (nodes mid) (rings old) (rings mid) v.heads v.unused (places_of hand h) (with_count hand fresh 0) (with_mark h.loose fresh true) at fresh
-    same two (filed-before hand v old h a.given r.holds))
-    (cut-split at fresh p (nodes old) h.sequence no_slot 0 h.tree positive less stands.standing r.holds.cut)
-    (total-split at fresh p (nodes old) h.sequence no_slot 0 h.tree less stands.standing)
+      first = inr (inl r.loose, inl (with_mark-other h.loose k true i apart ∙ r.loose));
+      second = inr (inr (ap is_free can.unused), inl (with_mark-same h.loose k true));
+      used = ap (λ n. use_count n.kind) w.front;
+      counted = omega (arith, with_count-same hand k 0, ap use_count back_free, ap use_count can.unused, r.in_hand);
+      hands = λ x ne. with_count-other hand k 0 x ne;
+      marks = λ x _ ne. with_mark-other h.loose k true x ne;
+      others = w.others;
+    }) r.holds.filed)
+    (cut-split i k p (nodes v.slots) h.sequence no_slot 0 h.tree can.positive can.less r.holds.stands.standing r.holds.cut)
+    (total-split i k p (nodes v.slots) h.sequence no_slot 0 h.tree can.less r.holds.stands.standing)
 
 -- the slot in hand becomes the lone child of what was a loose leaf
-pub wrapped-holds : (v : Shelf) (old mid new : List Slot) (at fresh : ℕ) (link : Link) → AreSlots v.slots old mid new
-    → ((s : Sequence) (n : Numbered) → Stands (nodes old) s n → Stands (nodes mid) s (wrapped_at at fresh s.width n))
-    → (node_in v at).kind ≡ kind.Free → (node_in v fresh).kind ≡ kind.Unused
-    → node_at (nodes mid) at ≡ record (node_at (nodes old) at) { kind = kind.Container }
-    → node_at (nodes mid) fresh ≡ inner_node (node_at (nodes old) at) link (node_at (nodes old) fresh)
-    → ((k : ℕ) → k ≢ at → k ≢ fresh → KeepsUse (node_at (nodes old) k) (node_at (nodes mid) k))
-    → rings mid ≡ rings old
-    → (h : Holding) (hand : ℕ → ℕ) → IsReadyWith hand v at fresh h
-    → HoldsWith (with_count hand fresh 0) (record v { slots = new }) (after_wrap at fresh h)
-wrapped-holds v old mid new at fresh link a tree free_v unused_v outer inner others same h hand r =
-    let free : (node_at (nodes old) at).kind ≡ kind.Free = node-before (λ n. n.kind ≡ kind.Free) v old at a.given free_v in
-    let unused : (node_at (nodes old) fresh).kind ≡ kind.Unused = node-before (λ n. n.kind ≡ kind.Unused) v old fresh a.given unused_v in
-    let apart : at ≢ fresh = apart-kinds (nodes old) at fresh free unused in
-    let outer_kind : (node_at (nodes mid) at).kind ≡ kind.Container = ap (λ n. n.kind) outer in
-    let inner_free : (node_at (nodes mid) fresh).kind ≡ kind.Free = ap (λ n. n.kind) inner in
-    let two : ChangesTwo (nodes old) (nodes mid) at fresh hand (with_count hand fresh 0) h.loose (with_mark (with_mark h.loose fresh true) at false) = record {
+pub wrapped-holds : (v : Shelf) (new : List Slot) (at fresh : Link) → length new ≡ length v.slots
+    → IsLeafWrapped v.slots new at fresh → (node_in v at.number).kind ≡ kind.Free → (node_in v fresh.number).kind ≡ kind.Unused
+    → (h : Holding) (hand : ℕ → ℕ) → IsReadyWith hand v at.number fresh.number h
+    → HoldsWith (with_count hand fresh.number 0) (record v { slots = new }) (after_wrap at.number fresh.number h)
+wrapped-holds v new at fresh long w free unused h hand r =
+    let i : ℕ = at.number in
+    let k : ℕ = fresh.number in
+    let apart : i ≢ k = apart-kinds (nodes v.slots) i k free unused in
+    let outer_kind : (node_at (nodes new) i).kind ≡ kind.Container = ap (λ n. n.kind) w.outer in
+    let inner_free : (node_at (nodes new) k).kind ≡ kind.Free = ap (λ n. n.kind) w.inner in
+    held_again hand (with_count hand k 0) v new v.unused h (wrapped_at i k h.sequence.width h.tree) h.spare
+    (with_mark (with_mark h.loose k true) i false)
+    (omega (arith, long, r.holds.short)) r.holds (w.tree h.sequence h.tree r.holds.stands)
+    (filed-two (options_of v.options) (nodes v.slots) (nodes new) (rings v.slots) (rings new) v.heads v.unused (places_of hand h)
+        (with_count hand k 0) (with_mark (with_mark h.loose k true) i false) i k w.same_rings (record {
       apart = apart;
       first = inr (inl r.loose, inr (ap is_free outer_kind));
-      second = inr (inr (ap is_free unused), inl (with_mark-other (with_mark h.loose fresh true) at false fresh (λ e. apart (sym e)) ∙ with_mark-same h.loose fresh true));
+      second = inr (inr (ap is_free unused), inl (with_mark-other (with_mark h.loose k true) i false k (λ e. apart (sym e)) ∙ with_mark-same h.loose k true));
       used = ap use_count outer_kind ∙ sym (ap use_count free);
-      counted = omega (arith, with_count-same hand fresh 0, ap use_count inner_free, ap use_count unused, r.in_hand);
-      hands = λ k ne. with_count-other hand fresh 0 k ne;
-      marks = λ k ne nf. with_mark-other (with_mark h.loose fresh true) at false k ne ∙ with_mark-other h.loose fresh true k nf;
-      others = others;
-    } in
-    held_again hand (with_count hand fresh 0) v old mid new v.unused h (wrapped_at at fresh h.sequence.width h.tree) h.spare (with_mark (with_mark h.loose fresh true) at false) a.given a.left
-    (short-mid v.slots old mid new a r.holds.short) r.holds
-    (tree h.sequence h.tree (stands-before hand v old h a.given r.holds))
-    (filed-two (options_of v.options) (nodes old) (nodes mid) (rings old) (rings mid) v.heads v.unused (places_of hand h) (with_count hand fresh 0) (with_mark (with_mark h.loose fresh true) at false) at fresh
-    same two (filed-before hand v old h a.given r.holds))
-    (cut-wrapped at fresh h.sequence.width h.tree r.holds.wide r.holds.cut)
-    (total-wrapped at fresh h.sequence.width h.tree)
-
--- a slot keeps its use in the shelf
-pub others-carried : (v : Shelf) (old mid new : List Slot) (i j : ℕ) → AreSlots v.slots old mid new
-    → ((k : ℕ) → k ≢ i → k ≢ j → KeepsUse (node_at (nodes old) k) (node_at (nodes mid) k))
-    → (k : ℕ) → k ≢ i → k ≢ j → KeepsUse (node_in v k) (node_at (nodes new) k)
-others-carried v old mid new i j a f k ne nf =
-    let P : List Slot → Type 0 = λ slots. KeepsUse (node_at (nodes slots) k) (node_at (nodes mid) k) in
-    let Q : List Slot → Type 0 = λ slots. KeepsUse (node_in v k) (node_at (nodes slots) k) in
-    subst Q (sym a.left) (subst P a.given (f k ne nf))
-
--- the same where the extent is said in another way
-pub split-holds_at : (v : Shelf) (old mid new : List Slot) (at fresh p q : ℕ) (after before : Link) → q ≡ p → AreSlots v.slots old mid new
-    → ((s : Sequence) (n : Numbered) → Stands (nodes old) s n → Stands (nodes mid) s (split_at at fresh q n))
-    → (node_in v at).kind ≡ kind.Free → (node_in v fresh).kind ≡ kind.Unused → 0 < p → p < extent_of (node_in v at)
-    → node_at (nodes mid) at ≡ front_node (node_at (nodes old) at) q after
-    → node_at (nodes mid) fresh ≡ back_node (node_at (nodes old) at) q before (node_at (nodes old) fresh)
-    → ((k : ℕ) → k ≢ at → k ≢ fresh → KeepsUse (node_at (nodes old) k) (node_at (nodes mid) k))
-    → rings mid ≡ rings old
-    → (h : Holding) (hand : ℕ → ℕ) → IsReadyWith hand v at fresh h
-    → HoldsWith (with_count hand fresh 0) (record v { slots = new }) (after_split at fresh p h)
-split-holds_at v old mid new at fresh p q after before e a tree free_v unused_v positive less front back others same h hand r =
-    let P : ℕ → Type 0 = λ x. HoldsWith (with_count hand fresh 0) (record v { slots = new }) (after_split at fresh x h) in
-    let L : ℕ → Type 0 = λ x. x < extent_of (node_in v at) in
-    subst P e (split-holds v old mid new at fresh q after before a tree free_v unused_v (omega (arith, e, positive)) (subst L (sym e) less) front back others same h hand r)
+      counted = omega (arith, with_count-same hand k 0, ap use_count inner_free, ap use_count unused, r.in_hand);
+      hands = λ x ne. with_count-other hand k 0 x ne;
+      marks = λ x ne nf. with_mark-other (with_mark h.loose k true) i false x ne ∙ with_mark-other h.loose k true x nf;
+      others = w.others;
+    }) r.holds.filed)
+    (cut-wrapped i k h.sequence.width h.tree r.holds.wide r.holds.cut) (total-wrapped i k h.sequence.width h.tree)

@@ -1,10 +1,11 @@
-use Rattle.std.proofs.Common.{◌∙◌, ap, to_z, of_z, w32}
+use Rattle.std.proofs.Common.{◌∙◌, ap, ℕ, subst, w32}
 use Rattle.std.proofs.lemmas.Int.{to_z-of_z}
 use Rattle.std.proofs.lemmas.List.{with_items_is}
 use Rattle.std.specs.Vec.{with_items}
 use Rattle.guillotiere.specs.Pixels.{natural}
+use Rattle.guillotiere.specs.SlotCalls.{IsLeafSplit}
 use Rattle.guillotiere.specs.Holdings.{shelf_of}
-use Rattle.guillotiere.proofs.StoreSteps.{AreSlots, split-holds_at, others-carried}
+use Rattle.guillotiere.proofs.StoreSteps.{AreSlots, split-holds, over-shelf, long-over}
 use Rattle.guillotiere.proofs.store.Store.split_with.Given as given
 use Rattle.guillotiere.proofs.store.Store.split_with.Goals as goal
 
@@ -15,11 +16,22 @@ slots g c = record {
   long = c.split_leaf.auto.slots;
 }
 
+split : (g : given.Over) (c : goal.After-self-1 g) → IsLeafSplit c.args.self.now.slots.items (with_items c.args.self.now.slots c.split_leaf.new.slots).items c.args.at c.args.fresh (natural c.args.extent)
+split g c =
+    over-shelf (λ old new. IsLeafSplit old new c.args.at c.args.fresh (natural c.args.extent)) _ _ _ _ (slots g c)
+    (subst (λ (p : ℕ). IsLeafSplit c.deref_mut.result.now c.split_leaf.new.slots c.args.at c.args.fresh p)
+    (ap natural (to_z-of_z w32 c.args.extent c.ranges.extent)) c.split_leaf.ensures)
+
 pub returns-clause-kept : goal.returns-clause-kept
 returns-clause-kept g c =
-    split-holds_at (shelf_of c.args.self.now) c.deref_mut.result.now c.split_leaf.new.slots _ c.args.at.number c.args.fresh.number (natural c.args.extent) (natural (to_z w32 (of_z w32 c.args.extent))) c.args.fresh c.args.at (ap natural (to_z-of_z w32 c.args.extent c.ranges.extent)) (slots g c)
-    c.split_leaf.ensures.tree c.requires.free c.requires.unused c.requires.positive c.requires.less c.split_leaf.ensures.front c.split_leaf.ensures.back c.split_leaf.ensures.others c.split_leaf.ensures.same_rings
+    split-holds (shelf_of c.args.self.now) _ c.args.at c.args.fresh (natural c.args.extent) (long-over _ _ _ _ (slots g c)) (split g c)
+    (record { free = c.requires.free; unused = c.requires.unused; positive = c.requires.positive; less = c.requires.less })
+
+pub returns-clause-front : goal.returns-clause-front
+returns-clause-front g c = (split g c).front
+
+pub returns-clause-back : goal.returns-clause-back
+returns-clause-back g c = (split g c).back
 
 pub returns-clause-others : goal.returns-clause-others
-returns-clause-others g c =
-    others-carried (shelf_of c.args.self.now) c.deref_mut.result.now c.split_leaf.new.slots _ c.args.at.number c.args.fresh.number (slots g c) c.split_leaf.ensures.others
+returns-clause-others g c = (split g c).others
