@@ -128,7 +128,7 @@ impl<A: Allocator + Copy> AtlasAllocator<A> {
         ensures turns { IfOk result (λ it. it.turns ≡ 0) }
         ensures sound { IfOk result (λ it. IsSound (state_of it)) }
     {
-        let none = Link { number: NO_SLOT };
+        let none = Link::NONE;
         let mut store = Store {
             slots: Vec::with_capacity(alloc, 1)?,
             lists: Table::new(alloc)?,

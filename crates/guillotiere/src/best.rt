@@ -9,7 +9,7 @@ ghost use Rattle.guillotiere.specs.Rectangles.{IsUnsigned};
 use crate::bands::{Place, strip};
 use crate::choice::{is_before, margin_in};
 use crate::geometry::{Point, Rectangle, Size, point2};
-use crate::slots::{Link, NO_SLOT};
+use crate::slots::Link;
 
 /// The free box that a request takes, and where it stands.
 #[derive(Clone, Copy)]
@@ -66,7 +66,7 @@ impl Best {
         requires { IsPositive (sides_of size) }
         ensures { HasSeen result is_large (sides_of size) [] }
     {
-        let none = Link { number: NO_SLOT };
+        let none = Link::NONE;
         let corner = point2(0, 0);
         Best {
             size,

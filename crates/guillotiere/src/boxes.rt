@@ -88,7 +88,7 @@ impl<A: Allocator> FreeBoxes<A> {
         let table = Table::new(alloc)?;
         Ok(FreeBoxes {
             entries: Vec::new(alloc),
-            unused: Link { number: NO_SLOT },
+            unused: Link::NONE,
             table,
         })
     }
@@ -173,7 +173,7 @@ impl<A: Allocator> FreeBoxes<A> {
             self.entries.reserve(1)?;
         }
         self.entries.clear();
-        self.unused = Link { number: NO_SLOT };
+        self.unused = Link::NONE;
         self.table.clear();
         self.add(area, options);
         Ok(())

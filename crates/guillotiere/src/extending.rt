@@ -69,7 +69,7 @@ pub fn append_leaf(slots: &mut [Slot], last: Link, fresh: Link, size: Size)
     let unused = read_node(slots, fresh);
     let strip = Node {
         previous: last,
-        next: Link { number: NO_SLOT },
+        next: Link::NONE,
         area: beyond(leaf.area, leaf.axis, size),
         kind: NodeKind::Free,
         generation: unused.generation,
@@ -113,7 +113,7 @@ pub fn wrap_top(slots: &mut [Slot], first: Link, container: Link, size: Size)
     ensures others { (k : ℕ) → k ≢ container.number → KeepsUse (node_at (nodes slots.old) k) (node_at (nodes slots.new) k) }
     ensures same_rings { rings slots.new ≡ rings slots.old }
 {
-    let none = Link { number: NO_SLOT };
+    let none = Link::NONE;
     let inner = read_node(slots, first);
     let unused = read_node(slots, container);
     let outer = Node {

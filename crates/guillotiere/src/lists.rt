@@ -25,7 +25,7 @@ use std::alloc::Allocator;
 /// `next` comes after `at` in its list; nothing happens where `at` is no slot.
 pub fn set_ring_next(slots: &mut [Slot], at: Link, next: Link)
     requires inside { IsSlot (length slots.old) at.number }
-    requires short { length slots.old < 4294967295 }
+    requires short { length slots.old < NO_SLOT }
     ensures written { rings slots.new ≡ with_next (rings slots.old) at.number next }
     ensures same_nodes { nodes slots.new ≡ nodes slots.old }
 {
@@ -39,7 +39,7 @@ pub fn set_ring_next(slots: &mut [Slot], at: Link, next: Link)
 /// `previous` comes before `at` in its list; nothing happens where `at` is no slot.
 pub fn set_ring_previous(slots: &mut [Slot], at: Link, previous: Link)
     requires inside { IsSlot (length slots.old) at.number }
-    requires short { length slots.old < 4294967295 }
+    requires short { length slots.old < NO_SLOT }
     ensures written { rings slots.new ≡ with_ring_previous (rings slots.old) at.number previous }
     ensures same_nodes { nodes slots.new ≡ nodes slots.old }
 {
@@ -54,7 +54,7 @@ pub fn set_ring_previous(slots: &mut [Slot], at: Link, previous: Link)
 fn unlink(slots: &mut [Slot], at: Link, ring: Ring)
     requires listed { IsListed (rings slots.old) at.number }
     requires ring { ring ≡ ring_at (rings slots.old) at.number }
-    requires short { length slots.old < 4294967295 }
+    requires short { length slots.old < NO_SLOT }
     ensures list { (first : Link) (xs : List ℕ) → IsList (rings slots.old) first xs → 0 < occurs at.number xs → IsList (rings slots.new) (first_without ring first) (without at.number xs) }
     ensures others { (first : Link) (xs : List ℕ) (k : ℕ) → IsList (rings slots.old) first xs → 0 < occurs at.number xs → occurs k xs ≡ 0 → ring_at (rings slots.new) k ≡ ring_at (rings slots.old) k }
     ensures same_nodes { nodes slots.new ≡ nodes slots.old }
@@ -67,12 +67,12 @@ fn unlink(slots: &mut [Slot], at: Link, ring: Ring)
 fn push_front(slots: &mut [Slot], first: Link, at: Link)
     requires inside { at.number < length slots.old }
     requires list { IsUnlisted (rings slots.old) first at.number }
-    requires short { length slots.old < 4294967295 }
+    requires short { length slots.old < NO_SLOT }
     ensures list { (xs : List ℕ) → IsList (rings slots.old) first xs → occurs at.number xs ≡ 0 → IsList (rings slots.new) at (at.number ∷ xs) }
     ensures others { (xs : List ℕ) (k : ℕ) → IsList (rings slots.old) first xs → (k ≡ at.number → ⊥) → occurs k xs ≡ 0 → ring_at (rings slots.new) k ≡ ring_at (rings slots.old) k }
     ensures same_nodes { nodes slots.new ≡ nodes slots.old }
 {
-    let none = Link { number: NO_SLOT };
+    let none = Link::NONE;
     let ring = Ring {
         previous: none,
         next: first,
@@ -108,7 +108,7 @@ pub fn unlist<A: Allocator>(
     requires free { (node_at (nodes slots.old) at.number).kind ≡ Free }
     requires exact { IsExact (node_at (nodes slots.old) at.number).area }
     requires kept { IsKept (options_of options.now) slots.old lists.old at.number }
-    requires short { length slots.old < 4294967295 }
+    requires short { length slots.old < NO_SLOT }
     ensures filed { (unused : Link) (p : Places) → AreFiled (options_of options.now) (nodes slots.old) (rings slots.old) lists.old unused p → p.loose at.number ≡ false → AreFiled (options_of options.now) (nodes slots.new) (rings slots.new) lists.new unused (unlisted p at.number) }
     ensures same_nodes { nodes slots.new ≡ nodes slots.old }
 {
@@ -131,7 +131,7 @@ pub fn enlist<A: Allocator>(
     requires free { (node_at (nodes slots.old) at.number).kind ≡ Free }
     requires exact { IsExact (node_at (nodes slots.old) at.number).area }
     requires loose { IsLoose (options_of options.now) slots.old lists.old at.number }
-    requires short { length slots.old < 4294967295 }
+    requires short { length slots.old < NO_SLOT }
     ensures filed { (unused : Link) (p : Places) → AreFiled (options_of options.now) (nodes slots.old) (rings slots.old) lists.old unused p → p.loose at.number ≡ true → AreFiled (options_of options.now) (nodes slots.new) (rings slots.new) lists.new unused (listed p (list_of (options_of options.now) (node_sides (node_at (nodes slots.old) at.number))) at.number) }
     ensures same_nodes { nodes slots.new ≡ nodes slots.old }
 {
@@ -183,7 +183,7 @@ fn renew(slots: &mut [Slot], at: Link)
 pub fn take_slot<A: Allocator>(slots: &mut Vec<Slot, A>, unused: &mut Link) -> Link
     requires listed { (spare : List ℕ) × Line (rings slots.old.items) spare × (unused.old.number ≡ front spare) }
     requires room { unused.old.number ≡ NO_SLOT → vec_len slots.old < vec_capacity slots.old }
-    requires short { vec_len slots.old < 4294967295 }
+    requires short { vec_len slots.old < NO_SLOT }
     ensures taken { (o : Options) (heads : List ListHead) (p : Places) → AreFiled o (nodes slots.old.items) (rings slots.old.items) heads unused.old p → IsTaken o slots.old.items slots.new.items heads unused.new p result.number }
     ensures others { (k : ℕ) → (k ≡ result.number → ⊥) → node_at (nodes slots.new.items) k ≡ node_at (nodes slots.old.items) k }
     ensures again { (unused.old.number ≡ NO_SLOT → ⊥) → (result ≡ unused.old) × (nodes slots.new.items ≡ slice_set (nodes slots.old.items) result.number (renewed (node_at (nodes slots.old.items) result.number))) }
@@ -209,7 +209,7 @@ pub fn give_back(slots: &mut [Slot], unused: &mut Link, at: Link)
     ensures filed { (o : Options) (heads : List ListHead) (p : Places) → AreFiled o (nodes slots.old) (rings slots.old) heads unused.old p → 0 < p.hand at.number → AreFiled o (nodes slots.new) (rings slots.new) heads unused.new (given_back p at.number) }
     ensures same_nodes { nodes slots.new ≡ nodes slots.old }
 {
-    let none = Link { number: NO_SLOT };
+    let none = Link::NONE;
     let ring = Ring {
         previous: none,
         next: *unused,

@@ -1,5 +1,5 @@
-//! The three calls by which a request is placed in the tree of slots: a leaf is cut in two, is put in a container of its
-//! own, or is granted. They leave the lists alone.
+//! The three calls by which a request is placed in the tree of slots: a leaf is cut in two, is put in a container of
+//! its own, or is granted. They leave the lists alone.
 ghost use Rattle.std.specs.Prelude.{◌≡◌, ◌<◌, length};
 ghost use Rattle.guillotiere.specs.declared.slots.NodeKind.TheVariants.{Free, Unused};
 ghost use Rattle.guillotiere.specs.Boxes.{side, box_sides};
@@ -62,8 +62,8 @@ fn back(area: Rectangle, axis: Orientation, extent: i32) -> Rectangle
     Rectangle { min, max: area.max }
 }
 
-/// The free leaf at `at` keeps its first `extent` pixels along its axis, and the unused slot `fresh` takes the rest as a
-/// free leaf after it.
+/// The free leaf at `at` keeps its first `extent` pixels along its axis, and the unused slot `fresh` takes the rest as
+/// a free leaf after it.
 pub fn split_leaf(slots: &mut [Slot], at: Link, fresh: Link, extent: i32)
     requires stands { IsTree (nodes slots.old) }
     requires ready { CanSplitInto (nodes slots.old) at.number fresh.number (natural extent) }
@@ -100,7 +100,7 @@ pub fn wrap_leaf(slots: &mut [Slot], at: Link, fresh: Link)
 {
     let leaf = read_node(slots, at);
     let unused = read_node(slots, fresh);
-    let none = Link { number: NO_SLOT };
+    let none = Link::NONE;
     let outer = Node {
         kind: NodeKind::Container,
         ..leaf

@@ -41,7 +41,7 @@ fn show_list<E: Entry>(entries: &[E], head: Link, place: Place, best: &mut Best)
 {
     best.begin_list();
     let mut at = head;
-    let mut before = Link { number: NO_SLOT };
+    let mut before = Link::NONE;
     for _step in 0..entries.len() {
         if at.number == NO_SLOT {
             break;

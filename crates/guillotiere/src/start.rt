@@ -10,7 +10,7 @@ ghost use Rattle.guillotiere.specs.Starts.{one_free_slot, start_holding};
 use crate::cut::Orientation;
 use crate::geometry::{Rectangle, Size};
 use crate::options::AllocatorOptions;
-use crate::slots::{Link, NO_SLOT, Node, NodeKind, Ring, Slot};
+use crate::slots::{Link, Node, NodeKind, Ring, Slot};
 use crate::store::Store;
 use std::alloc::Allocator;
 
@@ -18,7 +18,7 @@ use std::alloc::Allocator;
 fn whole_slot(size: Size) -> Slot
     ensures { result ≡ one_free_slot size }
 {
-    let none = Link { number: NO_SLOT };
+    let none = Link::NONE;
     let node = Node {
         parent: none,
         previous: none,
@@ -53,7 +53,7 @@ impl<A: Allocator> Store<A> {
         self.slots.clear();
         self.slots.push_reserved(whole_slot(size));
         self.lists.clear();
-        self.unused = Link { number: NO_SLOT };
+        self.unused = Link::NONE;
         self.options = *options;
         self.list(Link { number: 0 });
     }

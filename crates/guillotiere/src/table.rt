@@ -25,7 +25,7 @@ pub struct ListHead {
 
 // The head of a list with no slot.
 const BLANK: ListHead = ListHead {
-    first: Link { number: NO_SLOT },
+    first: Link::NONE,
     low: 0,
 };
 
