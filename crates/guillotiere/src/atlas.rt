@@ -49,7 +49,8 @@ pub const MOST_SLOTS: u32 = 16777216;
 ///
 /// The atlas is a tree of cuts (docs/MODEL.md, "Trees of cuts"): its allocated and free rectangles are the leaves, and
 /// tile it. Freeing takes no memory; allocating and growing take it only where more slots are used than ever since the
-/// last start.
+/// last start. An empty one takes 21,672 bytes on the heap: 21,632 for the table of its lists of free rectangles, and
+/// 40 for its one slot.
 #[derive(Drop)]
 pub struct AtlasAllocator<A: Allocator + Copy = Global> {
     store: Store<A>,

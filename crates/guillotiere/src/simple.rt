@@ -30,6 +30,10 @@ use std::marker::Model;
 /// is narrower or lower than the alignment is lost (docs/MODEL.md, "The simple allocator").
 ///
 /// It keeps the allocator that it was made with. Contracts see its free boxes, its size and its options.
+///
+/// The table of its lists of free boxes takes 21,632 bytes on the heap, and each free box 20 more. There are at most
+/// 4,294,967,295 free boxes: where 4,294,967,294 or more were free at once since the last start, `Memory` is the answer
+/// to each request that fits a free box, and to a growth that adds one.
 #[derive(Drop)]
 pub struct SimpleAtlasAllocator<A: Allocator + Copy = Global> {
     boxes: FreeBoxes<A>,
