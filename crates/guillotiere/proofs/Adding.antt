@@ -71,7 +71,7 @@ module _ (o : Options) (heads : List ListHead) (es : List Item) (class : ℕ) (r
     abbrev pub column_at : ℕ → ℕ
     column_at i = band_of o (item_sides (item_at es i)).height
 
-    positive-at : (i : ℕ) → (item_at es i).is_free ≡ true → IsPositive (item_sides (item_at es i))
+    pub positive-at : (i : ℕ) → (item_at es i).is_free ≡ true → IsPositive (item_sides (item_at es i))
     positive-at i free = let e = (a.exact i free).nonempty in (omega (arith, e.0), omega (arith, e.1))
 
     list-below : (row column : ℕ) → row < 52 → column < 52 → 52 * row + column < 2704

@@ -12,11 +12,11 @@ use Rattle.guillotiere.specs.Boxes.{Sides, IsPositive}
 use Rattle.guillotiere.specs.Choice.{Options, AreValid, class_of, HasEqualSide}
 use Rattle.guillotiere.specs.Items.{Item, item_at, item_box, item_sides, shown_item, shown_items}
 use Rattle.guillotiere.specs.Lists.{occurs}
-use Rattle.guillotiere.specs.Lookups.{AreListed, HasAdded, HasSearched, IsInRow, IsInColumn, IsBeyond, IsInside, IsWindowOf}
+use Rattle.guillotiere.specs.Lookups.{AreListed, FitsNoneIn, HasAdded, HasSearched, IsInRow, IsInColumn, IsBeyond, IsInside, IsWindowOf}
 use Rattle.guillotiere.specs.Masks.{has, IsMarked}
 use Rattle.guillotiere.specs.Searches.{Shown}
 use Rattle.guillotiere.specs.Tables.{is_used_at}
-use Rattle.guillotiere.proofs.Adding.{added-then, added-weaker, row_at, column_at}
+use Rattle.guillotiere.proofs.Adding.{added-then, added-weaker, positive-at, row_at, column_at, used-at}
 use Rattle.guillotiere.proofs.AddingLines.{window-inside}
 use Rattle.guillotiere.proofs.BandLaws.{band_mono, start_mono, window_law, list_of-most}
 use Rattle.guillotiere.proofs.Besting.{seen-passed}
@@ -63,6 +63,27 @@ pub marked-between : (used from below : Mask) (k end i : ℕ) → ((j : ℕ) →
 marked-between used from below k end i f b h l m =
     b i ∙ ap (λ t. t && nat_lt i end) (f i ∙ ap (λ t. t && nat_le k i) h ∙ ap (λ t. true && t) (le_true k i l)) ∙ ap (λ t. true && t) (lt_true i end m)
 
+-- where no column of the own row and no later row is marked, no list is used
+pub none-used : (heads : List ListHead) (row column : ℕ) (window : Window) (in_row right columns used after rows : Mask)
+    → window.end ≤ 52
+    → ((j : ℕ) → j < 52 → has in_row j ≡ is_used_at heads (52 * row + j))
+    → ((j : ℕ) → has right j ≡ (has in_row j && nat_le column j))
+    → ((j : ℕ) → has columns j ≡ (has right j && nat_lt j window.end))
+    → ((i j : ℕ) → i < 52 → j < 52 → is_used_at heads (52 * i + j) ≡ true → IsMarked used i)
+    → ((i : ℕ) → has after i ≡ (has used i && nat_le (row + 1) i))
+    → ((i : ℕ) → has rows i ≡ (has after i && nat_lt i window.end))
+    → ((j : ℕ) → has columns j ≡ false) → ((i : ℕ) → has rows i ≡ false)
+    → (i j : ℕ) → row ≤ i → column ≤ j → IsInside window i j → is_used_at heads (52 * i + j) ≡ true → ⊥
+none-used heads row column window in_row right columns used after rows most each_column rc cc each ra ca no_column no_row
+    i j right_of under inside full =
+    let below : j < 52 = omega (arith, inside.column_ends, most) in
+    elim (cases_eq i row) [
+      | inl e ↦ true≢false (sym (marked-between in_row right columns column window.end j rc cc
+          (each_column j below ∙ subst (λ k. is_used_at heads (52 * k + j) ≡ true) e full) under inside.column_ends) ∙ no_column j)
+      | inr ne ↦ true≢false (sym (marked-between used after rows (row + 1) window.end i ra ca
+          (each i j (omega (arith, inside.row_ends, most)) below full) (omega (arith, right_of, ne)) inside.row_ends) ∙ no_row i)
+    ]
+
 -- the request's own row and column lie before the end of the window
 pub own-ends : (o : Options) (r : Sides) (class : ℕ) (w : Window) → AreValid o → IsPositive r → class < 3 → class_of o r ≤ class → IsWindowOf o class w
     → (band_of o r.width < w.end) × (band_of o r.height < w.end)
@@ -73,6 +94,18 @@ own-ends o r class w valid positive few from is =
 
 module _ (o : Options) (heads : List ListHead) (es : List Item) (class : ℕ) (r : Sides) (a : AreListed o heads es) (few : class < 3) (row column : ℕ)
     (er : row ≡ band_of o r.width) (ec : column ≡ band_of o r.height) where
+  -- where no list is used from the request's own place on, the request fits no free entry
+  pub none-fits : (window : Window) → IsWindowOf o class window
+      → ((i j : ℕ) → row ≤ i → column ≤ j → IsInside window i j → is_used_at heads (52 * i + j) ≡ true → ⊥)
+      → FitsNoneIn o es class r
+  none-fits window is none i free e fits =
+      let sides = item_sides (item_at es i) in
+      let within = (window_law o sides class a.valid (positive-at o heads es class r a i free) few).0 e in
+      none (row_at o heads es class r a i) (column_at o heads es class r a i)
+      (omega (arith, er, band_mono o _ _ fits.0)) (omega (arith, ec, band_mono o _ _ fits.1))
+      (window-inside o class window (band_of o sides.width) (band_of o sides.height) is within)
+      (used-at o heads es class r a i free)
+
   -- the lists to the right and below
   abbrev pub IsApart : ℕ → ℕ → Type 0
   IsApart i j = (row < i) × (column < j)

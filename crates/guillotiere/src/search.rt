@@ -166,6 +166,21 @@ fn search_rows<A: Allocator, E: Entry>(
     }
 }
 
+// Whether each list of a window, from the request's own place on, is empty.
+fn are_empty<A: Allocator>(table: &Table<A>, window: Window, own: Place) -> bool
+    requires row { own.row < BANDS }
+    requires column { own.column < BANDS }
+    requires end { window.end ≤ BANDS }
+    ensures { result ≡ true → (i j : ℕ) → own.row ≤ i → own.column ≤ j → IsInside window i j
+        → is_used_at table.now (52 * i + j) ≡ true → ⊥ }
+{
+    let right = table.row(own.row).from(own.column);
+    let columns = right.below(window.end);
+    let after = table.used().from(own.row + 1);
+    let rows = after.below(window.end);
+    columns.is_empty() && rows.is_empty()
+}
+
 // A search that was shown the free entries of a class: those with an equal side first, which stand in the request's row
 // and column, and the others only if none of those is free.
 fn search_class<A: Allocator, E: Entry>(
@@ -210,6 +225,9 @@ fn best_of_class<A: Allocator, E: Entry>(
     ensures none { result ≡ None → FitsNoneIn (options_of options.now) (map E.item entries.now) number (sides_of size) }
     ensures some { IfSome result (IsBestIn (options_of options.now) table.now (map E.item entries.now) number (sides_of size)) }
 {
+    if are_empty(table, window_for(number, options), place_for(size, options)) {
+        return None;
+    }
     search_class(entries, table, options, size, number).best()
 }
 
