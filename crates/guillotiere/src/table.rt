@@ -128,10 +128,11 @@ impl<A: Allocator> Table<A> {
         ensures heads { (k : ℕ) → k ≢ number_of at → head_of self.new k ≡ head_of self.old k }
         ensures lows { (k : ℕ) → low_of self.new k ≡ low_of self.old k }
     {
+        let former = self.head(at);
         self.heads[BANDS * at.row + at.column].first = first;
         if first.number == NO_SLOT {
             self.marks.unmark(at);
-        } else {
+        } else if former.number == NO_SLOT {
             self.marks.mark(at);
         }
     }
