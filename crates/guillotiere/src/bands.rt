@@ -89,7 +89,7 @@ pub fn strip(y: i32) -> u8
     requires { pos 0 ≤ℤ y }
     ensures { result ≡ strip_of (natural y) }
 {
-    (y / 64).min(255) as u8
+    (y as u32 / 64).min(255) as u8
 }
 
 // The first band of the sides from a threshold on.
