@@ -2,7 +2,7 @@
 use Rattle.std.proofs.Common.{◌≡◌, ℕ, ◌-◌, ◌<◌, ◌≤◌, ◌⊎◌, Bool, true, false, List, [], ◌∷◌, ◌++◌, ℤ, pos, negsuc, ◌≤ℤ◌, FitsSigned, w32, refl, ap, sym, ◌∙◌, subst, inl, inr, arith}
 use Rattle.std.specs.List.{Contains}
 use Rattle.std.proofs.lemmas.Int.{ints}
-use Rattle.std.proofs.lemmas.Bool.{cases_eq}
+use Rattle.std.proofs.lemmas.Bool.{cases_eq, cases_lt}
 use Rattle.std.proofs.lemmas.List.Elements.{Contains-push_cases, Contains-append_left, Contains-append_cases}
 use Rattle.guillotiere.specs.declared.best.Best.{Best}
 use Rattle.guillotiere.specs.declared.best.Found.{Found}
@@ -180,6 +180,25 @@ module _ (s : Best) (is_large : Bool) (r : Sides) (shown : List Shown) (seen : H
                   best_replaced is_large r shown (shown_at (box_of s.found.rectangle) s.found.at.number) (shown_at (box_of a) at) k.1.best fits
                   (precedes-good is_large r (box_of a) (box_of s.found.rectangle) fits k.1.best.fits (at_box is_large _ _ _ _ a s.found.rectangle refl refl u k.1.unsigned (precedes k.1 first)))
             ]
+
+  fits-cases : (b : Sides) → Fits r b ⊎ (Fits r b → ⊥)
+  fits-cases b =
+      elim (cases_lt b.width r.width) [
+        | inl narrow ↦ inr (λ fits. omega (arith, narrow, fits.0))
+        | inr wide ↦ elim (cases_lt b.height r.height) [
+          | inl low ↦ inr (λ fits. omega (arith, low, fits.1))
+          | inr high ↦ inl (wide, high)
+        ]
+      ]
+
+  -- no box with this `min` is ahead of the best one
+  pub seen-unbeaten : (a : Rectangle) → IsUnsigned a → least_margin r (box_of a) < no_rank → (at : ℕ)
+      → ((rank : ℕ) → IsAhead rank a.min s → ⊥) → HasSeen s is_large r (shown ++ shown_at (box_of a) at ∷ [])
+  seen-unbeaten a u below at behind =
+      elim (fits-cases (box_sides (box_of a))) [
+        | inl fits ↦ seen-behind a (rank_of is_large (least_margin r (box_of a))) u below refl fits at (behind _)
+        | inr misfit ↦ seen-unfit (shown_at (box_of a) at) misfit
+      ]
 
 -- the least `min.y` of the list that is shown
 

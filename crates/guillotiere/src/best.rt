@@ -94,6 +94,13 @@ impl Best {
         rank < self.rank || (rank == self.rank && is_before(point, self.found.rectangle.min))
     }
 
+    // Whether no box with this `min` is to be kept rather than the best one, which has an equal side and comes before it.
+    fn is_unbeaten_by(&self, corner: Point) -> bool
+        ensures { result ≡ true → (rank : ℕ) → IsAhead rank corner self.now → ⊥ }
+    {
+        self.rank == 0 && !is_before(corner, self.found.rectangle.min)
+    }
+
     // A box with this `min.y` isn't the best.
     fn pass(&mut self, y: i32)
         requires { pos 0 ≤ℤ y }
@@ -126,6 +133,10 @@ impl Best {
         ensures least { (own : List Shown) → IsLeast self.old own → IsLeast self.new (own ++ shown_at (box_of rectangle) at.number ∷ []) }
         ensures found { IsLooked self.old self.new (record { rectangle = rectangle; at = at; before = before; place = place; low = 0 }) }
     {
+        if self.is_unbeaten_by(rectangle.min) {
+            self.pass(rectangle.min.y);
+            return;
+        }
         let margin = margin_in(rectangle, self.size);
         if margin < 0 {
             self.pass(rectangle.min.y);

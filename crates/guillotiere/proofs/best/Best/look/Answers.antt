@@ -4,8 +4,21 @@ use Rattle.std.proofs.lemmas.Bool.{true≢false}
 use Rattle.guillotiere.specs.declared.geometry.Rectangle.{Rectangle}
 use Rattle.guillotiere.specs.Boxes.{Sides, Fits, box_sides}
 use Rattle.guillotiere.specs.Pixels.{box_of}
-use Rattle.guillotiere.proofs.Besting.{asked, ranked-asked, seen-unfit, seen-behind, seen-ahead, margin-below, least-ahead}
+use Rattle.guillotiere.proofs.Besting.{asked, ranked-asked, seen-unfit, seen-behind, seen-ahead, seen-unbeaten, margin-below, least-ahead}
 use Rattle.guillotiere.proofs.best.Best.look.Goals as goal
+
+pub returns-then-is_unbeaten_by-clause-seen : goal.returns-then-is_unbeaten_by-clause-seen
+returns-then-is_unbeaten_by-clause-seen c is_large r shown seen =
+    let a = c.args.rectangle in
+    let g : FitsSigned w32 a.max.x = search rules in
+    c.pass.ensures.seen is_large r _ (seen-unbeaten c.args.self.now is_large r shown seen a c.requires.unsigned
+    (margin-below r a seen.positive g) c.args.at.number (c.is_unbeaten_by.ensures c.if-is_unbeaten_by.true))
+
+pub returns-then-is_unbeaten_by-clause-least : goal.returns-then-is_unbeaten_by-clause-least
+returns-then-is_unbeaten_by-clause-least c own least =
+    let f : FitsSigned w32 c.args.rectangle.min.y = search rules in
+    let y : pos (box_of c.args.rectangle).min.y ≡ c.args.rectangle.min.y = ap (λ (x : Rectangle). x.min.y) (sym c.requires.unsigned) in
+    c.pass.ensures.least own _ (y ∙ sym (to_z-of_z w32 c.args.rectangle.min.y f)) least
 
 pub returns-then-margin-lt0-clause-seen : goal.returns-then-margin-lt0-clause-seen
 returns-then-margin-lt0-clause-seen c is_large r shown seen =
@@ -13,14 +26,14 @@ returns-then-margin-lt0-clause-seen c is_large r shown seen =
     let P : Sides → Type 0 = λ q. Fits q (box_sides (box_of c.args.rectangle)) in
     let m = c.margin_in-margin.result in
     let f : FitsSigned w32 m = search rules in
-    c.pass.ensures.seen is_large r _ (seen-unfit s is_large r shown seen _
+    c.pass-then-margin-lt0.ensures.seen is_large r _ (seen-unfit s is_large r shown seen _
     (λ fits. let h : pos 0 ≤ℤ m = c.margin_in-margin.ensures.fits.1 (subst P (sym (asked s is_large r shown seen)) fits) in omega (arith, ints)))
 
 pub returns-then-margin-lt0-clause-least : goal.returns-then-margin-lt0-clause-least
 returns-then-margin-lt0-clause-least c own least =
     let f : FitsSigned w32 c.args.rectangle.min.y = search rules in
     let y : pos (box_of c.args.rectangle).min.y ≡ c.args.rectangle.min.y = ap (λ (x : Rectangle). x.min.y) (sym c.requires.unsigned) in
-    c.pass.ensures.least own _ (y ∙ sym (to_z-of_z w32 c.args.rectangle.min.y f)) least
+    c.pass-then-margin-lt0.ensures.least own _ (y ∙ sym (to_z-of_z w32 c.args.rectangle.min.y f)) least
 
 pub returns-then-not-is_beaten_by-clause-seen : goal.returns-then-not-is_beaten_by-clause-seen
 returns-then-not-is_beaten_by-clause-seen c is_large r shown seen =
