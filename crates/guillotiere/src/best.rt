@@ -98,7 +98,8 @@ impl Best {
     fn is_unbeaten_by(&self, corner: Point) -> bool
         ensures { result ≡ true → (rank : ℕ) → IsAhead rank corner self.now → ⊥ }
     {
-        self.rank == 0 && !is_before(corner, self.found.rectangle.min)
+        let best = self.found.rectangle.min;
+        self.rank == 0 && (corner.y > best.y || !is_before(corner, best))
     }
 
     // A box with this `min.y` isn't the best.
