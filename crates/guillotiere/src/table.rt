@@ -110,13 +110,12 @@ impl<A: Allocator> Table<A> {
     {
         let head = &mut self.heads[BANDS * at.row + at.column];
         if head.first.number == NO_SLOT {
-            *head = ListHead { first, low: strip };
+            head.first = first;
+            head.low = strip;
             self.marks.mark(at);
         } else {
-            *head = ListHead {
-                first,
-                low: head.low.min(strip),
-            };
+            head.first = first;
+            head.low = head.low.min(strip);
         }
     }
 

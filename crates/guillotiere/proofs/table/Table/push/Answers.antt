@@ -47,39 +47,39 @@ invariant_of-self-else-head g c =
     let within : k < length c.self.inside.heads.items = omega (arith, c.self.invariant.count, c.requires.row, c.requires.column) in
     let e = c.index_mut-head.result.now in
     kept-table c.self.inside.heads.items c.self.inside.marks c.args.at.row c.args.at.column
-    (record { first = c.args.first; low = c.min.result }) c.self.invariant c.requires.row c.requires.column
+    (record { first = c.args.first; low = c.min-head.result }) c.self.invariant c.requires.row c.requires.column
     (ap is_slot (sym (read-head c.self.inside.heads.items k e within c.index_mut-head.ensures.value)) ∙ slot-is e.first c.if-head.false ∙ sym (slot-is c.args.first c.requires.slot))
 
 pub returns-else-head-clause-head : goal.returns-else-head-clause-head
 returns-else-head-clause-head g c =
     let k = 52 * c.args.at.row + c.args.at.column in
     let within : k < length c.self.inside.heads.items = omega (arith, c.self.invariant.count, c.requires.row, c.requires.column) in
-    head_of-same c.self.inside.heads.items k (record { first = c.args.first; low = c.min.result }) within
+    head_of-same c.self.inside.heads.items k (record { first = c.args.first; low = c.min-head.result }) within
 
 pub returns-else-head-clause-heads : goal.returns-else-head-clause-heads
 returns-else-head-clause-heads g c = λ j apart.
     let k = 52 * c.args.at.row + c.args.at.column in
-    head_of-other c.self.inside.heads.items k (record { first = c.args.first; low = c.min.result }) j apart ∙ ap (λ hs. head_of hs j) c.self.view_is
+    head_of-other c.self.inside.heads.items k (record { first = c.args.first; low = c.min-head.result }) j apart ∙ ap (λ hs. head_of hs j) c.self.view_is
 
 pub returns-else-head-clause-low : goal.returns-else-head-clause-low
 returns-else-head-clause-low g c =
     let k = 52 * c.args.at.row + c.args.at.column in
     let within : k < length c.self.inside.heads.items = omega (arith, c.self.invariant.count, c.requires.row, c.requires.column) in
-    let is = low_of-same c.self.inside.heads.items k (record { first = c.args.first; low = c.min.result }) within in
+    let is = low_of-same c.self.inside.heads.items k (record { first = c.args.first; low = c.min-head.result }) within in
     let less : min c.index_mut-head.result.now.low c.args.strip ≤ c.args.strip = omega arith in
-    subst (λ n. n ≤ c.args.strip) (sym (is ∙ c.min.ensures)) less
+    subst (λ n. n ≤ c.args.strip) (sym (is ∙ c.min-head.ensures)) less
 
 pub returns-else-head-clause-lower : goal.returns-else-head-clause-lower
 returns-else-head-clause-lower g c = λ used.
     let k = 52 * c.args.at.row + c.args.at.column in
     let within : k < length c.self.inside.heads.items = omega (arith, c.self.invariant.count, c.requires.row, c.requires.column) in
     let e = c.index_mut-head.result.now in
-    let is = low_of-same c.self.inside.heads.items k (record { first = c.args.first; low = c.min.result }) within in
+    let is = low_of-same c.self.inside.heads.items k (record { first = c.args.first; low = c.min-head.result }) within in
     let old = read-low c.self.inside.heads.items k e within c.index_mut-head.ensures.value ∙ ap (λ hs. low_of hs k) c.self.view_is in
     let less : min e.low c.args.strip ≤ e.low = omega arith in
-    subst (λ n. n ≤ low_of c.args.self.now k) (sym (is ∙ c.min.ensures)) (subst (λ n. min e.low c.args.strip ≤ n) old less)
+    subst (λ n. n ≤ low_of c.args.self.now k) (sym (is ∙ c.min-head.ensures)) (subst (λ n. min e.low c.args.strip ≤ n) old less)
 
 pub returns-else-head-clause-lows : goal.returns-else-head-clause-lows
 returns-else-head-clause-lows g c = λ j apart.
     let k = 52 * c.args.at.row + c.args.at.column in
-    low_of-other c.self.inside.heads.items k (record { first = c.args.first; low = c.min.result }) j apart ∙ ap (λ hs. low_of hs j) c.self.view_is
+    low_of-other c.self.inside.heads.items k (record { first = c.args.first; low = c.min-head.result }) j apart ∙ ap (λ hs. low_of hs j) c.self.view_is
