@@ -6,7 +6,7 @@ use Rattle.guillotiere.specs.declared.slots.Slot.{Slot}
 use Rattle.guillotiere.specs.declared.slots.Node.{Node}
 use Rattle.guillotiere.specs.declared.slots.NodeKind.TheVariants as kind
 use Rattle.guillotiere.specs.Pixels.{options_of}
-use Rattle.guillotiere.specs.Trees.{Tree, ids, IsNormal}
+use Rattle.guillotiere.specs.Trees.{Tree, ids, IsNormal, slot_of}
 use Rattle.guillotiere.specs.Trees as tree
 use Rattle.guillotiere.specs.Changes.{nf, mark, only, release}
 use Rattle.guillotiere.specs.States.{State, IsSound, after_freeing, used_in}
@@ -35,14 +35,14 @@ nonempty-first (Seq i e inner rest) h = omega (arith, same-self i)
 
 -- the parts of a name
 pub record IsNamed (ns : List Node) (id : ℕ) : Type 0 where
-  pub kind : (node_at ns (id % 2 ^ 24)).kind ≡ kind.Alloc
-  pub names : id_of (id % 2 ^ 24) (node_at ns (id % 2 ^ 24)).generation ≡ id
+  pub kind : (node_at ns (slot_of id)).kind ≡ kind.Alloc
+  pub names : id_of (slot_of id) (node_at ns (slot_of id)).generation ≡ id
 
 pub named-parts : (ns : List Node) (id : ℕ) → is_named ns id ≡ true → IsNamed ns id
 named-parts ns id h =
     let parts = and_parts _ _ h in
-    let age : (node_at ns (id % 2 ^ 24)).generation ≡ id / 2 ^ 24 = eqb-true _ _ parts.1 in
-    record { kind = is_alloc-true _ parts.0; names = ap (id_of (id % 2 ^ 24)) age ∙ id_of-parts id }
+    let age : (node_at ns (slot_of id)).generation ≡ id / 2 ^ 24 = eqb-true _ _ parts.1 in
+    record { kind = is_alloc-true _ parts.0; names = ap (id_of (slot_of id)) age ∙ id_of-parts id }
 
 -- the state after a freeing, of its parts
 pub state-freed : (new old : State) (set : ℕ → Bool) → new.tree ≡ release set old.tree → new.size ≡ old.size → new.options ≡ old.options → new.limit ≡ old.limit → new.kept ≡ old.kept
@@ -70,9 +70,9 @@ module _ (v : Stored) (a : IsAtlas v) (id : ℕ) where
   named-live h =
       let ns = nodes v.shelf.slots in
       let is = named-parts ns id h in
-      let member : 0 < tally (id % 2 ^ 24) a.holding.tree = subst (λ k. 0 < k) (sym (a.holds.stands.numbered (id % 2 ^ 24))) (subst (λ k. 0 < use_count k) (sym is.kind) (omega arith)) in
+      let member : 0 < tally (slot_of id) a.holding.tree = subst (λ k. 0 < k) (sym (a.holds.stands.numbered (slot_of id))) (subst (λ k. 0 < use_count k) (sym is.kind) (omega arith)) in
       subst (λ m. Contains (ids m) id) (sym (members-IsAtlas v a))
-      (slot_id ns a.holding.sequence no_slot 0 a.holding.tree id (id % 2 ^ 24) a.holds.stands.standing (record { member = member; kind = is.kind; names = is.names }))
+      (slot_id ns a.holding.sequence no_slot 0 a.holding.tree id (slot_of id) a.holds.stands.standing (record { member = member; kind = is.kind; names = is.names }))
 
   -- whether a slot was found says whether the id is live
   pub live-found : (slots : List Slot) (o : Option ℕ) → slots ≡ v.shelf.slots → IfSome o (λ at. is_named (nodes slots) id ≡ true) → IfNone o (is_named (nodes slots) id ≡ false)
@@ -82,19 +82,19 @@ module _ (v : Stored) (a : IsAtlas v) (id : ℕ) where
   live-found slots (Some at) same found missed = ((λ _. named-live (ap (λ l. is_named (nodes l) id) (sym same) ∙ found)), (λ _. refl))
 
   -- the slot of a live id can be freed
-  pub freeable : (bits : ℕ) → bits ≡ id → Contains (ids (tree_of (nodes v.shelf.slots)).members) id → IsFreeable v.shelf (bits % 2 ^ 24) a.holding
-  freeable bits same live =
+  pub freeable : (at : ℕ) → at ≡ slot_of id → Contains (ids (tree_of (nodes v.shelf.slots)).members) id → IsFreeable v.shelf at a.holding
+  freeable at same live =
       let is = named-parts (nodes v.shelf.slots) id (live-named live) in
       record {
         holds = a.holds;
         only = a.at_rest;
         normal = subst IsNormal (members-IsAtlas v a) a.sound.normal;
-        granted = ap (λ k. (node_at (nodes v.shelf.slots) (k % 2 ^ 24)).kind) same ∙ is.kind;
+        granted = ap (λ k. (node_at (nodes v.shelf.slots) k).kind) same ∙ is.kind;
       }
 
   -- what is left of a freeing
   module _ (u : Shelf) (n : ℕ) (h : Holding) (live : Contains (ids (tree_of (nodes v.shelf.slots)).members) id)
-      (freed : IsFreed v.shelf u (id % 2 ^ 24) n a.holding h) (same_length : length u.slots ≡ length v.shelf.slots)
+      (freed : IsFreed v.shelf u (slot_of id) n a.holding h) (same_length : length u.slots ≡ length v.shelf.slots)
       (same_options : u.options ≡ v.shelf.options) where
     tree-freed : tree_of (nodes u.slots) ≡ release (only id) (tree_of (nodes v.shelf.slots))
     tree-freed =
@@ -151,12 +151,12 @@ pub record FreesBox (v : Stored) (u : Shelf) (id n : ℕ) : Type 0 where
   pub used : (m turns before : ℕ) → used_in (state_of (record { stored = record { shelf = u; first = v.first; used = m; size = v.size; limit = v.limit }; turns = turns })) + n
       ≡ used_in (state_of (record { stored = v; turns = before }))
 
-pub frees-box : (v : Stored) (a : IsAtlas v) (u : Shelf) (id bits n : ℕ) → Contains (ids (tree_of (nodes v.shelf.slots)).members) id → bits ≡ id
-    → ((h : Holding) → IsFreeable v.shelf (bits % 2 ^ 24) h → (h' : Holding) × IsFreed v.shelf u (bits % 2 ^ 24) n h h')
+pub frees-box : (v : Stored) (a : IsAtlas v) (u : Shelf) (id at n : ℕ) → Contains (ids (tree_of (nodes v.shelf.slots)).members) id → at ≡ slot_of id
+    → ((h : Holding) → IsFreeable v.shelf at h → (h' : Holding) × IsFreed v.shelf u at n h h')
     → length u.slots ≡ length v.shelf.slots → u.options ≡ v.shelf.options → FreesBox v u id n
-frees-box v a u id bits n live same freed same_length same_options =
-    let r = freed a.holding (freeable v a id bits same live) in
-    let w : IsFreed v.shelf u (id % 2 ^ 24) n a.holding r.0 = subst (λ k. IsFreed v.shelf u (k % 2 ^ 24) n a.holding r.0) same r.1 in
+frees-box v a u id at n live same freed same_length same_options =
+    let r = freed a.holding (freeable v a id at same live) in
+    let w : IsFreed v.shelf u (slot_of id) n a.holding r.0 = subst (λ k. IsFreed v.shelf u k n a.holding r.0) same r.1 in
     record {
       few = given-few v a id u n r.0 live w same_length same_options;
       atlas = atlas-IsFreed v a id u n r.0 live w same_length same_options;

@@ -1,8 +1,9 @@
 -- Lists of ids that are freed together. Public clauses cite `AreLiveOnce` alone.
-use Rattle.std.specs.Prelude.{ℕ, ◌≡◌, ◌%◌, ◌^◌, true, false, List, [], ◌∷◌, slice_set}
+use Rattle.std.specs.Prelude.{ℕ, ◌≡◌, true, false, List, [], ◌∷◌, slice_set}
 use Rattle.guillotiere.specs.declared.slots.Node.{Node}
 use Rattle.guillotiere.specs.declared.slots.NodeKind.{NodeKind}
 use Rattle.guillotiere.specs.declared.slots.NodeKind.TheVariants as kind
+use Rattle.guillotiere.specs.Trees.{slot_of}
 use Rattle.guillotiere.specs.States.{State, IsLive}
 use Rattle.guillotiere.specs.TreeLaws.{is_among}
 use Rattle.guillotiere.specs.Slots.{node_at}
@@ -25,9 +26,9 @@ with_kind ns i k = slice_set ns i (record (node_at ns i) { kind = k })
 -- the slots of these ids are hidden: they are no longer those of allocated leaves, so that no id names them
 abbrev pub hidden : List Node → List ℕ → List Node
 hidden ns [] = ns
-hidden ns (id ∷ rest) = hidden (with_kind ns (id % 2 ^ 24) kind.Unused) rest
+hidden ns (id ∷ rest) = hidden (with_kind ns (slot_of id) kind.Unused) rest
 
 -- each id names an allocated slot where those before it are hidden
 abbrev pub AreHidable : List Node → List ℕ → Type 0
 AreHidable ns [] = Unit {0}
-AreHidable ns (id ∷ rest) = (is_named ns id ≡ true) × AreHidable (with_kind ns (id % 2 ^ 24) kind.Unused) rest
+AreHidable ns (id ∷ rest) = (is_named ns id ≡ true) × AreHidable (with_kind ns (slot_of id) kind.Unused) rest

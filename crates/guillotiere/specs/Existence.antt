@@ -2,6 +2,7 @@
 use Rattle.std.specs.Prelude.{◌≡◌, ℕ, ◌<◌, ◌≤◌, ◌%◌, false}
 use Rattle.guillotiere.specs.Boxes.{Sides, IsPositive}
 use Rattle.guillotiere.specs.Choice.{Options, AreValid, up}
+use Rattle.guillotiere.specs.Trees.{most_slots}
 use Rattle.guillotiere.specs.States.{State, IsSound, started}
 use Rattle.guillotiere.specs.Steps.{AtlasCall, AtlasReply, Step}
 use Rattle.guillotiere.specs.Renaming.{is_out_of_memory}
@@ -21,5 +22,5 @@ StartsAreSound =
 -- state that it leads to.
 abbrev pub StepsExist : Type 0
 StepsExist =
-    (s : State) (call : AtlasCall) → IsSound s → s.limit ≤ 16777216
+    (s : State) (call : AtlasCall) → IsSound s → s.limit ≤ most_slots
     → (reply : AtlasReply) × (new : State) × (is_out_of_memory reply ≡ false) × Step s call reply new

@@ -6,6 +6,7 @@ use Rattle.guillotiere.specs.declared.slots.NodeKind.TheVariants as kind
 use Rattle.guillotiere.specs.Boxes.{side, other, box_sides}
 use Rattle.guillotiere.specs.Pixels.{box_of, options_of}
 use Rattle.guillotiere.specs.Bands.{list_of}
+use Rattle.guillotiere.specs.Trees.{most_slots}
 use Rattle.guillotiere.specs.Lists.{node_sides, node_strip}
 use Rattle.guillotiere.specs.Slots.{nodes, node_at, axis_of}
 use Rattle.guillotiere.specs.Links.{with_mark, rest_of}
@@ -33,7 +34,7 @@ with_spare spare h = record h { spare = spare }
 abbrev pub HasSlotsFor : (n capacity : ℕ) → Shelf → Holding → Type 0
 HasSlotsFor n capacity v h =
     (n ≤ length h.spare)
-    ⊎ ((length v.slots + n ≤ length h.spare + capacity) × (length v.slots + n ≤ length h.spare + 16777216))
+    ⊎ ((length v.slots + n ≤ length h.spare + capacity) × (length v.slots + n ≤ length h.spare + most_slots))
 
 -- the node at slot i
 abbrev pub node_in : Shelf → ℕ → Node

@@ -1,6 +1,6 @@
 -- The tree of cuts, each member with the number of its slot. No public clause cites this module.
-use Rattle.std.specs.Prelude.{ℕ, ◌+◌, ◌-◌, ◌*◌, ◌^◌, ◌==◌, if◌then◌else◌}
-use Rattle.guillotiere.specs.Trees.{Members}
+use Rattle.std.specs.Prelude.{ℕ, ◌+◌, ◌-◌, ◌*◌, ◌==◌, if◌then◌else◌}
+use Rattle.guillotiere.specs.Trees.{Members, most_slots}
 use Rattle.guillotiere.specs.Trees as tree
 use Rattle.guillotiere.specs.Slots.{no_slot}
 
@@ -13,7 +13,7 @@ pub data Numbered : Type 0 where
 
 -- an id is the slot's number, and above its 24 bits the generation
 abbrev pub id_of : (slot generation : ℕ) → ℕ
-id_of i g = i + 2 ^ 24 * g
+id_of i g = i + most_slots * g
 
 -- the tree without the numbers
 abbrev pub erase : Numbered → Members

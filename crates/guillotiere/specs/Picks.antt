@@ -9,6 +9,7 @@ use Rattle.guillotiere.specs.declared.table.ListHead.{ListHead}
 use Rattle.guillotiere.specs.Boxes.{Box}
 use Rattle.guillotiere.specs.Pixels.{box_of}
 use Rattle.guillotiere.specs.Choice.{Options, AreValid}
+use Rattle.guillotiere.specs.Trees.{most_slots}
 use Rattle.guillotiere.specs.Slots.{nodes, rings, node_at}
 use Rattle.guillotiere.specs.Items.{Item}
 use Rattle.guillotiere.specs.Lists.{AreFiled, Places, is_free}
@@ -35,7 +36,7 @@ pub record IsSearchable (o : Options) (slots : List Slot) (heads : List ListHead
   pub filed : AreFiled o (nodes slots) (rings slots) heads unused places
   pub all_listed : (i : ℕ) → places.loose i ≡ false
   pub exact : (i : ℕ) → IsFreeSlot (nodes slots) i → IsExact (node_at (nodes slots) i).area
-  pub short : length slots ≤ 16777216
+  pub short : length slots ≤ most_slots
   pub valid : AreValid o
 
 -- the boxes are those of the free slots

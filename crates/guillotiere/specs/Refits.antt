@@ -1,9 +1,9 @@
 -- Rearranging: the live boxes are placed anew, one after another, in a fresh tree.
-use Rattle.std.specs.Prelude.{◌≡◌, ℕ, ◌+◌, ◌<◌, ◌≤◌, ◌%◌, ◌^◌, ◌⊎◌, List, [], ◌∷◌, All, IsPermutation}
+use Rattle.std.specs.Prelude.{◌≡◌, ℕ, ◌+◌, ◌<◌, ◌≤◌, ◌⊎◌, List, [], ◌∷◌, All, IsPermutation}
 use Rattle.guillotiere.specs.Boxes.{Sides, Box, area, box_at, box_sides}
 use Rattle.guillotiere.specs.Cuts.{cap}
 use Rattle.guillotiere.specs.Choice.{Options, rounded, IsPick, HasNoRoom}
-use Rattle.guillotiere.specs.Trees.{Tree, Grant, grant, free_boxes, ids, slot_count, nodes}
+use Rattle.guillotiere.specs.Trees.{Tree, Grant, grant, free_boxes, ids, slot_count, slot_of, nodes}
 use Rattle.guillotiere.specs.Changes.{place, place_need}
 
 -- a grant and what it became
@@ -29,7 +29,7 @@ with_failure g list = record list { failures = g ∷ list.failures }
 abbrev pub Precedes : (g h : Grant) → Type 0
 Precedes g h =
     (cap (area h.box) < cap (area g.box))
-    ⊎ ((cap (area h.box) ≡ cap (area g.box)) × (h.id % 2 ^ 24 < g.id % 2 ^ 24))
+    ⊎ ((cap (area h.box) ≡ cap (area g.box)) × (slot_of h.id < slot_of g.id))
 
 -- each precedes all that come after it
 abbrev pub IsRanked : List Grant → Type 0

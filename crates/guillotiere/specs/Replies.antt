@@ -1,11 +1,11 @@
 -- What the atlas's calls answer, as the model sees it.
-use Rattle.std.specs.Prelude.{◌≡◌, ◌==◌, ◌<◌, ◌%◌, ◌^◌, ℕ, List, [], ◌∷◌, All, count_by, find, Bool, Option, Some, None, option_map, Result, Ok, Err}
+use Rattle.std.specs.Prelude.{◌≡◌, ◌==◌, ◌<◌, ℕ, List, [], ◌∷◌, All, count_by, find, Bool, Option, Some, None, option_map, Result, Ok, Err}
 use Rattle.guillotiere.specs.declared.allocation.Allocation.{Allocation}
 use Rattle.guillotiere.specs.declared.geometry.Rectangle.{Rectangle}
 use Rattle.guillotiere.specs.declared.error.AtlasError.{AtlasError}
 use Rattle.guillotiere.specs.Boxes.{Box}
 use Rattle.guillotiere.specs.Pixels.{box_of, rectangle_of}
-use Rattle.guillotiere.specs.Trees.{Grant, grant}
+use Rattle.guillotiere.specs.Trees.{Grant, grant, slot_of}
 use Rattle.guillotiere.specs.States.{State, live_in}
 use Rattle.guillotiere.specs.Steps.{AtlasReply}
 use Rattle.guillotiere.specs.Steps.AtlasReply.{Allocated, NoRoom, Done, Refused}
@@ -34,7 +34,7 @@ live_box s id = option_map (λ g. g.box) (find (λ g. g.id == id) (live_in s))
 -- each slot number, the low 24 bits of an id, is below all that come after it
 abbrev pub AreRising : List Grant → Type 0
 AreRising [] = Unit {0}
-AreRising (g ∷ gs) = All (λ h. g.id % 2 ^ 24 < h.id % 2 ^ 24) gs × AreRising gs
+AreRising (g ∷ gs) = All (λ h. slot_of g.id < slot_of h.id) gs × AreRising gs
 
 -- the live grants by rising slot
 pub record IsLiveList (s : State) (gs : List Grant) : Type 0 where

@@ -8,7 +8,7 @@ use Rattle.guillotiere.specs.declared.options.AllocatorOptions.{AllocatorOptions
 use Rattle.guillotiere.specs.Boxes.{other, side}
 use Rattle.guillotiere.specs.Pixels.{sides_of, size_of, options_of}
 use Rattle.guillotiere.specs.Choice.{AreValid}
-use Rattle.guillotiere.specs.Trees.{IsCut, total}
+use Rattle.guillotiere.specs.Trees.{IsCut, total, most_slots}
 use Rattle.guillotiere.specs.States.{State, IsSound}
 use Rattle.guillotiere.specs.Slots.{nodes, rings, no_slot}
 use Rattle.guillotiere.specs.Numbered.{Numbered, erase, first_slot, numbers}
@@ -65,7 +65,7 @@ pub record HoldsWith (hand : ℕ → ℕ) (v : Shelf) (h : Holding) : Type 0 whe
   pub top : h.sequence.parent ≡ no_slot
   pub stands : Stands (nodes v.slots) h.sequence h.tree
   pub filed : AreFiled (options_of v.options) (nodes v.slots) (rings v.slots) v.heads v.unused (places_of hand h)
-  pub short : length v.slots ≤ 16777216
+  pub short : length v.slots ≤ most_slots
   pub valid : AreValid (options_of v.options)
   -- extents are positive, and no box passes what an `i32` holds
   pub cut : IsCut h.sequence.width (erase h.tree)
@@ -92,4 +92,4 @@ pub record IsAtlas (v : Stored) : Type 0 where
   pub used : v.used ≡ numbers holding.tree
   pub sound : IsSound (state_of (record { stored = v; turns = 0 }))
   pub exact : v.size ≡ size_of (sides_of v.size)
-  pub limited : v.limit ≤ 16777216
+  pub limited : v.limit ≤ most_slots

@@ -69,9 +69,17 @@ ids (Free e rest) = ids rest
 ids (Alloc id e rest) = id ∷ ids rest
 ids (Seq e inner rest) = ids inner ++ ids rest
 
--- how many of the ids name this slot: their low 24 bits say so
+-- how many slots an atlas may have: an id has 24 bits for the number of its slot
+abbrev pub most_slots : ℕ
+most_slots = 2 ^ 24
+
+-- the slot that an id names: its low 24 bits
+abbrev pub slot_of : (id : ℕ) → ℕ
+slot_of id = id % most_slots
+
+-- how many of the ids name the slot of this one
 abbrev pub slot_count : ℕ → List ℕ → ℕ
-slot_count id xs = count_by (λ k. k % 2 ^ 24 == id % 2 ^ 24) xs
+slot_count id xs = count_by (λ k. slot_of k == slot_of id) xs
 
 -- what the extents add up to
 abbrev pub total : Members → ℕ

@@ -1,5 +1,5 @@
 -- What walks of the slots show: the leaves in the order of the slots, and the calls of a callback.
-use Rattle.std.specs.Prelude.{ℕ, ◌≡◌, ◌+◌, ◌%◌, ◌/◌, ◌^◌, ◌==◌, ◌&&◌, Bool, true, false, List, [], ◌∷◌, Option, Some, None, if◌then◌else◌, All, map}
+use Rattle.std.specs.Prelude.{ℕ, ◌≡◌, ◌+◌, ◌/◌, ◌==◌, ◌&&◌, Bool, true, false, List, [], ◌∷◌, Option, Some, None, if◌then◌else◌, All, map}
 use Rattle.std.specs.Borrow.{Bor}
 use Rattle.std.specs.Fn.{Mut, Called}
 use Rattle.guillotiere.specs.declared.slots.Node.{Node}
@@ -9,6 +9,7 @@ use Rattle.guillotiere.specs.declared.allocation.Allocation.{Allocation}
 use Rattle.guillotiere.specs.declared.geometry.Rectangle.{Rectangle}
 use Rattle.guillotiere.specs.Boxes.{AreSameBoxes}
 use Rattle.guillotiere.specs.Pixels.{box_of}
+use Rattle.guillotiere.specs.Trees.{most_slots, slot_of}
 use Rattle.guillotiere.specs.States.{State, free_in}
 use Rattle.guillotiere.specs.Replies.{IsLiveList, IsExact, grant_of}
 use Rattle.guillotiere.specs.Slots.{node_at}
@@ -51,8 +52,8 @@ free_areas (n ∷ ns) = if is_free n.kind then n.area ∷ free_areas ns else fre
 
 -- whether the slot that an id names is allocated under it
 abbrev pub is_named : List Node → ℕ → Bool
-is_named ns id = is_alloc (node_at ns (id % 2 ^ 24)).kind && ((node_at ns (id % 2 ^ 24)).generation == id / 2 ^ 24)
+is_named ns id = is_alloc (node_at ns (slot_of id)).kind && ((node_at ns (slot_of id)).generation == id / most_slots)
 
 -- the rectangle of an allocated slot, by its id
 abbrev pub named_area : List Node → ℕ → Option Rectangle
-named_area ns id = if is_named ns id then Some (node_at ns (id % 2 ^ 24)).area else None
+named_area ns id = if is_named ns id then Some (node_at ns (slot_of id)).area else None

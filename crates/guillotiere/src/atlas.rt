@@ -30,20 +30,18 @@ use crate::growth::{grow_tree, grow_whole, growth_for, slots_for};
 use crate::options::{AllocatorOptions, DEFAULT_OPTIONS};
 use crate::refit::{refit, sort_for_refit};
 use crate::requests::{choose, grant, make_room};
-use crate::slots::{Link, NO_SLOT, NodeKind};
+use crate::slots::{Link, MOST_SLOTS, NO_SLOT, NodeKind};
 use crate::store::Store;
 use crate::table::Table;
 use crate::tree::{free_leaf, slots_needed};
 use crate::turns::Turns;
 use crate::walks::{
-    free_sum, gather_allocated, gather_free, live_sum, named_slot, visit_allocated, visit_free,
+    free_sum, gather_allocated, gather_free, live_sum, named_slot, slot_number, visit_allocated,
+    visit_free,
 };
 use std::alloc::{Allocator, Global};
 use std::marker::Model;
 use std::ops::Index;
-
-/// The most slots that an atlas may use: an id has 24 bits for the number of its slot.
-pub const MOST_SLOTS: u32 = 16777216;
 
 /// Hands out rectangles inside one large rectangle, the atlas, takes them back and joins free space at once.
 ///
@@ -468,7 +466,7 @@ impl<A: Allocator + Copy> AtlasAllocator<A> {
         ensures state { state_of self.new ≡ after_freeing (state_of self.old) (only id) }
         ensures turns { self.new.turns + used_in (state_of self.new) ≡ self.old.turns + 1 + used_in (state_of self.old) }
     {
-        let number = id.serialize() % MOST_SLOTS;
+        let number = slot_number(id);
         let given = free_leaf(&mut self.store, Link { number });
         self.used -= given;
     }

@@ -7,7 +7,7 @@ ghost use Rattle.guillotiere.specs.Batches.{AreHidable, AreNamedOnce, hidden, wi
 
 use crate::allocation::AllocId;
 use crate::slots::{Link, NodeKind, Slot, read_node, write_node};
-use crate::walks::{SLOT_NUMBERS, named_slot};
+use crate::walks::{named_slot, slot_number};
 
 // What a slot is used for.
 fn set_kind(slots: &mut [Slot], at: Link, kind: NodeKind)
@@ -46,7 +46,7 @@ fn show(slots: &mut [Slot], ids: &[AllocId])
     let mut left = ids.len();
     while left > 0 {
         left -= 1;
-        let number = ids[left].serialize() % SLOT_NUMBERS;
+        let number = slot_number(ids[left]);
         set_kind(slots, Link { number }, NodeKind::Alloc);
     }
 }

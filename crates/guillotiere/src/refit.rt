@@ -1,5 +1,5 @@
 //! Placing what is allocated anew: the order in which it is taken, and the placing itself.
-ghost use Rattle.std.specs.Prelude.{◌≡◌, ◌-◌, ◌%◌, ◌^◌, All, IfErr, IfOk, IsPermutation, map};
+ghost use Rattle.std.specs.Prelude.{◌≡◌, ◌-◌, All, IfErr, IfOk, IsPermutation, map};
 ghost use Rattle.guillotiere.specs.Boxes.{area, box_sides};
 ghost use Rattle.guillotiere.specs.Cuts.{cap};
 ghost use Rattle.guillotiere.specs.Pixels.{box_of, natural, sides_of};
@@ -8,13 +8,14 @@ ghost use Rattle.guillotiere.specs.Replies.{AreRising, IsExact, grant_of};
 ghost use Rattle.guillotiere.specs.Rearranging.{AreExactChanges, rearrangement_of};
 ghost use Rattle.guillotiere.specs.Refitted.{HasExactRectangle, IsRefitOf, IsRefitRefusal};
 ghost use Rattle.guillotiere.specs.Stored.{state_of};
+ghost use Rattle.guillotiere.specs.Trees.{slot_of};
 
 use crate::allocation::Allocation;
 use crate::atlas::AtlasAllocator;
 use crate::change::{Change, ChangeList};
 use crate::error::AtlasError;
 use crate::geometry::{Rectangle, Size};
-use crate::walks::SLOT_NUMBERS;
+use crate::walks::slot_number;
 use std::alloc::Allocator;
 use std::cmp::Reverse;
 
@@ -28,12 +29,12 @@ fn extent(from: i32, to: i32) -> u64
 // The area of an allocated rectangle, counted up to 2147483647, and its slot.
 fn rank(allocation: &Allocation) -> (u64, u32)
     ensures area { result.0 ≡ cap (area (box_of allocation.now.rectangle)) }
-    ensures slot { result.1 ≡ allocation.now.id % 2 ^ 24 }
+    ensures slot { result.1 ≡ slot_of allocation.now.id }
 {
     let rectangle = allocation.rectangle;
     let width = extent(rectangle.min.x, rectangle.max.x);
     let height = extent(rectangle.min.y, rectangle.max.y);
-    let slot = allocation.id.serialize() % SLOT_NUMBERS;
+    let slot = slot_number(allocation.id);
     ((width * height).min(2147483647), slot)
 }
 

@@ -4,6 +4,7 @@ ghost use Rattle.guillotiere.specs.Boxes.{Box, IsPositive, Sides};
 ghost use Rattle.guillotiere.specs.Choice.{IsFitting};
 ghost use Rattle.guillotiere.specs.Pixels.{sides_of};
 ghost use Rattle.guillotiere.specs.Slots.{nodes};
+ghost use Rattle.guillotiere.specs.Trees.{most_slots};
 ghost use Rattle.guillotiere.specs.Picks.{AreFreeBoxes};
 ghost use Rattle.guillotiere.specs.Stored.{Holding};
 ghost use Rattle.guillotiere.specs.Holdings.{shelf_of};
@@ -58,8 +59,8 @@ pub fn make_room<A: Allocator>(
     needed: u32,
 ) -> Result<(), AtlasError>
     requires used { used ≤ limit }
-    requires limited { limit ≤ 16777216 }
-    requires short { length store.old.slots.items ≤ 16777216 }
+    requires limited { limit ≤ most_slots }
+    requires short { length store.old.slots.items ≤ most_slots }
     ensures ok { OnOk result ((used + needed ≤ limit) × ((used + needed ≤ length store.new.slots.items) ⊎ (used + needed ≤ vec_capacity store.new.slots))) }
     ensures refused { IfErr result (IsShortOf used limit needed (length store.old.slots.items)) }
     ensures same { shelf_of store.new ≡ shelf_of store.old }

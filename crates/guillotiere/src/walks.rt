@@ -1,8 +1,9 @@
 //! Walks over the slots of an atlas: a look at the slot that an id names, and passes over the leaves.
-ghost use Rattle.std.specs.Prelude.{◌≡◌, ◌<◌, ◌≤◌, ◌%◌, ◌^◌, true, false, IfOk, IfSome, IfNone, IsOkUnless, length, All};
+ghost use Rattle.std.specs.Prelude.{◌≡◌, ◌<◌, ◌≤◌, ◌^◌, true, false, IfOk, IfSome, IfNone, IsOkUnless, length, All};
 ghost use Rattle.std.specs.List.{FoldsTo};
 ghost use Rattle.std.specs.Fn.{CalledAt};
 ghost use Rattle.guillotiere.specs.Slots.{nodes};
+ghost use Rattle.guillotiere.specs.Trees.{slot_of};
 ghost use Rattle.guillotiere.specs.Numbered.{id_of};
 ghost use Rattle.guillotiere.specs.Visits.{CalledAtGrant, allocated_from, free_areas, is_named};
 ghost use Rattle.guillotiere.specs.Walks.{IsCallableAlong, IsCallableAlongGrants, IsShownArea};
@@ -13,31 +14,34 @@ ghost use Rattle.guillotiere.specs.Pixels.{box_of};
 use crate::allocation::{AllocId, Allocation};
 use crate::error::AtlasError;
 use crate::geometry::Rectangle;
-use crate::slots::{NodeKind, Slot};
+use crate::slots::{MOST_SLOTS, NodeKind, Slot};
 use std::alloc::Allocator;
-
-// How many numbers of slots an id can hold: they take its low 24 bits.
-pub const SLOT_NUMBERS: u32 = 16777216;
 
 /// The id of the slot with this number in this generation.
 pub fn slot_id(number: usize, generation: u8) -> AllocId
-    requires { number < SLOT_NUMBERS }
+    requires { number < MOST_SLOTS }
     ensures { result ≡ id_of number generation }
 {
-    AllocId::deserialize(number as u32 + SLOT_NUMBERS * u32::from(generation))
+    AllocId::deserialize(number as u32 + MOST_SLOTS * u32::from(generation))
+}
+
+/// The number of the slot that an id names.
+pub fn slot_number(id: AllocId) -> u32
+    ensures { result ≡ slot_of id }
+{
+    id.serialize() % MOST_SLOTS
 }
 
 /// The slot that an id names, if it is allocated under that id now.
 pub fn named_slot(slots: &[Slot], id: AllocId) -> Option<usize>
-    ensures found { IfSome result (λ at. at ≡ id % 2 ^ 24) }
+    ensures found { IfSome result (λ at. at ≡ slot_of id) }
     ensures inside { IfSome result (λ at. at < length slots.now) }
     ensures named { IfSome result (λ at. is_named (nodes slots.now) id ≡ true) }
     ensures none { IfNone result (is_named (nodes slots.now) id ≡ false) }
 {
-    let bits = id.serialize();
-    let at = (bits % SLOT_NUMBERS) as usize;
+    let at = slot_number(id) as usize;
     let node = slots.get(at)?.node;
-    if node.kind == NodeKind::Alloc && u32::from(node.generation) == bits / SLOT_NUMBERS {
+    if node.kind == NodeKind::Alloc && u32::from(node.generation) == id.serialize() / MOST_SLOTS {
         Some(at)
     } else {
         None
@@ -46,7 +50,7 @@ pub fn named_slot(slots: &[Slot], id: AllocId) -> Option<usize>
 
 /// Calls `visit` on each allocated slot, by rising number.
 pub fn visit_allocated<F: FnMut(AllocId, &Rectangle)>(slots: &[Slot], mut visit: F)
-    requires short { length slots.now ≤ SLOT_NUMBERS }
+    requires short { length slots.now ≤ MOST_SLOTS }
     requires callable { IsCallableAlongGrants F.FnMut (λ _. Unit {0}) visit (allocated_from 0 (nodes slots.now)) }
     ensures { (last : F) × FoldsTo (CalledAtGrant F.FnMut) visit (allocated_from 0 (nodes slots.now)) last }
 {
@@ -74,7 +78,7 @@ pub fn gather_allocated<A: Allocator>(
     alloc: A,
     slots: &[Slot],
 ) -> Result<Vec<Allocation, A>, AtlasError>
-    requires { length slots.now ≤ SLOT_NUMBERS }
+    requires { length slots.now ≤ MOST_SLOTS }
     ensures unless { IsOkUnless result AtlasError.Memory }
     ensures list { IfOk result (λ found. found.items ≡ allocated_from 0 (nodes slots.now)) }
 {
