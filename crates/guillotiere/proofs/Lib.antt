@@ -48,6 +48,7 @@ pub mod Granting
 pub mod Wrapping
 pub mod Splitting
 pub mod SlotAreas
+pub mod CutRectangles
 pub mod SplittingWrites
 pub mod SlotAims
 pub mod SlotPlacing

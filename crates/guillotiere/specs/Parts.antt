@@ -1,14 +1,30 @@
 -- What a free leaf becomes where a request is placed. No public clause cites this module.
-use Rattle.std.specs.Prelude.{ℕ, ◌+◌}
+use Rattle.std.specs.Prelude.{ℕ, ℤ, ◌+◌, ◌+ℤ◌, ◌-ℤ◌}
 use Rattle.guillotiere.specs.declared.slots.Link.{Link}
 use Rattle.guillotiere.specs.declared.slots.Node.{Node}
 use Rattle.guillotiere.specs.declared.slots.NodeKind.TheVariants as kind
+use Rattle.guillotiere.specs.declared.geometry.Rectangle.{Rectangle}
 use Rattle.guillotiere.specs.declared.cut.Orientation.{Orientation}
 use Rattle.guillotiere.specs.declared.cut.Orientation.TheVariants as orientation
 use Rattle.guillotiere.specs.Boxes.{Axis, Box}
 use Rattle.guillotiere.specs.Boxes.Axis.{Horizontal, Vertical}
 use Rattle.guillotiere.specs.Pixels.{box_of, rectangle_of}
 use Rattle.guillotiere.specs.Slots.{axis_of, no_slot}
+
+-- how long a rectangle is along an axis
+abbrev pub length_in : Orientation → Rectangle → ℤ
+length_in orientation.Horizontal r = r.max.x -ℤ r.min.x
+length_in orientation.Vertical r = r.max.y -ℤ r.min.y
+
+-- the first e of a rectangle along an axis
+abbrev pub front_in : Orientation → (e : ℤ) → Rectangle → Rectangle
+front_in orientation.Horizontal e r = record r { max = record r.max { x = r.min.x +ℤ e } }
+front_in orientation.Vertical e r = record r { max = record r.max { y = r.min.y +ℤ e } }
+
+-- what is left of a rectangle after the first e along an axis
+abbrev pub back_in : Orientation → (e : ℤ) → Rectangle → Rectangle
+back_in orientation.Horizontal e r = record r { min = record r.min { x = r.min.x +ℤ e } }
+back_in orientation.Vertical e r = record r { min = record r.min { y = r.min.y +ℤ e } }
 
 -- the first p of a box along an axis
 abbrev pub front_part : Axis → (p : ℕ) → Box → Box

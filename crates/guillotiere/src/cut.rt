@@ -3,9 +3,10 @@ ghost use Rattle.std.specs.Prelude.{◌≡◌, ◌≤ℤ◌, ◌*◌, [], ◌∷
 ghost use Rattle.guillotiere.specs.Boxes.{Box, box_at};
 ghost use Rattle.guillotiere.specs.Cuts.{cap, cut_axis};
 ghost use Rattle.guillotiere.specs.Pixels.{IsMeasurable, natural, rectangle_of, sides_of};
+ghost use Rattle.guillotiere.specs.Parts.{back_in, front_in, length_in};
 ghost use Rattle.guillotiere.specs.Rectangles.{FitsInto, IsRestOf, Tile, axis_of, granted_in, measured, rest_in};
 
-use crate::geometry::{Point, Rectangle, Size, point2};
+use crate::geometry::{Point, Rectangle, Size};
 
 /// Which way members of a sequence lie beside each other.
 #[derive(Clone, Copy, Debug, PartialEq, Eq, Hash)]
@@ -77,32 +78,72 @@ pub fn granted(chosen: Rectangle, size: Size) -> Rectangle
     }
 }
 
-// What is left along an axis.
+/// The first `extent` pixels of a rectangle along an axis.
+pub fn front(area: Rectangle, axis: Orientation, extent: i32) -> Rectangle
+    requires least { pos 0 ≤ℤ extent }
+    requires most { extent ≤ℤ length_in axis area }
+    ensures { result ≡ front_in axis extent area }
+{
+    let Rectangle { min, max } = area;
+    match axis {
+        Orientation::Horizontal => Rectangle {
+            min,
+            max: Point {
+                x: min.x + extent,
+                y: max.y,
+            },
+        },
+        Orientation::Vertical => Rectangle {
+            min,
+            max: Point {
+                x: max.x,
+                y: min.y + extent,
+            },
+        },
+    }
+}
+
+/// What is left of a rectangle after the first `extent` pixels along an axis.
+pub fn back(area: Rectangle, axis: Orientation, extent: i32) -> Rectangle
+    requires least { pos 0 ≤ℤ extent }
+    requires most { extent ≤ℤ length_in axis area }
+    ensures { result ≡ back_in axis extent area }
+{
+    let Rectangle { min, max } = area;
+    match axis {
+        Orientation::Horizontal => Rectangle {
+            min: Point {
+                x: min.x + extent,
+                y: min.y,
+            },
+            max,
+        },
+        Orientation::Vertical => Rectangle {
+            min: Point {
+                x: min.x,
+                y: min.y + extent,
+            },
+            max,
+        },
+    }
+}
+
+// What is left along an axis: the leftover is cut from the strip beside the split.
 fn rest_along(orientation: Orientation, chosen: Rectangle, size: Size) -> Rest
-    requires measurable { IsMeasurable chosen }
-    requires fits { FitsInto size chosen }
+    requires { FitsInto size chosen }
     ensures { result ≡ rest_in orientation chosen size }
 {
-    let corner = corner_of(chosen, size);
-    let right = point2(corner.x, chosen.min.y);
-    let below = point2(chosen.min.x, corner.y);
-    let Rectangle { max, .. } = chosen;
+    let Size { width, height } = size;
     match orientation {
         Orientation::Horizontal => Rest {
             orientation,
-            split: Rectangle { min: right, max },
-            leftover: Rectangle {
-                min: below,
-                max: point2(corner.x, max.y),
-            },
+            split: back(chosen, orientation, width),
+            leftover: back(front(chosen, orientation, width), Orientation::Vertical, height),
         },
         Orientation::Vertical => Rest {
             orientation,
-            split: Rectangle { min: below, max },
-            leftover: Rectangle {
-                min: right,
-                max: point2(max.x, corner.y),
-            },
+            split: back(chosen, orientation, height),
+            leftover: back(front(chosen, orientation, height), Orientation::Horizontal, width),
         },
     }
 }

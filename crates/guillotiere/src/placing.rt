@@ -2,15 +2,13 @@
 //! its own, or is granted. They leave the lists alone.
 ghost use Rattle.std.specs.Prelude.{◌≡◌, ◌<◌, length};
 ghost use Rattle.guillotiere.specs.declared.slots.NodeKind.TheVariants.{Free, Unused};
-ghost use Rattle.guillotiere.specs.Boxes.{side, box_sides};
-ghost use Rattle.guillotiere.specs.Pixels.{natural, box_of, rectangle_of};
-ghost use Rattle.guillotiere.specs.Slots.{nodes, node_at, axis_of};
+ghost use Rattle.guillotiere.specs.Pixels.{natural};
+ghost use Rattle.guillotiere.specs.Slots.{nodes, node_at};
 ghost use Rattle.guillotiere.specs.SlotCalls.{CanSplitInto, IsLeafGranted, IsLeafSplit, IsLeafWrapped};
 ghost use Rattle.guillotiere.specs.Standing.{IsTree};
-ghost use Rattle.guillotiere.specs.Parts.{front_part, back_part, flipped};
+ghost use Rattle.guillotiere.specs.Parts.{flipped};
 
-use crate::cut::Orientation;
-use crate::geometry::{Rectangle, point2};
+use crate::cut::{Orientation, back, front};
 use crate::slots::{Link, NO_SLOT, Node, NodeKind, Slot, read_node, set_previous, write_node};
 
 /// A free leaf becomes allocated.
@@ -32,34 +30,6 @@ pub fn across(axis: Orientation) -> Orientation
         Orientation::Horizontal => Orientation::Vertical,
         Orientation::Vertical => Orientation::Horizontal,
     }
-}
-
-/// The first `extent` pixels of a rectangle along an axis.
-fn front(area: Rectangle, axis: Orientation, extent: i32) -> Rectangle
-    requires exact { area ≡ rectangle_of (box_of area) }
-    requires positive { 0 < natural extent }
-    requires less { natural extent < side (axis_of axis) (box_sides (box_of area)) }
-    ensures { result ≡ rectangle_of (front_part (axis_of axis) (natural extent) (box_of area)) }
-{
-    let max = match axis {
-        Orientation::Horizontal => point2(area.min.x + extent, area.max.y),
-        Orientation::Vertical => point2(area.max.x, area.min.y + extent),
-    };
-    Rectangle { min: area.min, max }
-}
-
-/// What is left of a rectangle after the first `extent` pixels along an axis.
-fn back(area: Rectangle, axis: Orientation, extent: i32) -> Rectangle
-    requires exact { area ≡ rectangle_of (box_of area) }
-    requires positive { 0 < natural extent }
-    requires less { natural extent < side (axis_of axis) (box_sides (box_of area)) }
-    ensures { result ≡ rectangle_of (back_part (axis_of axis) (natural extent) (box_of area)) }
-{
-    let min = match axis {
-        Orientation::Horizontal => point2(area.min.x + extent, area.min.y),
-        Orientation::Vertical => point2(area.min.x, area.min.y + extent),
-    };
-    Rectangle { min, max: area.max }
 }
 
 /// The free leaf at `at` keeps its first `extent` pixels along its axis, and the unused slot `fresh` takes the rest as
