@@ -9,9 +9,9 @@ use Rattle.guillotiere.specs.Trees.{Members, begins_free, is_idle, IsNormal}
 use Rattle.guillotiere.specs.Numbered.{Numbered, tally, first_slot, erase, End, Free, Alloc, Seq}
 use Rattle.guillotiere.specs.Standing.{Sequence, Standing, Stands, inside}
 use Rattle.guillotiere.specs.Calm.{IsCalmAt, IsCalmBut, NoneEmpty}
-use Rattle.guillotiere.proofs.Frames.{same-self}
+use Rattle.guillotiere.proofs.Frames.{same-self, ne-from_same}
 use Rattle.guillotiere.proofs.Suffixes.{suffix-at}
-use Rattle.guillotiere.proofs.Joining.{IsJoined, ne-from_same}
+use Rattle.guillotiere.proofs.Joining.{IsJoined}
 use Rattle.guillotiere.proofs.Lifting.{IsLifted}
 
 begins-kind : (ns : List Node) (s : Sequence) (b p : ℕ) (n : Numbered) → Standing ns s b p n → begins_free (erase n) ≡ true → (node_at ns (first_slot n)).kind ≡ kind.Free

@@ -5,9 +5,9 @@ use Rattle.guillotiere.specs.declared.slots.Node.{Node}
 use Rattle.guillotiere.specs.Slots.{node_at, no_slot}
 use Rattle.guillotiere.specs.Numbered.{Numbered, tally, first_slot, numbers, End, Free, Alloc, Seq}
 use Rattle.guillotiere.specs.Standing.{Sequence, Standing, Stands}
-use Rattle.guillotiere.proofs.Joining.{ne-from_same}
 use Rattle.guillotiere.proofs.JoiningWrites.{used-inside}
 use Rattle.guillotiere.proofs.Reading.{numbers-few}
+use Rattle.guillotiere.proofs.Frames.{ne-from_same}
 
 -- the members of a sequence, without those inside them
 abbrev pub outermost : Numbered → ℕ

@@ -1,8 +1,10 @@
 -- what changes nothing of a tree
-use Rattle.std.proofs.Common.{ℕ, ◌+◌, ◌<◌, ◌≤◌, ◌≡◌, List, refl, ap, arith, inl, inr, length, set, get_or-set_other, get_or-set_same}
-use Rattle.std.proofs.lemmas.Bool.{eq-eqb, ne_eqb, cases_lt}
+use Rattle.std.proofs.Common.{ℕ, ◌+◌, ◌<◌, ◌≤◌, ◌≡◌, ◌⊎◌, List, refl, ap, arith, inl, inr, length, set, get_or-set_other, get_or-set_same}
+use Rattle.std.proofs.lemmas.Bool.{eq-eqb, ne_eqb, cases_lt, cases_eq}
 use Rattle.std.proofs.lemmas.List.{get_or_past}
 use Rattle.guillotiere.specs.declared.slots.Node.{Node}
+use Rattle.guillotiere.specs.declared.slots.NodeKind.{NodeKind}
+use Rattle.guillotiere.specs.declared.slots.NodeKind.TheVariants as kind
 use Rattle.guillotiere.specs.Slots.{no_slot, node_at, blank_node, use_count, KeepsUse}
 use Rattle.guillotiere.specs.Numbered.{Numbered, tally, same, End, Free, Alloc, Seq}
 use Rattle.guillotiere.specs.Standing.{Sequence, Standing, inside}
@@ -12,6 +14,25 @@ same-self i = rw (eq-eqb i i refl)
 
 pub same-ne : (i j : ℕ) → (i ≡ j → ⊥) → same i j ≡ 0
 same-ne i j h = rw (ne_eqb i j h)
+
+pub split_pos : (a b : ℕ) → 0 < a + b → (0 < a) ⊎ (0 < b)
+split_pos a b l = grind arith
+
+pub ne-from_same : (i j : ℕ) → same i j ≡ 0 → j ≡ i → ⊥
+ne-from_same i j z e = absurd (omega (arith, same-self i, ap (same i) e))
+
+pub ne-from_count : (i j : ℕ) (n : Numbered) → tally i n ≡ 0 → 0 < tally j n → j ≡ i → ⊥
+ne-from_count i j n z l e = absurd (omega (arith, ap (λ x. tally x n) e))
+
+-- one of two numbers
+pub one_of : (a b : ℕ) → a + b ≡ 1 → ((a ≡ 1) × (b ≡ 0)) ⊎ ((a ≡ 0) × (b ≡ 1))
+one_of a b e = elim (cases_eq a 0) [ inl z ↦ inr (z, omega arith) | inr n ↦ inl (omega arith, omega arith) ]
+
+pub used-le : (k : NodeKind) → use_count k ≤ 1
+used-le kind.Container = omega arith
+used-le kind.Alloc = omega arith
+used-le kind.Free = omega arith
+used-le kind.Unused = omega arith
 
 -- a slot past the end is unused
 pub past-unused : (ns : List Node) (i : ℕ) → length ns ≤ i → use_count (node_at ns i).kind ≡ 0

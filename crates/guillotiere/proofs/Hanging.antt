@@ -19,8 +19,7 @@ use Rattle.guillotiere.specs.Slots.{nodes, node_at, use_count, no_slot, KeepsUse
 use Rattle.guillotiere.specs.Numbered.{Numbered, erase, tally, first_slot, same, End, Free, Alloc, Seq}
 use Rattle.guillotiere.specs.Standing.{Sequence, Standing, Stands, IsPlaced, inside, member_box, spot}
 use Rattle.guillotiere.specs.Growing.{Reaches, held_by, top_along}
-use Rattle.guillotiere.proofs.Frames.{Standing-same, IsWritten, IsWritten-by, same-self, same-ne, keeps-same}
-use Rattle.guillotiere.proofs.Joining.{used-le, ne-from_same, ne-from_count}
+use Rattle.guillotiere.proofs.Frames.{Standing-same, IsWritten, IsWritten-by, same-self, same-ne, keeps-same, used-le, ne-from_same, ne-from_count}
 use Rattle.guillotiere.proofs.JoiningWrites.{none-unused}
 use Rattle.guillotiere.proofs.TreeBasics.{other_twice}
 use Rattle.guillotiere.proofs.Wrapping.{axis_of-flipped}

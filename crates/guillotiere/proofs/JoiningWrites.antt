@@ -9,10 +9,10 @@ use Rattle.guillotiere.specs.Numbered.{Numbered, tally, first_slot, same, End, F
 use Rattle.guillotiere.specs.SlotCalls.{IsFreePair}
 use Rattle.guillotiere.specs.Parts.{joined_node}
 use Rattle.guillotiere.specs.Standing.{Sequence, Standing, IsTree, IsSlot, with_previous}
-use Rattle.guillotiere.proofs.Frames.{same-self}
+use Rattle.guillotiere.proofs.Frames.{same-self, used-le}
 use Rattle.guillotiere.proofs.Closing.{next-in, first-in}
 use Rattle.guillotiere.proofs.Suffixes.{suffix-at}
-use Rattle.guillotiere.proofs.Joining.{IsJoined, used-le}
+use Rattle.guillotiere.proofs.Joining.{IsJoined}
 pub use Rattle.guillotiere.proofs.Frames.{used-inside}
 
 -- no node is past the end

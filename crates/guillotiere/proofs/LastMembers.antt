@@ -11,10 +11,10 @@ use Rattle.guillotiere.specs.Stored.{Shelf, Holding}
 use Rattle.guillotiere.specs.Holdings.{node_in}
 use Rattle.guillotiere.specs.Growing.{last_after, last_slot}
 use Rattle.guillotiere.specs.Growths.{IsTreeOf}
-use Rattle.guillotiere.proofs.Joining.{ne-from_count}
 use Rattle.guillotiere.proofs.JoiningWrites.{none-unused}
 use Rattle.guillotiere.proofs.Observing.{nodes-below, nonempty-total}
 use Rattle.guillotiere.proofs.Following.{outermost, outermost-few, followers, followers-outermost, begins-none, begins-inside}
+use Rattle.guillotiere.proofs.Frames.{ne-from_count}
 
 -- the search is at a member of n, and slot `next` begins what comes after that
 pub record IsAtMember (ns : List Node) (at next : ℕ) (s : Sequence) (n : Numbered) : Type 0 where

@@ -39,6 +39,7 @@ pub mod TreeKept
 pub mod TreeGrowth
 pub mod TreeRoom
 pub mod TreeCounts
+pub mod Editing
 pub mod Joining
 pub mod JoiningWrites
 pub mod Lifting

@@ -4,10 +4,11 @@ use Rattle.std.proofs.lemmas.Bool.{cases_eq, cond_both, eqb-true, eqb-false, ne_
 use Rattle.guillotiere.specs.declared.slots.Node.{Node}
 use Rattle.guillotiere.specs.declared.slots.NodeKind.TheVariants as kind
 use Rattle.guillotiere.specs.Slots.{node_at, use_count, no_slot}
-use Rattle.guillotiere.specs.Numbered.{Numbered, tally, first_slot, same, lifted, lifted_to, End, Free, Alloc, Seq}
+use Rattle.guillotiere.specs.Numbered.{Numbered, tally, first_slot, same, lifted, lifted_to, is_seq_at, End, Free, Alloc, Seq}
 use Rattle.guillotiere.specs.Standing.{Sequence, Standing, Stands, IsPlaced, inside}
-use Rattle.guillotiere.proofs.Frames.{same-self, same-ne, Standing-same}
-use Rattle.guillotiere.proofs.Joining.{used-le, split_pos, ne-from_same, ne-from_count}
+use Rattle.guillotiere.proofs.Frames.{same-self, same-ne, Standing-same, used-le, split_pos, ne-from_same, ne-from_count}
+use Rattle.guillotiere.proofs.Weights.{places-le}
+use Rattle.guillotiere.proofs.Editing.{lifting, seq_here, first-edited, edited-absent}
 
 -- a member's parent holds the sequence, or is a member itself
 pub parent-in : (ns : List Node) (k : ℕ) (s : Sequence) (b p : ℕ) (n : Numbered) → Standing ns s b p n → 0 < tally k n → ((node_at ns k).parent.number ≡ s.parent) ⊎ (0 < tally (node_at ns k).parent.number n)
@@ -31,31 +32,20 @@ parent-in ns k s b p (Seq j e inner rest) h l =
       ]
     ]
 
+first_to : (j e : ℕ) (inner rest : Numbered) → first_slot (lifted_to j e inner rest) ≡ j
+first_to j e (Free k d End) rest = refl
+first_to j e (Free k d (Free x y z)) rest = refl
+first_to j e (Free k d (Alloc x g y z)) rest = refl
+first_to j e (Free k d (Seq x y v z)) rest = refl
+first_to j e End rest = refl
+first_to j e (Alloc x g y z) rest = refl
+first_to j e (Seq x y v z) rest = refl
+
 pub first-lifted : (i : ℕ) (n : Numbered) → first_slot (lifted i n) ≡ first_slot n
-first-lifted i End = refl
-first-lifted i (Free j e rest) = refl
-first-lifted i (Alloc j g e rest) = refl
-first-lifted i (Seq j e inner rest) =
-    cond_both (eqb i j) (lifted_to j e inner rest) (Seq j e (lifted i inner) (lifted i rest)) (λ m. first_slot m ≡ j) (λ _. first_to j e inner rest) (λ _. refl)
-  where
-    first_to : (j e : ℕ) (inner rest : Numbered) → first_slot (lifted_to j e inner rest) ≡ j
-    first_to j e (Free k d End) rest = refl
-    first_to j e (Free k d (Free x y z)) rest = refl
-    first_to j e (Free k d (Alloc x g y z)) rest = refl
-    first_to j e (Free k d (Seq x y v z)) rest = refl
-    first_to j e End rest = refl
-    first_to j e (Alloc x g y z) rest = refl
-    first_to j e (Seq x y v z) rest = refl
+first-lifted i = first-edited (is_seq_at i) lifting (λ a. seq_here i (λ m. first_slot (lifting a m) ≡ first_slot m) (first_to i)) 0
 
 pub lifted-absent : (i : ℕ) (n : Numbered) → tally i n ≡ 0 → lifted i n ≡ n
-lifted-absent i End z = refl
-lifted-absent i (Free j e rest) z = ap (Free j e) (lifted-absent i rest (omega arith))
-lifted-absent i (Alloc j g e rest) z = ap (Alloc j g e) (lifted-absent i rest (omega arith))
-lifted-absent i (Seq j e inner rest) z =
-    let ne : i ≡ j → ⊥ = λ q. ne-from_same i j (omega arith) (sym q) in
-    let a = lifted-absent i inner (omega arith) in
-    let b = lifted-absent i rest (omega arith) in
-    cond-false (eqb i j) (lifted_to j e inner rest) (Seq j e (lifted i inner) (lifted i rest)) (ne_eqb i j ne) ∙ cc
+lifted-absent i n z = edited-absent (is_seq_at i) lifting refl 0 n (omega (arith, places-le (is_seq_at i) i (seq_here i (λ m. first_slot m ≡ i) (λ e inner rest. refl)) n))
 
 -- the nodes ms are ns after the lone free child k gave its place to c
 pub record IsLifted (ns ms : List Node) (c k : ℕ) : Type 0 where

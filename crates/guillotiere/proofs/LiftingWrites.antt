@@ -9,8 +9,7 @@ use Rattle.guillotiere.specs.Slots.{nodes, rings, node_at, blank_node, no_slot}
 use Rattle.guillotiere.specs.Numbered.{Numbered, tally, End, Free, Alloc, Seq}
 use Rattle.guillotiere.specs.Standing.{Sequence, Standing, Stands, IsWhole, inside}
 use Rattle.guillotiere.specs.SlotCalls.{IsLoneLeaf, IsChildLifted}
-use Rattle.guillotiere.proofs.Frames.{same-ne, keeps-same}
-use Rattle.guillotiere.proofs.Joining.{split_pos}
+use Rattle.guillotiere.proofs.Frames.{same-ne, keeps-same, split_pos}
 use Rattle.guillotiere.proofs.JoiningWrites.{used-inside, none-unused}
 use Rattle.guillotiere.proofs.Lifting.{IsLifted, Stands-lifted}
 use Rattle.guillotiere.proofs.Calm.{calm-lifted}

@@ -16,9 +16,7 @@ use Rattle.guillotiere.specs.Parts.{front_node, back_node, inner_node}
 use Rattle.guillotiere.specs.Stored.{Shelf, Holding, Holds, IsLooseOnly}
 use Rattle.guillotiere.specs.Holdings.{node_in, across_of, HasSlotsFor, IsLooseLeaf, with_loose, with_held, with_spare, after_split, after_wrap, after_grant}
 use Rattle.guillotiere.specs.Planning.{IsPlaceableAt}
-use Rattle.guillotiere.proofs.Frames.{same-self, same-ne}
-use Rattle.guillotiere.proofs.Joining.{used-le}
-use Rattle.guillotiere.proofs.Weights.{free_once}
+use Rattle.guillotiere.proofs.Frames.{same-self, same-ne, used-le}
 use Rattle.guillotiere.proofs.Filing.{with_mark-same, with_mark-other}
 use Rattle.guillotiere.proofs.Splitting.{tally-split}
 use Rattle.guillotiere.proofs.Wrapping.{tally-wrapped}
@@ -132,7 +130,7 @@ split-stage v v' capacity capacity' n at k p ks h w s room l =
       slots = got.2;
       spared = got.3;
       fresh = (λ i m. fresh_slot v v' h (with_spare got.0 (after_split at k p h)) k i s.holds got.1
-          (omega (arith, same-self k, tally-split k at k p h.tree (free_once (nodes v.slots) at h.sequence h.tree leaf.kind s.holds.stands)))
+          (omega (arith, same-self k, tally-split (nodes v.slots) at k p leaf.kind h.sequence h.tree s.holds.stands k))
           (s.free i m));
     }
 
@@ -175,7 +173,7 @@ wrap-stage v v' capacity capacity' n at k ks h w s room l =
       slots = got.2;
       spared = got.3;
       fresh = (λ i m. fresh_slot v v' h (with_spare got.0 (after_wrap at k h)) k i s.holds got.1
-          (omega (arith, same-self k, tally-wrapped k at k h.sequence.width h.tree (free_once (nodes v.slots) at h.sequence h.tree leaf.kind s.holds.stands)))
+          (omega (arith, same-self k, tally-wrapped (nodes v.slots) at k leaf.kind h.sequence h.tree s.holds.stands k))
           (s.free i m));
     }
 

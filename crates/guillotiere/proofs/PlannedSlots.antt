@@ -5,18 +5,18 @@ use Rattle.guillotiere.specs.declared.tree.Plan.TheVariants as plan
 use Rattle.guillotiere.specs.declared.slots.NodeKind.TheVariants as kind
 use Rattle.guillotiere.specs.Pixels.{natural}
 use Rattle.guillotiere.specs.Slots.{nodes, use_count}
-use Rattle.guillotiere.specs.Numbered.{Numbered, tally, first_slot, split_at, wrapped_at}
+use Rattle.guillotiere.specs.Numbered.{Numbered, tally, first_slot, is_free_at, split_at, wrapped_at}
 use Rattle.guillotiere.specs.Stored.{Shelf, Holding, Holds}
 use Rattle.guillotiere.specs.Holdings.{node_in}
 use Rattle.guillotiere.specs.Planning.{IsPlannedTree, IsPlanned}
 use Rattle.guillotiere.proofs.Frames.{same-self}
-use Rattle.guillotiere.proofs.Weights.{free_tally, free_once}
+use Rattle.guillotiere.proofs.Weights.{places, free_place}
 use Rattle.guillotiere.proofs.Granting.{tally-granted, first-granted}
 use Rattle.guillotiere.proofs.Splitting.{first-split}
 use Rattle.guillotiere.proofs.Wrapping.{first-wrapped}
 use Rattle.guillotiere.proofs.SlotPlans.{split-keeps, split-stays, wrapped-keeps, wrapped-adds, wrapped-gains, once-Stands}
 
-planned-new : (p : Plan) (i width to g : ℕ) (n new : Numbered) → 0 < free_tally i n → IsPlannedTree p i width to g n new → tally to new ≤ 1 → (to ≡ i) ⊎ (tally to n ≡ 0)
+planned-new : (p : Plan) (i width to g : ℕ) (n new : Numbered) → 0 < places (is_free_at i) n → IsPlannedTree p i width to g n new → tally to new ≤ 1 → (to ≡ i) ⊎ (tally to n ≡ 0)
 planned-new plan.Whole i width to g n new here t once = inl t.0
 planned-new (plan.StripAlong p) i width to g n new here t once = inl t.0
 planned-new (plan.CornerAlong p q) i width to g n new here t once =
@@ -25,7 +25,7 @@ planned-new (plan.CornerAlong p q) i width to g n new here t once =
     let n1 : Numbered = split_at i k (natural p) n in
     let n2 : Numbered = wrapped_at i to width n1 in
     let n3 : Numbered = split_at to l (natural q) n2 in
-    let stays : 0 < free_tally i n1 = split-stays i k (natural p) n here in
+    let stays : 0 < places (is_free_at i) n1 = split-stays i k (natural p) n here in
     inr (omega (arith, ap (tally to) t.2, tally-granted to to g n3, split-keeps to to l (natural q) n2, wrapped-adds to i to width n1 stays, split-keeps to i k (natural p) n, same-self to))
 planned-new (plan.StripAcross q) i width to g n new here t once =
     let k = t.0 in
@@ -40,8 +40,8 @@ planned-new (plan.CornerAcross p q) i width to g n new here t once =
     let n2 : Numbered = split_at c k (natural q) n1 in
     let n3 : Numbered = wrapped_at c to width n2 in
     let n4 : Numbered = split_at to l (natural p) n3 in
-    let gains : 0 < free_tally c n1 = wrapped-gains i c width n here in
-    let stays : 0 < free_tally c n2 = split-stays c k (natural q) n1 gains in
+    let gains : 0 < places (is_free_at c) n1 = wrapped-gains i c width n here in
+    let stays : 0 < places (is_free_at c) n2 = split-stays c k (natural q) n1 gains in
     inr (omega (arith, ap (tally to) t.3, tally-granted to to g n4, split-keeps to to l (natural p) n3, wrapped-adds to c to width n2 stays, split-keeps to c k (natural q) n1, wrapped-keeps to i c width n, same-self to))
 
 -- the first member of the sequence stays
@@ -64,7 +64,7 @@ planned-first (plan.CornerAcross p q) i width to g n new t =
 -- the slot that is granted was not granted before
 pub planned-unused : (v new : Shelf) (at to : ℕ) (p : Plan) (h h' : Holding) → Holds v h → (node_in v at).kind ≡ kind.Free → IsPlanned new at to p h h' → (node_in v to).kind ≡ kind.Alloc → ⊥
 planned-unused v new at to p h h' holds free planned taken =
-    let here : 0 < free_tally at h.tree = rw (free_once (nodes v.slots) at h.sequence h.tree free holds.stands) (omega arith) in
+    let here : 0 < places (is_free_at at) h.tree = rw (free_place (nodes v.slots) at h.sequence h.tree free holds.stands) (omega arith) in
     elim (planned-new p at h.sequence.width to (node_in new to).generation h.tree h'.tree here planned.tree (once-Stands (nodes new.slots) h'.sequence h'.tree planned.holds.stands to)) [
       | inl e ↦ let both : kind.Free ≡ kind.Alloc = sym free ∙ ap (λ k. (node_in v k).kind) (sym e) ∙ taken in absurd (cc)
       | inr z ↦ absurd (omega (arith, z, holds.stands.numbered to, ap use_count taken))

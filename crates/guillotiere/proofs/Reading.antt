@@ -13,8 +13,7 @@ use Rattle.guillotiere.specs.Trees.{Members, Tree}
 use Rattle.guillotiere.specs.Numbered.{Numbered, tally, first_slot, same, erase, numbers, End, Free, Alloc, Seq}
 use Rattle.guillotiere.specs.Standing.{Sequence, Standing, Stands, inside, member_box, spot}
 use Rattle.guillotiere.specs.Reading.{extent_of, begins_in, head_of, read, numbered_of, tree_of}
-use Rattle.guillotiere.proofs.Frames.{same-self, same-ne}
-use Rattle.guillotiere.proofs.Joining.{used-le, split_pos, ne-from_same}
+use Rattle.guillotiere.proofs.Frames.{same-self, same-ne, used-le, split_pos, ne-from_same}
 use Rattle.guillotiere.proofs.JoiningWrites.{none-unused, used-inside}
 use Rattle.guillotiere.proofs.Lifting.{parent-in}
 

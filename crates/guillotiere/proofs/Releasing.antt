@@ -10,8 +10,7 @@ use Rattle.guillotiere.specs.Changes.{mark, only}
 use Rattle.guillotiere.specs.Numbered.{Numbered, tally, first_slot, erase, id_of, marked, End, Free, Alloc, Seq}
 use Rattle.guillotiere.specs.Standing.{Sequence, Standing, Stands, inside}
 use Rattle.guillotiere.specs.Calm.{IsCalmAt, IsCalmBut, NoneEmpty}
-use Rattle.guillotiere.proofs.Frames.{same-ne, IsWritten}
-use Rattle.guillotiere.proofs.Joining.{split_pos, ne-from_same}
+use Rattle.guillotiere.proofs.Frames.{same-ne, used-le, IsWritten, split_pos, ne-from_same}
 use Rattle.guillotiere.proofs.JoiningWrites.{none-unused, used-inside}
 use Rattle.guillotiere.proofs.Normal.{erase-marked}
 
@@ -90,27 +89,8 @@ full-from_normal (tree.Alloc id e rest) h = full-from_normal rest h
 full-from_normal (tree.Seq e inner rest) h =
     ((λ q. true≢false (ap is_idle (sym q) ∙ h.0)), full-from_normal inner h.1, full-from_normal rest h.2)
 
-mark-End : (set : ℕ → Bool) (m : Members) → mark set m ≡ tree.End → m ≡ tree.End
-mark-End set tree.End q = refl
-mark-End set (tree.Free e rest) q = absurd (let z = q in cc)
-mark-End set (tree.Alloc x e rest) q =
-    absurd (cond_both (set x) (tree.Free e (mark set rest)) (tree.Alloc x e (mark set rest)) (λ m. m ≡ tree.End → ⊥) (λ _ z. cc) (λ _ z. cc) q)
-mark-End set (tree.Seq e inner rest) q = absurd (let z = q in cc)
-
-pub full-mark : (set : ℕ → Bool) (m : Members) → NoneEmpty m → NoneEmpty (mark set m)
-full-mark set tree.End h = tt
-full-mark set (tree.Free e rest) h = full-mark set rest h
-full-mark set (tree.Alloc x e rest) h =
-    cond_both (set x) (tree.Free e (mark set rest)) (tree.Alloc x e (mark set rest)) (λ m. NoneEmpty m) (λ _. full-mark set rest h) (λ _. full-mark set rest h)
-full-mark set (tree.Seq e inner rest) h = ((λ q. h.0 (mark-End set inner q)), full-mark set inner h.1, full-mark set rest h.2)
-
 -- to mark the leaf at a slot of the tree is to mark the leaf with its id
 pub erase-marked_at : (ns : List Node) (i : ℕ) (s : Sequence) (n : Numbered) → length ns ≤ 16777216 → i < length ns → Stands ns s n → erase (marked i n) ≡ mark (only (id_of i (node_at ns i).generation)) (erase n)
 erase-marked_at ns i s n few li h =
     let below : (x : ℕ) → 0 < tally x n → x < 16777216 = λ x c. let y = used-inside ns x (rw (← h.numbered x) c) in omega arith in
-    erase-marked ns i s no_slot 0 n (omega arith) below h.standing
-
--- marking leaves no sequence empty
-pub full-marked : (ns : List Node) (i : ℕ) (s : Sequence) (n : Numbered) → length ns ≤ 16777216 → i < length ns → Stands ns s n → NoneEmpty (erase n) → NoneEmpty (erase (marked i n))
-full-marked ns i s n few li h full =
-    rw (erase-marked_at ns i s n few li h) (full-mark (only (id_of i (node_at ns i).generation)) (erase n) full)
+    erase-marked ns i s no_slot 0 n (omega arith) below (λ k. omega (arith, h.numbered k, used-le (node_at ns k).kind)) h.standing

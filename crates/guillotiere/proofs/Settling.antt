@@ -1,18 +1,18 @@
 -- the steps of a freeing, seen from the whole tree
-use Rattle.std.proofs.Common.{ℕ, ◌+◌, ◌<◌, ◌≤◌, ◌≡◌, List, refl, sym, ap, ◌∙◌, ◌⊎◌, inl, inr, arith, length, eqb}
-use Rattle.std.proofs.lemmas.Bool.{cases_eq, cond_both}
+use Rattle.std.proofs.Common.{ℕ, ◌+◌, ◌<◌, ◌≤◌, ◌≡◌, List, refl, sym, ap, ◌∙◌, ◌⊎◌, inl, inr, arith, length, Bool}
+use Rattle.std.proofs.lemmas.Bool.{cases_eq}
 use Rattle.guillotiere.specs.declared.slots.Node.{Node}
 use Rattle.guillotiere.specs.declared.slots.NodeKind.TheVariants as kind
 use Rattle.guillotiere.specs.Slots.{node_at, use_count, no_slot}
 use Rattle.guillotiere.specs.Trees as tree
 use Rattle.guillotiere.specs.Trees.{Members, Tree, IsNormal}
-use Rattle.guillotiere.specs.Numbered.{Numbered, tally, first_slot, same, numbers, erase, joined, grown_by, lifted, lifted_to, End, Free, Alloc, Seq}
+use Rattle.guillotiere.specs.Numbered.{Numbered, tally, first_slot, same, numbers, erase, marked, joined, grown_by, lifted, lifted_to, is_free_at, is_alloc_at, is_seq_at, End, Free, Alloc, Seq}
 use Rattle.guillotiere.specs.Standing.{Sequence, Standing, Stands, IsWhole, IsSlot, inside}
 use Rattle.guillotiere.proofs.Reading.{numbers-less}
 use Rattle.guillotiere.proofs.JoiningWrites.{used-inside, none-unused, not-none}
-use Rattle.guillotiere.proofs.Frames.{same-self, same-ne}
-use Rattle.guillotiere.proofs.Joining.{split_pos}
+use Rattle.guillotiere.proofs.Frames.{same-self, same-ne, split_pos}
 use Rattle.guillotiere.proofs.Closing.{next-in}
+use Rattle.guillotiere.proofs.Editing.{IsKept, edited-keeps, joining, lifting, marking, free_here, alloc_here, seq_here}
 use Rattle.guillotiere.proofs.Calm.{calm-all, normal-from_calm}
 use Rattle.guillotiere.specs.Calm.{IsCalmAt, IsCalmBut, NoneEmpty}
 
@@ -28,64 +28,42 @@ pub fewer : (ns : List Node) (s : Sequence) (n less : Numbered) (j : ℕ) → St
 fewer ns s n less j h f is =
     numbers-less (length ns) j n less (used-inside ns j (rw f (omega arith))) (λ x c. used-inside ns x (rw (← h.numbered x) c)) is
 
-grown-End : (j e : ℕ) (n : Numbered) → erase (grown_by j e n) ≡ tree.End → ⊥
-grown-End j e End q = cc
-grown-End j e (Free k d rest) q = cc
-grown-End j e (Alloc k g d rest) q = cc
-grown-End j e (Seq k d inner rest) q = cc
+-- an edit that leaves no sequence empty
+abbrev IsFuller : (across : ℕ) → (old new : Numbered) → Type 0
+IsFuller a m n = (erase n ≡ tree.End → erase m ≡ tree.End) × (NoneEmpty (erase m) → NoneEmpty (erase n))
 
-joined-End : (i : ℕ) (n : Numbered) → erase (joined i n) ≡ tree.End → erase n ≡ tree.End
-joined-End i End q = refl
-joined-End i (Free j e rest) q =
-    absurd (cond_both (eqb i j) (grown_by j e rest) (Free j e (joined i rest)) (λ m. erase m ≡ tree.End → ⊥) (λ _. grown-End j e rest) (λ _ z. cc) q)
-joined-End i (Alloc j g e rest) q = absurd (let z = q in cc)
-joined-End i (Seq j e inner rest) q = absurd (let z = q in cc)
+full-kept : (is : Numbered → Bool) → IsKept is IsFuller
+full-kept is =
+    record {
+      ends = λ a. ((λ q. q), (λ h. h));
+      free = λ a i e m n _ h. ((λ q. absurd (let z = q in cc)), h.1);
+      alloc = λ a i g e m n _ h. ((λ q. absurd (let z = q in cc)), h.1);
+      seq = λ a i e k l m n _ g h. ((λ q. absurd (let z = q in cc)), (λ f. ((λ q. f.0 (g.0 q)), g.1 f.1, h.1 f.2)));
+    }
 
-full-grown : (j e : ℕ) (n : Numbered) → NoneEmpty (erase n) → NoneEmpty (erase (grown_by j e n))
-full-grown j e End h = h
-full-grown j e (Free k d rest) h = h
-full-grown j e (Alloc k g d rest) h = h
-full-grown j e (Seq k d inner rest) h = h
+full-grown : (a j e : ℕ) (n : Numbered) → IsFuller a (Free j e n) (grown_by j e n)
+full-grown a j e End = ((λ q. q), (λ h. h))
+full-grown a j e (Free k d rest) = ((λ q. absurd (let z = q in cc)), (λ h. h))
+full-grown a j e (Alloc k g d rest) = ((λ q. q), (λ h. h))
+full-grown a j e (Seq k d inner rest) = ((λ q. q), (λ h. h))
 
 pub full-joined : (i : ℕ) (n : Numbered) → NoneEmpty (erase n) → NoneEmpty (erase (joined i n))
-full-joined i End h = tt
-full-joined i (Free j e rest) h =
-    cond_both (eqb i j) (grown_by j e rest) (Free j e (joined i rest)) (λ m. NoneEmpty (erase m)) (λ _. full-grown j e rest h) (λ _. full-joined i rest h)
-full-joined i (Alloc j g e rest) h = full-joined i rest h
-full-joined i (Seq j e inner rest) h =
-    ((λ q. h.0 (joined-End i inner q)), full-joined i inner h.1, full-joined i rest h.2)
+full-joined i n = (edited-keeps (is_free_at i) joining IsFuller (full-kept _) (λ a. free_here i (λ m. IsFuller a m (joining a m)) (full-grown a i)) 0 n).1
 
-full-lifted_to : (j e : ℕ) (inner rest : Numbered) → NoneEmpty (erase (Seq j e inner rest)) → NoneEmpty (erase (lifted_to j e inner rest))
-full-lifted_to j e End rest h = h
-full-lifted_to j e (Free k d End) rest h = h.2
-full-lifted_to j e (Free k d (Free x y z)) rest h = h
-full-lifted_to j e (Free k d (Alloc x g y z)) rest h = h
-full-lifted_to j e (Free k d (Seq x y v z)) rest h = h
-full-lifted_to j e (Alloc x g y z) rest h = h
-full-lifted_to j e (Seq x y v z) rest h = h
-
-lifted_to-End : (j e : ℕ) (inner rest : Numbered) → erase (lifted_to j e inner rest) ≡ tree.End → ⊥
-lifted_to-End j e End rest q = cc
-lifted_to-End j e (Free k d End) rest q = cc
-lifted_to-End j e (Free k d (Free x y z)) rest q = cc
-lifted_to-End j e (Free k d (Alloc x g y z)) rest q = cc
-lifted_to-End j e (Free k d (Seq x y v z)) rest q = cc
-lifted_to-End j e (Alloc x g y z) rest q = cc
-lifted_to-End j e (Seq x y v z) rest q = cc
-
-lifted-End : (i : ℕ) (n : Numbered) → erase (lifted i n) ≡ tree.End → erase n ≡ tree.End
-lifted-End i End q = refl
-lifted-End i (Free j e rest) q = absurd (let z = q in cc)
-lifted-End i (Alloc j g e rest) q = absurd (let z = q in cc)
-lifted-End i (Seq j e inner rest) q =
-    absurd (cond_both (eqb i j) (lifted_to j e inner rest) (Seq j e (lifted i inner) (lifted i rest)) (λ m. erase m ≡ tree.End → ⊥) (λ _. lifted_to-End j e inner rest) (λ _ z. cc) q)
+full-lifted_to : (a j e : ℕ) (inner rest : Numbered) → IsFuller a (Seq j e inner rest) (lifted_to j e inner rest)
+full-lifted_to a j e End rest = ((λ q. q), (λ h. h))
+full-lifted_to a j e (Free k d End) rest = ((λ q. absurd (let z = q in cc)), (λ h. h.2))
+full-lifted_to a j e (Free k d (Free x y z)) rest = ((λ q. q), (λ h. h))
+full-lifted_to a j e (Free k d (Alloc x g y z)) rest = ((λ q. q), (λ h. h))
+full-lifted_to a j e (Free k d (Seq x y v z)) rest = ((λ q. q), (λ h. h))
+full-lifted_to a j e (Alloc x g y z) rest = ((λ q. q), (λ h. h))
+full-lifted_to a j e (Seq x y v z) rest = ((λ q. q), (λ h. h))
 
 pub full-lifted : (i : ℕ) (n : Numbered) → NoneEmpty (erase n) → NoneEmpty (erase (lifted i n))
-full-lifted i End h = tt
-full-lifted i (Free j e rest) h = full-lifted i rest h
-full-lifted i (Alloc j g e rest) h = full-lifted i rest h
-full-lifted i (Seq j e inner rest) h =
-    cond_both (eqb i j) (lifted_to j e inner rest) (Seq j e (lifted i inner) (lifted i rest)) (λ m. NoneEmpty (erase m)) (λ _. full-lifted_to j e inner rest h) (λ _. ((λ q. h.0 (lifted-End i inner q)), full-lifted i inner h.1, full-lifted i rest h.2))
+full-lifted i n = (edited-keeps (is_seq_at i) lifting IsFuller (full-kept _) (λ a. seq_here i (λ m. IsFuller a m (lifting a m)) (full-lifted_to a i)) 0 n).1
+
+pub full-marked : (i : ℕ) (n : Numbered) → NoneEmpty (erase n) → NoneEmpty (erase (marked i n))
+full-marked i n = (edited-keeps (is_alloc_at i) marking IsFuller (full-kept _) (λ a. alloc_here i (λ m. IsFuller a m (marking a m)) (λ g e rest. ((λ q. absurd (let z = q in cc)), (λ h. h)))) 0 n).1
 
 -- what a slot says of the slot before it
 abbrev pub IsBefore : List Node → ℕ → ℕ → Numbered → Type 0

@@ -9,8 +9,7 @@ use Rattle.guillotiere.specs.Pixels.{rectangle_of, box_of}
 use Rattle.guillotiere.specs.Slots.{node_at, use_count, no_slot}
 use Rattle.guillotiere.specs.Numbered.{Numbered, tally, End, Free, Alloc, Seq}
 use Rattle.guillotiere.specs.Standing.{Sequence, Standing, Stands, IsTree, inside}
-use Rattle.guillotiere.proofs.Frames.{same-ne}
-use Rattle.guillotiere.proofs.Joining.{split_pos}
+use Rattle.guillotiere.proofs.Frames.{same-ne, split_pos}
 
 -- both coordinates of each corner are 0 or more
 abbrev pub IsExact : Rectangle → Type 0

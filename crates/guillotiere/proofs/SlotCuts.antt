@@ -8,11 +8,10 @@ use Rattle.guillotiere.specs.Cuts.{Cut, cut}
 use Rattle.guillotiere.specs.Cuts.Cut.{Whole, Strip, Corner}
 use Rattle.guillotiere.specs.Changes.{place}
 use Rattle.guillotiere.specs.Slots.{node_at, axis_of}
-use Rattle.guillotiere.specs.Numbered.{Numbered, tally, same, erase, id_of, granted_at, split_at, wrapped_at, End, Free, Alloc, Seq}
+use Rattle.guillotiere.specs.Numbered.{Numbered, weigh, tally, same, erase, id_of, granted_at, split_at, wrapped_at, End, Free, Alloc, Seq}
 use Rattle.guillotiere.specs.Standing.{Sequence}
-use Rattle.guillotiere.proofs.Frames.{same-ne}
-use Rattle.guillotiere.proofs.Joining.{ne-from_same}
-use Rattle.guillotiere.proofs.Weights.{weigh, tally-weigh, free_tally, free_tally-le, free_once}
+use Rattle.guillotiere.proofs.Frames.{same-ne, ne-from_same}
+use Rattle.guillotiere.proofs.Weights.{free_tally, free_tally-le, free_once}
 use Rattle.guillotiere.proofs.Splitting.{split-absent}
 use Rattle.guillotiere.proofs.Wrapping.{wrapped-absent}
 use Rattle.guillotiere.proofs.SlotAims.{IsChoice, IsFitting, aim-choice, tree_in}
@@ -41,23 +40,20 @@ weigh-none (Free i e rest) = omega (arith, weigh-none rest)
 weigh-none (Alloc i g e rest) = omega (arith, weigh-none rest)
 weigh-none (Seq i e inner rest) = omega (arith, weigh-none inner, weigh-none rest)
 
-weigh-more : (f g : ℕ → ℕ) (n : Numbered) → weigh (λ x. f x + g x) n ≡ weigh f n + weigh g n
-weigh-more f g End = omega arith
-weigh-more f g (Free i e rest) = omega (arith, weigh-more f g rest)
-weigh-more f g (Alloc i h e rest) = omega (arith, weigh-more f g rest)
-weigh-more f g (Seq i e inner rest) = omega (arith, weigh-more f g inner, weigh-more f g rest)
-
-weigh-one : (k : ℕ) (n : Numbered) → weigh (new_one k) n ≡ tally k n
-weigh-one k n = sym (tally-weigh k n)
+weigh-sum : (f g : ℕ → ℕ) (n : Numbered) → weigh (λ x. f x + g x) n ≡ weigh f n + weigh g n
+weigh-sum f g End = omega arith
+weigh-sum f g (Free i e rest) = omega (arith, weigh-sum f g rest)
+weigh-sum f g (Alloc i h e rest) = omega (arith, weigh-sum f g rest)
+weigh-sum f g (Seq i e inner rest) = omega (arith, weigh-sum f g inner, weigh-sum f g rest)
 
 weigh-two : (j k : ℕ) (n : Numbered) → weigh (new_two j k) n ≡ tally j n + tally k n
-weigh-two j k n = omega (arith, weigh-more (same j) (same k) n, tally-weigh j n, tally-weigh k n)
+weigh-two j k n = weigh-sum (new_one j) (new_one k) n
 
 weigh-three : (j k l : ℕ) (n : Numbered) → weigh (new_three j k l) n ≡ tally j n + tally k n + tally l n
-weigh-three j k l n = omega (arith, weigh-more (new_two j k) (same l) n, weigh-two j k n, tally-weigh l n)
+weigh-three j k l n = omega (arith, weigh-sum (new_two j k) (new_one l) n, weigh-two j k n)
 
 weigh-four : (j k l m : ℕ) (n : Numbered) → weigh (new_four j k l m) n ≡ tally j n + tally k n + tally l n + tally m n
-weigh-four j k l m n = omega (arith, weigh-more (new_three j k l) (same m) n, weigh-three j k l n, tally-weigh m n)
+weigh-four j k l m n = omega (arith, weigh-sum (new_three j k l) (new_one m) n, weigh-three j k l n)
 
 -- an unused slot isn't that of a member
 other_slot : (k j : ℕ) → same k j ≡ 0 → k ≡ j → ⊥
@@ -227,7 +223,7 @@ module _ (size : Sides) (ns : List Node) (s : Sequence) (n : Numbered) (i : ℕ)
 
   pub strip_along-placed : (b : Axis) (g k : ℕ) → cut (box_sides f) r ≡ Strip b → same_axis b a ≡ true → tally k n ≡ 0 → tree_in s (granted_at i g (split_at i k (side a r) n)) ≡ place size f r (id_of i g) (tree_in s n)
   strip_along-placed b g k is along zk =
-      placed_by (strip_along_by i g k (side a r)) (new_one k) (Strip b) (id_of i g) (strip_along-change i g k (side a r)) is (strip_along-puts i g k b a (side a r) (side (other a) r) along) (weigh-one k n ∙ zk)
+      placed_by (strip_along_by i g k (side a r)) (new_one k) (Strip b) (id_of i g) (strip_along-change i g k (side a r)) is (strip_along-puts i g k b a (side a r) (side (other a) r) along) zk
 
   pub strip_across-placed : (b : Axis) (g j k : ℕ) → cut (box_sides f) r ≡ Strip b → same_axis b a ≡ false → tally j n ≡ 0 → tally k n ≡ 0 → tree_in s (granted_at j g (split_at j k (side (other a) r) (wrapped_at i j s.width n))) ≡ place size f r (id_of j g) (tree_in s n)
   strip_across-placed b g j k is along zj zk =

@@ -11,8 +11,7 @@ use Rattle.guillotiere.specs.Trees.{ids, slot_count}
 use Rattle.guillotiere.specs.Slots.{node_at, no_slot}
 use Rattle.guillotiere.specs.Numbered.{Numbered, tally, same, erase, id_of, End, Free, Alloc, Seq}
 use Rattle.guillotiere.specs.Standing.{Sequence, Standing, Stands, inside}
-use Rattle.guillotiere.proofs.Frames.{same-self, same-ne}
-use Rattle.guillotiere.proofs.Joining.{split_pos}
+use Rattle.guillotiere.proofs.Frames.{same-self, same-ne, split_pos}
 use Rattle.guillotiere.proofs.JoiningWrites.{used-inside}
 use Rattle.guillotiere.proofs.TreeBasics.{one_if}
 use Rattle.guillotiere.proofs.TreeIds.{Contains-first, Contains-later, Contains-none, Contains-cons_cases}

@@ -12,8 +12,7 @@ use Rattle.guillotiere.specs.Trees.{IsCut, total}
 use Rattle.guillotiere.specs.Numbered.{Numbered, erase, tally, End, Free, Alloc, Seq}
 use Rattle.guillotiere.specs.Standing.{Sequence, Standing, inside, spot, member_box}
 use Rattle.guillotiere.specs.Stored.{Shelf, Holding, Holds}
-use Rattle.guillotiere.proofs.Frames.{same-ne}
-use Rattle.guillotiere.proofs.Joining.{split_pos}
+use Rattle.guillotiere.proofs.Frames.{same-ne, split_pos}
 
 -- a rectangle may be measured, and has a square
 pub record IsSpan (r : Rectangle) : Type 0 where

@@ -6,10 +6,10 @@ use Rattle.guillotiere.specs.Cuts.{Cut, cut}
 use Rattle.guillotiere.specs.Trees.{Members}
 use Rattle.guillotiere.specs.Trees as tree
 use Rattle.guillotiere.specs.Changes.{put, placed}
-use Rattle.guillotiere.specs.Numbered.{Numbered, same, erase, id_of, granted_at, split_at, wrapped_at, End, Free, Alloc, Seq}
-use Rattle.guillotiere.proofs.Frames.{same-self}
-use Rattle.guillotiere.proofs.Joining.{ne-from_same}
-use Rattle.guillotiere.proofs.Weights.{weigh, free_tally}
+use Rattle.guillotiere.specs.Numbered.{Numbered, weigh, same, is_free_at, erase, id_of, granted_at, split_at, wrapped_at, End, Free, Alloc, Seq}
+use Rattle.guillotiere.proofs.Frames.{same-self, ne-from_same}
+use Rattle.guillotiere.proofs.Weights.{free_tally, places-free}
+use Rattle.guillotiere.proofs.Editing.{granting, edited-absent}
 use Rattle.guillotiere.proofs.SlotAims.{IsAim}
 
 -- one step at a free member
@@ -33,12 +33,7 @@ pub wrapped-other : (i k across j e : ℕ) (rest : Numbered) → (i ≡ j → �
 wrapped-other i k across j e rest ne = cond-false (eqb i j) (Seq j e (Free k across End) rest) (Free j e (wrapped_at i k across rest)) (ne_eqb i j ne)
 
 pub granted-absent : (i g : ℕ) (n : Numbered) → free_tally i n ≡ 0 → granted_at i g n ≡ n
-granted-absent i g End z = refl
-granted-absent i g (Free j e rest) z =
-    granted-other i g j e rest (λ x. ne-from_same i j (omega arith) (sym x)) ∙ ap (Free j e) (granted-absent i g rest (omega arith))
-granted-absent i g (Alloc j h e rest) z = ap (Alloc j h e) (granted-absent i g rest z)
-granted-absent i g (Seq j e inner rest) z =
-    ap₂ (Seq j e) (granted-absent i g inner (omega arith)) (granted-absent i g rest (omega arith))
+granted-absent i g n z = edited-absent (is_free_at i) (granting g) refl 0 n (places-free i n ∙ z)
 
 -- a change of a numbered tree that acts at the free leaf i alone and needs the slots of `new` unused
 pub record IsChange (G : (across : ℕ) → Numbered → Numbered) (i : ℕ) (new : ℕ → ℕ) : Type 0 where

@@ -1,6 +1,5 @@
 -- a plan carried out in the leaf of a slot is the model's placing
 use Rattle.std.proofs.Common.{ℕ, ◌+◌, ◌-◌, ◌<◌, ◌≤◌, ◌≡◌, ◌≢◌, true, false, List, refl, sym, ap, ◌∙◌, inl, inr, arith, eqb}
-use Rattle.std.proofs.lemmas.Bool.{cond_both, eqb-true, eqb-false}
 use Rattle.guillotiere.specs.declared.tree.Plan.{Plan}
 use Rattle.guillotiere.specs.declared.tree.Plan.TheVariants as plan
 use Rattle.guillotiere.specs.declared.slots.Node.{Node}
@@ -10,12 +9,12 @@ use Rattle.guillotiere.specs.Pixels.{natural, box_of}
 use Rattle.guillotiere.specs.Cuts.{cut}
 use Rattle.guillotiere.specs.Changes.{need, place, place_need}
 use Rattle.guillotiere.specs.Slots.{node_at, axis_of}
-use Rattle.guillotiere.specs.Numbered.{Numbered, tally, numbers, same, id_of, granted_at, split_at, wrapped_at, End, Free, Alloc, Seq}
+use Rattle.guillotiere.specs.Numbered.{Numbered, tally, numbers, same, id_of, granted_at, split_at, wrapped_at, wrapping, is_free_at, End, Free, Alloc, Seq}
 use Rattle.guillotiere.specs.Standing.{Sequence, Stands}
 use Rattle.guillotiere.specs.Planning.{IsPlanFor, IsPlannedTree, slots_of}
-use Rattle.guillotiere.proofs.Frames.{same-self, same-ne}
-use Rattle.guillotiere.proofs.Joining.{split_pos, used-le}
-use Rattle.guillotiere.proofs.Weights.{free_tally, free_once}
+use Rattle.guillotiere.proofs.Frames.{same-self, used-le}
+use Rattle.guillotiere.proofs.Weights.{places, free_place}
+use Rattle.guillotiere.proofs.Editing.{splitting, free_here, weigh-more, places-next}
 use Rattle.guillotiere.proofs.Granting.{tally-granted}
 use Rattle.guillotiere.specs.Trees.{Tree, nodes}
 use Rattle.guillotiere.proofs.Normal.{numbers-erase}
@@ -25,65 +24,32 @@ use Rattle.guillotiere.proofs.SlotCuts.{whole-placed, strip_along-placed, strip_
 
 -- no slot leaves the tree, and the taken one comes in
 
-pub split-keeps : (x i k p : ℕ) (n : Numbered) → tally x n ≤ tally x (split_at i k p n)
-split-keeps x i k p End = omega arith
-split-keeps x i k p (Free j e rest) =
-    cond_both (eqb i j) (Free j p (Free k (e - p) rest)) (Free j e (split_at i k p rest)) (λ m. same x j + tally x rest ≤ tally x m) (λ _. omega arith) (λ _. omega (arith, split-keeps x i k p rest))
-split-keeps x i k p (Alloc j g e rest) = omega (arith, split-keeps x i k p rest)
-split-keeps x i k p (Seq j e inner rest) = omega (arith, split-keeps x i k p inner, split-keeps x i k p rest)
+module _ (x i k : ℕ) where
+  more_split : (p : ℕ) (n : Numbered) → (tally x n ≤ tally x (split_at i k p n)) × (0 < places (is_free_at i) n → tally x n + same x k ≤ tally x (split_at i k p n))
+  more_split p = weigh-more (is_free_at i) (splitting k p) (same x) (same x k) (λ a. free_here i (λ m. tally x m + same x k ≤ tally x (splitting k p a m)) (λ e rest. omega arith)) 0
 
-pub split-adds : (x i k p : ℕ) (n : Numbered) → 0 < free_tally i n → tally x n + same x k ≤ tally x (split_at i k p n)
-split-adds x i k p End l = absurd (omega arith)
-split-adds x i k p (Free j e rest) l =
-    cond_both (eqb i j) (Free j p (Free k (e - p) rest)) (Free j e (split_at i k p rest)) (λ m. same x j + tally x rest + same x k ≤ tally x m) (λ _. omega arith) (λ q. omega (arith, split-adds x i k p rest (omega (arith, same-ne i j (eqb-false i j q)))))
-split-adds x i k p (Alloc j g e rest) l = omega (arith, split-adds x i k p rest l)
-split-adds x i k p (Seq j e inner rest) l =
-    elim (split_pos (free_tally i inner) (free_tally i rest) l) [
-      | inl a ↦ omega (arith, split-adds x i k p inner a, split-keeps x i k p rest)
-      | inr b ↦ omega (arith, split-keeps x i k p inner, split-adds x i k p rest b)
-    ]
+  pub split-keeps : (p : ℕ) (n : Numbered) → tally x n ≤ tally x (split_at i k p n)
+  split-keeps p n = (more_split p n).0
 
-pub wrapped-keeps : (x i k across : ℕ) (n : Numbered) → tally x n ≤ tally x (wrapped_at i k across n)
-wrapped-keeps x i k across End = omega arith
-wrapped-keeps x i k across (Free j e rest) =
-    cond_both (eqb i j) (Seq j e (Free k across End) rest) (Free j e (wrapped_at i k across rest)) (λ m. same x j + tally x rest ≤ tally x m) (λ _. omega arith) (λ _. omega (arith, wrapped-keeps x i k across rest))
-wrapped-keeps x i k across (Alloc j g e rest) = omega (arith, wrapped-keeps x i k across rest)
-wrapped-keeps x i k across (Seq j e inner rest) = omega (arith, wrapped-keeps x i k e inner, wrapped-keeps x i k across rest)
+  pub split-adds : (p : ℕ) (n : Numbered) → 0 < places (is_free_at i) n → tally x n + same x k ≤ tally x (split_at i k p n)
+  split-adds p n = (more_split p n).1
 
-pub wrapped-adds : (x i k across : ℕ) (n : Numbered) → 0 < free_tally i n → tally x n + same x k ≤ tally x (wrapped_at i k across n)
-wrapped-adds x i k across End l = absurd (omega arith)
-wrapped-adds x i k across (Free j e rest) l =
-    cond_both (eqb i j) (Seq j e (Free k across End) rest) (Free j e (wrapped_at i k across rest)) (λ m. same x j + tally x rest + same x k ≤ tally x m) (λ _. omega arith) (λ q. omega (arith, wrapped-adds x i k across rest (omega (arith, same-ne i j (eqb-false i j q)))))
-wrapped-adds x i k across (Alloc j g e rest) l = omega (arith, wrapped-adds x i k across rest l)
-wrapped-adds x i k across (Seq j e inner rest) l =
-    elim (split_pos (free_tally i inner) (free_tally i rest) l) [
-      | inl a ↦ omega (arith, wrapped-adds x i k e inner a, wrapped-keeps x i k across rest)
-      | inr b ↦ omega (arith, wrapped-keeps x i k e inner, wrapped-adds x i k across rest b)
-    ]
+  more_wrapped : (across : ℕ) (n : Numbered) → (tally x n ≤ tally x (wrapped_at i k across n)) × (0 < places (is_free_at i) n → tally x n + same x k ≤ tally x (wrapped_at i k across n))
+  more_wrapped = weigh-more (is_free_at i) (wrapping k) (same x) (same x k) (λ a. free_here i (λ m. tally x m + same x k ≤ tally x (wrapping k a m)) (λ e rest. omega arith))
+
+  pub wrapped-keeps : (across : ℕ) (n : Numbered) → tally x n ≤ tally x (wrapped_at i k across n)
+  wrapped-keeps across n = (more_wrapped across n).0
+
+  pub wrapped-adds : (across : ℕ) (n : Numbered) → 0 < places (is_free_at i) n → tally x n + same x k ≤ tally x (wrapped_at i k across n)
+  wrapped-adds across n = (more_wrapped across n).1
 
 -- the first part of a cut leaf is free, and so is the leaf inside a new container
 
-pub split-stays : (i k p : ℕ) (n : Numbered) → 0 < free_tally i n → 0 < free_tally i (split_at i k p n)
-split-stays i k p End l = l
-split-stays i k p (Free j e rest) l =
-    cond_both (eqb i j) (Free j p (Free k (e - p) rest)) (Free j e (split_at i k p rest)) (λ m. 0 < free_tally i m) (λ t. omega (arith, same-self i, ap (same i) (eqb-true i j t))) (λ q. omega (arith, split-stays i k p rest (omega (arith, same-ne i j (eqb-false i j q)))))
-split-stays i k p (Alloc j g e rest) l = split-stays i k p rest l
-split-stays i k p (Seq j e inner rest) l =
-    elim (split_pos (free_tally i inner) (free_tally i rest) l) [
-      | inl a ↦ omega (arith, split-stays i k p inner a)
-      | inr b ↦ omega (arith, split-stays i k p rest b)
-    ]
+pub split-stays : (i k p : ℕ) (n : Numbered) → 0 < places (is_free_at i) n → 0 < places (is_free_at i) (split_at i k p n)
+split-stays i k p = places-next (is_free_at i) (splitting k p) (is_free_at i) (λ a. free_here i (λ m. 0 < places (is_free_at i) (splitting k p a m)) (λ e rest. omega (arith, same-self i))) 0
 
-pub wrapped-gains : (i k across : ℕ) (n : Numbered) → 0 < free_tally i n → 0 < free_tally k (wrapped_at i k across n)
-wrapped-gains i k across End l = absurd (omega arith)
-wrapped-gains i k across (Free j e rest) l =
-    cond_both (eqb i j) (Seq j e (Free k across End) rest) (Free j e (wrapped_at i k across rest)) (λ m. 0 < free_tally k m) (λ _. omega (arith, same-self k)) (λ q. omega (arith, wrapped-gains i k across rest (omega (arith, same-ne i j (eqb-false i j q)))))
-wrapped-gains i k across (Alloc j g e rest) l = wrapped-gains i k across rest l
-wrapped-gains i k across (Seq j e inner rest) l =
-    elim (split_pos (free_tally i inner) (free_tally i rest) l) [
-      | inl a ↦ omega (arith, wrapped-gains i k e inner a)
-      | inr b ↦ omega (arith, wrapped-gains i k across rest b)
-    ]
+pub wrapped-gains : (i k across : ℕ) (n : Numbered) → 0 < places (is_free_at i) n → 0 < places (is_free_at k) (wrapped_at i k across n)
+wrapped-gains i k = places-next (is_free_at i) (wrapping k) (is_free_at k) (λ a. free_here i (λ m. 0 < places (is_free_at k) (wrapping k a m)) (λ e rest. omega (arith, same-self k)))
 
 -- axes
 
@@ -105,8 +71,8 @@ module _ (size : Sides) (ns : List Node) (s : Sequence) (n : Numbered) (i : ℕ)
   abbrev a : Axis
   a = axis_of (node_at ns i).axis
 
-  here : 0 < free_tally i n
-  here = rw (free_once ns i s n h.free h.stands) (omega arith)
+  here : 0 < places (is_free_at i) n
+  here = rw (free_place ns i s n h.free h.stands) (omega arith)
 
   -- the tree once a plan is carried out in the leaf: `placed` by the model
   pub planned-placed : (p : Plan) (to g : ℕ) (new : Numbered) → IsPlanFor (node_at ns i) r p → IsPlannedTree p i s.width to g n new → ((x : ℕ) → tally x new ≤ 1) → tree_in s new ≡ place size f r (id_of to g) (tree_in s n)
@@ -124,8 +90,8 @@ module _ (size : Sides) (ns : List Node) (s : Sequence) (n : Numbered) (i : ℕ)
       let n2 : Numbered = wrapped_at i to s.width n1 in
       let n3 : Numbered = split_at to l (side (other a) r) n2 in
       let is : new ≡ granted_at to g n3 = t.2 ∙ ap (λ v. granted_at to g (split_at to l v (wrapped_at i to s.width (split_at i k (natural p) n)))) for.2 ∙ ap (λ v. granted_at to g (split_at to l (side (other a) r) (wrapped_at i to s.width (split_at i k v n)))) for.1 in
-      let stays : 0 < free_tally i n1 = split-stays i k (side a r) n here in
-      let gains : 0 < free_tally to n2 = wrapped-gains i to s.width n1 stays in
+      let stays : 0 < places (is_free_at i) n1 = split-stays i k (side a r) n here in
+      let gains : 0 < places (is_free_at to) n2 = wrapped-gains i to s.width n1 stays in
       let sum : (x : ℕ) → tally x n + same x k + same x to + same x l ≤ 1 = (λ x. omega (arith, once x, ap (tally x) is, tally-granted x to g n3, split-adds x to l (side (other a) r) n2 gains, wrapped-adds x i to s.width n1 stays, split-adds x i k (side a r) n here)) in
       let zk : tally k n ≡ 0 = omega (arith, sum k, same-self k) in
       let zj : tally to n ≡ 0 = omega (arith, sum to, same-self to) in
@@ -137,7 +103,7 @@ module _ (size : Sides) (ns : List Node) (s : Sequence) (n : Numbered) (i : ℕ)
       let n1 : Numbered = wrapped_at i to s.width n in
       let n2 : Numbered = split_at to k (side (other a) r) n1 in
       let is : new ≡ granted_at to g n2 = t.1 ∙ ap (λ v. granted_at to g (split_at to k v n1)) for.1 in
-      let gains : 0 < free_tally to n1 = wrapped-gains i to s.width n here in
+      let gains : 0 < places (is_free_at to) n1 = wrapped-gains i to s.width n here in
       let sum : (x : ℕ) → tally x n + same x to + same x k ≤ 1 = (λ x. omega (arith, once x, ap (tally x) is, tally-granted x to g n2, split-adds x to k (side (other a) r) n1 gains, wrapped-adds x i to s.width n here)) in
       let zj : tally to n ≡ 0 = omega (arith, sum to, same-self to) in
       let zk : tally k n ≡ 0 = omega (arith, sum k, same-self k) in
@@ -151,9 +117,9 @@ module _ (size : Sides) (ns : List Node) (s : Sequence) (n : Numbered) (i : ℕ)
       let n3 : Numbered = wrapped_at c to s.width n2 in
       let n4 : Numbered = split_at to l (side a r) n3 in
       let is : new ≡ granted_at to g n4 = t.3 ∙ ap (λ v. granted_at to g (split_at to l v (wrapped_at c to s.width (split_at c k (natural q) n1)))) for.1 ∙ ap (λ v. granted_at to g (split_at to l (side a r) (wrapped_at c to s.width (split_at c k v n1)))) for.2 in
-      let gains : 0 < free_tally c n1 = wrapped-gains i c s.width n here in
-      let stays : 0 < free_tally c n2 = split-stays c k (side (other a) r) n1 gains in
-      let gains_again : 0 < free_tally to n3 = wrapped-gains c to s.width n2 stays in
+      let gains : 0 < places (is_free_at c) n1 = wrapped-gains i c s.width n here in
+      let stays : 0 < places (is_free_at c) n2 = split-stays c k (side (other a) r) n1 gains in
+      let gains_again : 0 < places (is_free_at to) n3 = wrapped-gains c to s.width n2 stays in
       let sum : (x : ℕ) → tally x n + same x c + same x k + same x to + same x l ≤ 1 = (λ x. omega (arith, once x, ap (tally x) is, tally-granted x to g n4, split-adds x to l (side a r) n3 gains_again, wrapped-adds x c to s.width n2 stays, split-adds x c k (side (other a) r) n1 gains, wrapped-adds x i c s.width n here)) in
       let zc : tally c n ≡ 0 = omega (arith, sum c, same-self c) in
       let zk : tally k n ≡ 0 = omega (arith, sum k, same-self k) in

@@ -10,10 +10,9 @@ use Rattle.guillotiere.specs.Numbered.{Numbered, tally, first_slot, same, End, F
 use Rattle.guillotiere.specs.Standing.{Sequence, Standing, IsTree, IsSlot, with_previous}
 use Rattle.guillotiere.specs.SlotCalls.{CanSplitInto}
 use Rattle.guillotiere.specs.Parts.{front_node, back_node}
-use Rattle.guillotiere.proofs.Frames.{same-self}
+use Rattle.guillotiere.proofs.Frames.{same-self, used-le}
 use Rattle.guillotiere.proofs.Closing.{next-in, first-in}
 use Rattle.guillotiere.proofs.Suffixes.{suffix-at}
-use Rattle.guillotiere.proofs.Joining.{used-le}
 use Rattle.guillotiere.proofs.JoiningWrites.{used-inside, none-unused, not-none}
 use Rattle.guillotiere.proofs.Splitting.{IsSplit}
 

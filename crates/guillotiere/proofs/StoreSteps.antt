@@ -23,7 +23,7 @@ use Rattle.guillotiere.specs.Stored.{Shelf, Holding, Holds, HoldsWith, places_of
 use Rattle.guillotiere.specs.Holdings.{node_in, IsLow, IsLooseLeaf, IsReadyWith, HasSlotsFor, after_take, after_grant, after_mark, after_join, after_lift, after_split, after_wrap}
 use Rattle.guillotiere.proofs.Filing.{AreFiled-sharpened, with_mark-same, with_mark-other, with_count-same, with_count-other}
 use Rattle.guillotiere.proofs.Taking.{AreFiled-moved, AreFiled-nodes, IsMoved}
-use Rattle.guillotiere.proofs.NumberedCuts.{total-marked, cut-marked, total-granted, cut-granted, total-joined, cut-joined, total-lifted, cut-lifted, total-split, cut-split, total-wrapped, cut-wrapped}
+use Rattle.guillotiere.proofs.NumberedCuts.{IsRecut, recut-marked, recut-granted, recut-joined, recut-lifted, recut-split, recut-wrapped}
 use Rattle.guillotiere.proofs.SlotBoxes.{slot-exact}
 
 -- what is held once the slots and the unused list changed, and no list of free slots
@@ -32,19 +32,19 @@ pub held_again : (hand hand' : ℕ → ℕ) (v : Shelf) (new : List Slot) (unuse
     → length new ≤ 16777216 → HoldsWith hand v h → Stands (nodes new) h.sequence tree
     → AreFiled (options_of v.options) (nodes new) (rings new) v.heads unused
         (record { spare = spare; held = h.held; hand = hand'; loose = loose })
-    → IsCut h.sequence.width (erase tree) → total (erase tree) ≡ total (erase h.tree)
+    → IsRecut h.sequence.width h.tree tree
     → HoldsWith hand' (record v { slots = new; unused = unused }) (record h { tree = tree; spare = spare; loose = loose })
-held_again hand hand' v new unused h tree spare loose short holds stands filed cut whole =
+held_again hand hand' v new unused h tree spare loose short holds stands filed recut =
     record {
       top = holds.top;
       stands = stands;
       filed = filed;
       short = short;
       valid = holds.valid;
-      cut = cut;
+      cut = recut.1 holds.wide holds.cut;
       wide = holds.wide;
       across = holds.across;
-      along = omega (arith, holds.along, whole);
+      along = omega (arith, holds.along, recut.0);
     }
 
 -- a slot that keeps its use stays as it was for the lists
@@ -86,7 +86,7 @@ granted-holds v new at long w h leaf =
     (filed-one (options_of v.options) (nodes v.slots) (nodes new) (rings v.slots) (rings new) v.heads v.unused
         (places_of (λ i. 0) h) at false w.same_rings (inr (inl leaf.loose, inr (ap is_free is_granted)))
         (ap use_count is_granted ∙ sym (ap use_count leaf.kind)) w.others leaf.holds.filed)
-    (cut-granted at age h.sequence.width h.tree leaf.holds.cut) (total-granted at age h.tree)
+    (recut-granted at age h.sequence.width h.tree)
 
 -- the slots of a shelf, and those that a call left
 pub record AreSlots (own old mid new : List Slot) : Type 0 where
@@ -124,7 +124,7 @@ marked-holds v new at long w was h holds =
     (filed-one (options_of v.options) (nodes v.slots) (nodes new) (rings v.slots) (rings new) v.heads v.unused
         (places_of (λ i. 0) h) at true w.same_rings (inr (inr (ap is_free was), inl refl))
         (ap use_count is_now_free ∙ sym (ap use_count was)) w.others holds.filed)
-    (cut-marked at h.sequence.width h.tree holds.cut) (total-marked at h.tree)
+    (recut-marked at h.sequence.width h.tree)
 
 -- Two slots change: i stays in use, and j goes to hand or comes from there.
 pub record ChangesTwo (ns ms : List Node) (i j : ℕ) (hand hand' : ℕ → ℕ) (loose loose' : ℕ → Bool) : Type 0 where
@@ -259,9 +259,9 @@ given-filed v old new unused j o heads p b filed =
 given-holds : (v : Shelf) (mid new : List Slot) (unused : Link) (i j : ℕ) (h : Holding) (tree : Numbered) (loose : ℕ → Bool)
     → length mid ≡ length v.slots → rings mid ≡ rings v.slots → GivesBack v mid new unused j → Holds v h
     → ChangesTwo (nodes v.slots) (nodes mid) i j (λ k. 0) (with_count (λ k. 0) j 1) h.loose loose
-    → Stands (nodes mid) h.sequence tree → IsCut h.sequence.width (erase tree) → total (erase tree) ≡ total (erase h.tree)
+    → Stands (nodes mid) h.sequence tree → IsRecut h.sequence.width h.tree tree
     → Holds (record v { slots = new; unused = unused }) (record h { tree = tree; spare = j ∷ h.spare; loose = loose })
-given-holds v mid new unused i j h tree loose long same back holds two stands cut whole =
+given-holds v mid new unused i j h tree loose long same back holds two stands recut =
     let S : List Node → Type 0 = λ ns. Stands ns h.sequence tree in
     let filed : AreFiled (options_of v.options) (nodes mid) (rings mid) v.heads v.unused
         (record (places_of (with_count (λ k. 0) j 1) h) { loose = loose }) =
@@ -270,7 +270,7 @@ given-holds v mid new unused i j h tree loose long same back holds two stands cu
     held_again (λ k. 0) (λ k. 0) v new unused h tree (j ∷ h.spare) loose
     (omega (arith, back.long, long, holds.short)) holds (subst S (sym back.same_nodes) stands)
     (given-filed v mid new unused j (options_of v.options) v.heads (record (places_of (λ k. 0) h) { loose = loose }) back filed)
-    cut whole
+    recut
 
 -- a loose leaf takes in the next one, whose slot is given back
 pub joined-holds : (v : Shelf) (mid new : List Slot) (unused : Link) (i j : ℕ) → length mid ≡ length v.slots
@@ -290,7 +290,7 @@ joined-holds v mid new unused i j long w back other_free h leaf loose_j =
       marks = λ k _ ne. with_mark-other h.loose j false k ne;
       others = w.others;
     })
-    (w.tree h.sequence h.tree leaf.holds.stands) (cut-joined i h.sequence.width h.tree leaf.holds.cut) (total-joined i h.tree)
+    (w.tree h.sequence h.tree leaf.holds.stands) (recut-joined i h.sequence.width h.tree)
 
 -- a container gives way to its lone child, whose slot is given back
 pub lifted-holds : (v : Shelf) (mid new : List Slot) (unused : Link) (i c : ℕ) → length mid ≡ length v.slots
@@ -311,7 +311,7 @@ lifted-holds v mid new unused i c long w back h leaf =
       marks = λ k ne nf. with_mark-other (with_mark h.loose i true) c false k nf ∙ with_mark-other h.loose i true k ne;
       others = w.others;
     })
-    (w.tree h.sequence h.tree leaf.holds.top leaf.holds.stands) (cut-lifted i h.sequence.width h.tree leaf.holds.cut) (total-lifted i h.tree)
+    (w.tree h.sequence h.tree leaf.holds.top leaf.holds.stands) (recut-lifted i h.sequence.width h.tree)
 
 -- a fact of a node of a shelf is one of the slots that a call was given
 pub node-before : (P : Node → Type 0) (v : Shelf) (old : List Slot) (i : ℕ) → old ≡ v.slots → P (node_in v i) → P (node_at (nodes old) i)
@@ -343,7 +343,7 @@ pub taken-holds : (v : Shelf) (new : List Slot) (unused : Link) (at : ℕ) (h : 
 taken-holds v new unused at h hand short others taken holds =
     held_again hand (with_count hand at 1) v new unused h h.tree (rest_of h.spare) h.loose short holds
     (stands-taken (nodes v.slots) (nodes new) at h.sequence h.tree taken.was_unused taken.is_unused others holds.stands)
-    taken.filed holds.cut refl
+    taken.filed (refl, λ _ c. c)
 
 length-rings : (slots : List Slot) → length (rings slots) ≡ length slots
 length-rings slots = simp length-map
@@ -405,8 +405,7 @@ split-holds v new at fresh p long w can h hand r =
       marks = λ x _ ne. with_mark-other h.loose k true x ne;
       others = w.others;
     }) r.holds.filed)
-    (cut-split i k p (nodes v.slots) h.sequence no_slot 0 h.tree can.positive can.less r.holds.stands.standing r.holds.cut)
-    (total-split i k p (nodes v.slots) h.sequence no_slot 0 h.tree can.less r.holds.stands.standing)
+    (recut-split i k p (nodes v.slots) can.positive can.less h.sequence no_slot 0 h.tree r.holds.stands.standing)
 
 -- the slot in hand becomes the lone child of what was a loose leaf
 pub wrapped-holds : (v : Shelf) (new : List Slot) (at fresh : Link) → length new ≡ length v.slots
@@ -433,4 +432,4 @@ wrapped-holds v new at fresh long w free unused h hand r =
       marks = λ x ne nf. with_mark-other (with_mark h.loose k true) i false x ne ∙ with_mark-other h.loose k true x nf;
       others = w.others;
     }) r.holds.filed)
-    (cut-wrapped i k h.sequence.width h.tree r.holds.wide r.holds.cut) (total-wrapped i k h.sequence.width h.tree)
+    (recut-wrapped i k h.sequence.width h.tree)

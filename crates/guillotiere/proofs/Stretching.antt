@@ -17,8 +17,7 @@ use Rattle.guillotiere.specs.Slots.{node_at, blank_node, use_count, no_slot, axi
 use Rattle.guillotiere.specs.Numbered.{Numbered, tally, same, erase, first_slot, End, Free, Alloc, Seq}
 use Rattle.guillotiere.specs.Standing.{Sequence, Standing, Stands, IsPlaced, inside, member_box, spot}
 use Rattle.guillotiere.specs.Growing.{last_after, last_slot, stretched, appended, stretched_area, Reaches}
-use Rattle.guillotiere.proofs.Frames.{IsWritten, Standing-same, same-self, same-ne}
-use Rattle.guillotiere.proofs.Joining.{used-le, ne-from_count, ne-from_same}
+use Rattle.guillotiere.proofs.Frames.{IsWritten, Standing-same, same-self, same-ne, used-le, ne-from_same, ne-from_count}
 
 -- the slot that comes last after k is k or a member
 pub last-in : (i k : ℕ) (n : Numbered) → last_after k n ≡ i → 0 < same i k + tally i n

@@ -20,12 +20,12 @@ use Rattle.guillotiere.proofs.Occurrences.{same-self, same-ne, ne-from_same}
 use Rattle.guillotiere.proofs.Joining.{first-joined}
 use Rattle.guillotiere.proofs.JoiningWrites.{can-join, used-inside}
 use Rattle.guillotiere.proofs.Lifting.{first-lifted}
-use Rattle.guillotiere.proofs.Marking.{first-marked}
-use Rattle.guillotiere.proofs.Releasing.{calm-Stands, full-from_normal, full-marked, erase-marked_at}
+use Rattle.guillotiere.proofs.Marking.{first-marked, numbers-marked}
+use Rattle.guillotiere.proofs.Releasing.{calm-Stands, full-from_normal, erase-marked_at}
 use Rattle.guillotiere.proofs.TreeNormal.{nf-normal}
 use Rattle.guillotiere.proofs.Normal.{nf-joined, nf-lifted}
 use Rattle.guillotiere.proofs.Reading.{numbers-less, numbers-few}
-use Rattle.guillotiere.proofs.Settling.{IsSettlingTree, full-joined, full-lifted, settled, next-slot, previous-slot, previous-leads}
+use Rattle.guillotiere.proofs.Settling.{IsSettlingTree, full-joined, full-lifted, full-marked, settled, next-slot, previous-slot, previous-leads}
 
 pub few-slots : (v : Shelf) (h : Holding) → Holds v h → length (nodes v.slots) ≤ 16777216
 few-slots v h w = simp length-map w.short
@@ -238,14 +238,6 @@ pub record IsFreeing (now : Shelf) (slot at n : ℕ) (h m : Holding) : Type 0 wh
   pub sequence : m.sequence ≡ h.sequence
   pub first : first_slot m.tree ≡ first_slot h.tree
 
-numbers-marked : (i : ℕ) (n : Numbered) → numbers (marked i n) ≡ numbers n
-numbers-marked i End = refl
-numbers-marked i (Free j e rest) = ap (λ v. 1 + v) (numbers-marked i rest)
-numbers-marked i (Alloc j g e rest) =
-    cond_both (eqb i j) (Free j e (marked i rest)) (Alloc j g e (marked i rest)) (λ m. numbers m ≡ 1 + numbers rest) (λ _. ap (λ v. 1 + v) (numbers-marked i rest)) (λ _. ap (λ v. 1 + v) (numbers-marked i rest))
-numbers-marked i (Seq j e inner rest) =
-    ap (λ v. 1 + v + numbers (marked i rest)) (numbers-marked i inner) ∙ ap (λ v. 1 + numbers inner + v) (numbers-marked i rest)
-
 pub granted-inside : (v : Shelf) (i : ℕ) → (node_in v i).kind ≡ kind.Alloc → i < length (nodes v.slots)
 granted-inside v i was = used-inside (nodes v.slots) i (rw was (omega arith))
 
@@ -259,7 +251,7 @@ freeing-marked v u i n h w k calm free =
         leaf = record { holds = k; kind = ap (λ (n : Node). n.kind) free; loose = with_mark-same h.loose i true };
         only = λ x z. with_mark-other h.loose i true x (λ q. absurd (omega (arith, same-self i, ap (λ v. same v i) q))) ∙ w.only x refl;
         calm = calm (calm-Stands (nodes v.slots) h.sequence h.tree (omega arith) w.holds.top w.holds.stands w.normal);
-        full = full-marked (nodes v.slots) i h.sequence h.tree few inside w.holds.stands (full-from_normal (erase h.tree) w.normal);
+        full = full-marked i h.tree (full-from_normal (erase h.tree) w.normal);
       };
       same_nf = refl;
       given = omega (arith, numbers-marked i h.tree);

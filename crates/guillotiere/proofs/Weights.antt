@@ -1,33 +1,20 @@
--- what the slots of a numbered tree add up to, and how often a slot is that of a free member
-use Rattle.std.proofs.Common.{ℕ, ◌+◌, ◌≤◌, ◌≡◌, List, refl, ap, ◌∙◌, arith}
+-- how many members of a numbered tree are looked for, and how often a slot is that of a free or allocated member
+use Rattle.std.proofs.Common.{ℕ, ◌+◌, ◌<◌, ◌≤◌, ◌≡◌, Bool, true, false, cond, List, refl, sym, ap, ◌∙◌, arith}
+use Rattle.std.proofs.lemmas.Bool.{true≢false}
 use Rattle.guillotiere.specs.declared.slots.Node.{Node}
+use Rattle.guillotiere.specs.declared.slots.NodeKind.{NodeKind}
 use Rattle.guillotiere.specs.declared.slots.NodeKind.TheVariants as kind
 use Rattle.guillotiere.specs.Slots.{node_at, use_count, no_slot}
-use Rattle.guillotiere.specs.Numbered.{Numbered, tally, numbers, same, End, Free, Alloc, Seq}
+use Rattle.guillotiere.specs.Numbered.{Numbered, tally, same, first_slot, is_free_at, is_alloc_at, End, Free, Alloc, Seq}
 use Rattle.guillotiere.specs.Standing.{Sequence, Standing, Stands, IsPlaced, inside}
-use Rattle.guillotiere.proofs.Frames.{same-ne}
+use Rattle.guillotiere.proofs.Frames.{same-self, same-ne}
 
--- the sum of f over the slots
-abbrev pub weigh : (ℕ → ℕ) → Numbered → ℕ
-weigh f End = 0
-weigh f (Free i e rest) = f i + weigh f rest
-weigh f (Alloc i g e rest) = f i + weigh f rest
-weigh f (Seq i e inner rest) = f i + weigh f inner + weigh f rest
-
-pub tally-weigh : (x : ℕ) (n : Numbered) → tally x n ≡ weigh (same x) n
-tally-weigh x End = refl
-tally-weigh x (Free i e rest) = ap (λ v. same x i + v) (tally-weigh x rest)
-tally-weigh x (Alloc i g e rest) = ap (λ v. same x i + v) (tally-weigh x rest)
-tally-weigh x (Seq i e inner rest) = omega (arith, tally-weigh x inner, tally-weigh x rest)
-
-abbrev pub one_each : ℕ → ℕ
-one_each i = 1
-
-pub numbers-weigh : (n : Numbered) → numbers n ≡ weigh one_each n
-numbers-weigh End = refl
-numbers-weigh (Free i e rest) = ap (λ v. 1 + v) (numbers-weigh rest)
-numbers-weigh (Alloc i g e rest) = ap (λ v. 1 + v) (numbers-weigh rest)
-numbers-weigh (Seq i e inner rest) = omega (arith, numbers-weigh inner, numbers-weigh rest)
+-- how many members are looked for
+abbrev pub places : (is : Numbered → Bool) → Numbered → ℕ
+places is End = 0
+places is (Free i e rest) = places is rest + cond (is (Free i e rest)) 1 0
+places is (Alloc i g e rest) = places is rest + cond (is (Alloc i g e rest)) 1 0
+places is (Seq i e inner rest) = places is inner + places is rest + cond (is (Seq i e inner rest)) 1 0
 
 -- how often a slot is that of a free member
 abbrev pub free_tally : ℕ → Numbered → ℕ
@@ -43,50 +30,76 @@ alloc_tally i (Free j e rest) = alloc_tally i rest
 alloc_tally i (Alloc j g e rest) = same i j + alloc_tally i rest
 alloc_tally i (Seq j e inner rest) = alloc_tally i inner + alloc_tally i rest
 
+pub places-free : (i : ℕ) (n : Numbered) → places (is_free_at i) n ≡ free_tally i n
+places-free i End = refl
+places-free i (Free j e rest) = omega (arith, places-free i rest)
+places-free i (Alloc j g e rest) = omega (arith, places-free i rest)
+places-free i (Seq j e inner rest) = omega (arith, places-free i inner, places-free i rest)
+
+-- the first member isn't looked for
+pub not_here : (b : Bool) (x y : ℕ) → b ≡ false → x + cond b 1 0 ≡ y → x ≡ y
+not_here true x y other e = absurd (true≢false other)
+not_here false x y other e = omega (arith, e)
+
+pub not_here_more : (b : Bool) (x : ℕ) → b ≡ false → 0 < x + cond b 1 0 → 0 < x
+not_here_more true x other l = absurd (true≢false other)
+not_here_more false x other l = omega (arith, l)
+
+-- or it is
+some_here : (b : Bool) (x : ℕ) → b ≡ true → 0 < x + cond b 1 0
+some_here true x t = omega arith
+some_here false x t = absurd (true≢false (sym t))
+
+pub places-some : (is : Numbered → Bool) → is End ≡ false → (m : Numbered) → is m ≡ true → 0 < places is m
+places-some is never End t = absurd (true≢false (sym t ∙ never))
+places-some is never (Free i e rest) t = some_here _ _ t
+places-some is never (Alloc i g e rest) t = some_here _ _ t
+places-some is never (Seq i e inner rest) t = some_here _ _ t
+
 pub free_tally-le : (i : ℕ) (n : Numbered) → free_tally i n ≤ tally i n
 free_tally-le i End = omega arith
 free_tally-le i (Free j e rest) = omega (arith, free_tally-le i rest)
 free_tally-le i (Alloc j g e rest) = omega (arith, free_tally-le i rest)
 free_tally-le i (Seq j e inner rest) = omega (arith, free_tally-le i inner, free_tally-le i rest)
 
-pub alloc_tally-le : (i : ℕ) (n : Numbered) → alloc_tally i n ≤ tally i n
-alloc_tally-le i End = omega arith
-alloc_tally-le i (Free j e rest) = omega (arith, alloc_tally-le i rest)
-alloc_tally-le i (Alloc j g e rest) = omega (arith, alloc_tally-le i rest)
-alloc_tally-le i (Seq j e inner rest) = omega (arith, alloc_tally-le i inner, alloc_tally-le i rest)
+-- where a slot is looked for, it is a member
+module _ (is : Numbered → Bool) (i : ℕ) (begins : (m : Numbered) → is m ≡ true → first_slot m ≡ i) where
+  hit : (b : Bool) (j : ℕ) → (b ≡ true → j ≡ i) → cond b 1 0 ≤ same i j
+  hit true j h = omega (arith, same-self i, ap (same i) (h refl))
+  hit false j h = omega arith
+
+  pub places-le : (n : Numbered) → places is n ≤ tally i n
+  places-le End = omega arith
+  places-le (Free j e rest) = omega (arith, hit _ j (begins (Free j e rest)), places-le rest)
+  places-le (Alloc j g e rest) = omega (arith, hit _ j (begins (Alloc j g e rest)), places-le rest)
+  places-le (Seq j e inner rest) = omega (arith, hit _ j (begins (Seq j e inner rest)), places-le inner, places-le rest)
+
+-- a slot is looked for as often as it is a member, if its kind says which members are looked for
+module _ (ns : List Node) (i : ℕ) (is : Numbered → Bool)
+    (free : (j e : ℕ) (rest : Numbered) → (node_at ns j).kind ≡ kind.Free → cond (is (Free j e rest)) 1 0 ≡ same i j)
+    (alloc : (j g e : ℕ) (rest : Numbered) → (node_at ns j).kind ≡ kind.Alloc → cond (is (Alloc j g e rest)) 1 0 ≡ same i j)
+    (seq : (j e : ℕ) (inner rest : Numbered) → (node_at ns j).kind ≡ kind.Container → cond (is (Seq j e inner rest)) 1 0 ≡ same i j) where
+  places-Standing : (s : Sequence) (b p : ℕ) (n : Numbered) → Standing ns s b p n → places is n ≡ tally i n
+  places-Standing s b p End h = refl
+  places-Standing s b p (Free j e rest) h = omega (arith, free j e rest h.0.kind, places-Standing s j (p + e) rest h.2)
+  places-Standing s b p (Alloc j g e rest) h = omega (arith, alloc j g e rest h.0.kind, places-Standing s j (p + e) rest h.3)
+  places-Standing s b p (Seq j e inner rest) h =
+      omega (arith, seq j e inner rest h.0.kind, places-Standing (inside s j p e) no_slot s.start inner h.2, places-Standing s j (p + e) rest h.3)
 
 module _ (ns : List Node) (i : ℕ) where
   -- another slot, since its kind is another
-  not_free_alloc : (s : Sequence) (b a j : ℕ) → (node_at ns i).kind ≡ kind.Free → IsPlaced (node_at ns j) s b a kind.Alloc → i ≡ j → ⊥
-  not_free_alloc s b a j f h e = let k = h.kind in let l : (node_at ns j).kind ≡ kind.Free = rw (← e, f) refl in cc
+  other_kind : (j : ℕ) (k l : NodeKind) → (node_at ns i).kind ≡ k → (node_at ns j).kind ≡ l → (k ≡ l → ⊥) → 0 ≡ same i j
+  other_kind j k l ki lj ne = sym (same-ne i j (λ e. ne (sym ki ∙ ap (λ x. (node_at ns x).kind) e ∙ lj)))
 
-  not_free_container : (s : Sequence) (b a j : ℕ) → (node_at ns i).kind ≡ kind.Free → IsPlaced (node_at ns j) s b a kind.Container → i ≡ j → ⊥
-  not_free_container s b a j f h e = let k = h.kind in let l : (node_at ns j).kind ≡ kind.Free = rw (← e, f) refl in cc
-
-  not_alloc_free : (s : Sequence) (b a j : ℕ) → (node_at ns i).kind ≡ kind.Alloc → IsPlaced (node_at ns j) s b a kind.Free → i ≡ j → ⊥
-  not_alloc_free s b a j f h e = let k = h.kind in let l : (node_at ns j).kind ≡ kind.Alloc = rw (← e, f) refl in cc
-
-  not_alloc_container : (s : Sequence) (b a j : ℕ) → (node_at ns i).kind ≡ kind.Alloc → IsPlaced (node_at ns j) s b a kind.Container → i ≡ j → ⊥
-  not_alloc_container s b a j f h e = let k = h.kind in let l : (node_at ns j).kind ≡ kind.Alloc = rw (← e, f) refl in cc
-
-  -- a free slot is a free member as often as it is a member
-  pub free_tally-Standing : (s : Sequence) (b p : ℕ) (n : Numbered) → (node_at ns i).kind ≡ kind.Free → Standing ns s b p n → free_tally i n ≡ tally i n
-  free_tally-Standing s b p End f h = refl
-  free_tally-Standing s b p (Free j e rest) f h = omega (arith, free_tally-Standing s j (p + e) rest f h.2)
-  free_tally-Standing s b p (Alloc j g e rest) f h = omega (arith, same-ne i j (not_free_alloc s b _ j f h.0), free_tally-Standing s j (p + e) rest f h.3)
-  free_tally-Standing s b p (Seq j e inner rest) f h =
-      omega (arith, same-ne i j (not_free_container s b _ j f h.0), free_tally-Standing (inside s j p e) no_slot s.start inner f h.2, free_tally-Standing s j (p + e) rest f h.3)
-
-  -- an allocated slot is an allocated member as often as it is a member
-  pub alloc_tally-Standing : (s : Sequence) (b p : ℕ) (n : Numbered) → (node_at ns i).kind ≡ kind.Alloc → Standing ns s b p n → alloc_tally i n ≡ tally i n
-  alloc_tally-Standing s b p End f h = refl
-  alloc_tally-Standing s b p (Free j e rest) f h = omega (arith, same-ne i j (not_alloc_free s b _ j f h.0), alloc_tally-Standing s j (p + e) rest f h.2)
-  alloc_tally-Standing s b p (Alloc j g e rest) f h = omega (arith, alloc_tally-Standing s j (p + e) rest f h.3)
-  alloc_tally-Standing s b p (Seq j e inner rest) f h =
-      omega (arith, same-ne i j (not_alloc_container s b _ j f h.0), alloc_tally-Standing (inside s j p e) no_slot s.start inner f h.2, alloc_tally-Standing s j (p + e) rest f h.3)
+  pub free_place : (s : Sequence) (n : Numbered) → (node_at ns i).kind ≡ kind.Free → Stands ns s n → places (is_free_at i) n ≡ 1
+  free_place s n f h =
+      places-Standing ns i (is_free_at i) (λ j e rest k. refl) (λ j g e rest k. other_kind j _ _ f k (λ q. cc)) (λ j e inner rest k. other_kind j _ _ f k (λ q. cc)) s no_slot 0 n h.standing
+      ∙ h.numbered i ∙ ap use_count f
 
   pub free_once : (s : Sequence) (n : Numbered) → (node_at ns i).kind ≡ kind.Free → Stands ns s n → free_tally i n ≡ 1
-  free_once s n f h = free_tally-Standing s no_slot 0 n f h.standing ∙ h.numbered i ∙ ap use_count f
+  free_once s n f h = sym (places-free i n) ∙ free_place s n f h
 
-  pub alloc_once : (s : Sequence) (n : Numbered) → (node_at ns i).kind ≡ kind.Alloc → Stands ns s n → alloc_tally i n ≡ 1
-  alloc_once s n f h = alloc_tally-Standing s no_slot 0 n f h.standing ∙ h.numbered i ∙ ap use_count f
+  pub alloc_place : (s : Sequence) (n : Numbered) → (node_at ns i).kind ≡ kind.Alloc → Stands ns s n → places (is_alloc_at i) n ≡ 1
+  alloc_place s n f h =
+      places-Standing ns i (is_alloc_at i) (λ j e rest k. other_kind j _ _ f k (λ q. cc)) (λ j g e rest k. refl) (λ j e inner rest k. other_kind j _ _ f k (λ q. cc)) s no_slot 0 n h.standing
+      ∙ h.numbered i ∙ ap use_count f

@@ -1,5 +1,5 @@
 -- The tree of cuts, each member with the number of its slot. No public clause cites this module.
-use Rattle.std.specs.Prelude.{ℕ, ◌+◌, ◌-◌, ◌*◌, ◌==◌, if◌then◌else◌}
+use Rattle.std.specs.Prelude.{ℕ, ◌+◌, ◌-◌, ◌*◌, ◌==◌, Bool, false, if◌then◌else◌}
 use Rattle.guillotiere.specs.Trees.{Members, most_slots}
 use Rattle.guillotiere.specs.Trees as tree
 use Rattle.guillotiere.specs.Slots.{no_slot}
@@ -26,12 +26,20 @@ erase (Seq i e inner rest) = tree.Seq e (erase inner) (erase rest)
 abbrev pub same : ℕ → ℕ → ℕ
 same i j = if i == j then 1 else 0
 
+-- the sum of what the members' slots weigh
+abbrev pub weigh : (weight : ℕ → ℕ) → Numbered → ℕ
+weigh weight End = 0
+weigh weight (Free i e rest) = weight i + weigh weight rest
+weigh weight (Alloc i g e rest) = weight i + weigh weight rest
+weigh weight (Seq i e inner rest) = weight i + weigh weight inner + weigh weight rest
+
 -- how often a slot's number stands in a tree
 abbrev pub tally : ℕ → Numbered → ℕ
-tally i End = 0
-tally i (Free j e rest) = same i j + tally i rest
-tally i (Alloc j g e rest) = same i j + tally i rest
-tally i (Seq j e inner rest) = same i j + tally i inner + tally i rest
+tally i n = weigh (same i) n
+
+-- how many members a tree has
+abbrev pub numbers : Numbered → ℕ
+numbers n = weigh (λ _. 1) n
 
 -- the number of the first member, or none
 abbrev pub first_slot : Numbered → ℕ
@@ -40,26 +48,60 @@ first_slot (Free i e rest) = i
 first_slot (Alloc i g e rest) = i
 first_slot (Seq i e inner rest) = i
 
+-- Where a member is the one that is looked for, it and those after it become what `change` makes of them; in a container
+-- of extent e, what `inside e` makes of them.
+abbrev pub edited_in : (is : Numbered → Bool) → (inside : ℕ → Numbered → Numbered) → (change : Numbered → Numbered) → Numbered → Numbered
+edited_in is inside change End = End
+edited_in is inside change (Free i e rest) =
+    if is (Free i e rest) then change (Free i e rest) else Free i e (edited_in is inside change rest)
+edited_in is inside change (Alloc i g e rest) =
+    if is (Alloc i g e rest) then change (Alloc i g e rest) else Alloc i g e (edited_in is inside change rest)
+edited_in is inside change (Seq i e inner rest) =
+    if is (Seq i e inner rest) then change (Seq i e inner rest)
+    else Seq i e (edited_in is inside (inside e) inner) (edited_in is inside change rest)
+
+-- the same change in each container
+abbrev pub edited : (is : Numbered → Bool) → (change : Numbered → Numbered) → Numbered → Numbered
+edited is change n = edited_in is (λ _. change) change n
+
+-- the first member is the free leaf, the allocated leaf or the container at slot i
+abbrev pub is_free_at : ℕ → Numbered → Bool
+is_free_at i (Free j e rest) = i == j
+is_free_at i n = false
+
+abbrev pub is_alloc_at : ℕ → Numbered → Bool
+is_alloc_at i (Alloc j g e rest) = i == j
+is_alloc_at i n = false
+
+abbrev pub is_seq_at : ℕ → Numbered → Bool
+is_seq_at i (Seq j e inner rest) = i == j
+is_seq_at i n = false
+
+-- a first member of this kind becomes what `make` makes of it
+abbrev pub on_free : ((slot extent : ℕ) → Numbered → Numbered) → Numbered → Numbered
+on_free make (Free i e rest) = make i e rest
+on_free make n = n
+
+abbrev pub on_alloc : ((slot generation extent : ℕ) → Numbered → Numbered) → Numbered → Numbered
+on_alloc make (Alloc i g e rest) = make i g e rest
+on_alloc make n = n
+
+abbrev pub on_seq : ((slot extent : ℕ) → (inner : Numbered) → Numbered → Numbered) → Numbered → Numbered
+on_seq make (Seq i e inner rest) = make i e inner rest
+on_seq make n = n
+
 -- the allocated leaf at slot i becomes free
 abbrev pub marked : ℕ → Numbered → Numbered
-marked i End = End
-marked i (Free j e rest) = Free j e (marked i rest)
-marked i (Alloc j g e rest) = if i == j then Free j e (marked i rest) else Alloc j g e (marked i rest)
-marked i (Seq j e inner rest) = Seq j e (marked i inner) (marked i rest)
+marked i n = edited (is_alloc_at i) (on_alloc (λ j g e rest. Free j e rest)) n
 
 -- a free first member of `rest` is added to the free member i of extent e
 abbrev pub grown_by : ℕ → ℕ → Numbered → Numbered
-grown_by i e End = Free i e End
 grown_by i e (Free j d rest) = Free i (e + d) rest
-grown_by i e (Alloc j g d rest) = Free i e (Alloc j g d rest)
-grown_by i e (Seq j d inner rest) = Free i e (Seq j d inner rest)
+grown_by i e rest = Free i e rest
 
 -- the free leaf at slot i takes in the next one
 abbrev pub joined : ℕ → Numbered → Numbered
-joined i End = End
-joined i (Free j e rest) = if i == j then grown_by j e rest else Free j e (joined i rest)
-joined i (Alloc j g e rest) = Alloc j g e (joined i rest)
-joined i (Seq j e inner rest) = Seq j e (joined i inner) (joined i rest)
+joined i n = edited (is_free_at i) (on_free grown_by) n
 
 -- a container at slot j with these members inside, or the free leaf that takes its place
 abbrev pub lifted_to : ℕ → ℕ → Numbered → Numbered → Numbered
@@ -68,35 +110,20 @@ lifted_to j e inner rest = Seq j e inner rest
 
 -- the container at slot i gives way to its lone free child
 abbrev pub lifted : ℕ → Numbered → Numbered
-lifted i End = End
-lifted i (Free j e rest) = Free j e (lifted i rest)
-lifted i (Alloc j g e rest) = Alloc j g e (lifted i rest)
-lifted i (Seq j e inner rest) = if i == j then lifted_to j e inner rest else Seq j e (lifted i inner) (lifted i rest)
+lifted i n = edited (is_seq_at i) (on_seq lifted_to) n
 
 -- the free leaf at slot i is granted, under the generation g
 abbrev pub granted_at : (i g : ℕ) → Numbered → Numbered
-granted_at i g End = End
-granted_at i g (Free j e rest) = if i == j then Alloc j g e rest else Free j e (granted_at i g rest)
-granted_at i g (Alloc j h e rest) = Alloc j h e (granted_at i g rest)
-granted_at i g (Seq j e inner rest) = Seq j e (granted_at i g inner) (granted_at i g rest)
+granted_at i g n = edited (is_free_at i) (on_free (λ j e rest. Alloc j g e rest)) n
 
 -- the free leaf at slot i keeps p of its extent, and slot k takes the rest after it
 abbrev pub split_at : (i k p : ℕ) → Numbered → Numbered
-split_at i k p End = End
-split_at i k p (Free j e rest) = if i == j then Free j p (Free k (e - p) rest) else Free j e (split_at i k p rest)
-split_at i k p (Alloc j g e rest) = Alloc j g e (split_at i k p rest)
-split_at i k p (Seq j e inner rest) = Seq j e (split_at i k p inner) (split_at i k p rest)
+split_at i k p n = edited (is_free_at i) (on_free (λ j e rest. Free j p (Free k (e - p) rest))) n
+
+-- a free first member becomes a container of one free leaf at slot k
+abbrev pub wrapping : (k : ℕ) → (across : ℕ) → Numbered → Numbered
+wrapping k across = on_free (λ j e rest. Seq j e (Free k across End) rest)
 
 -- the free leaf at slot i becomes a container of one free leaf at slot k, in a sequence that spans `across`
 abbrev pub wrapped_at : (i k : ℕ) → (across : ℕ) → Numbered → Numbered
-wrapped_at i k across End = End
-wrapped_at i k across (Free j e rest) = if i == j then Seq j e (Free k across End) rest else Free j e (wrapped_at i k across rest)
-wrapped_at i k across (Alloc j g e rest) = Alloc j g e (wrapped_at i k across rest)
-wrapped_at i k across (Seq j e inner rest) = Seq j e (wrapped_at i k e inner) (wrapped_at i k across rest)
-
--- how many members a tree has
-abbrev pub numbers : Numbered → ℕ
-numbers End = 0
-numbers (Free i e rest) = 1 + numbers rest
-numbers (Alloc i g e rest) = 1 + numbers rest
-numbers (Seq i e inner rest) = 1 + numbers inner + numbers rest
+wrapped_at i k across n = edited_in (is_free_at i) (wrapping k) (wrapping k across) n
