@@ -1,9 +1,9 @@
 -- What holds of every edit of a numbered tree, by one walk over the tree.
-use Rattle.std.proofs.Common.{ℕ, ◌+◌, ◌-◌, ◌<◌, ◌≤◌, ◌≡◌, ◌∙◌, Bool, true, false, cond, List, refl, sym, ap, ap₂, subst, ◌⊎◌, inl, inr, arith, eqb}
+use Rattle.std.proofs.Common.{ℕ, ◌+◌, ◌-◌, ◌<◌, ◌≤◌, ◌≡◌, Bool, true, false, cond, List, refl, sym, ap, ap₂, subst, inl, inr, arith}
 use Rattle.std.proofs.lemmas.Bool.{cond_both, eqb-true, true≢false}
 use Rattle.guillotiere.specs.declared.slots.Node.{Node}
 use Rattle.guillotiere.specs.Slots.{node_at, no_slot}
-use Rattle.guillotiere.specs.Numbered.{Numbered, weigh, tally, same, first_slot, edited_in, on_free, on_alloc, on_seq, wrapping, grown_by, lifted_to, is_free_at, is_alloc_at, is_seq_at, End, Free, Alloc, Seq}
+use Rattle.guillotiere.specs.Numbered.{Numbered, weigh, tally, same, first_slot, edited_in, on_free, on_alloc, on_seq, grown_by, lifted_to, is_free_at, is_alloc_at, is_seq_at, End, Free, Alloc, Seq}
 use Rattle.guillotiere.specs.Standing.{Sequence, Standing, inside}
 use Rattle.guillotiere.proofs.Frames.{same-self, split_pos, one_of, ne-from_count, Standing-same}
 use Rattle.guillotiere.proofs.Suffixes.{Suffix, suffix-at}

@@ -1,10 +1,10 @@
 -- a free leaf is granted
-use Rattle.std.proofs.Common.{ℕ, ◌+◌, ◌≤◌, ◌≡◌, List, refl, sym, ap, ◌∙◌, inl, inr, arith}
+use Rattle.std.proofs.Common.{ℕ, ◌+◌, ◌≤◌, ◌≡◌, List, refl, ◌∙◌, inl, inr, arith}
 use Rattle.std.proofs.lemmas.Bool.{cases_eq}
 use Rattle.guillotiere.specs.declared.slots.Node.{Node}
 use Rattle.guillotiere.specs.declared.slots.NodeKind.TheVariants as kind
 use Rattle.guillotiere.specs.Slots.{node_at, use_count, no_slot}
-use Rattle.guillotiere.specs.Numbered.{Numbered, weigh, tally, first_slot, same, granted_at, is_free_at, End, Free, Alloc, Seq}
+use Rattle.guillotiere.specs.Numbered.{Numbered, tally, first_slot, same, granted_at, is_free_at}
 use Rattle.guillotiere.specs.Standing.{Sequence, Standing, Stands}
 use Rattle.guillotiere.proofs.Frames.{IsWritten, Standing-same, same-self, used-le, ne-from_count}
 use Rattle.guillotiere.proofs.Weights.{free_place}

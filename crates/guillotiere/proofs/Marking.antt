@@ -1,10 +1,10 @@
 -- marking an allocated leaf free
-use Rattle.std.proofs.Common.{ℕ, ◌+◌, ◌≤◌, ◌≡◌, List, refl, sym, ap, ◌∙◌, inl, inr, arith}
+use Rattle.std.proofs.Common.{ℕ, ◌+◌, ◌≤◌, ◌≡◌, List, refl, ◌∙◌, inl, inr, arith}
 use Rattle.std.proofs.lemmas.Bool.{cases_eq}
 use Rattle.guillotiere.specs.declared.slots.Node.{Node}
 use Rattle.guillotiere.specs.declared.slots.NodeKind.TheVariants as kind
 use Rattle.guillotiere.specs.Slots.{no_slot, node_at, use_count}
-use Rattle.guillotiere.specs.Numbered.{Numbered, weigh, tally, numbers, first_slot, same, marked, is_alloc_at, End, Free, Alloc, Seq}
+use Rattle.guillotiere.specs.Numbered.{Numbered, weigh, tally, numbers, first_slot, same, marked, is_alloc_at}
 use Rattle.guillotiere.specs.Standing.{Sequence, Standing, Stands}
 use Rattle.guillotiere.proofs.Frames.{IsWritten, Standing-same, same-self, used-le, ne-from_count}
 use Rattle.guillotiere.proofs.Weights.{places-le, alloc_place}

@@ -1,5 +1,5 @@
 -- a plan carried out in the leaf of a slot is the model's placing
-use Rattle.std.proofs.Common.{ℕ, ◌+◌, ◌-◌, ◌<◌, ◌≤◌, ◌≡◌, ◌≢◌, true, false, List, refl, sym, ap, ◌∙◌, inl, inr, arith, eqb}
+use Rattle.std.proofs.Common.{ℕ, ◌+◌, ◌<◌, ◌≤◌, ◌≡◌, ◌≢◌, true, false, List, refl, sym, ap, ◌∙◌, arith}
 use Rattle.guillotiere.specs.declared.tree.Plan.{Plan}
 use Rattle.guillotiere.specs.declared.tree.Plan.TheVariants as plan
 use Rattle.guillotiere.specs.declared.slots.Node.{Node}
@@ -9,7 +9,7 @@ use Rattle.guillotiere.specs.Pixels.{natural, box_of}
 use Rattle.guillotiere.specs.Cuts.{cut}
 use Rattle.guillotiere.specs.Changes.{need, place, place_need}
 use Rattle.guillotiere.specs.Slots.{node_at, axis_of}
-use Rattle.guillotiere.specs.Numbered.{Numbered, tally, numbers, same, id_of, granted_at, split_at, wrapped_at, wrapping, is_free_at, End, Free, Alloc, Seq}
+use Rattle.guillotiere.specs.Numbered.{Numbered, tally, numbers, same, id_of, granted_at, split_at, wrapped_at, wrapping, is_free_at}
 use Rattle.guillotiere.specs.Standing.{Sequence, Stands}
 use Rattle.guillotiere.specs.Planning.{IsPlanFor, IsPlannedTree, slots_of}
 use Rattle.guillotiere.proofs.Frames.{same-self, used-le}

@@ -1,5 +1,5 @@
 -- a free leaf is cut in two
-use Rattle.std.proofs.Common.{ℕ, ◌+◌, ◌-◌, ◌<◌, ◌≤◌, ◌≡◌, List, refl, sym, ap, ◌∙◌, inl, inr, arith, eqb}
+use Rattle.std.proofs.Common.{ℕ, ◌+◌, ◌-◌, ◌<◌, ◌≤◌, ◌≡◌, List, refl, sym, ap, ◌∙◌, inl, inr, arith}
 use Rattle.std.proofs.lemmas.Bool.{cases_eq}
 use Rattle.guillotiere.specs.declared.slots.Link.{Link}
 use Rattle.guillotiere.specs.declared.slots.Node.{Node}
@@ -8,11 +8,11 @@ use Rattle.guillotiere.specs.Boxes.{Axis, side, sized, box_at, box_sides}
 use Rattle.guillotiere.specs.Boxes.Axis.{Horizontal, Vertical}
 use Rattle.guillotiere.specs.Pixels.{rectangle_of}
 use Rattle.guillotiere.specs.Slots.{node_at, use_count, no_slot}
-use Rattle.guillotiere.specs.Numbered.{Numbered, weigh, tally, numbers, first_slot, same, split_at, is_free_at, End, Free, Alloc, Seq}
-use Rattle.guillotiere.specs.Standing.{Sequence, Standing, Stands, inside, member_box, spot}
+use Rattle.guillotiere.specs.Numbered.{Numbered, weigh, tally, numbers, first_slot, same, split_at, is_free_at, Free}
+use Rattle.guillotiere.specs.Standing.{Sequence, Standing, Stands, member_box, spot}
 use Rattle.guillotiere.specs.Reading.{extent_of}
 use Rattle.guillotiere.specs.Parts.{front_part, back_part, front_node, back_node}
-use Rattle.guillotiere.proofs.Frames.{Standing-same, same-self, same-ne, used-le, split_pos, ne-from_same, ne-from_count}
+use Rattle.guillotiere.proofs.Frames.{same-self, same-ne, used-le, ne-from_count}
 use Rattle.guillotiere.proofs.Closing.{IsIn, next-in}
 use Rattle.guillotiere.proofs.Joining.{Standing-before}
 use Rattle.guillotiere.proofs.Weights.{free_tally, free_place, places-free}

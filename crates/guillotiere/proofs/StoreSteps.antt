@@ -9,10 +9,9 @@ use Rattle.guillotiere.specs.declared.slots.NodeKind.TheVariants as kind
 use Rattle.guillotiere.specs.declared.table.ListHead.{ListHead}
 use Rattle.guillotiere.specs.Choice.{Options}
 use Rattle.guillotiere.specs.Pixels.{options_of}
-use Rattle.guillotiere.specs.Trees.{IsCut, total}
 use Rattle.guillotiere.specs.Tables.{head_of, low_of}
 use Rattle.guillotiere.specs.Slots.{nodes, rings, node_at, use_count, KeepsUse, no_slot}
-use Rattle.guillotiere.specs.Numbered.{Numbered, erase, tally, marked, joined, lifted, granted_at, split_at, wrapped_at}
+use Rattle.guillotiere.specs.Numbered.{Numbered, tally, marked, joined, lifted, granted_at, split_at, wrapped_at}
 use Rattle.guillotiere.specs.Standing.{Sequence, Stands}
 use Rattle.guillotiere.specs.SlotCalls.{CanSplitInto, IsLeafFreed, IsLeafGranted, IsNextJoined, IsChildLifted, IsLeafSplit, IsLeafWrapped}
 use Rattle.guillotiere.proofs.Frames.{Standing-same}

@@ -1,5 +1,5 @@
 -- a free leaf becomes a container of one
-use Rattle.std.proofs.Common.{ℕ, ◌+◌, ◌<◌, ◌≤◌, ◌≡◌, List, refl, sym, ap, ◌∙◌, ◌⊎◌, inl, inr, arith, eqb, length, set, get_or-set_same, get_or-set_other, length-set}
+use Rattle.std.proofs.Common.{ℕ, ◌+◌, ◌<◌, ◌≤◌, ◌≡◌, List, refl, sym, ap, ◌∙◌, inl, inr, arith, length, set, get_or-set_same, get_or-set_other, length-set}
 use Rattle.std.proofs.lemmas.Bool.{cases_eq}
 use Rattle.guillotiere.specs.declared.slots.Link.{Link}
 use Rattle.guillotiere.specs.declared.slots.Node.{Node}
@@ -10,10 +10,10 @@ use Rattle.guillotiere.specs.Boxes.{Axis, other, sized, box_at}
 use Rattle.guillotiere.specs.Boxes.Axis.{Horizontal, Vertical}
 use Rattle.guillotiere.specs.Pixels.{rectangle_of}
 use Rattle.guillotiere.specs.Slots.{node_at, blank_node, use_count, no_slot, axis_of}
-use Rattle.guillotiere.specs.Numbered.{Numbered, weigh, tally, numbers, first_slot, same, wrapped_at, wrapping, is_free_at, End, Free, Alloc, Seq}
-use Rattle.guillotiere.specs.Standing.{Sequence, Standing, Stands, IsPlaced, inside, member_box, spot}
+use Rattle.guillotiere.specs.Numbered.{Numbered, weigh, tally, numbers, first_slot, same, wrapped_at, wrapping, is_free_at}
+use Rattle.guillotiere.specs.Standing.{Sequence, Standing, Stands, inside, member_box, spot}
 use Rattle.guillotiere.specs.Parts.{flipped, inner_node}
-use Rattle.guillotiere.proofs.Frames.{Standing-same, same-self, same-ne, used-le, ne-from_same, ne-from_count}
+use Rattle.guillotiere.proofs.Frames.{Standing-same, same-self, same-ne, used-le, ne-from_count}
 use Rattle.guillotiere.proofs.JoiningWrites.{used-inside}
 use Rattle.guillotiere.proofs.Weights.{free_tally, free_place, places-free}
 use Rattle.guillotiere.proofs.Editing.{IsEdit, Standing-edited, free_here, first-edited, edited-absent, weigh-edited, other-slot}
