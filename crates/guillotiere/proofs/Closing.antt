@@ -1,11 +1,11 @@
 -- the links of a member lead to members
 use Rattle.std.proofs.Common.{ℕ, ◌+◌, ◌<◌, ◌≤◌, ◌≡◌, List, refl, ◌⊎◌, inl, inr, arith}
-use Rattle.std.proofs.lemmas.Bool.{cases_eq}
 use Rattle.guillotiere.specs.declared.slots.Node.{Node}
 use Rattle.guillotiere.specs.Slots.{no_slot, node_at}
 use Rattle.guillotiere.specs.Numbered.{Numbered, tally, first_slot, End, Free, Alloc, Seq}
-use Rattle.guillotiere.specs.Standing.{Sequence, Standing, inside}
-use Rattle.guillotiere.proofs.Frames.{same-self, same-ne}
+use Rattle.guillotiere.specs.Standing.{Sequence, Standing}
+use Rattle.guillotiere.proofs.Frames.{same-self}
+use Rattle.guillotiere.proofs.Suffixes.{suffix-at}
 
 abbrev pub IsNone : ℕ → Type 0
 IsNone i = i ≡ no_slot
@@ -24,30 +24,17 @@ pub in-wider : (i : ℕ) (m n : Numbered) → (tally i m ≤ tally i n) → IsIn
 in-wider i m n l (inl e) = inl e
 in-wider i m n l (inr h) = inr (omega arith)
 
--- the head's next is in the rest
-next-head : (ns : List Node) (i j : ℕ) (n : Numbered) → (node_at ns j).next.number ≡ first_slot n → i ≡ j → IsIn (node_at ns i).next.number n
-next-head ns i j n e q = rw (q, e) (first-in n)
+-- what follows the first member is in the rest
+next-head : (ns : List Node) (i : ℕ) (s : Sequence) (b p : ℕ) (m : Numbered) → first_slot m ≡ i → 0 < tally i m → Standing ns s b p m → IsIn (node_at ns i).next.number m
+next-head ns i s b p End e l h = absurd (omega arith)
+next-head ns i s b p (Free j d rest) e l h =
+    in-wider (node_at ns i).next.number rest (Free j d rest) (omega arith) (rw (← e, h.0.next) (first-in rest))
+next-head ns i s b p (Alloc j g d rest) e l h =
+    in-wider (node_at ns i).next.number rest (Alloc j g d rest) (omega arith) (rw (← e, h.0.next) (first-in rest))
+next-head ns i s b p (Seq j d inner rest) e l h =
+    in-wider (node_at ns i).next.number rest (Seq j d inner rest) (omega arith) (rw (← e, h.0.next) (first-in rest))
 
 pub next-in : (ns : List Node) (i : ℕ) (s : Sequence) (before p : ℕ) (n : Numbered) → Standing ns s before p n → 0 < tally i n → IsIn (node_at ns i).next.number n
-next-in ns i s before p End h l = absurd (omega arith)
-next-in ns i s before p (Free j e rest) h l =
-    let x = (node_at ns i).next.number in
-    let whole : Numbered = Free j e rest in
-    elim (cases_eq i j) [ inl q ↦ in-wider x rest whole (omega arith) (next-head ns i j rest h.0.next q) | inr ne ↦ in-wider x rest whole (omega arith) (next-in ns i s j (p + e) rest h.2 (omega (arith, same-ne i j ne))) ]
-next-in ns i s before p (Alloc j g e rest) h l =
-    let x = (node_at ns i).next.number in
-    let whole : Numbered = Alloc j g e rest in
-    elim (cases_eq i j) [ inl q ↦ in-wider x rest whole (omega arith) (next-head ns i j rest h.0.next q) | inr ne ↦ in-wider x rest whole (omega arith) (next-in ns i s j (p + e) rest h.3 (omega (arith, same-ne i j ne))) ]
-next-in ns i s before p (Seq j e inner rest) h l =
-    let x = (node_at ns i).next.number in
-    let whole : Numbered = Seq j e inner rest in
-    elim (cases_eq i j) [
-      | inl q ↦ in-wider x rest whole (omega arith) (next-head ns i j rest h.0.next q)
-      | inr ne ↦ elim (split_pos (tally i inner) (tally i rest) (omega (arith, same-ne i j ne))) [
-        | inl a ↦ in-wider x inner whole (omega arith) (next-in ns i (inside s j p e) no_slot s.start inner h.2 a)
-        | inr b ↦ in-wider x rest whole (omega arith) (next-in ns i s j (p + e) rest h.3 b)
-      ]
-    ]
-  where
-    split_pos : (a b : ℕ) → 0 < a + b → (0 < a) ⊎ (0 < b)
-    split_pos a b l = grind arith
+next-in ns i s before p n h l =
+    let f = suffix-at ns i s before p n h l in
+    in-wider _ f.members n (f.within (node_at ns i).next.number) (next-head ns i f.at f.before f.start f.members f.begins f.here f.standing)

@@ -6,7 +6,7 @@ use Rattle.guillotiere.specs.Slots.{node_at, no_slot}
 use Rattle.guillotiere.specs.Numbered.{Numbered, weigh, tally, same, first_slot, edited_in, on_free, on_alloc, on_seq, grown_by, lifted_to, is_free_at, is_alloc_at, is_seq_at, End, Free, Alloc, Seq}
 use Rattle.guillotiere.specs.Standing.{Sequence, Standing, inside}
 use Rattle.guillotiere.proofs.Frames.{same-self, split_pos, one_of, ne-from_count, Standing-same}
-use Rattle.guillotiere.proofs.Suffixes.{Suffix, suffix-at}
+use Rattle.guillotiere.proofs.Suffixes.{Suffix, suffix-at, suffix-wider}
 use Rattle.guillotiere.proofs.Weights.{places, places-le, places-some, not_here, not_here_more}
 
 -- what the edits make of the members from their place on, in a sequence that spans `across`
@@ -155,8 +155,8 @@ module _ (ns ms : List Node) (is : Numbered → Bool) (change : ℕ → Numbered
   apart : (s : Sequence) (b p : ℕ) (v : Numbered) → Standing ns s b p v → places is v ≡ 1 → ((x : ℕ) → tally x v ≤ tally x n) → (x : ℕ) → 0 < tally x n → tally x v ≡ 0 → node_at ms x ≡ node_at ns x
   apart s b p v h one less x some z =
       let f = suffix-at ns i s b p v h (omega (arith, places-le is i w.begins v)) in
-      let wide : Suffix ns i n = record { at = f.at; before = f.before; start = f.start; members = f.members; standing = f.standing; begins = f.begins; within = λ k. omega (arith, f.within k, less k); here = f.here } in
-      w.beside wide x (omega (arith, f.within x)) some
+      let none : tally x f.members ≡ 0 = omega (arith, f.within x) in
+      w.beside (suffix-wider ns i v n less f) x none some
 
   -- and so does the slot j of a member beside it
   head_stays : (s : Sequence) (b p j : ℕ) (v : Numbered) → Standing ns s b p v → places is v ≡ 1 → ((x : ℕ) → same x j + tally x v ≤ tally x n) → node_at ms j ≡ node_at ns j

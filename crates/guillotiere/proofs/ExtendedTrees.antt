@@ -6,7 +6,7 @@ use Rattle.guillotiere.specs.Trees.{IsCut, total}
 use Rattle.guillotiere.specs.Numbered.{Numbered, erase, tally, End, Free, Alloc, Seq}
 use Rattle.guillotiere.specs.Growing.{last_after, last_slot, stretched, appended}
 use Rattle.guillotiere.proofs.Reading.{IsNonempty}
-use Rattle.guillotiere.proofs.Stretching.{last-in}
+use Rattle.guillotiere.proofs.Stretching.{last-in, stretched-free}
 
 pub other-other : (a : Axis) → other (other a) ≡ a
 other-other Horizontal = refl
@@ -16,19 +16,15 @@ other-other Vertical = refl
 
 pub total-stretched : (d : ℕ) (n : Numbered) → total (erase (stretched d n)) ≤ total (erase n) + d
 total-stretched d End = omega arith
-total-stretched d (Free i e End) = omega arith
-total-stretched d (Free i e (Free j k rest)) = omega (arith, total-stretched d (Free j k rest))
-total-stretched d (Free i e (Alloc j g k rest)) = omega (arith, total-stretched d (Alloc j g k rest))
-total-stretched d (Free i e (Seq j k inner rest)) = omega (arith, total-stretched d (Seq j k inner rest))
+total-stretched d (Free i e rest) =
+    stretched-free d i e rest (λ m v. total (erase v) ≤ e + total (erase m) + d) (omega arith) (λ _. omega (arith, total-stretched d rest))
 total-stretched d (Alloc i g e rest) = omega (arith, total-stretched d rest)
 total-stretched d (Seq i e inner rest) = omega (arith, total-stretched d rest)
 
 pub cut-stretched : (d across : ℕ) (n : Numbered) → IsCut across (erase n) → IsCut across (erase (stretched d n))
 cut-stretched d across End c = tt
-cut-stretched d across (Free i e End) c = (omega (arith, c.0), tt)
-cut-stretched d across (Free i e (Free j k rest)) c = (c.0, cut-stretched d across (Free j k rest) c.1)
-cut-stretched d across (Free i e (Alloc j g k rest)) c = (c.0, cut-stretched d across (Alloc j g k rest) c.1)
-cut-stretched d across (Free i e (Seq j k inner rest)) c = (c.0, cut-stretched d across (Seq j k inner rest) c.1)
+cut-stretched d across (Free i e rest) c =
+    stretched-free d i e rest (λ m v. IsCut across (erase v)) (omega (arith, c.0), tt) (λ _. (c.0, cut-stretched d across rest c.1))
 cut-stretched d across (Alloc i g e rest) c = (c.0, cut-stretched d across rest c.1)
 cut-stretched d across (Seq i e inner rest) c = (c.0, c.1, c.2, cut-stretched d across rest c.3)
 

@@ -19,6 +19,7 @@ use Rattle.guillotiere.proofs.JoiningWrites.{used-inside}
 use Rattle.guillotiere.proofs.Reading.{IsNonempty}
 use Rattle.guillotiere.proofs.Normal.{numbers-erase}
 use Rattle.guillotiere.proofs.TreeKept.{total-lengthened}
+use Rattle.guillotiere.proofs.Stretching.{weigh-stretched, weigh-appended}
 use Rattle.guillotiere.proofs.ExtendedTrees.{last-member}
 use Rattle.guillotiere.proofs.TreeGrowth.{grown-other}
 
@@ -70,23 +71,6 @@ first-appended k d (Free i e rest) some = refl
 first-appended k d (Alloc i g e rest) some = refl
 first-appended k d (Seq i e inner rest) some = refl
 
--- how many members there are
-
-numbers-stretched : (d : ℕ) (n : Numbered) → numbers (stretched d n) ≡ numbers n
-numbers-stretched d End = refl
-numbers-stretched d (Free i e End) = refl
-numbers-stretched d (Free i e (Free j k rest)) = ap (λ v. 1 + v) (numbers-stretched d (Free j k rest))
-numbers-stretched d (Free i e (Alloc j g k rest)) = ap (λ v. 1 + v) (numbers-stretched d (Alloc j g k rest))
-numbers-stretched d (Free i e (Seq j k inner rest)) = ap (λ v. 1 + v) (numbers-stretched d (Seq j k inner rest))
-numbers-stretched d (Alloc i g e rest) = ap (λ v. 1 + v) (numbers-stretched d rest)
-numbers-stretched d (Seq i e inner rest) = ap (λ v. 1 + numbers inner + v) (numbers-stretched d rest)
-
-numbers-appended : (k d : ℕ) (n : Numbered) → numbers (appended k d n) ≡ numbers n + 1
-numbers-appended k d End = refl
-numbers-appended k d (Free i e rest) = omega (arith, numbers-appended k d rest)
-numbers-appended k d (Alloc i g e rest) = omega (arith, numbers-appended k d rest)
-numbers-appended k d (Seq i e inner rest) = omega (arith, numbers-appended k d rest)
-
 -- n if b is more than a
 abbrev pub if_longer : (a b n : ℕ) → ℕ
 if_longer a b n = cond (ltb a b) n 0
@@ -106,11 +90,11 @@ module _ (ns : List Node) (s : Sequence) (n : Numbered) (h : Stands ns s n) (som
     where
       longer : (last_kind ≡ kind.Free → ⊥) → nodes (lengthened d (erase n)) ≡ numbers n + 1
       longer busy =
-          ap nodes (sym (erase-appended 0 d ns s no_slot 0 n h.standing busy)) ∙ sym (numbers-erase (appended 0 d n)) ∙ numbers-appended 0 d n
+          ap nodes (sym (erase-appended 0 d ns s no_slot 0 n h.standing busy)) ∙ sym (numbers-erase (appended 0 d n)) ∙ weigh-appended (λ _. 1) 0 d n
 
       by_kind : (k : NodeKind) → last_kind ≡ k → nodes (lengthened d (erase n)) ≡ numbers n + strip_after (is_free k)
       by_kind kind.Free q =
-          ap nodes (sym (erase-stretched d ns s no_slot 0 n h.standing q (λ _. some))) ∙ sym (numbers-erase (stretched d n)) ∙ numbers-stretched d n ∙ omega arith
+          ap nodes (sym (erase-stretched d ns s no_slot 0 n h.standing q (λ _. some))) ∙ sym (numbers-erase (stretched d n)) ∙ weigh-stretched (λ _. 1) d n ∙ omega arith
       by_kind kind.Alloc q = longer (λ f. absurd (cc))
       by_kind kind.Container q = longer (λ f. absurd (cc))
       by_kind kind.Unused q = longer (λ f. absurd (cc))

@@ -9,13 +9,13 @@ use Rattle.guillotiere.specs.Pixels.{box_of}
 use Rattle.guillotiere.specs.Trees.{Grant, grant}
 use Rattle.guillotiere.specs.Slots.{node_at, use_count, no_slot}
 use Rattle.guillotiere.specs.Lists.{is_free}
-use Rattle.guillotiere.specs.Numbered.{Numbered, id_of, erase, End, Free, Alloc, Seq}
+use Rattle.guillotiere.specs.Numbered.{Numbered, weigh, id_of, erase, End, Free, Alloc, Seq}
 use Rattle.guillotiere.specs.Standing.{Sequence, Standing, Stands, inside, member_box, spot}
 use Rattle.guillotiere.specs.Replies.{grant_of}
 use Rattle.guillotiere.specs.Visits.{is_alloc, allocation_at, allocated_from, free_areas}
 use Rattle.guillotiere.proofs.TreeBasics.{one_if, live_among, free_among, live_among-seq, free_among-seq}
 use Rattle.guillotiere.proofs.Counting.{count_by-cons, count_by-append}
-use Rattle.guillotiere.proofs.SlotSums.{slot_sum, member_sum, member_sum-Stands}
+use Rattle.guillotiere.proofs.SlotSums.{slot_sum, weigh-Stands}
 use Rattle.guillotiere.proofs.Spots.{moved-spot, spot-other}
 
 -- 1 if a slot is allocated and its grant passes
@@ -71,10 +71,10 @@ count-free_areas p i (n ∷ ns) = by_test (is_free n.kind) (count-free_areas p (
 
 -- what is live among standing members
 pub live-Standing : (p : Grant → Bool) (ns : List Node) (s : Sequence) (b q : ℕ) (n : Numbered) → Standing ns s b q n
-    → count_by p (live_among s.axis (spot s.axis q s.start) s.width (erase n)) ≡ member_sum (λ k. alloc_weight p k (node_at ns k)) n
+    → count_by p (live_among s.axis (spot s.axis q s.start) s.width (erase n)) ≡ weigh (λ k. alloc_weight p k (node_at ns k)) n
 live-Standing p ns s b q End h = refl
 live-Standing p ns s b q (Free j e rest) h =
-    let at : count_by p (live_among s.axis (moved s.axis (spot s.axis q s.start) e) s.width (erase rest)) ≡ member_sum (λ k. alloc_weight p k (node_at ns k)) rest =
+    let at : count_by p (live_among s.axis (moved s.axis (spot s.axis q s.start) e) s.width (erase rest)) ≡ weigh (λ k. alloc_weight p k (node_at ns k)) rest =
     ap (λ o. count_by p (live_among s.axis o s.width (erase rest))) (moved-spot s.axis q s.start e) ∙ live-Standing p ns s j (q + e) rest h.2 in
     let here : alloc_weight p j (node_at ns j) ≡ 0 =
     ap (λ v. cond (is_alloc v) (one_if (p (grant (id_of j (node_at ns j).generation) (box_of (node_at ns j).area)))) 0) h.0.kind in
@@ -83,7 +83,7 @@ live-Standing p ns s b q (Free j e rest) h =
     first_none : (a v : ℕ) → a ≡ 0 → v ≡ a + v
     first_none a v z = omega arith
 live-Standing p ns s b q (Alloc j g e rest) h =
-    let at : count_by p (live_among s.axis (moved s.axis (spot s.axis q s.start) e) s.width (erase rest)) ≡ member_sum (λ k. alloc_weight p k (node_at ns k)) rest =
+    let at : count_by p (live_among s.axis (moved s.axis (spot s.axis q s.start) e) s.width (erase rest)) ≡ weigh (λ k. alloc_weight p k (node_at ns k)) rest =
     ap (λ o. count_by p (live_among s.axis o s.width (erase rest))) (moved-spot s.axis q s.start e) ∙ live-Standing p ns s j (q + e) rest h.3 in
     let here : alloc_weight p j (node_at ns j) ≡ one_if (p (grant (id_of j g) (member_box s q e))) =
     ap (λ v. cond (is_alloc v) (one_if (p (grant (id_of j (node_at ns j).generation) (box_of (node_at ns j).area)))) 0) h.0.kind
@@ -95,9 +95,9 @@ live-Standing p ns s b q (Alloc j g e rest) h =
     both : (a b c d : ℕ) → a ≡ b → c ≡ d → a + c ≡ b + d
     both a b c d x y = omega arith
 live-Standing p ns s b q (Seq j e inner rest) h =
-    let at : count_by p (live_among s.axis (moved s.axis (spot s.axis q s.start) e) s.width (erase rest)) ≡ member_sum (λ k. alloc_weight p k (node_at ns k)) rest =
+    let at : count_by p (live_among s.axis (moved s.axis (spot s.axis q s.start) e) s.width (erase rest)) ≡ weigh (λ k. alloc_weight p k (node_at ns k)) rest =
     ap (λ o. count_by p (live_among s.axis o s.width (erase rest))) (moved-spot s.axis q s.start e) ∙ live-Standing p ns s j (q + e) rest h.3 in
-    let within : count_by p (live_among (other s.axis) (spot s.axis q s.start) e (erase inner)) ≡ member_sum (λ k. alloc_weight p k (node_at ns k)) inner =
+    let within : count_by p (live_among (other s.axis) (spot s.axis q s.start) e (erase inner)) ≡ weigh (λ k. alloc_weight p k (node_at ns k)) inner =
     ap (λ o. count_by p (live_among (other s.axis) o e (erase inner))) (sym (spot-other s.axis q s.start)) ∙ live-Standing p ns (inside s j q e) no_slot s.start inner h.2 in
     let here : alloc_weight p j (node_at ns j) ≡ 0 =
     ap (λ v. cond (is_alloc v) (one_if (p (grant (id_of j (node_at ns j).generation) (box_of (node_at ns j).area)))) 0) h.0.kind in
@@ -110,10 +110,10 @@ live-Standing p ns s b q (Seq j e inner rest) h =
 
 -- what is free among standing members
 pub free-Standing : (p : Box → Bool) (ns : List Node) (s : Sequence) (b q : ℕ) (n : Numbered) → Standing ns s b q n
-    → count_by p (free_among s.axis (spot s.axis q s.start) s.width (erase n)) ≡ member_sum (λ k. free_weight p k (node_at ns k)) n
+    → count_by p (free_among s.axis (spot s.axis q s.start) s.width (erase n)) ≡ weigh (λ k. free_weight p k (node_at ns k)) n
 free-Standing p ns s b q End h = refl
 free-Standing p ns s b q (Free j e rest) h =
-    let at : count_by p (free_among s.axis (moved s.axis (spot s.axis q s.start) e) s.width (erase rest)) ≡ member_sum (λ k. free_weight p k (node_at ns k)) rest =
+    let at : count_by p (free_among s.axis (moved s.axis (spot s.axis q s.start) e) s.width (erase rest)) ≡ weigh (λ k. free_weight p k (node_at ns k)) rest =
     ap (λ o. count_by p (free_among s.axis o s.width (erase rest))) (moved-spot s.axis q s.start e) ∙ free-Standing p ns s j (q + e) rest h.2 in
     let here : free_weight p j (node_at ns j) ≡ one_if (p (member_box s q e)) =
     ap (λ v. cond (is_free v) (one_if (p (box_of (node_at ns j).area))) 0) h.0.kind ∙ ap (λ v. one_if (p (box_of v))) h.1 in
@@ -122,7 +122,7 @@ free-Standing p ns s b q (Free j e rest) h =
     both : (a b c d : ℕ) → a ≡ b → c ≡ d → a + c ≡ b + d
     both a b c d x y = omega arith
 free-Standing p ns s b q (Alloc j g e rest) h =
-    let at : count_by p (free_among s.axis (moved s.axis (spot s.axis q s.start) e) s.width (erase rest)) ≡ member_sum (λ k. free_weight p k (node_at ns k)) rest =
+    let at : count_by p (free_among s.axis (moved s.axis (spot s.axis q s.start) e) s.width (erase rest)) ≡ weigh (λ k. free_weight p k (node_at ns k)) rest =
     ap (λ o. count_by p (free_among s.axis o s.width (erase rest))) (moved-spot s.axis q s.start e) ∙ free-Standing p ns s j (q + e) rest h.3 in
     let here : free_weight p j (node_at ns j) ≡ 0 = ap (λ v. cond (is_free v) (one_if (p (box_of (node_at ns j).area))) 0) h.0.kind in
     at ∙ first_none _ _ here
@@ -130,9 +130,9 @@ free-Standing p ns s b q (Alloc j g e rest) h =
     first_none : (a v : ℕ) → a ≡ 0 → v ≡ a + v
     first_none a v z = omega arith
 free-Standing p ns s b q (Seq j e inner rest) h =
-    let at : count_by p (free_among s.axis (moved s.axis (spot s.axis q s.start) e) s.width (erase rest)) ≡ member_sum (λ k. free_weight p k (node_at ns k)) rest =
+    let at : count_by p (free_among s.axis (moved s.axis (spot s.axis q s.start) e) s.width (erase rest)) ≡ weigh (λ k. free_weight p k (node_at ns k)) rest =
     ap (λ o. count_by p (free_among s.axis o s.width (erase rest))) (moved-spot s.axis q s.start e) ∙ free-Standing p ns s j (q + e) rest h.3 in
-    let within : count_by p (free_among (other s.axis) (spot s.axis q s.start) e (erase inner)) ≡ member_sum (λ k. free_weight p k (node_at ns k)) inner =
+    let within : count_by p (free_among (other s.axis) (spot s.axis q s.start) e (erase inner)) ≡ weigh (λ k. free_weight p k (node_at ns k)) inner =
     ap (λ o. count_by p (free_among (other s.axis) o e (erase inner))) (sym (spot-other s.axis q s.start)) ∙ free-Standing p ns (inside s j q e) no_slot s.start inner h.2 in
     let here : free_weight p j (node_at ns j) ≡ 0 = ap (λ v. cond (is_free v) (one_if (p (box_of (node_at ns j).area))) 0) h.0.kind in
     ap (count_by p) (free_among-seq s.axis (spot s.axis q s.start) s.width e (erase inner) (erase rest))
@@ -147,7 +147,7 @@ pub live-Stands : (p : Grant → Bool) (ns : List Node) (s : Sequence) (n : Numb
     → count_by p (live_among s.axis (spot s.axis 0 s.start) s.width (erase n)) ≡ count_by p (map grant_of (allocated_from 0 ns))
 live-Stands p ns s n h =
     live-Standing p ns s no_slot 0 n h.standing
-    ∙ member_sum-Stands (alloc_weight p) ns s n h (λ k x. alloc-light x.kind (one_if (p (grant (id_of k x.generation) (box_of x.area)))))
+    ∙ weigh-Stands (alloc_weight p) ns s n h (λ k x. alloc-light x.kind (one_if (p (grant (id_of k x.generation) (box_of x.area)))))
     ∙ sym (count-allocated p 0 ns)
 
 -- the free boxes are those of the free slots
@@ -155,5 +155,5 @@ pub free-Stands : (p : Box → Bool) (ns : List Node) (s : Sequence) (n : Number
     → count_by p (free_among s.axis (spot s.axis 0 s.start) s.width (erase n)) ≡ count_by p (map box_of (free_areas ns))
 free-Stands p ns s n h =
     free-Standing p ns s no_slot 0 n h.standing
-    ∙ member_sum-Stands (free_weight p) ns s n h (λ k x. free-light x.kind (one_if (p (box_of x.area))))
+    ∙ weigh-Stands (free_weight p) ns s n h (λ k x. free-light x.kind (one_if (p (box_of x.area))))
     ∙ sym (count-free_areas p 0 ns)

@@ -3,7 +3,7 @@ use Rattle.std.proofs.Common.{ℕ, suc, ◌+◌, ◌*◌, ◌<◌, ◌≤◌, �
 use Rattle.std.proofs.lemmas.Bool.{cases_eq}
 use Rattle.guillotiere.specs.declared.slots.Node.{Node}
 use Rattle.guillotiere.specs.Slots.{node_at, use_count}
-use Rattle.guillotiere.specs.Numbered.{Numbered, tally, same, End, Free, Alloc, Seq}
+use Rattle.guillotiere.specs.Numbered.{Numbered, weigh, tally, same, End, Free, Alloc, Seq}
 use Rattle.guillotiere.specs.Standing.{Sequence, Stands}
 use Rattle.guillotiere.proofs.Frames.{same-self, same-ne}
 use Rattle.guillotiere.proofs.JoiningWrites.{used-inside}
@@ -12,13 +12,6 @@ use Rattle.guillotiere.proofs.JoiningWrites.{used-inside}
 abbrev pub slot_sum : (ℕ → Node → ℕ) → ℕ → List Node → ℕ
 slot_sum w i [] = 0
 slot_sum w i (n ∷ ns) = w i n + slot_sum w (i + 1) ns
-
--- the sum of f over the slots of a tree's members
-abbrev pub member_sum : (ℕ → ℕ) → Numbered → ℕ
-member_sum f End = 0
-member_sum f (Free i e rest) = f i + member_sum f rest
-member_sum f (Alloc i g e rest) = f i + member_sum f rest
-member_sum f (Seq i e inner rest) = f i + member_sum f inner + member_sum f rest
 
 slot_sum-none : (t f : ℕ → ℕ) (i : ℕ) (ns : List Node) → ((k : ℕ) → i ≤ k → t k ≡ 0) → slot_sum (λ k n. t k * f k) i ns ≡ 0
 slot_sum-none t f i [] none = refl
@@ -48,31 +41,31 @@ slot_sum-one f j i (n ∷ ns) l b =
     below ne = omega arith
 
 -- each member has a slot of its own
-pub member_sum-slots : (f : ℕ → ℕ) (ns : List Node) (n : Numbered) → ((k : ℕ) → 0 < tally k n → k < length ns)
-    → member_sum f n ≡ slot_sum (λ k x. tally k n * f k) 0 ns
-member_sum-slots f ns End below = sym (slot_sum-none (λ k. 0) f 0 ns (λ k l. refl))
-member_sum-slots f ns (Free j e rest) below =
+pub weigh-slots : (f : ℕ → ℕ) (ns : List Node) (n : Numbered) → ((k : ℕ) → 0 < tally k n → k < length ns)
+    → weigh f n ≡ slot_sum (λ k x. tally k n * f k) 0 ns
+weigh-slots f ns End below = sym (slot_sum-none (λ k. 0) f 0 ns (λ k l. refl))
+weigh-slots f ns (Free j e rest) below =
     omega (
       arith,
       slot_sum-add (λ k. same k j) (λ k. tally k rest) f 0 ns,
       slot_sum-one f j 0 ns (omega arith) (omega (arith, below j (omega (arith, same-self j)))),
-      member_sum-slots f ns rest (λ k l. below k (omega arith)),
+      weigh-slots f ns rest (λ k l. below k (omega arith)),
     )
-member_sum-slots f ns (Alloc j g e rest) below =
+weigh-slots f ns (Alloc j g e rest) below =
     omega (
       arith,
       slot_sum-add (λ k. same k j) (λ k. tally k rest) f 0 ns,
       slot_sum-one f j 0 ns (omega arith) (omega (arith, below j (omega (arith, same-self j)))),
-      member_sum-slots f ns rest (λ k l. below k (omega arith)),
+      weigh-slots f ns rest (λ k l. below k (omega arith)),
     )
-member_sum-slots f ns (Seq j e inner rest) below =
+weigh-slots f ns (Seq j e inner rest) below =
     omega (
       arith,
       slot_sum-add (λ k. same k j + tally k inner) (λ k. tally k rest) f 0 ns,
       slot_sum-add (λ k. same k j) (λ k. tally k inner) f 0 ns,
       slot_sum-one f j 0 ns (omega arith) (omega (arith, below j (omega (arith, same-self j)))),
-      member_sum-slots f ns inner (λ k l. below k (omega arith)),
-      member_sum-slots f ns rest (λ k l. below k (omega arith)),
+      weigh-slots f ns inner (λ k l. below k (omega arith)),
+      weigh-slots f ns rest (λ k l. below k (omega arith)),
     )
 
 -- a sum over slots of which the unused weigh nothing
@@ -94,10 +87,10 @@ slot_sum-used w t all i (n ∷ ns) light is at =
     one_on i k = omega arith
 
 -- a sum over a tree is one over its slots, if the unused weigh nothing
-pub member_sum-Stands : (w : ℕ → Node → ℕ) (ns : List Node) (s : Sequence) (n : Numbered) → Stands ns s n
-    → ((k : ℕ) (x : Node) → use_count x.kind * w k x ≡ w k x) → member_sum (λ k. w k (node_at ns k)) n ≡ slot_sum w 0 ns
-member_sum-Stands w ns s n h light =
-    member_sum-slots (λ k. w k (node_at ns k)) ns n (λ k l. used-inside ns k (subst_pos _ _ (h.numbered k) l))
+pub weigh-Stands : (w : ℕ → Node → ℕ) (ns : List Node) (s : Sequence) (n : Numbered) → Stands ns s n
+    → ((k : ℕ) (x : Node) → use_count x.kind * w k x ≡ w k x) → weigh (λ k. w k (node_at ns k)) n ≡ slot_sum w 0 ns
+weigh-Stands w ns s n h light =
+    weigh-slots (λ k. w k (node_at ns k)) ns n (λ k l. used-inside ns k (subst_pos _ _ (h.numbered k) l))
     ∙ sym (slot_sum-used w (λ k. tally k n) ns 0 ns light h.numbered (λ k. ap (λ v. node_at ns v) (none_on k)))
   where
     subst_pos : (a b : ℕ) → a ≡ b → 0 < a → 0 < b

@@ -14,7 +14,7 @@ use Rattle.guillotiere.specs.Boxes.Axis.{Horizontal, Vertical}
 use Rattle.guillotiere.specs.Pixels.{sides_of, size_of, rectangle_of}
 use Rattle.guillotiere.specs.Trees.{total}
 use Rattle.guillotiere.specs.Slots.{node_at, blank_node, use_count, no_slot, axis_of, KeepsUse}
-use Rattle.guillotiere.specs.Numbered.{Numbered, tally, same, erase, first_slot, End, Free, Alloc, Seq}
+use Rattle.guillotiere.specs.Numbered.{Numbered, weigh, tally, same, erase, first_slot, End, Free, Alloc, Seq}
 use Rattle.guillotiere.specs.Standing.{Sequence, Standing, Stands, IsPlaced, inside, member_box, spot}
 use Rattle.guillotiere.specs.Growing.{last_after, last_slot, stretched, appended, stretched_area, Reaches}
 use Rattle.guillotiere.proofs.Frames.{IsWritten, Standing-same, same-self, same-ne, used-le, ne-from_same, ne-from_count}
@@ -26,6 +26,13 @@ last-in i k (Free j f rest) e = omega (arith, last-in i j rest e)
 last-in i k (Alloc j g f rest) e = omega (arith, last-in i j rest e)
 last-in i k (Seq j f inner rest) e = omega (arith, last-in i j rest e)
 
+-- where there is a member, the last is one of them
+last-later : (i k : ℕ) (n : Numbered) → (n ≡ End → ⊥) → last_after k n ≡ i → 0 < tally i n
+last-later i k End some e = absurd (some refl)
+last-later i k (Free j f rest) some e = last-in i j rest e
+last-later i k (Alloc j g f rest) some e = last-in i j rest e
+last-later i k (Seq j f inner rest) some e = omega (arith, last-in i j rest e)
+
 -- the rectangle of the last member is longer
 box-stretched : (s : Sequence) (p e d : ℕ) (size : Size) → size ≡ size_of (sides_of size) → Reaches (sides_of size) s (p + (e + d)) → stretched_area (rectangle_of (member_box s p e)) size ≡ rectangle_of (member_box s p (e + d))
 box-stretched s p e d size exact far = rw exact (along s.axis s.start s.width p e d (sides_of size) far.0 far.1)
@@ -34,23 +41,25 @@ box-stretched s p e d size exact far = rw exact (along s.axis s.start s.width p 
     along Horizontal start width p e d size x y = rw (x, y) refl
     along Vertical start width p e d size x y = rw (x, y) refl
 
+-- a free first member is the last, or stays
+pub stretched-free : (d i e : ℕ) (m : Numbered) (P : (rest new : Numbered) → Type 0) → P End (Free i (e + d) End) → ((m ≡ End → ⊥) → P m (Free i e (stretched d m))) → P m (stretched d (Free i e m))
+stretched-free d i e End P last later = last
+stretched-free d i e (Free j f rest) P last later = later (λ q. cc)
+stretched-free d i e (Alloc j g f rest) P last later = later (λ q. cc)
+stretched-free d i e (Seq j f inner rest) P last later = later (λ q. cc)
+
 pub first-stretched : (d : ℕ) (n : Numbered) → first_slot (stretched d n) ≡ first_slot n
 first-stretched d End = refl
-first-stretched d (Free i e End) = refl
-first-stretched d (Free i e (Free j f rest)) = refl
-first-stretched d (Free i e (Alloc j g f rest)) = refl
-first-stretched d (Free i e (Seq j f inner rest)) = refl
+first-stretched d (Free i e rest) = stretched-free d i e rest (λ m v. first_slot v ≡ i) refl (λ _. refl)
 first-stretched d (Alloc i g e rest) = refl
 first-stretched d (Seq i e inner rest) = refl
 
-tally-stretched : (x d : ℕ) (n : Numbered) → tally x (stretched d n) ≡ tally x n
-tally-stretched x d End = refl
-tally-stretched x d (Free i e End) = refl
-tally-stretched x d (Free i e (Free j f rest)) = omega (arith, tally-stretched x d (Free j f rest))
-tally-stretched x d (Free i e (Alloc j g f rest)) = omega (arith, tally-stretched x d (Alloc j g f rest))
-tally-stretched x d (Free i e (Seq j f inner rest)) = omega (arith, tally-stretched x d (Seq j f inner rest))
-tally-stretched x d (Alloc i g e rest) = omega (arith, tally-stretched x d rest)
-tally-stretched x d (Seq i e inner rest) = omega (arith, tally-stretched x d rest)
+pub weigh-stretched : (w : ℕ → ℕ) (d : ℕ) (n : Numbered) → weigh w (stretched d n) ≡ weigh w n
+weigh-stretched w d End = refl
+weigh-stretched w d (Free i e rest) =
+    stretched-free d i e rest (λ m v. weigh w v ≡ w i + weigh w m) refl (λ _. ap (λ v. w i + v) (weigh-stretched w d rest))
+weigh-stretched w d (Alloc i g e rest) = ap (λ v. w i + v) (weigh-stretched w d rest)
+weigh-stretched w d (Seq i e inner rest) = ap (λ v. w i + weigh w inner + v) (weigh-stretched w d rest)
 
 -- the length that is left after a member
 next-reaches : (size : Sides) (s : Sequence) (p e l d : ℕ) → Reaches size s (p + (e + l + d)) → Reaches size s (p + e + (l + d))
@@ -74,24 +83,14 @@ module _ (ns ms : List Node) (i : ℕ) (size : Size) (exact : size ≡ size_of (
         tt,
       )
 
-  -- a free member before it
-  past_free : (s : Sequence) (d b p e j : ℕ) (m : Numbered) → ((x : ℕ) → same x j + tally x m ≤ 1) → 0 < tally i m → Standing ns s b p (Free j e m) → Standing ms s j (p + e) (stretched d m) → Standing ms s b p (Free j e (stretched d m))
-  past_free s d b p e j m once l h t =
-      let eq : node_at ms j ≡ node_at ns j = w.others j (λ x. absurd (omega (arith, once i, same-self i, ap (same i) x))) in
-      (rw (eq, first-stretched d m) h.0, rw eq h.1, t)
-
   Standing-stretched : (s : Sequence) (d b p : ℕ) (n : Numbered) → ((x : ℕ) → tally x n ≤ 1) → 0 < tally i n → last_after b n ≡ i → Reaches (sides_of size) s (p + (total (erase n) + d)) → Standing ns s b p n → Standing ms s b p (stretched d n)
   Standing-stretched s d b p End once l e far h = absurd (omega arith)
-  Standing-stretched s d b p (Free j e End) once l is far h = at_end s d b p e j is far h
-  Standing-stretched s d b p (Free j e (Free k f rest)) once l is far h =
-      let t : 0 < tally i (Free k f rest) = last-in i k rest is in
-      past_free s d b p e j (Free k f rest) once t h (Standing-stretched s d j (p + e) (Free k f rest) (λ x. omega (arith, once x)) t is (next-reaches (sides_of size) s p e (total (erase (Free k f rest))) d far) h.2)
-  Standing-stretched s d b p (Free j e (Alloc k g f rest)) once l is far h =
-      let t : 0 < tally i (Alloc k g f rest) = last-in i k rest is in
-      past_free s d b p e j (Alloc k g f rest) once t h (Standing-stretched s d j (p + e) (Alloc k g f rest) (λ x. omega (arith, once x)) t is (next-reaches (sides_of size) s p e (total (erase (Alloc k g f rest))) d far) h.2)
-  Standing-stretched s d b p (Free j e (Seq k f inner rest)) once l is far h =
-      let t : 0 < tally i (Seq k f inner rest) = omega (arith, last-in i k rest is) in
-      past_free s d b p e j (Seq k f inner rest) once t h (Standing-stretched s d j (p + e) (Seq k f inner rest) (λ x. omega (arith, once x)) t is (next-reaches (sides_of size) s p e (total (erase (Seq k f inner rest))) d far) h.2)
+  Standing-stretched s d b p (Free j e rest) once l is far h =
+      stretched-free d j e rest (λ m v. m ≡ rest → Standing ms s b p v) (λ q.
+      at_end s d b p e j (rw (← q) at is) (rw (← q) at far) (rw (← q) at h)) (λ some q.
+      let t : 0 < tally i rest = last-later i j rest some is in
+      let eq : node_at ms j ≡ node_at ns j = w.others j (λ x. absurd (omega (arith, once i, same-self i, ap (same i) x))) in
+      (rw (eq, first-stretched d rest) h.0, rw eq h.1, Standing-stretched s d j (p + e) rest (λ x. omega (arith, once x)) t is (next-reaches (sides_of size) s p e (total (erase rest)) d far) h.2)) refl
   Standing-stretched s d b p (Alloc j g e rest) once l is far h =
       let ne : i ≡ j → ⊥ = (λ x. let y : (node_at ns i).kind ≡ kind.Alloc = rw x h.0.kind in cc) in
       let eq : node_at ms j ≡ node_at ns j = w.others j (λ x. ne (sym x)) in
@@ -117,7 +116,7 @@ module _ (ns ms : List Node) (i : ℕ) (size : Size) (exact : size ≡ size_of (
       let reach : Reaches (sides_of size) s (0 + (total (erase n) + d)) = (omega (arith, far.0), far.1) in
       record {
         standing = Standing-stretched s d no_slot 0 n once here is reach h.standing;
-        numbered = λ x. omega (arith, tally-stretched x d n, used_after x, h.numbered x);
+        numbered = λ x. omega (arith, weigh-stretched (same x) d n, used_after x, h.numbered x);
       }
 
 -- what lies beyond a rectangle along an axis
@@ -137,11 +136,11 @@ box-beyond s p e q d size exact ends far = rw exact (along s.axis s.start s.widt
     along Horizontal start width p e q d size x y z = rw (x, y, z) refl
     along Vertical start width p e q d size x y z = rw (x, y, z) refl
 
-tally-appended : (x k d : ℕ) (n : Numbered) → tally x (appended k d n) ≡ tally x n + same x k
-tally-appended x k d End = omega arith
-tally-appended x k d (Free j e rest) = omega (arith, tally-appended x k d rest)
-tally-appended x k d (Alloc j g e rest) = omega (arith, tally-appended x k d rest)
-tally-appended x k d (Seq j e inner rest) = omega (arith, tally-appended x k d rest)
+pub weigh-appended : (w : ℕ → ℕ) (k d : ℕ) (n : Numbered) → weigh w (appended k d n) ≡ weigh w n + w k
+weigh-appended w k d End = omega arith
+weigh-appended w k d (Free j e rest) = omega (arith, weigh-appended w k d rest)
+weigh-appended w k d (Alloc j g e rest) = omega (arith, weigh-appended w k d rest)
+weigh-appended w k d (Seq j e inner rest) = omega (arith, weigh-appended w k d rest)
 
 -- the free leaf after the member `last`, in a slot that was unused
 abbrev strip_node : (last : Node) → (before : Link) → Size → (unused : Node) → Node
@@ -253,7 +252,7 @@ module _ (ns ms : List Node) (at fresh : Link) (size : Size) (exact : size ≡ s
       let reach : Reaches (sides_of size) s (0 + (total (erase n) + d)) = (omega (arith, far.0), far.1) in
       record {
         standing = Standing-appended s d no_slot 0 n once new (λ x. absurd (w.some (sym x))) is reach h.standing;
-        numbered = λ x. omega (arith, tally-appended x k d n, used_appended x, h.numbered x);
+        numbered = λ x. omega (arith, weigh-appended (same x) k d n, used_appended x, h.numbered x);
       }
 
 -- what the writes make

@@ -116,27 +116,17 @@ place_most size t f r well pos fit =
 
 -- growths
 
+one_longer : {a b : ℕ} (k : ℕ) → (a ≤ b) × (b ≤ a + 1) → (1 + k + a ≤ 1 + k + b) × (1 + k + b ≤ 1 + k + a + 1)
+one_longer k h = (omega (arith, h.0), omega (arith, h.1))
+
 nodes-lengthened : (d : ℕ) (m : Members) → (nodes m ≤ nodes (lengthened d m)) × (nodes (lengthened d m) ≤ nodes m + 1)
 nodes-lengthened d End = (omega arith, omega arith)
 nodes-lengthened d (Free e End) = (omega arith, omega arith)
-nodes-lengthened d (Free e (Free k rest)) =
-    let h : (nodes (Free k rest) ≤ nodes (lengthened d (Free k rest))) × (nodes (lengthened d (Free k rest)) ≤ nodes (Free k rest) + 1) =
-    nodes-lengthened d (Free k rest) in
-    (omega (arith, h.0), omega (arith, h.1))
-nodes-lengthened d (Free e (Alloc id k rest)) =
-    let h : (nodes (Alloc id k rest) ≤ nodes (lengthened d (Alloc id k rest))) × (nodes (lengthened d (Alloc id k rest)) ≤ nodes (Alloc id k rest) + 1) =
-    nodes-lengthened d (Alloc id k rest) in
-    (omega (arith, h.0), omega (arith, h.1))
-nodes-lengthened d (Free e (Seq k inner rest)) =
-    let h : (nodes (Seq k inner rest) ≤ nodes (lengthened d (Seq k inner rest))) × (nodes (lengthened d (Seq k inner rest)) ≤ nodes (Seq k inner rest) + 1) =
-    nodes-lengthened d (Seq k inner rest) in
-    (omega (arith, h.0), omega (arith, h.1))
-nodes-lengthened d (Alloc id e rest) =
-    let h : (nodes rest ≤ nodes (lengthened d rest)) × (nodes (lengthened d rest) ≤ nodes rest + 1) = nodes-lengthened d rest in
-    (omega (arith, h.0), omega (arith, h.1))
-nodes-lengthened d (Seq e inner rest) =
-    let h : (nodes rest ≤ nodes (lengthened d rest)) × (nodes (lengthened d rest) ≤ nodes rest + 1) = nodes-lengthened d rest in
-    (omega (arith, h.0), omega (arith, h.1))
+nodes-lengthened d (Free e (Free k rest)) = one_longer 0 (nodes-lengthened d (Free k rest))
+nodes-lengthened d (Free e (Alloc id k rest)) = one_longer 0 (nodes-lengthened d (Alloc id k rest))
+nodes-lengthened d (Free e (Seq k inner rest)) = one_longer 0 (nodes-lengthened d (Seq k inner rest))
+nodes-lengthened d (Alloc id e rest) = one_longer 0 (nodes-lengthened d rest)
+nodes-lengthened d (Seq e inner rest) = one_longer (nodes inner) (nodes-lengthened d rest)
 
 nodes-lengthened_to : (a b : ℕ) (m : Members)
     → (nodes m ≤ nodes (lengthened_to a b m)) × (nodes (lengthened_to a b m) ≤ nodes m + 1)
