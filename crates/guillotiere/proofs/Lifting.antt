@@ -135,18 +135,24 @@ module _ (ns ms : List Node) (c k : ℕ) (w : IsLifted ns ms c k) where
   beside : (j : ℕ) (m : Numbered) → ((x : ℕ) → same x j + tally x m ≤ 1) → 0 < tally c m → 0 < tally k m → node_at ms j ≡ node_at ns j
   beside j m once lc lk = w.others j (ne-from_same c j (omega (arith, once c))) (ne-from_same k j (omega (arith, once k)))
 
-  pub Standing-lifted : (s : Sequence) (b p : ℕ) (n : Numbered) → ((x : ℕ) → tally x n ≤ 1) → tally no_slot n ≡ 0 → (s.parent ≡ c → ⊥) → 0 < tally k n → Standing ns s b p n → Standing ms s b p (lifted c n)
-  Standing-lifted s b p End once none np l h = absurd (omega arith)
-  Standing-lifted s b p (Free j e rest) once none np l h =
+  -- the tree stands, and the slot k alone leaves it
+  abbrev IsLift : Sequence → (b p : ℕ) → (old new : Numbered) → Type 0
+  IsLift s b p n m = Standing ms s b p m × ((x : ℕ) → tally x m + same x k ≡ tally x n)
+
+  lifts : (s : Sequence) (b p : ℕ) (n : Numbered) → ((x : ℕ) → tally x n ≤ 1) → tally no_slot n ≡ 0 → (s.parent ≡ c → ⊥) → 0 < tally k n → Standing ns s b p n → IsLift s b p n (lifted c n)
+  lifts s b p End once none np l h = absurd (omega arith)
+  lifts s b p (Free j e rest) once none np l h =
       let ne : k ≡ j → ⊥ = (λ x. np (sym h.0.parent ∙ (rw (← x) w.parent))) in
       let lk : 0 < tally k rest = omega (arith, same-ne k j ne) in
       let eq = beside j rest once (container_in s j (p + e) rest np h.2 lk) lk in
-      (rw (eq, first-lifted c rest) h.0, rw eq h.1, Standing-lifted s j (p + e) rest (λ x. omega (arith, once x)) (omega arith) np lk h.2)
-  Standing-lifted s b p (Alloc j g e rest) once none np l h =
+      let t = lifts s j (p + e) rest (λ x. omega (arith, once x)) (omega arith) np lk h.2 in
+      ((rw (eq, first-lifted c rest) h.0, rw eq h.1, t.0), (λ x. omega (arith, t.1 x)))
+  lifts s b p (Alloc j g e rest) once none np l h =
       let lk : 0 < tally k rest = omega (arith, same-ne k j (not_free_alloc _ _ _ _ h.0)) in
       let eq = beside j rest once (container_in s j (p + e) rest np h.3 lk) lk in
-      (rw (eq, first-lifted c rest) h.0, rw eq h.1, rw eq h.2, Standing-lifted s j (p + e) rest (λ x. omega (arith, once x)) (omega arith) np lk h.3)
-  Standing-lifted s b p (Seq j e inner rest) once none np l h =
+      let t = lifts s j (p + e) rest (λ x. omega (arith, once x)) (omega arith) np lk h.3 in
+      ((rw (eq, first-lifted c rest) h.0, rw eq h.1, rw eq h.2, t.0), (λ x. omega (arith, t.1 x)))
+  lifts s b p (Seq j e inner rest) once none np l h =
       let t = inside s j p e in
       elim (split_pos (tally k inner) (tally k rest) (omega (arith, same-ne k j (not_free _ _ _ _ h.0)))) [
         | inr lk ↦
@@ -154,71 +160,46 @@ module _ (ns ms : List Node) (c k : ℕ) (w : IsLifted ns ms c k) where
             let eq = beside j rest (λ x. omega (arith, once x)) lc lk in
             let nc : c ≡ j → ⊥ = (λ x. ne-from_same c j (omega (arith, once c)) (sym x)) in
             let zc : tally c inner ≡ 0 = omega (arith, once c) in
-            rw (cond-false (eqb c j) (lifted_to j e inner rest) (Seq j e (lifted c inner) (lifted c rest)) (ne_eqb c j nc)) (
-              rw (eq, first-lifted c rest) h.0,
-              rw eq h.1,
-              rw (lifted-absent c inner zc) (away t no_slot s.start inner zc (omega (arith, once k)) h.2),
-              Standing-lifted s j (p + e) rest (λ x. omega (arith, once x)) (omega arith) np lk h.3,
+            let u = lifts s j (p + e) rest (λ x. omega (arith, once x)) (omega arith) np lk h.3 in
+            rw (cond-false (eqb c j) (lifted_to j e inner rest) (Seq j e (lifted c inner) (lifted c rest)) (ne_eqb c j nc), lifted-absent c inner zc) (
+              (rw (eq, first-lifted c rest) h.0, rw eq h.1, away t no_slot s.start inner zc (omega (arith, once k)) h.2, u.0),
+              (λ x. omega (arith, u.1 x)),
             )
-        | inl lk ↦ cond_both (eqb c j) (lifted_to j e inner rest) (Seq j e (lifted c inner) (lifted c rest)) (λ m. Standing ms s b p m) (λ q.
+        | inl lk ↦ cond_both (eqb c j) (lifted_to j e inner rest) (Seq j e (lifted c inner) (lifted c rest)) (λ m. IsLift s b p (Seq j e inner rest) m) (λ q.
             let is : c ≡ j = eqb-true c j q in
             let one : same c j ≡ 1 = (rw is (same-self j)) in
             let zc : tally c inner ≡ 0 = omega (arith, once c) in
             let o = lone t no_slot s.start inner (omega arith) zc lk h.2 in
             let there : node_at ms j ≡ record (node_at ns j) { kind = kind.Free } = rw (← is) w.outer in
             rw o.1 (
-              rw there (record { parent = h.0.parent; previous = h.0.previous; next = h.0.next; kind = refl; axis = h.0.axis }),
-              rw there h.1,
-              away s j (p + e) rest (omega (arith, once c)) (omega (arith, once k)) h.3,
+              (
+                rw there (record { parent = h.0.parent; previous = h.0.previous; next = h.0.next; kind = refl; axis = h.0.axis }),
+                rw there h.1,
+                away s j (p + e) rest (omega (arith, once c)) (omega (arith, once k)) h.3,
+              ),
+              (λ x. omega arith),
             )) (λ q.
             let nj : j ≡ c → ⊥ = (λ x. eqb-false c j q (sym x)) in
             let lc = container_in t no_slot s.start inner nj h.2 lk in
             let eq = beside j inner (λ x. omega (arith, once x)) lc lk in
-            let zc : tally c rest ≡ 0 = omega (arith, once c) in (
-              rw (eq, first-lifted c rest) h.0,
-              rw eq h.1,
-              Standing-lifted t no_slot s.start inner (λ x. omega (arith, once x)) (omega arith) nj lk h.2,
-              rw (lifted-absent c rest zc) (away s j (p + e) rest zc (omega (arith, once k)) h.3),
+            let zc : tally c rest ≡ 0 = omega (arith, once c) in
+            let u = lifts t no_slot s.start inner (λ x. omega (arith, once x)) (omega arith) nj lk h.2 in
+            rw (lifted-absent c rest zc) (
+              (rw eq h.0, rw eq h.1, u.0, away s j (p + e) rest zc (omega (arith, once k)) h.3),
+              (λ x. omega (arith, u.1 x)),
             ))
       ]
 
-  -- the slot k alone leaves the tree
-  pub tally-lifted : (s : Sequence) (b p : ℕ) (n : Numbered) → ((x : ℕ) → tally x n ≤ 1) → tally no_slot n ≡ 0 → (s.parent ≡ c → ⊥) → 0 < tally k n → Standing ns s b p n → (x : ℕ) → tally x (lifted c n) + same x k ≡ tally x n
-  tally-lifted s b p End once none np l h x = absurd (omega arith)
-  tally-lifted s b p (Free j e rest) once none np l h x =
-      let ne : k ≡ j → ⊥ = (λ x. np (sym h.0.parent ∙ (rw (← x) w.parent))) in
-      omega (arith, tally-lifted s j (p + e) rest (λ x. omega (arith, once x)) (omega arith) np (omega (arith, same-ne k j ne)) h.2 x)
-  tally-lifted s b p (Alloc j g e rest) once none np l h x =
-      omega (arith, tally-lifted s j (p + e) rest (λ x. omega (arith, once x)) (omega arith) np (omega (arith, same-ne k j (not_free_alloc _ _ _ _ h.0))) h.3 x)
-  tally-lifted s b p (Seq j e inner rest) once none np l h x =
-      let t = inside s j p e in
-      elim (split_pos (tally k inner) (tally k rest) (omega (arith, same-ne k j (not_free _ _ _ _ h.0)))) [
-        | inr lk ↦
-            let lc = container_in s j (p + e) rest np h.3 lk in
-            let nc : c ≡ j → ⊥ = (λ x. ne-from_same c j (omega (arith, once c)) (sym x)) in
-            let zc : tally c inner ≡ 0 = omega (arith, once c) in
-            rw (cond-false (eqb c j) (lifted_to j e inner rest) (Seq j e (lifted c inner) (lifted c rest)) (ne_eqb c j nc), lifted-absent c inner zc) (omega (arith, tally-lifted s j (p + e) rest (λ x. omega (arith, once x)) (omega arith) np lk h.3 x))
-        | inl lk ↦ cond_both (eqb c j) (lifted_to j e inner rest) (Seq j e (lifted c inner) (lifted c rest)) (λ m. tally x m + same x k ≡ same x j + tally x inner + tally x rest) (λ q.
-            let is : c ≡ j = eqb-true c j q in
-            let one : same c j ≡ 1 = (rw is (same-self j)) in
-            let o = lone t no_slot s.start inner (omega arith) (omega (arith, once c)) lk h.2 in
-            rw o.1 (omega arith)) (λ q.
-            let nj : j ≡ c → ⊥ = (λ x. eqb-false c j q (sym x)) in
-            let lc = container_in t no_slot s.start inner nj h.2 lk in
-            let zc : tally c rest ≡ 0 = omega (arith, once c) in
-            rw (lifted-absent c rest zc) (omega (arith, tally-lifted t no_slot s.start inner (λ x. omega (arith, once x)) (omega arith) nj lk h.2 x)))
-      ]
+  all_lifts : (s : Sequence) (n : Numbered) → s.parent ≡ no_slot → Stands ns s n → IsLift s no_slot 0 n (lifted c n)
+  all_lifts s n top h =
+      let once : (x : ℕ) → tally x n ≤ 1 = λ x. omega (arith, h.numbered x, used-le (node_at ns x).kind) in
+      let none : tally no_slot n ≡ 0 = h.numbered no_slot ∙ ap use_count w.ends in
+      lifts s no_slot 0 n once none (λ x. w.nested (sym x ∙ top)) (rw (h.numbered k, w.free) (omega arith)) h.standing
 
   pub Stands-lifted : (s : Sequence) (n : Numbered) → s.parent ≡ no_slot → Stands ns s n → (node_at ns c).kind ≡ kind.Container → Stands ms s (lifted c n)
   Stands-lifted s n top h box =
-      let once : (x : ℕ) → tally x n ≤ 1 = λ x. omega (arith, h.numbered x, used-le (node_at ns x).kind) in
-      let here : 0 < tally k n = rw (h.numbered k, w.free) (omega arith) in
-      let none : tally no_slot n ≡ 0 = h.numbered no_slot ∙ ap use_count w.ends in
-      let np : s.parent ≡ c → ⊥ = (λ x. w.nested (sym x ∙ top)) in
-      record {
-        standing = Standing-lifted s no_slot 0 n once none np here h.standing;
-        numbered = λ x. omega (arith, tally-lifted s no_slot 0 n once none np here h.standing x, used_after box x, h.numbered x);
-      }
+      let all = all_lifts s n top h in
+      record { standing = all.0; numbered = λ x. omega (arith, all.1 x, used_after box x, h.numbered x) }
     where
       used_after : (node_at ns c).kind ≡ kind.Container → (x : ℕ) → use_count (node_at ms x).kind + same x k ≡ use_count (node_at ns x).kind
       used_after box x =
@@ -228,12 +209,7 @@ module _ (ns ms : List Node) (c k : ℕ) (w : IsLifted ns ms c k) where
           ]
 
   pub tallies-lifted : (s : Sequence) (n : Numbered) → s.parent ≡ no_slot → Stands ns s n → (x : ℕ) → tally x (lifted c n) + same x k ≡ tally x n
-  tallies-lifted s n top h =
-      let once : (x : ℕ) → tally x n ≤ 1 = λ x. omega (arith, h.numbered x, used-le (node_at ns x).kind) in
-      let here : 0 < tally k n = rw (h.numbered k, w.free) (omega arith) in
-      let none : tally no_slot n ≡ 0 = h.numbered no_slot ∙ ap use_count w.ends in
-      let np : s.parent ≡ c → ⊥ = (λ x. w.nested (sym x ∙ top)) in
-      λ x. tally-lifted s no_slot 0 n once none np here h.standing x
+  tallies-lifted s n top h = (all_lifts s n top h).1
 
   -- what a lift makes of the container, if that is said to be at x
   pub container-lifted : (x : ℕ) → x ≡ c → (node_at ns x).kind ≡ kind.Container
