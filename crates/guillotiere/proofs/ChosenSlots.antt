@@ -1,6 +1,7 @@
 -- the free slot that a request takes, and how it is granted
-use Rattle.std.proofs.Common.{ℕ, ◌<◌, ◌≤◌, ◌≡◌, ◌≢◌, List, [], length, true, false, refl, sym, ap, subst, ◌∙◌, inl, inr, arith}
+use Rattle.std.proofs.Common.{ℕ, ◌<◌, ◌≤◌, ◌≡◌, ◌≢◌, List, [], length, true, false, refl, sym, ap, subst, ◌∙◌, arith, vec_capacity}
 use Rattle.std.proofs.lemmas.List.{length-map}
+use Rattle.guillotiere.specs.declared.store.Store.{Store}
 use Rattle.guillotiere.specs.declared.slots.Slot.{Slot}
 use Rattle.guillotiere.specs.declared.slots.Node.{Node}
 use Rattle.guillotiere.specs.declared.slots.NodeKind.TheVariants as kind
@@ -16,15 +17,17 @@ use Rattle.guillotiere.specs.Numbered.{erase, id_of}
 use Rattle.guillotiere.specs.Reading.{extent_of}
 use Rattle.guillotiere.specs.Picks.{AreFreeBoxes, IsFreeSlot, IsSearchable}
 use Rattle.guillotiere.specs.Stored.{Shelf, Holding, Holds, places_of}
-use Rattle.guillotiere.specs.Holdings.{node_in, across_of, with_loose, with_held, IsLow}
+use Rattle.guillotiere.specs.Holdings.{shelf_of, node_in, across_of, with_loose, with_held, IsLow}
 use Rattle.guillotiere.specs.Bands.{list_of, number_of}
 use Rattle.guillotiere.specs.Lists.{node_sides, node_strip}
-use Rattle.guillotiere.specs.Planning.{IsPlanFor, IsFeasible, IsPlaceableAt, IsPlanned}
+use Rattle.guillotiere.specs.Planning.{IsPlanFor, IsFeasible, IsPlaceable, IsPlaceableAt, IsPlaced, IsPlanned, slots_of}
+use Rattle.guillotiere.specs.StoreCalls.{IsSharpened, IsUnlisted}
 use Rattle.guillotiere.specs.Chosen.{IsAtRest, IsChosen, IsGrantable, IsGrantMade}
 use Rattle.guillotiere.proofs.Filing.{with_mark-same}
 use Rattle.guillotiere.proofs.JoiningWrites.{used-inside}
 use Rattle.guillotiere.proofs.FreeSlots.{AreFreeBoxes-stands, exact-free, searchable}
 use Rattle.guillotiere.proofs.PlacingSteps.{only-more}
+use Rattle.guillotiere.proofs.StoreTakes.{slots-kept}
 
 module _ (v : Shelf) (h : Holding) (rest : IsAtRest v h) where
   pub rest-searchable : (slots : List Slot) → slots ≡ v.slots → IsSearchable (options_of v.options) slots v.heads
@@ -86,38 +89,34 @@ chosen-low v u r p w same options h is_loose i free kept list =
     ap (λ o. list_of (options_of o) (node_sides (node_in v i))) (sym options) ∙ (ap (λ m. list_of (options_of u.options) (node_sides m)) (sym n) ∙ list) in
     subst (λ m. p.low ≤ node_strip m) (sym n) (w.low i (subst (λ (m : Node). m.kind ≡ kind.Free) n free) other there)
 
--- what is told of a slot that leaves its list
-pub record IsUnlistedFrom (v v' : Shelf) (capacity capacity' at : ℕ) : Type 0 where
-  pub kept : (h : Holding) → Holds v h → h.loose at ≡ false → (held : ℕ → List ℕ) × Holds v' (with_loose at true (with_held held h))
-  pub nodes : nodes v'.slots ≡ nodes v.slots
-  pub long : length v'.slots ≡ length v.slots
-  pub roomy : capacity' ≡ capacity
-
 -- the slot leaves its list, for which another strip is kept then
-pub unlisted-sharpened : (v u v' : Shelf) (capacity capacity' : ℕ) (r : Sides) (p : Chosen) → IsChosen v r p
-    → ((h : Holding) → Holds v h → h.loose p.at.number ≡ false → (held : ℕ → List ℕ) × Holds u (with_loose p.at.number true (with_held held h)))
-    → nodes u.slots ≡ nodes v.slots → length u.slots ≡ length v.slots → u.options ≡ v.options
-    → ((h : Holding) → Holds u h → IsLow u h (number_of p.place) p.low → Holds v' h)
-    → v'.slots ≡ u.slots → capacity' ≡ capacity → IsUnlistedFrom v v' capacity capacity' p.at.number
-unlisted-sharpened v u v' capacity capacity' r p w kept same long options sharp slots roomy =
-    record {
-      kept = λ h holds listed.
-          let left = kept h holds listed in
-          let now : Holding = with_loose p.at.number true (with_held left.0 h) in
-          (left.0, sharp now left.1 (chosen-low v u r p w same options now (with_mark-same h.loose p.at.number true)));
-      nodes = ap nodes slots ∙ same;
-      long = ap (λ s. length s) slots ∙ long;
-      roomy = roomy;
-    }
+pub unlisted-sharpened : {A : Type 0} {v u v' : Store A} {r : Sides} (p : Chosen) → IsChosen (shelf_of v) r p → IsUnlisted v u p.at.number
+    → IsSharpened u v' (number_of p.place) p.low → IsUnlisted v v' p.at.number
+unlisted-sharpened {A} {v} {u} {v'} {r} p w one two = record {
+  kept = λ h holds listed.
+      let left = one.kept h holds listed in
+      let now : Holding = with_loose p.at.number true (with_held left.0 h) in (
+        left.0,
+        two.kept now left.1
+            (chosen-low (shelf_of v) (shelf_of u) r p w one.nodes one.room.options now (with_mark-same h.loose p.at.number true)),
+      );
+  nodes = ap (λ s. nodes s.items) two.slots ∙ one.nodes;
+  room = record {
+    slots = ap (λ s. length s.items) two.slots ∙ one.room.slots;
+    capacity = ap vec_capacity two.slots ∙ one.room.capacity;
+    options = two.options ∙ one.room.options;
+  };
+  turns = two.turns ∙ one.turns;
+}
 
-module _ (v v' : Shelf) (capacity capacity' : ℕ) (r : Sides) (p : Chosen) (h : Holding) (w : IsGrantable v capacity r p h) (u : IsUnlistedFrom v v' capacity capacity' p.at.number) where
-  left : (held : ℕ → List ℕ) × Holds v' (with_loose p.at.number true (with_held held h))
+module _ {A : Type 0} {v v' : Store A} {r : Sides} {p : Chosen} {h : Holding} (w : IsGrantable v r p h) (u : IsUnlisted v v' p.at.number) where
+  left : (held : ℕ → List ℕ) × Holds (shelf_of v') (with_loose p.at.number true (with_held held h))
   left = u.kept h w.rest.holds (w.rest.listed p.at.number refl)
 
   abbrev unlisted : Holding
   unlisted = with_loose p.at.number true (with_held left.0 h)
 
-  is_placeable : IsPlaceableAt v' capacity' p.at.number p.plan unlisted
+  is_placeable : IsPlaceableAt v' p.at.number p.plan unlisted
   is_placeable = record {
     leaf = record {
       holds = left.1;
@@ -125,35 +124,42 @@ module _ (v v' : Shelf) (capacity capacity' : ℕ) (r : Sides) (p : Chosen) (h :
       loose = with_mark-same h.loose p.at.number true;
     };
     only = only-more h.loose p.at.number [] w.rest.listed;
-    feasible = subst (λ ns. IsFeasible p.plan (extent_of (node_at ns p.at.number)) (across_of (node_at ns p.at.number))) (sym u.nodes) w.chosen.feasible;
-    slots = elim w.slots [
-      | inl s ↦ inl s
-      | inr s ↦ inr (omega (arith, u.long, u.roomy, s.0), omega (arith, u.long, s.1))
-    ];
+    feasible =
+        subst (λ ns. IsFeasible p.plan (extent_of (node_at ns p.at.number)) (across_of (node_at ns p.at.number))) (sym u.nodes)
+        w.chosen.feasible;
+    slots = slots-kept v v' (slots_of p.plan) h u.room w.slots;
   }
 
-  pub placeable-chosen : (h' : Holding) × IsPlaceableAt v' capacity' p.at.number p.plan h'
+  pub placeable-chosen : IsPlaceable v' p.at.number p.plan
   placeable-chosen = (unlisted, is_placeable)
 
-  module _ (new : Shelf) (to : ℕ) (kept : (h : Holding) → IsPlaceableAt v' capacity' p.at.number p.plan h → (h' : Holding) × IsPlanned new p.at.number to p.plan h h') where
-    placed_there : (h' : Holding) × IsPlanned new p.at.number to p.plan unlisted h'
-    placed_there = kept unlisted is_placeable
+  module _ {new : Store A} {to : ℕ} (placed : IsPlaced v' new p.at.number to p.plan) where
+    placed_there : (h' : Holding) × IsPlanned (shelf_of new) p.at.number to p.plan unlisted h'
+    placed_there = placed.kept unlisted is_placeable
 
-    pub granted-inside : to < length new.slots
+    pub granted-inside : to < length new.slots.items
     granted-inside =
-        let inside : to < length (nodes new.slots) = used-inside (nodes new.slots) to (rw placed_there.1.granted (omega arith)) in
+        let inside : to < length (nodes new.slots.items) = used-inside (nodes new.slots.items) to (rw placed_there.1.granted (omega arith)) in
         simp length-map at inside
 
     pub granted-short : to < 16777216
     granted-short = omega (arith, granted-inside, placed_there.1.holds.short)
 
-    pub grant-made : (id : ℕ) (node : Node) → node ≡ node_in new to → id ≡ id_of to node.generation → (to : ℕ) × (h' : Holding) × IsGrantMade new p id to h h'
+    pub grant-made : (id : ℕ) (node : Node) → node ≡ node_in (shelf_of new) to → id ≡ id_of to node.generation
+        → (to : ℕ) × (h' : Holding) × IsGrantMade (shelf_of new) p id to h h'
     grant-made id node same is =
         let q = placed_there.1 in (
           to,
           placed_there.0,
           record {
-            planned = record { holds = q.holds; listed = q.listed; tree = q.tree; sequence = q.sequence; granted = q.granted; spare = q.spare };
+            planned = record {
+              holds = q.holds;
+              listed = q.listed;
+              tree = q.tree;
+              sequence = q.sequence;
+              granted = q.granted;
+              spare = q.spare;
+            };
             names = is ∙ ap (λ (n : Node). id_of to n.generation) same;
           },
         )

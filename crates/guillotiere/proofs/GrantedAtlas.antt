@@ -1,6 +1,7 @@
 -- Granting a request in an atlas.
-use Rattle.std.proofs.Common.{ℕ, ◌+◌, ◌%◌, ◌^◌, ◌<◌, ◌≤◌, ◌≡◌, max, List, length, refl, sym, ap, subst, ◌∙◌, ◌⊎◌, inl, inr, arith}
+use Rattle.std.proofs.Common.{ℕ, ◌+◌, ◌%◌, ◌^◌, ◌<◌, ◌≤◌, ◌≡◌, max, List, length, refl, sym, ap, subst, ◌∙◌, ◌⊎◌, inl, inr, arith, vec_capacity}
 use Rattle.std.specs.Prelude.{Option, Result, Err}
+use Rattle.guillotiere.specs.declared.store.Store.{Store}
 use Rattle.guillotiere.specs.declared.allocation.Allocation.{Allocation}
 use Rattle.guillotiere.specs.Replies.{allocate_reply}
 use Rattle.guillotiere.specs.declared.geometry.Size.{Size}
@@ -25,9 +26,9 @@ use Rattle.guillotiere.specs.Numbered.{erase, numbers, id_of}
 use Rattle.guillotiere.specs.Reading.{tree_of}
 use Rattle.guillotiere.specs.Picks.{AreFreeBoxes}
 use Rattle.guillotiere.specs.Stored.{Stored, Shelf, Holding, IsAtlas, state_of}
-use Rattle.guillotiere.specs.Holdings.{node_in}
+use Rattle.guillotiere.specs.Holdings.{shelf_of, node_in}
 use Rattle.guillotiere.specs.Planning.{slots_of}
-use Rattle.guillotiere.specs.Chosen.{IsAtRest, IsChosen, IsGrantable, IsGrantMade, IsShortOf}
+use Rattle.guillotiere.specs.Chosen.{CanGrant, IsAtRest, IsChosen, IsGrantable, IsGrantMade, IsRequestGranted, IsShortOf}
 use Rattle.guillotiere.proofs.Picking.{no_room_unrounded}
 use Rattle.guillotiere.proofs.Rounding.{rounded_positive}
 use Rattle.guillotiere.proofs.BoxLists.{free_in_place}
@@ -104,16 +105,20 @@ module _ (v : Stored) (a : IsAtlas v) (request : Sides) where
     step-refused NotLive short = absurd short
 
     -- there are slots for the plan
-    pub grantable : (capacity : ℕ) → v.used + slots_of p.plan ≤ v.limit → (v.used + slots_of p.plan ≤ length v.shelf.slots) ⊎ (v.used + slots_of p.plan ≤ capacity)
-        → IsGrantable v.shelf capacity wanted p a.holding
-    grantable capacity few room = record {
-      rest = at-rest;
-      chosen = chosen;
-      slots = elim room [
-        | inl s ↦ inl (omega (arith, spare-count v.shelf a.holding a.holds, a.used))
-        | inr s ↦ inr (omega (arith, spare-count v.shelf a.holding a.holds, a.used), omega (arith, spare-count v.shelf a.holding a.holds, a.used, a.limited))
-      ];
-    }
+    pub grantable : {A : Type 0} (made : Store A) → shelf_of made ≡ v.shelf → v.used + slots_of p.plan ≤ v.limit
+        → (v.used + slots_of p.plan ≤ length v.shelf.slots) ⊎ (v.used + slots_of p.plan ≤ vec_capacity made.slots)
+        → IsGrantable made wanted p a.holding
+    grantable made same few room =
+        let long : length made.slots.items ≡ length v.shelf.slots = ap (λ s. length s.slots) same in
+        let spare = spare-count v.shelf a.holding a.holds in
+        record {
+          rest = subst (λ u. IsAtRest u a.holding) (sym same) at-rest;
+          chosen = subst (λ u. IsChosen u wanted p) (sym same) chosen;
+          slots = elim room [
+            | inl s ↦ inl (omega (arith, spare, a.used))
+            | inr s ↦ inr (omega (arith, long, spare, a.used), omega (arith, long, spare, a.used, a.limited))
+          ];
+        }
 
     -- the request is placed and granted
     module _ (u : Shelf) (id to : ℕ) (h : Holding) (w : IsGrantMade u p id to a.holding h) (same_options : u.options ≡ v.shelf.options) (few : v.used + slots_of p.plan ≤ v.limit) (box : Box)
@@ -205,38 +210,36 @@ module _ (v : Stored) (a : IsAtlas v) (request : Sides) (size : Size) (sized : C
       (subst (λ r. Fits r (box_sides (box_of p.area))) (sym same_sides) fits)
 
   -- in the words of the calls: `made` are the slots once there is room
-  module _ (made : Shelf) (same : made ≡ v.shelf) (needed : ℕ) (is_needed : needed ≡ slots_of p.plan) where
+  module _ {A : Type 0} (made : Store A) (same : shelf_of made ≡ v.shelf) (needed : ℕ) (is_needed : needed ≡ slots_of p.plan) where
     pub refused-step : (result : Result (Option Allocation) AtlasError) (error : AtlasError) → result ≡ Err error → IsShortOf v.used v.limit needed (length v.shelf.slots) error → (turns before : ℕ)
         → Step (state_of (record { stored = v; turns = before })) (Allocate request) (allocate_reply result)
-        (state_of (record { stored = record { shelf = made; first = v.first; used = v.used; size = v.size; limit = v.limit }; turns = turns }))
+        (state_of (record { stored = record { shelf = shelf_of made; first = v.first; used = v.used; size = v.size; limit = v.limit }; turns = turns }))
     refused-step result error is short turns before =
         let after : Shelf → State = λ u. state_of (record { stored = record { shelf = u; first = v.first; used = v.used; size = v.size; limit = v.limit }; turns = turns }) in
         let here : Step (state_of (record { stored = v; turns = before })) (Allocate request) (Refused error) (after v.shelf) =
         step-refused v a request p chosen_here sized.0.positive error (subst (λ n. IsShortOf v.used v.limit n (length v.shelf.slots) error) is_needed short) in
-        subst (λ (r : Result (Option Allocation) AtlasError). Step (state_of (record { stored = v; turns = before })) (Allocate request) (allocate_reply r) (after made)) (sym is)
+        subst (λ (r : Result (Option Allocation) AtlasError). Step (state_of (record { stored = v; turns = before })) (Allocate request) (allocate_reply r) (after (shelf_of made))) (sym is)
         (subst (λ u. Step (state_of (record { stored = v; turns = before })) (Allocate request) (Refused error) (after u)) (sym same) here)
 
-    module _ (capacity : ℕ) (ok : (v.used + needed ≤ v.limit) × ((v.used + needed ≤ length made.slots) ⊎ (v.used + needed ≤ capacity))) where
-      grantable_here : IsGrantable made capacity (rounded (options_of v.shelf.options) request) p a.holding
+    module _ (ok : (v.used + needed ≤ v.limit) × ((v.used + needed ≤ length made.slots.items) ⊎ (v.used + needed ≤ vec_capacity made.slots))) where
+      grantable_here : IsGrantable made (rounded (options_of v.shelf.options) request) p a.holding
       grantable_here =
-          let P : Shelf → Type 0 = λ u. IsGrantable u capacity (rounded (options_of v.shelf.options) request) p a.holding in
-          let long : length made.slots ≡ length v.shelf.slots = ap (λ s. length s.slots) same in
-          subst P (sym same) (grantable v a request p chosen_here sized.0.positive capacity (omega (arith, ok.0, is_needed)) (elim ok.1 [
+          let long : length made.slots.items ≡ length v.shelf.slots = ap (λ s. length s.slots) same in
+          grantable v a request p chosen_here sized.0.positive made same (omega (arith, ok.0, is_needed)) (elim ok.1 [
             | inl s ↦ inl (omega (arith, is_needed, long))
             | inr s ↦ inr (omega (arith, is_needed))
-          ]))
+          ])
 
-      pub some-grantable : (r : Sides) × (h : Holding) × IsGrantable made capacity r p h
+      pub some-grantable : CanGrant made p
       some-grantable = (rounded (options_of v.shelf.options) request, a.holding, grantable_here)
 
-      pub grant-done : (u : Shelf) (id : ℕ) (rectangle : Rectangle)
-          → ((r : Sides) (h : Holding) → IsGrantable made capacity r p h → (to : ℕ) × (h' : Holding) × IsGrantMade u p id to h h')
-          → u.options ≡ made.options
+      pub grant-done : (new : Store A) (id : ℕ) (rectangle : Rectangle) → IsRequestGranted made new p id
           → ((f : Box) → p.area ≡ rectangle_of f → rectangle ≡ rectangle_of (box_at f.min (sides_of size)))
-          → IsDone v request u needed id (box_of rectangle)
-      grant-done u id rectangle granted options boxes =
-          let got = granted (rounded (options_of v.shelf.options) request) a.holding grantable_here in
-          let same_options : u.options ≡ v.shelf.options = options ∙ ap (λ s. s.options) same in
+          → IsDone v request (shelf_of new) needed id (box_of rectangle)
+      grant-done new id rectangle told boxes =
+          let u : Shelf = shelf_of new in
+          let got = told.granted (rounded (options_of v.shelf.options) request) a.holding grantable_here in
+          let same_options : u.options ≡ v.shelf.options = told.options ∙ ap (λ s. s.options) same in
           let few : v.used + slots_of p.plan ≤ v.limit = omega (arith, ok.0, is_needed) in
           let there : box_of rectangle ≡ box_at (box_of p.area).min (rounded (options_of v.shelf.options) request) =
           ap box_of (boxes (box_of p.area) area-unsigned) ∙ ap (λ r. box_at (box_of p.area).min r) same_sides in

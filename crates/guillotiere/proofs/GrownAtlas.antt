@@ -1,7 +1,8 @@
 -- Growing an atlas.
-use Rattle.std.proofs.Common.{ℕ, ◌+◌, ◌<◌, ◌≤◌, ◌≡◌, max, Bool, true, false, [], length, refl, sym, ap, subst, ◌∙◌, ◌⊎◌, inl, inr, arith}
+use Rattle.std.proofs.Common.{ℕ, ◌+◌, ◌<◌, ◌≤◌, ◌≡◌, max, Bool, true, false, [], length, refl, sym, ap, subst, ◌∙◌, ◌⊎◌, inl, inr, arith, vec_capacity}
 use Rattle.std.specs.Prelude.{Result, Err}
 use Rattle.std.proofs.lemmas.Bool.{true≢false}
+use Rattle.guillotiere.specs.declared.store.Store.{Store}
 use Rattle.guillotiere.specs.declared.geometry.Size.{Size}
 use Rattle.guillotiere.specs.declared.slots.Link.{Link}
 use Rattle.guillotiere.specs.declared.growth.Growth.{Growth}
@@ -24,7 +25,8 @@ use Rattle.guillotiere.specs.Reading.{tree_of}
 use Rattle.guillotiere.specs.Stored.{Stored, Shelf, Holding, IsAtlas, state_of}
 use Rattle.guillotiere.specs.Chosen.{IsShortOf}
 use Rattle.guillotiere.specs.Growing.{IsLone}
-use Rattle.guillotiere.specs.Growths.{IsTreeOf, IsGrowthOf, IsGrowable, IsGrown, IsNeedOf}
+use Rattle.guillotiere.specs.Holdings.{shelf_of}
+use Rattle.guillotiere.specs.Growths.{CanGrow, IsTreeOf, IsGrowthOf, IsGrowable, IsGrown, IsNeedOf, IsTreeGrown}
 use Rattle.guillotiere.proofs.Reading.{tree_of-Stands}
 use Rattle.guillotiere.proofs.Normal.{numbers-erase}
 use Rattle.guillotiere.proofs.SpareCounts.{spare-count}
@@ -189,45 +191,44 @@ module _ (v : Stored) (a : IsAtlas v) where
           step-refused NotLive short = absurd short
 
           -- in the words of the calls: `made` are the slots once there is room
-          module _ (made : Shelf) (same : made ≡ v.shelf) where
+          module _ {A : Type 0} (made : Store A) (same : shelf_of made ≡ v.shelf) where
             pub refused-step : (result : Result (Unit {0}) AtlasError) (error : AtlasError) → result ≡ Err error → IsShortOf v.used v.limit n (length v.shelf.slots) error → (turns before : ℕ)
                 → Step (state_of (record { stored = v; turns = before })) (Grow (sides_of size)) (done_reply result)
-                (state_of (record { stored = record { shelf = made; first = v.first; used = v.used; size = v.size; limit = v.limit }; turns = turns }))
+                (state_of (record { stored = record { shelf = shelf_of made; first = v.first; used = v.used; size = v.size; limit = v.limit }; turns = turns }))
             refused-step result error is short turns before =
                 let after : Shelf → State = λ u. state_of (record { stored = record { shelf = u; first = v.first; used = v.used; size = v.size; limit = v.limit }; turns = turns }) in
                 let here : Step (state_of (record { stored = v; turns = before })) (Grow (sides_of size)) (Refused error) (after v.shelf) = step-refused error short in
-                subst (λ (r : Result (Unit {0}) AtlasError). Step (state_of (record { stored = v; turns = before })) (Grow (sides_of size)) (done_reply r) (after made)) (sym is)
+                subst (λ (r : Result (Unit {0}) AtlasError). Step (state_of (record { stored = v; turns = before })) (Grow (sides_of size)) (done_reply r) (after (shelf_of made))) (sym is)
                 (subst (λ u. Step (state_of (record { stored = v; turns = before })) (Grow (sides_of size)) (Refused error) (after u)) (sym same) here)
 
-            module _ (capacity : ℕ) (ok : (v.used + n ≤ v.limit) × ((v.used + n ≤ length made.slots) ⊎ (v.used + n ≤ capacity))) where
-              growable-here : IsGrowable made capacity (sides_of p.from) (sides_of p.to) v.first.number n p a.holding
+            module _ (ok : (v.used + n ≤ v.limit) × ((v.used + n ≤ length made.slots.items) ⊎ (v.used + n ≤ vec_capacity made.slots))) where
+              growable-here : IsGrowable made (sides_of p.from) (sides_of p.to) v.first.number n p a.holding
               growable-here =
-                  let long : length made.slots ≡ length v.shelf.slots = ap (λ s. length s.slots) same in
-                  let one : IsGrowable v.shelf capacity (sides_of p.from) (sides_of p.to) v.first.number n p a.holding = record {
-                    tree = tree-from;
+                  let long : length made.slots.items ≡ length v.shelf.slots = ap (λ s. length s.slots) same in
+                  let spare = spare-count v.shelf a.holding a.holds in
+                  record {
+                    tree = subst (λ u. IsTreeOf u (sides_of p.from) v.first.number a.holding) (sym same) tree-from;
                     growth = plan-from;
                     fits = fits-from;
                     busy = busy;
                     need = need-from;
                     slots = elim ok.1 [
-                      | inl s ↦ inl (omega (arith, long, spare-count v.shelf a.holding a.holds, a.used))
-                      | inr s ↦ inr (omega (arith, spare-count v.shelf a.holding a.holds, a.used), omega (arith, ok.0, spare-count v.shelf a.holding a.holds, a.used, a.limited))
+                      | inl s ↦ inl (omega (arith, long, spare, a.used))
+                      | inr s ↦ inr (omega (arith, long, spare, a.used), omega (arith, long, ok.0, spare, a.used, a.limited))
                     ];
-                  } in
-                  subst (λ u. IsGrowable u capacity (sides_of p.from) (sides_of p.to) v.first.number n p a.holding) (sym same) one
+                  }
 
-              pub some-growable : (h : Holding) × (m : ℕ) × IsGrowable made capacity (sides_of p.from) (sides_of p.to) v.first.number m p h
+              pub some-growable : CanGrow made v.first.number p
               some-growable = (a.holding, n, growable-here)
 
-              pub grow-done : (u : Shelf) (link : Link)
-                  → ((h : Holding) (m : ℕ) → IsGrowable made capacity (sides_of p.from) (sides_of p.to) v.first.number m p h → (h' : Holding) × IsGrown u (sides_of p.from) (sides_of p.to) link.number m h h')
-                  → u.options ≡ made.options
-                  → HasGrown v size u link (v.used + n)
-              grow-done u link grew options =
-                  let got = grew a.holding n growable-here in
+              pub grow-done : (new : Store A) (link : Link) → IsTreeGrown made new v.first.number link.number p
+                  → HasGrown v size (shelf_of new) link (v.used + n)
+              grow-done new link told =
+                  let u : Shelf = shelf_of new in
+                  let got = told.grown a.holding n growable-here in
                   let w : IsGrown u (sides_of v.size) (sides_of size) link.number n a.holding got.0 =
                   subst (λ s. IsGrown u (sides_of v.size) s link.number n a.holding got.0) to-is (subst (λ s. IsGrown u s (sides_of p.to) link.number n a.holding got.0) from-is got.1) in
-                  let same_options : u.options ≡ v.shelf.options = options ∙ ap (λ s. s.options) same in
+                  let same_options : u.options ≡ v.shelf.options = told.options ∙ ap (λ s. s.options) same in
                   let few : nodes_grown now (sides_of size) ≤ v.limit = omega (arith, ok.0, grown-nodes) in
                   record {
                     atlas = atlas-after u link.number n got.0 w same_options need-here link refl few;

@@ -1,5 +1,5 @@
 -- the stages of a growth: along the top sequence, and then across it
-use Rattle.std.proofs.Common.{ℕ, ◌+◌, ◌-◌, ◌<◌, ◌≤◌, ◌≡◌, ◌↔◌, IsTrue, [], length, Bool, cond, true, false, not, ◌&&◌, refl, sym, ap, subst, ◌∙◌, inl, inr, arith, vec_capacity}
+use Rattle.std.proofs.Common.{ℕ, ◌+◌, ◌-◌, ◌<◌, ◌≤◌, ◌≡◌, ◌↔◌, IsTrue, [], length, Bool, cond, true, false, not, ◌&&◌, refl, sym, ap, subst, ◌∙◌, inl, inr, arith}
 use Rattle.std.specs.Bool.{Decides}
 use Rattle.std.specs.Ordering.{int_eq}
 use Rattle.std.proofs.lemmas.Bool.{cases_eq, not-true, not-false, true≢false}
@@ -19,7 +19,7 @@ use Rattle.guillotiere.specs.Numbered.{erase, first_slot}
 use Rattle.guillotiere.specs.Stored.{Shelf, Holding, Holds, IsLooseOnly}
 use Rattle.guillotiere.specs.Holdings.{shelf_of, node_in, HasSlotsFor}
 use Rattle.guillotiere.specs.Growing.{IsEnd, IsSpanning, IsWider, last_slot}
-use Rattle.guillotiere.specs.Growths.{IsGrowthOf, IsGrowable, IsGrown, IsLengthened, IsNeedOf, IsWidened, middle_of, strip_need, tree_held}
+use Rattle.guillotiere.specs.Growths.{IsGrowthOf, IsGrowable, IsGrown, IsLengthenable, IsLonger, IsNeedOf, IsWidenable, IsWidenedTo, middle_of, strip_need, tree_held}
 use Rattle.guillotiere.proofs.Reading.{tree-by_parts}
 use Rattle.guillotiere.proofs.Observing.{nonempty-total}
 use Rattle.guillotiere.proofs.TreeBasics.{longer_side, other_twice}
@@ -131,35 +131,35 @@ module _ (v : Shelf) (old new : Sides) (h : Holding) (p : Growth) (w : IsGrowthO
   top-same e = if_longer-not (side (other h.sequence.axis) old) (side (other h.sequence.axis) new) 2 (omega arith)
 
 -- the tree has grown along its axis, and there are the slots to grow across it
-pub record IsMidway (v : Shelf) (capacity : ℕ) (old new : Sides) (first n : ℕ) (h h' : Holding) : Type 0 where
-  pub holds : Holds v h'
+pub record IsMidway {A : Type 0} (v : Store A) (old new : Sides) (first n : ℕ) (h h' : Holding) : Type 0 where
+  pub holds : Holds (shelf_of v) h'
   pub listed : IsLooseOnly [] h'
   pub members : erase h'.tree ≡ lengthened_to (side h.sequence.axis old) (side h.sequence.axis new) (erase h.tree)
   pub sequence : h'.sequence ≡ h.sequence
   pub begins : first_slot h'.tree ≡ first
   pub spare : length h'.spare - across_need old new h.sequence.axis ≡ length h.spare - n
-  pub slots : HasSlotsFor (across_need old new h.sequence.axis) capacity v h'
+  pub slots : HasSlotsFor (across_need old new h.sequence.axis) v h'
 
 -- the same of a store
 abbrev pub IsMidwayIn : {A : Type 0} → Store A → (old new : Sides) (first n : ℕ) → Holding → Type 0
-IsMidwayIn s old new first n h = (h' : Holding) × IsMidway (shelf_of s) (vec_capacity s.slots) old new first n h h'
+IsMidwayIn s old new first n h = (h' : Holding) × IsMidway s old new first n h h'
 
-module _ (v : Shelf) (capacity : ℕ) (old new : Sides) (first n : ℕ) (p : Growth) (h : Holding) (w : IsGrowable v capacity old new first n p h) where
+module _ {A : Type 0} {v : Store A} {old new : Sides} {first n : ℕ} {p : Growth} {h : Holding} (w : IsGrowable v old new first n p h) where
   abbrev axis : Axis
   axis = h.sequence.axis
 
-  need_parts : n ≡ along_need v (last_slot h.tree) old new axis + across_need old new axis
-  need_parts = omega (arith, w.need, need-is v old new h w.tree.holds w.tree.spans.some w.busy)
+  need_parts : n ≡ along_need (shelf_of v) (last_slot h.tree) old new axis + across_need old new axis
+  need_parts = omega (arith, w.need, need-is (shelf_of v) old new h w.tree.holds w.tree.spans.some w.busy)
 
   -- the tree grows along its axis
   module _ (longer : side axis old < side axis new) where
     ends : last_slot h.tree ≡ p.last.number
     ends = w.growth.last longer
 
-    need_longer : n ≡ across_need old new axis + strip_need v p.last.number
-    need_longer = omega (arith, need_parts, if_longer-more (side axis old) (side axis new) (strip_need v (last_slot h.tree)) longer, ap (strip_need v) ends)
+    need_longer : n ≡ across_need old new axis + strip_need (shelf_of v) p.last.number
+    need_longer = omega (arith, need_parts, if_longer-more (side axis old) (side axis new) (strip_need (shelf_of v) (last_slot h.tree)) longer, ap (strip_need (shelf_of v)) ends)
 
-    pub longer-end : IsEnd (sides_of p.middle) (side axis new - side axis old) p.last.number h
+    longer-end : IsEnd (sides_of p.middle) (side axis new - side axis old) p.last.number h
     longer-end = record {
       start = w.tree.spans.start;
       ends = ends;
@@ -168,17 +168,24 @@ module _ (v : Shelf) (capacity : ℕ) (old new : Sides) (first n : ℕ) (p : Gro
       across = w.tree.spans.across ∙ sym (middle-across old new h p w.growth);
     }
 
-    pub longer-more : 0 < side axis new - side axis old
+    longer-more : 0 < side axis new - side axis old
     longer-more = omega arith
 
-    pub longer-slots : HasSlotsFor (across_need old new axis + strip_need v p.last.number) capacity v h
-    longer-slots = subst (λ k. HasSlotsFor k capacity v h) need_longer w.slots
+    longer-slots : HasSlotsFor (across_need old new axis + strip_need (shelf_of v) p.last.number) v h
+    longer-slots = subst (λ k. HasSlotsFor k v h) need_longer w.slots
 
-    pub longer-midway : (v' : Shelf) (capacity' : ℕ)
-        → (h' : Holding) × IsLengthened v' capacity' (across_need old new axis) (side axis new - side axis old) (strip_need v p.last.number) h h'
-        → (h' : Holding) × IsMidway v' capacity' old new first n h h'
-    longer-midway v' capacity' (h', l) = (
-      h',
+    pub longer-ready : IsLengthenable v (sides_of p.middle) p.last.number (side axis new - side axis old) (across_need old new axis) h
+    longer-ready = record {
+      holds = w.tree.holds;
+      listed = w.tree.listed;
+      end = longer-end;
+      more = longer-more;
+      slots = longer-slots;
+    }
+
+    pub longer-midway : {v' : Store A} → IsLonger v v' (sides_of p.middle) p.last.number → IsMidwayIn v' old new first n h
+    longer-midway told = let got = told.kept h (side axis new - side axis old) (across_need old new axis) longer-ready in let l = got.1 in (
+      got.0,
       record {
         holds = l.holds;
         listed = l.listed;
@@ -191,9 +198,9 @@ module _ (v : Shelf) (capacity : ℕ) (old new : Sides) (first n : ℕ) (p : Gro
     )
 
   -- the tree is as long as before
-  pub same-midway : side axis old ≡ side axis new → (h' : Holding) × IsMidway v capacity old new first n h h'
+  pub same-midway : side axis old ≡ side axis new → IsMidwayIn v old new first n h
   same-midway e =
-      let none : along_need v (last_slot h.tree) old new axis ≡ 0 = if_longer-not (side axis old) (side axis new) (strip_need v (last_slot h.tree)) (omega arith) in
+      let none : along_need (shelf_of v) (last_slot h.tree) old new axis ≡ 0 = if_longer-not (side axis old) (side axis new) (strip_need (shelf_of v) (last_slot h.tree)) (omega arith) in
       let all : n ≡ across_need old new axis = omega (arith, need_parts) in (
         h,
         record {
@@ -203,12 +210,12 @@ module _ (v : Shelf) (capacity : ℕ) (old new : Sides) (first n : ℕ) (p : Gro
           sequence = refl;
           begins = w.tree.spans.begins;
           spare = omega (arith, all);
-          slots = subst (λ k. HasSlotsFor k capacity v h) all w.slots;
+          slots = subst (λ k. HasSlotsFor k v h) all w.slots;
         },
       )
 
   -- from there on
-  module _ (u : Shelf) (room : ℕ) (h1 : Holding) (m : IsMidway u room old new first n h h1) where
+  module _ {u : Store A} {h1 : Holding} (m : IsMidway u old new first n h h1) where
     total_midway : total (erase h1.tree) ≡ side axis new
     total_midway =
         ap total m.members ∙ total-lengthened_to (side axis old) (side axis new) (erase h.tree) (longer_side axis old new w.fits) w.tree.spans.along
@@ -226,7 +233,7 @@ module _ (v : Shelf) (capacity : ℕ) (old new : Sides) (first n : ℕ) (p : Gro
     grown_is = grown-other old new axis (erase h.tree) w.busy ∙ ap (widened (side (other axis) old) (side (other axis) new) axis) (sym m.members)
 
     -- it is as wide as before
-    pub midway-grown : side (other axis) old ≡ side (other axis) new → IsGrown u old new first n h h1
+    pub midway-grown : side (other axis) old ≡ side (other axis) new → IsGrown (shelf_of u) old new first n h h1
     midway-grown e = record {
       tree = record {
         holds = m.holds;
@@ -252,7 +259,7 @@ module _ (v : Shelf) (capacity : ℕ) (old new : Sides) (first n : ℕ) (p : Gro
       two : across_need old new axis ≡ 2
       two = if_longer-more (side (other axis) old) (side (other axis) new) 2 wider
 
-      pub midway-spans : IsSpanning (sides_of p.middle) first h1
+      midway-spans : IsSpanning (sides_of p.middle) first h1
       midway-spans = record {
         start = ap (λ s. s.start) m.sequence ∙ w.tree.spans.start;
         begins = m.begins;
@@ -261,20 +268,30 @@ module _ (v : Shelf) (capacity : ℕ) (old new : Sides) (first n : ℕ) (p : Gro
         across = ap (λ s. s.width) m.sequence ∙ w.tree.spans.across ∙ sym (middle-across old new h p w.growth) ∙ ap (λ s. side (other s.axis) (sides_of p.middle)) (sym m.sequence);
       }
 
-      pub midway-wider : IsWider h1.sequence.axis (sides_of p.middle) new (side (other axis) new - side (other axis) old)
+      midway-wider : IsWider h1.sequence.axis (sides_of p.middle) new (side (other axis) new - side (other axis) old)
       midway-wider =
           subst (λ s. IsWider s.axis (sides_of p.middle) new (side (other axis) new - side (other axis) old)) (sym m.sequence)
           (sym (middle-along old new h p w.growth), omega (arith, middle-across old new h p w.growth))
 
-      pub midway-more : 0 < side (other axis) new - side (other axis) old
+      midway-more : 0 < side (other axis) new - side (other axis) old
       midway-more = omega arith
 
-      pub midway-slots : HasSlotsFor 2 room u h1
-      midway-slots = subst (λ k. HasSlotsFor k room u h1) two m.slots
+      midway-slots : HasSlotsFor 2 u h1
+      midway-slots = subst (λ k. HasSlotsFor k u h1) two m.slots
 
-      pub widened-grown : (v' : Shelf) (top : ℕ) → (h' : Holding) × IsWidened v' top (side (other axis) new - side (other axis) old) h1 h'
-          → (h' : Holding) × IsGrown v' old new top n h h'
-      widened-grown v' top (h', l) =
+      pub midway-ready : IsWidenable u (sides_of p.middle) new first (side (other axis) new - side (other axis) old) h1
+      midway-ready = record {
+        nests = record { holds = m.holds; spans = midway-spans; wider = midway-wider; more = midway-more };
+        listed = m.listed;
+        slots = midway-slots;
+      }
+
+      pub widened-grown : {v' : Store A} {top : ℕ} → IsWidenedTo u v' (sides_of p.middle) new first top
+          → (h' : Holding) × IsGrown (shelf_of v') old new top n h h'
+      widened-grown told =
+          let got = told.kept h1 (side (other axis) new - side (other axis) old) midway-ready in
+          let h' = got.0 in
+          let l = got.1 in
           let width : h1.sequence.width ≡ side (other axis) old = ap (λ s. s.width) m.sequence ∙ w.tree.spans.across in
           let turned : h'.sequence.axis ≡ other axis = ap (λ s. s.axis) l.sequence ∙ ap (λ s. other s.axis) m.sequence in
           let whole : total (erase h'.tree) ≡ side (other axis) new = ap total l.members ∙ omega (arith, width, wider) in (

@@ -91,6 +91,7 @@ pub mod SlotPlans
 pub mod PlannedTrees
 pub mod PlacingSteps
 pub mod StoreTakes
+mod StoreFacts
 pub mod CuttingFromLists
 pub mod Storing
 pub mod SimpleGrants

@@ -1,5 +1,5 @@
 -- The calls of the store keep what it holds: from what the calls on nodes and on lists ensure.
-use Rattle.std.proofs.Common.{ℕ, ◌+◌, ◌<◌, ◌≤◌, ◌≡◌, ◌≢◌, List, [], ◌∷◌, refl, sym, ap, ◌∙◌, ◌++◌, arith, length, set, length-set, Bool, true, false, inl, inr, subst}
+use Rattle.std.proofs.Common.{ℕ, ◌+◌, ◌<◌, ◌≤◌, ◌≡◌, ◌≢◌, List, [], ◌∷◌, refl, sym, ap, ◌∙◌, ◌++◌, arith, length, set, length-set, Bool, true, false, ◌⊎◌, inl, inr, subst}
 use Rattle.std.proofs.lemmas.Bool.{cases_eq}
 use Rattle.guillotiere.specs.declared.slots.Slot.{Slot}
 use Rattle.guillotiere.specs.declared.slots.Link.{Link}
@@ -19,7 +19,7 @@ use Rattle.guillotiere.specs.Lists.{AreFiled, Places, Line, front, is_free}
 use Rattle.std.proofs.lemmas.List.{length-map, length_push}
 use Rattle.guillotiere.specs.Links.{with_mark, with_count, rest_of, given_back, IsExact, IsTaken}
 use Rattle.guillotiere.specs.Stored.{Shelf, Holding, Holds, HoldsWith, places_of}
-use Rattle.guillotiere.specs.Holdings.{node_in, IsLow, IsLooseLeaf, IsReadyWith, HasSlotsFor, after_take, after_grant, after_mark, after_join, after_lift, after_split, after_wrap}
+use Rattle.guillotiere.specs.Holdings.{node_in, IsLow, IsLooseLeaf, IsReadyWith, after_take, after_grant, after_mark, after_join, after_lift, after_split, after_wrap}
 use Rattle.guillotiere.proofs.Filing.{AreFiled-sharpened, with_mark-same, with_mark-other, with_count-same, with_count-other}
 use Rattle.guillotiere.proofs.Taking.{AreFiled-moved, AreFiled-nodes, IsMoved}
 use Rattle.guillotiere.proofs.NumberedCuts.{IsRecut, recut-marked, recut-granted, recut-joined, recut-lifted, recut-split, recut-wrapped}
@@ -344,7 +344,12 @@ taken-holds v new unused at h hand short others taken holds =
     (stands-taken (nodes v.slots) (nodes new) at h.sequence h.tree taken.was_unused taken.is_unused others holds.stands)
     taken.filed (refl, λ _ c. c)
 
-length-rings : (slots : List Slot) → length (rings slots) ≡ length slots
+-- a list of slots begins at a slot
+pub some-front : (xs : List ℕ) (rs : List Ring) → length rs ≤ 16777216 → Line rs xs → front xs ≡ no_slot → 1 ≤ length xs → ⊥
+some-front [] rs short line e h = omega arith
+some-front (x ∷ xs) rs short line e h = omega (arith, line.0, e)
+
+pub length-rings : (slots : List Slot) → length (rings slots) ≡ length slots
 length-rings slots = simp length-map
 
 pub length-nodes : (slots : List Slot) → length (nodes slots) ≡ length slots
@@ -352,7 +357,8 @@ length-nodes slots = simp length-map
 
 -- there are not too many slots once one is taken for which there was room
 pub taken-short : (v : Shelf) (new : List Slot) (capacity i : ℕ) (n : Node) (slot : Slot) (h : Holding) (hand : ℕ → ℕ)
-    → HoldsWith hand v h → HasSlotsFor 1 capacity v h
+    → HoldsWith hand v h
+    → (1 ≤ length h.spare) ⊎ ((length v.slots + 1 ≤ length h.spare + capacity) × (length v.slots + 1 ≤ length h.spare + 16777216))
     → ((v.unused.number ≡ no_slot → ⊥) → nodes new ≡ set (nodes v.slots) i n)
     → (v.unused.number ≡ no_slot → new ≡ v.slots ++ slot ∷ [])
     → length new ≤ 16777216
@@ -371,10 +377,6 @@ taken-short v new capacity i n slot h hand holds room again fresh =
           let same : length (nodes new) ≡ length (nodes v.slots) = ap (λ s. length s) (again ne) ∙ length-set (nodes v.slots) i n in
           omega (arith, same, length-nodes new, length-nodes v.slots, holds.short)
     ]
-  where
-    some-front : (xs : List ℕ) (rs : List Ring) → length rs ≤ 16777216 → Line rs xs → front xs ≡ no_slot → 1 ≤ length xs → ⊥
-    some-front [] rs short line e h = omega arith
-    some-front (x ∷ xs) rs short line e h = omega (arith, line.0, e)
 
 -- a free leaf and an unused slot are two
 pub apart-kinds : (ns : List Node) (i j : ℕ) → (node_at ns i).kind ≡ kind.Free → (node_at ns j).kind ≡ kind.Unused → i ≢ j

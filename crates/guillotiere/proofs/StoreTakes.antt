@@ -1,10 +1,10 @@
 -- A slot is taken and put to use at once.
-use Rattle.std.proofs.Common.{ℕ, ◌-◌, [], ◌∷◌, ◌≡◌, ◌≢◌, List, refl, sym, ◌∙◌, arith, length, true, inl, inr, subst, vec_capacity, false}
+use Rattle.std.proofs.Common.{ℕ, ◌-◌, [], ◌∷◌, ◌≡◌, ◌≢◌, List, refl, sym, ◌∙◌, arith, length, true, inl, inr, subst, false}
 use Rattle.guillotiere.specs.declared.store.Store.{Store}
 use Rattle.guillotiere.specs.declared.slots.NodeKind.TheVariants as kind
 use Rattle.guillotiere.specs.Links.{with_count, with_mark, rest_of}
 use Rattle.guillotiere.specs.Stored.{Shelf, Holding, HoldsWith}
-use Rattle.guillotiere.specs.Holdings.{shelf_of, node_in, HasSlotsFor, IsReadyWith, KeepsRoom, after_take, after_wrap}
+use Rattle.guillotiere.specs.Holdings.{node_in, HasSlotsFor, IsReadyWith, KeepsRoom, after_take, after_wrap}
 use Rattle.guillotiere.proofs.Filing.{with_count-same, with_count-other, with_mark-same, with_mark-other}
 use Rattle.std.proofs.lemmas.Bool.{cases_eq}
 use Rattle.guillotiere.proofs.StoreSteps.{holds-hand, hand-back, apart-kinds}
@@ -21,7 +21,7 @@ used-taken v fresh hand h none holds = holds-hand (with_count (with_count hand f
 
 -- as many slots can be taken as before
 pub slots-kept : {A : Type 0} (old new : Store A) (n : ℕ) (h : Holding) → KeepsRoom old new
-    → HasSlotsFor n (vec_capacity old.slots) (shelf_of old) h → HasSlotsFor n (vec_capacity new.slots) (shelf_of new) h
+    → HasSlotsFor n old h → HasSlotsFor n new h
 slots-kept old new n h r slots =
     elim slots [
       | inl s ↦ inl s

@@ -1,5 +1,6 @@
 -- The free slot that a request takes, and what is granted there. No public clause cites this module.
 use Rattle.std.specs.Prelude.{ℕ, ◌+◌, ◌<◌, ◌≤◌, ◌≡◌, ◌≢◌, List, []}
+use Rattle.guillotiere.specs.declared.store.Store.{Store}
 use Rattle.guillotiere.specs.declared.requests.Chosen.{Chosen}
 use Rattle.guillotiere.specs.declared.slots.NodeKind.TheVariants as kind
 use Rattle.guillotiere.specs.declared.error.AtlasError.{AtlasError}
@@ -14,7 +15,7 @@ use Rattle.guillotiere.specs.Bands.{list_of, number_of}
 use Rattle.guillotiere.specs.Lists.{node_sides, node_strip}
 use Rattle.guillotiere.specs.Picks.{AreFreeBoxes, IsFreeSlot}
 use Rattle.guillotiere.specs.Stored.{Shelf, Holding, Holds, IsLooseOnly}
-use Rattle.guillotiere.specs.Holdings.{node_in, across_of, HasSlotsFor}
+use Rattle.guillotiere.specs.Holdings.{shelf_of, node_in, across_of, HasSlotsFor}
 use Rattle.guillotiere.specs.Planning.{IsPlanFor, IsFeasible, IsPlanned, slots_of}
 
 -- the slots stand for a tree that begins at 0, and each free slot stands in its list
@@ -38,15 +39,26 @@ pub record IsChosen (v : Shelf) (r : Sides) (p : Chosen) : Type 0 where
   pub feasible : IsFeasible p.plan (extent_of (node_in v p.at.number)) (across_of (node_in v p.at.number))
 
 -- there are slots for the plan
-pub record IsGrantable (v : Shelf) (capacity : ℕ) (r : Sides) (p : Chosen) (h : Holding) : Type 0 where
-  pub rest : IsAtRest v h
-  pub chosen : IsChosen v r p
-  pub slots : HasSlotsFor (slots_of p.plan) capacity v h
+pub record IsGrantable {A : Type 0} (s : Store A) (r : Sides) (p : Chosen) (h : Holding) : Type 0 where
+  pub rest : IsAtRest (shelf_of s) h
+  pub chosen : IsChosen (shelf_of s) r p
+  pub slots : HasSlotsFor (slots_of p.plan) s h
 
 -- the plan is carried out, and slot `to` is granted under this id
 pub record IsGrantMade (new : Shelf) (p : Chosen) (id to : ℕ) (h h' : Holding) : Type 0 where
   pub planned : IsPlanned new p.at.number to p.plan h h'
   pub names : id ≡ id_of to (node_in new to).generation
+
+-- a chosen slot can be granted
+abbrev pub CanGrant : {A : Type 0} → Store A → Chosen → Type 0
+CanGrant s p = (r : Sides) × (h : Holding) × IsGrantable s r p h
+
+-- it is granted under this id
+pub record IsRequestGranted {A : Type 0} (old new : Store A) (p : Chosen) (id : ℕ) : Type 0 where
+  pub granted : (r : Sides) (h : Holding) → IsGrantable old r p h
+      → (to : ℕ) × (h' : Holding) × IsGrantMade (shelf_of new) p id to h h'
+  pub options : new.options ≡ old.options
+  pub turns : new.turns ≡ old.turns
 
 -- why slots were refused
 abbrev pub IsShortOf : (used limit needed kept : ℕ) → AtlasError → Type 0

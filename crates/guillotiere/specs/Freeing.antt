@@ -1,5 +1,6 @@
 -- The state of a freeing between two turns, and what a turn does. No public clause cites this module.
 use Rattle.std.specs.Prelude.{ℕ, ◌≡◌, ◌+◌, [], ◌∷◌}
+use Rattle.guillotiere.specs.declared.store.Store.{Store}
 use Rattle.guillotiere.specs.declared.slots.NodeKind.TheVariants as kind
 use Rattle.guillotiere.specs.Trees.{IsNormal}
 use Rattle.guillotiere.specs.Changes.{nf, mark, only}
@@ -7,7 +8,7 @@ use Rattle.guillotiere.specs.Calm.{IsCalmBut, NoneEmpty}
 use Rattle.guillotiere.specs.Slots.{nodes}
 use Rattle.guillotiere.specs.Numbered.{erase, first_slot, numbers, id_of}
 use Rattle.guillotiere.specs.Stored.{Shelf, Holding, Holds, IsLooseOnly}
-use Rattle.guillotiere.specs.Holdings.{IsLooseLeaf, node_in}
+use Rattle.guillotiere.specs.Holdings.{shelf_of, IsLooseLeaf, node_in}
 
 -- slot `at` is a free leaf in no list, and apart from it the slots are calm
 pub record IsSettlingAt (v : Shelf) (at : ℕ) (h : Holding) : Type 0 where
@@ -22,6 +23,18 @@ pub record IsTurned (h less : Holding) : Type 0 where
   pub fewer : numbers less.tree + 1 ≡ numbers h.tree
   pub sequence : less.sequence ≡ h.sequence
   pub first : first_slot less.tree ≡ first_slot h.tree
+
+-- one turn went from slot `at` to the next one
+pub record IsTurnTo {A : Type 0} (old new : Store A) (at next : ℕ) : Type 0 where
+  pub turned : (h : Holding) → IsSettlingAt (shelf_of old) at h
+      → (less : Holding) × IsSettlingAt (shelf_of new) next less × IsTurned h less
+  pub counted : new.turns.count ≡ old.turns.count + 1
+
+-- there was nothing to do at slot `at`, and nothing was done
+pub record IsSettled {A : Type 0} (old new : Store A) (at : ℕ) : Type 0 where
+  pub normal : (h : Holding) → IsSettlingAt (shelf_of old) at h → IsNormal (erase h.tree)
+  pub same : shelf_of new ≡ shelf_of old
+  pub uncounted : new.turns ≡ old.turns
 
 -- slot `at` is granted in a normal tree, and each free slot stands in its list
 pub record IsFreeable (v : Shelf) (at : ℕ) (h : Holding) : Type 0 where

@@ -31,10 +31,11 @@ abbrev pub with_spare : List ℕ → Holding → Holding
 with_spare spare h = record h { spare = spare }
 
 -- n slots can be taken without memory: as many are unused, or there is room for the others
-abbrev pub HasSlotsFor : (n capacity : ℕ) → Shelf → Holding → Type 0
-HasSlotsFor n capacity v h =
+abbrev pub HasSlotsFor : {A : Type 0} → (n : ℕ) → Store A → Holding → Type 0
+HasSlotsFor n s h =
     (n ≤ length h.spare)
-    ⊎ ((length v.slots + n ≤ length h.spare + capacity) × (length v.slots + n ≤ length h.spare + most_slots))
+    ⊎ ((length s.slots.items + n ≤ length h.spare + vec_capacity s.slots)
+    × (length s.slots.items + n ≤ length h.spare + most_slots))
 
 -- the node at slot i
 abbrev pub node_in : Shelf → ℕ → Node

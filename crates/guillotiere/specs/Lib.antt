@@ -54,6 +54,8 @@ pub mod Generations
 pub mod Batches
 pub mod Chosen
 pub mod Growing
+pub mod StoreCalls
+pub mod TopCalls
 pub mod Growths
 pub mod Rearranging
 pub mod Refitted

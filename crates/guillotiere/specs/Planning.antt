@@ -1,6 +1,7 @@
 -- Which slots a placing takes and what the tree becomes, by the lines of the cut table. No public clause cites this
 -- module.
 use Rattle.std.specs.Prelude.{ℕ, ◌≡◌, ◌-◌, ◌<◌, ◌∷◌, [], length}
+use Rattle.guillotiere.specs.declared.store.Store.{Store}
 use Rattle.guillotiere.specs.declared.tree.Plan.{Plan}
 use Rattle.guillotiere.specs.declared.tree.Plan.TheVariants as plan
 use Rattle.guillotiere.specs.declared.slots.Node.{Node}
@@ -12,7 +13,7 @@ use Rattle.guillotiere.specs.declared.slots.NodeKind.TheVariants as kind
 use Rattle.guillotiere.specs.Slots.{axis_of}
 use Rattle.guillotiere.specs.Reading.{extent_of}
 use Rattle.guillotiere.specs.Stored.{Shelf, Holding, Holds, IsLooseOnly}
-use Rattle.guillotiere.specs.Holdings.{IsLooseLeaf, HasSlotsFor, node_in, across_of}
+use Rattle.guillotiere.specs.Holdings.{shelf_of, IsLooseLeaf, HasSlotsFor, node_in, across_of}
 use Rattle.guillotiere.specs.Numbered.{Numbered, granted_at, split_at, wrapped_at}
 
 -- how many slots a plan takes
@@ -65,11 +66,14 @@ IsPlannedTree (plan.CornerAcross p q) at width granted g old new =
     (split_at c s (natural q) (wrapped_at at c width old)))))
 
 -- slot `at` is a loose leaf, the only one, for which the plan is feasible, and there are slots for it
-pub record IsPlaceableAt (v : Shelf) (capacity at : ℕ) (p : Plan) (h : Holding) : Type 0 where
-  pub leaf : IsLooseLeaf v at h
+pub record IsPlaceableAt {A : Type 0} (s : Store A) (at : ℕ) (p : Plan) (h : Holding) : Type 0 where
+  pub leaf : IsLooseLeaf (shelf_of s) at h
   pub only : IsLooseOnly (at ∷ []) h
-  pub feasible : IsFeasible p (extent_of (node_in v at)) (across_of (node_in v at))
-  pub slots : HasSlotsFor (slots_of p) capacity v h
+  pub feasible : IsFeasible p (extent_of (node_in (shelf_of s) at)) (across_of (node_in (shelf_of s) at))
+  pub slots : HasSlotsFor (slots_of p) s h
+
+abbrev pub IsPlaceable : {A : Type 0} → Store A → (at : ℕ) → Plan → Type 0
+IsPlaceable s at p = (h : Holding) × IsPlaceableAt s at p h
 
 -- slot `to` is granted by a plan in place of the leaf of slot `at`, and each free slot stands in its list
 pub record IsPlanned (new : Shelf) (at to : ℕ) (p : Plan) (h h' : Holding) : Type 0 where
@@ -80,3 +84,9 @@ pub record IsPlanned (new : Shelf) (at to : ℕ) (p : Plan) (h h' : Holding) : T
   pub granted : (node_in new to).kind ≡ kind.Alloc
   -- the slots come from the unused ones as long as there are any
   pub spare : length h'.spare ≡ length h.spare - slots_of p
+
+-- a plan was carried out in the loose leaf of slot `at`, and slot `to` is granted
+pub record IsPlaced {A : Type 0} (old new : Store A) (at to : ℕ) (p : Plan) : Type 0 where
+  pub kept : (h : Holding) → IsPlaceableAt old at p h → (h' : Holding) × IsPlanned (shelf_of new) at to p h h'
+  pub options : new.options ≡ old.options
+  pub turns : new.turns ≡ old.turns

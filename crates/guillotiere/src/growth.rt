@@ -1,14 +1,14 @@
 //! Growing the tree of an atlas, by the calls of `store` and `extend`.
-ghost use Rattle.std.specs.Prelude.{◌≡◌, ◌<◌, ◌+◌, ℕ, [], false, vec_capacity};
+ghost use Rattle.std.specs.Prelude.{◌≡◌, ◌<◌, ℕ, false};
 ghost use Rattle.guillotiere.specs.Boxes.{IsPositive, Fits, Sides};
 ghost use Rattle.guillotiere.specs.Pixels.{sides_of, size_of};
 ghost use Rattle.guillotiere.specs.Trees.{is_one_free};
 ghost use Rattle.guillotiere.specs.Numbered.{erase};
 ghost use Rattle.guillotiere.specs.Slots.{axis_of};
-ghost use Rattle.guillotiere.specs.Stored.{Holding, Holds, IsLooseOnly};
-ghost use Rattle.guillotiere.specs.Holdings.{shelf_of, HasSlotsFor, KeepsRoom};
-ghost use Rattle.guillotiere.specs.Growing.{IsEnd, IsLone, IsSpanning, IsWider, last_slot};
-ghost use Rattle.guillotiere.specs.Growths.{IsTreeOf, IsGrowthOf, IsGrowable, IsGrown, IsLengthened, IsNeedOf, IsWidened, middle_of, strip_need};
+ghost use Rattle.guillotiere.specs.Stored.{Holding};
+ghost use Rattle.guillotiere.specs.Holdings.{shelf_of};
+ghost use Rattle.guillotiere.specs.Growing.{last_slot};
+ghost use Rattle.guillotiere.specs.Growths.{CanGrow, IsTreeOf, IsGrowthOf, IsLengthenable, IsLonger, IsNeedOf, IsOneBox, IsBoxGrown, IsTreeGrown, IsWidenable, IsWidenedTo, middle_of};
 
 use crate::cut::Orientation;
 use crate::geometry::{Size, size2};
@@ -58,7 +58,8 @@ pub fn growth_for<A: Allocator>(store: &Store<A>, first: Link, from: Size, to: S
     requires tree { (h : Holding) × IsTreeOf (shelf_of store.now) (sides_of from) first.number h }
     requires from { from ≡ size_of (sides_of from) }
     requires to { to ≡ size_of (sides_of to) }
-    ensures { (h : Holding) → IsTreeOf (shelf_of store.now) (sides_of from) first.number h → IsGrowthOf (sides_of from) (sides_of to) h result }
+    ensures { (h : Holding) → IsTreeOf (shelf_of store.now) (sides_of from) first.number h
+        → IsGrowthOf (sides_of from) (sides_of to) h result }
 {
     let middle = grown_along(from, to, store.node(first).axis);
     let last = if middle == from {
@@ -76,9 +77,11 @@ pub fn growth_for<A: Allocator>(store: &Store<A>, first: Link, from: Size, to: S
 
 /// How many slots a growth takes.
 pub fn slots_for<A: Allocator>(store: &Store<A>, growth: Growth) -> u32
-    requires tree { (h : Holding) × (first : ℕ) × IsTreeOf (shelf_of store.now) (sides_of growth.from) first h × IsGrowthOf (sides_of growth.from) (sides_of growth.to) h growth }
+    requires tree { (h : Holding) × (first : ℕ) × IsTreeOf (shelf_of store.now) (sides_of growth.from) first h
+        × IsGrowthOf (sides_of growth.from) (sides_of growth.to) h growth }
     requires fits { Fits (sides_of growth.from) (sides_of growth.to) }
-    ensures need { (h : Holding) (first : ℕ) → IsTreeOf (shelf_of store.now) (sides_of growth.from) first h → IsGrowthOf (sides_of growth.from) (sides_of growth.to) h growth
+    ensures need { (h : Holding) (first : ℕ) → IsTreeOf (shelf_of store.now) (sides_of growth.from) first h
+        → IsGrowthOf (sides_of growth.from) (sides_of growth.to) h growth
         → is_one_free (erase h.tree) ≡ false → IsNeedOf (sides_of growth.from) (sides_of growth.to) h result }
     ensures few { result < 4 }
 {
@@ -91,14 +94,9 @@ pub fn slots_for<A: Allocator>(store: &Store<A>, growth: Growth) -> u32
 // The top sequence, whose last member this is, grows to a size that is d longer: a free last member is enlarged, and
 // else a free strip is appended.
 fn lengthen<A: Allocator>(store: &mut Store<A>, last: Link, size: Size)
-    requires ready { (h : Holding) × (d : ℕ) × Holds (shelf_of store.old) h × IsLooseOnly [] h × IsEnd (sides_of size) d last.number h × (0 < d)
-        × HasSlotsFor (strip_need (shelf_of store.old) last.number) (vec_capacity store.old.slots) (shelf_of store.old) h }
+    requires ready { (h : Holding) × (d : ℕ) × (n : ℕ) × IsLengthenable store.old (sides_of size) last.number d n h }
     requires exact { size ≡ size_of (sides_of size) }
-    ensures kept { (h : Holding) (d : ℕ) (n : ℕ) → Holds (shelf_of store.old) h → IsLooseOnly [] h → IsEnd (sides_of size) d last.number h → 0 < d
-        → HasSlotsFor (n + strip_need (shelf_of store.old) last.number) (vec_capacity store.old.slots) (shelf_of store.old) h
-        → (h' : Holding) × IsLengthened (shelf_of store.new) (vec_capacity store.new.slots) n d (strip_need (shelf_of store.old) last.number) h h' }
-    ensures options { store.new.options ≡ store.old.options }
-    ensures turns { store.new.turns ≡ store.old.turns }
+    ensures { IsLonger store.old store.new (sides_of size) last.number }
 {
     if store.is_free(last) {
         store.unlist(last);
@@ -113,15 +111,10 @@ fn lengthen<A: Allocator>(store: &mut Store<A>, last: Link, size: Size)
 // The top sequence, which spans `inner`, becomes the first of two members, and a free strip the second: together they
 // span `size`. The answer is the slot of the first.
 fn widen<A: Allocator>(store: &mut Store<A>, first: Link, inner: Size, size: Size) -> Link
-    requires ready { (h : Holding) × (d : ℕ) × Holds (shelf_of store.old) h × IsLooseOnly [] h × IsSpanning (sides_of inner) first.number h
-        × IsWider h.sequence.axis (sides_of inner) (sides_of size) d × (0 < d) × HasSlotsFor 2 (vec_capacity store.old.slots) (shelf_of store.old) h }
+    requires ready { (h : Holding) × (d : ℕ) × IsWidenable store.old (sides_of inner) (sides_of size) first.number d h }
     requires inner { inner ≡ size_of (sides_of inner) }
     requires exact { size ≡ size_of (sides_of size) }
-    ensures kept { (h : Holding) (d : ℕ) → Holds (shelf_of store.old) h → IsLooseOnly [] h → IsSpanning (sides_of inner) first.number h
-        → IsWider h.sequence.axis (sides_of inner) (sides_of size) d → 0 < d → HasSlotsFor 2 (vec_capacity store.old.slots) (shelf_of store.old) h
-        → (h' : Holding) × IsWidened (shelf_of store.new) result.number d h h' }
-    ensures options { store.new.options ≡ store.old.options }
-    ensures turns { store.new.turns ≡ store.old.turns }
+    ensures { IsWidenedTo store.old store.new (sides_of inner) (sides_of size) first.number result.number }
 {
     let (top, strip) = store.nest(first, inner, size);
     store.list(strip);
@@ -131,11 +124,8 @@ fn widen<A: Allocator>(store: &mut Store<A>, first: Link, inner: Size, size: Siz
 /// Carries out a growth of the tree that begins at `first`, for which there are slots. The answer is the slot at which
 /// the tree begins then. One pass along the top sequence where that is put into a new one.
 pub fn grow_tree<A: Allocator>(store: &mut Store<A>, first: Link, growth: Growth) -> Link
-    requires { (h : Holding) × (n : ℕ) × IsGrowable (shelf_of store.old) (vec_capacity store.old.slots) (sides_of growth.from) (sides_of growth.to) first.number n growth h }
-    ensures grown { (h : Holding) (n : ℕ) → IsGrowable (shelf_of store.old) (vec_capacity store.old.slots) (sides_of growth.from) (sides_of growth.to) first.number n growth h
-        → (h' : Holding) × IsGrown (shelf_of store.new) (sides_of growth.from) (sides_of growth.to) result.number n h h' }
-    ensures options { store.new.options ≡ store.old.options }
-    ensures turns { store.new.turns ≡ store.old.turns }
+    requires { CanGrow store.old first.number growth }
+    ensures { IsTreeGrown store.old store.new first.number result.number growth }
 {
     if growth.middle != growth.from {
         lengthen(store, growth.last, growth.middle);
@@ -148,13 +138,10 @@ pub fn grow_tree<A: Allocator>(store: &mut Store<A>, first: Link, growth: Growth
 
 /// Enlarges the one free box of an atlas that has no other. Takes no slots.
 pub fn grow_whole<A: Allocator>(store: &mut Store<A>, at: Link, size: Size)
-    requires tree { (h : Holding) × (old : Sides) × IsTreeOf (shelf_of store.old) old at.number h × IsLone at.number h }
+    requires tree { IsOneBox store.old at.number }
     requires positive { IsPositive (sides_of size) }
     requires exact { size ≡ size_of (sides_of size) }
-    ensures grown { (h : Holding) (old : Sides) → IsTreeOf (shelf_of store.old) old at.number h → IsLone at.number h
-        → (h' : Holding) × IsGrown (shelf_of store.new) old (sides_of size) at.number 0 h h' }
-    ensures room { KeepsRoom store.old store.new }
-    ensures turns { store.new.turns ≡ store.old.turns }
+    ensures { IsBoxGrown store.old store.new (sides_of size) at.number }
 {
     store.unlist(at);
     store.stretch_whole(at, size);

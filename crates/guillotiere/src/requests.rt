@@ -8,7 +8,7 @@ ghost use Rattle.guillotiere.specs.Trees.{most_slots};
 ghost use Rattle.guillotiere.specs.Picks.{AreFreeBoxes};
 ghost use Rattle.guillotiere.specs.Stored.{Holding};
 ghost use Rattle.guillotiere.specs.Holdings.{shelf_of};
-ghost use Rattle.guillotiere.specs.Chosen.{IsAtRest, IsChosen, IsGrantable, IsGrantMade, IsShortOf};
+ghost use Rattle.guillotiere.specs.Chosen.{CanGrant, IsAtRest, IsChosen, IsRequestGranted, IsShortOf};
 
 use crate::allocation::AllocId;
 use crate::bands::Place;
@@ -79,11 +79,8 @@ pub fn make_room<A: Allocator>(
 
 /// Places a request in the slot that it takes. The answer is its id.
 pub fn grant<A: Allocator>(store: &mut Store<A>, chosen: Chosen) -> AllocId
-    requires { (r : Sides) × (h : Holding) × IsGrantable (shelf_of store.old) (vec_capacity store.old.slots) r chosen h }
-    ensures granted { (r : Sides) (h : Holding) → IsGrantable (shelf_of store.old) (vec_capacity store.old.slots) r chosen h
-        → (to : ℕ) × (h' : Holding) × IsGrantMade (shelf_of store.new) chosen result to h h' }
-    ensures options { store.new.options ≡ store.old.options }
-    ensures turns { store.new.turns ≡ store.old.turns }
+    requires { CanGrant store.old chosen }
+    ensures { IsRequestGranted store.old store.new chosen result }
 {
     store.unlist(chosen.at);
     store.sharpen(chosen.place, chosen.low);

@@ -1,18 +1,16 @@
 //! Placing a request in the tree of slots, and freeing it, by the calls of `store`.
-ghost use Rattle.std.specs.Prelude.{◌≡◌, ◌+◌, ◌<◌, ◌≤◌, IfSome, None, true, false, vec_capacity};
+ghost use Rattle.std.specs.Prelude.{◌≡◌, ◌+◌, ◌<◌, ◌≤◌, IfSome, None, true, false};
 ghost use Rattle.guillotiere.specs.declared.slots.Node.{Node};
 ghost use Rattle.guillotiere.specs.Boxes.{IsPositive, Fits, box_sides, side, other};
 ghost use Rattle.guillotiere.specs.Cuts.{cut, cut_axis};
 ghost use Rattle.guillotiere.specs.Cuts.Cut.{Whole, Strip, Corner};
 ghost use Rattle.guillotiere.specs.Slots.{axis_of};
 ghost use Rattle.guillotiere.specs.Pixels.{box_of, rectangle_of, sides_of, natural};
-ghost use Rattle.guillotiere.specs.Trees.{IsNormal};
-ghost use Rattle.guillotiere.specs.Numbered.{erase};
 ghost use Rattle.guillotiere.specs.Reading.{extent_of};
 ghost use Rattle.guillotiere.specs.Stored.{Holding};
 ghost use Rattle.guillotiere.specs.Holdings.{shelf_of, across_of, KeepsRoom};
-ghost use Rattle.guillotiere.specs.Freeing.{IsSettlingAt, IsTurned, IsFreeable, IsFreed};
-ghost use Rattle.guillotiere.specs.Planning.{slots_of, IsPlanFor, IsFeasible, IsPlaceableAt, IsPlanned};
+ghost use Rattle.guillotiere.specs.Freeing.{IsSettlingAt, IsTurnTo, IsSettled, IsFreeable, IsFreed};
+ghost use Rattle.guillotiere.specs.Planning.{slots_of, IsPlanFor, IsFeasible, IsPlaceable, IsPlaced};
 
 use crate::cut::{Orientation, orientation_of};
 use crate::geometry::Size;
@@ -119,11 +117,8 @@ pub fn plan_for(leaf: &Node, size: Size) -> Plan
 
 /// Carries out a plan in the loose leaf of a slot, for which there are slots. The answer is the slot that is granted.
 pub fn place<A: Allocator>(store: &mut Store<A>, at: Link, plan: Plan) -> Link
-    requires { (h : Holding) × IsPlaceableAt (shelf_of store.old) (vec_capacity store.old.slots) at.number plan h }
-    ensures kept { (h : Holding) → IsPlaceableAt (shelf_of store.old) (vec_capacity store.old.slots) at.number plan h
-        → (h' : Holding) × IsPlanned (shelf_of store.new) at.number result.number plan h h' }
-    ensures options { store.new.options ≡ store.old.options }
-    ensures turns { store.new.turns ≡ store.old.turns }
+    requires { IsPlaceable store.old at.number plan }
+    ensures { IsPlaced store.old store.new at.number result.number plan }
 {
     match plan {
         Plan::Whole => {
@@ -138,11 +133,8 @@ pub fn place<A: Allocator>(store: &mut Store<A>, at: Link, plan: Plan) -> Link
 }
 
 fn strip_along<A: Allocator>(store: &mut Store<A>, at: Link, along: i32) -> Link
-    requires { (h : Holding) × IsPlaceableAt (shelf_of store.old) (vec_capacity store.old.slots) at.number (Plan.StripAlong along) h }
-    ensures kept { (h : Holding) → IsPlaceableAt (shelf_of store.old) (vec_capacity store.old.slots) at.number (Plan.StripAlong along) h
-        → (h' : Holding) × IsPlanned (shelf_of store.new) at.number result.number (Plan.StripAlong along) h h' }
-    ensures options { store.new.options ≡ store.old.options }
-    ensures turns { store.new.turns ≡ store.old.turns }
+    requires { IsPlaceable store.old at.number (Plan.StripAlong along) }
+    ensures { IsPlaced store.old store.new at.number result.number (Plan.StripAlong along) }
 {
     let split = store.split(at, along);
     store.grant(at);
@@ -151,11 +143,8 @@ fn strip_along<A: Allocator>(store: &mut Store<A>, at: Link, along: i32) -> Link
 }
 
 fn corner_along<A: Allocator>(store: &mut Store<A>, at: Link, along: i32, across: i32) -> Link
-    requires { (h : Holding) × IsPlaceableAt (shelf_of store.old) (vec_capacity store.old.slots) at.number (Plan.CornerAlong along across) h }
-    ensures kept { (h : Holding) → IsPlaceableAt (shelf_of store.old) (vec_capacity store.old.slots) at.number (Plan.CornerAlong along across) h
-        → (h' : Holding) × IsPlanned (shelf_of store.new) at.number result.number (Plan.CornerAlong along across) h h' }
-    ensures options { store.new.options ≡ store.old.options }
-    ensures turns { store.new.turns ≡ store.old.turns }
+    requires { IsPlaceable store.old at.number (Plan.CornerAlong along across) }
+    ensures { IsPlaced store.old store.new at.number result.number (Plan.CornerAlong along across) }
 {
     let split = store.split(at, along);
     let granted = store.wrap(at);
@@ -167,11 +156,8 @@ fn corner_along<A: Allocator>(store: &mut Store<A>, at: Link, along: i32, across
 }
 
 fn strip_across<A: Allocator>(store: &mut Store<A>, at: Link, across: i32) -> Link
-    requires { (h : Holding) × IsPlaceableAt (shelf_of store.old) (vec_capacity store.old.slots) at.number (Plan.StripAcross across) h }
-    ensures kept { (h : Holding) → IsPlaceableAt (shelf_of store.old) (vec_capacity store.old.slots) at.number (Plan.StripAcross across) h
-        → (h' : Holding) × IsPlanned (shelf_of store.new) at.number result.number (Plan.StripAcross across) h h' }
-    ensures options { store.new.options ≡ store.old.options }
-    ensures turns { store.new.turns ≡ store.old.turns }
+    requires { IsPlaceable store.old at.number (Plan.StripAcross across) }
+    ensures { IsPlaced store.old store.new at.number result.number (Plan.StripAcross across) }
 {
     let (granted, split) = store.wrap_two(at, across);
     store.grant(granted);
@@ -180,11 +166,8 @@ fn strip_across<A: Allocator>(store: &mut Store<A>, at: Link, across: i32) -> Li
 }
 
 fn corner_across<A: Allocator>(store: &mut Store<A>, at: Link, along: i32, across: i32) -> Link
-    requires { (h : Holding) × IsPlaceableAt (shelf_of store.old) (vec_capacity store.old.slots) at.number (Plan.CornerAcross along across) h }
-    ensures kept { (h : Holding) → IsPlaceableAt (shelf_of store.old) (vec_capacity store.old.slots) at.number (Plan.CornerAcross along across) h
-        → (h' : Holding) × IsPlanned (shelf_of store.new) at.number result.number (Plan.CornerAcross along across) h h' }
-    ensures options { store.new.options ≡ store.old.options }
-    ensures turns { store.new.turns ≡ store.old.turns }
+    requires { IsPlaceable store.old at.number (Plan.CornerAcross along across) }
+    ensures { IsPlaced store.old store.new at.number result.number (Plan.CornerAcross along across) }
 {
     let (container, split) = store.wrap_two(at, across);
     let granted = store.wrap(container);
@@ -199,12 +182,8 @@ fn corner_across<A: Allocator>(store: &mut Store<A>, at: Link, along: i32, acros
 /// place of the container that it is alone in. The answer is the slot to go on with, or none where all is settled.
 fn turn<A: Allocator>(store: &mut Store<A>, at: Link) -> Option<Link>
     requires { (h : Holding) × IsSettlingAt (shelf_of store.old) at.number h }
-    ensures turned { IfSome result (λ next. (h : Holding) → IsSettlingAt (shelf_of store.old) at.number h
-        → (less : Holding) × IsSettlingAt (shelf_of store.new) next.number less × IsTurned h less) }
-    ensures counted { IfSome result (λ _. store.new.turns.count ≡ store.old.turns.count + 1) }
-    ensures settled { result ≡ None → (h : Holding) → IsSettlingAt (shelf_of store.old) at.number h → IsNormal (erase h.tree) }
-    ensures same { result ≡ None → shelf_of store.new ≡ shelf_of store.old }
-    ensures uncounted { result ≡ None → store.new.turns ≡ store.old.turns }
+    ensures turned { IfSome result (λ next. IsTurnTo store.old store.new at.number next.number) }
+    ensures settled { result ≡ None → IsSettled store.old store.new at.number }
     ensures room { KeepsRoom store.old store.new }
 {
     let node = store.node(at);

@@ -1,59 +1,44 @@
-use Rattle.std.proofs.Common.{ap, to_z, of_z, w32}
+use Rattle.std.proofs.Common.{◌∙◌, w32}
 use Rattle.std.proofs.lemmas.Int.{to_z-of_z}
-use Rattle.std.specs.Prelude.{vec_capacity}
-use Rattle.guillotiere.specs.Pixels.{natural}
-use Rattle.guillotiere.specs.Holdings.{shelf_of}
-use Rattle.guillotiere.proofs.PlacingSteps.{IsGranted, IsListedIn, is-split_at, is-wrapped}
-use Rattle.guillotiere.proofs.PlacingChains.{corner_along-wrap, corner_along-wrap_slots, corner_along-split, corner_along-split_slots, corner_along-less, corner_along-grant, corner_along-list, corner_along-list_last, corner_along-planned}
+use Rattle.guillotiere.proofs.PlacingChains.{corner_along-wrap, corner_along-split, corner_along-less, corner_along-grant, corner_along-list, corner_along-list_last, corner_along-planned}
 use Rattle.guillotiere.proofs.tree.corner_along.Goals as goal
 
 pub wrap-granted-requires : goal.wrap-granted-requires
-wrap-granted-requires g c =
-    let w1 : _ = is-split_at (shelf_of c.args.store.now) (shelf_of c.split-split.new.self) (vec_capacity c.args.store.now.slots) (vec_capacity c.split-split.new.self.slots) (natural c.args.along) (natural (to_z w32 (of_z w32 c.args.along))) c.args.at c.split-split.result (ap natural (to_z-of_z w32 c.args.along c.ranges.along)) c.split-split.ensures.kept c.split-split.ensures.front c.split-split.ensures.back c.split-split.ensures.apart c.split-split.ensures.others in
-    record { ready = (_, corner_along-wrap (shelf_of c.args.store.now) (shelf_of c.split-split.new.self) (vec_capacity c.args.store.now.slots) (vec_capacity c.split-split.new.self.slots) c.args.at.number c.split-split.result.number c.args.along c.args.across w1 c.requires.0 c.requires.1, corner_along-wrap_slots (shelf_of c.args.store.now) (shelf_of c.split-split.new.self) (vec_capacity c.args.store.now.slots) (vec_capacity c.split-split.new.self.slots) c.args.at.number c.split-split.result.number c.args.along c.args.across w1 c.requires.0 c.requires.1) }
+wrap-granted-requires g c = corner_along-wrap (to_z-of_z w32 c.args.along c.ranges.along) c.split-split.ensures c.requires.1
 
 pub split-leftover-requires-clause-ready : goal.split-leftover-requires-clause-ready
 split-leftover-requires-clause-ready g c =
-    let w1 : _ = is-split_at (shelf_of c.args.store.now) (shelf_of c.split-split.new.self) (vec_capacity c.args.store.now.slots) (vec_capacity c.split-split.new.self.slots) (natural c.args.along) (natural (to_z w32 (of_z w32 c.args.along))) c.args.at c.split-split.result (ap natural (to_z-of_z w32 c.args.along c.ranges.along)) c.split-split.ensures.kept c.split-split.ensures.front c.split-split.ensures.back c.split-split.ensures.apart c.split-split.ensures.others in
-    let w2 : _ = is-wrapped (shelf_of c.split-split.new.self) (shelf_of c.wrap-granted.new.self) (vec_capacity c.split-split.new.self.slots) (vec_capacity c.wrap-granted.new.self.slots) c.args.at c.wrap-granted.result c.wrap-granted.ensures.kept c.wrap-granted.ensures.inner c.wrap-granted.ensures.apart c.wrap-granted.ensures.others in
-    (_, corner_along-split (shelf_of c.args.store.now) (shelf_of c.split-split.new.self) (vec_capacity c.args.store.now.slots) (vec_capacity c.split-split.new.self.slots) c.args.at.number c.split-split.result.number c.args.along c.args.across w1 c.requires.0 c.requires.1 (shelf_of c.wrap-granted.new.self) (vec_capacity c.wrap-granted.new.self.slots) c.wrap-granted.result.number w2, corner_along-split_slots (shelf_of c.args.store.now) (shelf_of c.split-split.new.self) (vec_capacity c.args.store.now.slots) (vec_capacity c.split-split.new.self.slots) c.args.at.number c.split-split.result.number c.args.along c.args.across w1 c.requires.0 c.requires.1 (shelf_of c.wrap-granted.new.self) (vec_capacity c.wrap-granted.new.self.slots) c.wrap-granted.result.number w2)
+    corner_along-split (to_z-of_z w32 c.args.along c.ranges.along) c.split-split.ensures c.requires.1 c.wrap-granted.ensures
 
 pub split-leftover-requires-clause-less : goal.split-leftover-requires-clause-less
 split-leftover-requires-clause-less g c =
-    let w1 : _ = is-split_at (shelf_of c.args.store.now) (shelf_of c.split-split.new.self) (vec_capacity c.args.store.now.slots) (vec_capacity c.split-split.new.self.slots) (natural c.args.along) (natural (to_z w32 (of_z w32 c.args.along))) c.args.at c.split-split.result (ap natural (to_z-of_z w32 c.args.along c.ranges.along)) c.split-split.ensures.kept c.split-split.ensures.front c.split-split.ensures.back c.split-split.ensures.apart c.split-split.ensures.others in
-    let w2 : _ = is-wrapped (shelf_of c.split-split.new.self) (shelf_of c.wrap-granted.new.self) (vec_capacity c.split-split.new.self.slots) (vec_capacity c.wrap-granted.new.self.slots) c.args.at c.wrap-granted.result c.wrap-granted.ensures.kept c.wrap-granted.ensures.inner c.wrap-granted.ensures.apart c.wrap-granted.ensures.others in
-    rw (to_z-of_z w32 c.args.across c.ranges.across) (corner_along-less (shelf_of c.args.store.now) (shelf_of c.split-split.new.self) (vec_capacity c.args.store.now.slots) (vec_capacity c.split-split.new.self.slots) c.args.at.number c.split-split.result.number c.args.along c.args.across w1 c.requires.0 c.requires.1 (shelf_of c.wrap-granted.new.self) (vec_capacity c.wrap-granted.new.self.slots) c.wrap-granted.result.number w2)
+    rw (to_z-of_z w32 c.args.across c.ranges.across)
+    (corner_along-less (to_z-of_z w32 c.args.along c.ranges.along) c.split-split.ensures c.requires.1 c.wrap-granted.ensures)
 
 pub grant-requires : goal.grant-requires
 grant-requires g c =
-    let w1 : _ = is-split_at (shelf_of c.args.store.now) (shelf_of c.split-split.new.self) (vec_capacity c.args.store.now.slots) (vec_capacity c.split-split.new.self.slots) (natural c.args.along) (natural (to_z w32 (of_z w32 c.args.along))) c.args.at c.split-split.result (ap natural (to_z-of_z w32 c.args.along c.ranges.along)) c.split-split.ensures.kept c.split-split.ensures.front c.split-split.ensures.back c.split-split.ensures.apart c.split-split.ensures.others in
-    let w2 : _ = is-wrapped (shelf_of c.split-split.new.self) (shelf_of c.wrap-granted.new.self) (vec_capacity c.split-split.new.self.slots) (vec_capacity c.wrap-granted.new.self.slots) c.args.at c.wrap-granted.result c.wrap-granted.ensures.kept c.wrap-granted.ensures.inner c.wrap-granted.ensures.apart c.wrap-granted.ensures.others in
-    let w3 : _ = is-split_at (shelf_of c.wrap-granted.new.self) (shelf_of c.split-leftover.new.self) (vec_capacity c.wrap-granted.new.self.slots) (vec_capacity c.split-leftover.new.self.slots) (natural c.args.across) (natural (to_z w32 (of_z w32 c.args.across))) c.wrap-granted.result c.split-leftover.result (ap natural (to_z-of_z w32 c.args.across c.ranges.across)) c.split-leftover.ensures.kept c.split-leftover.ensures.front c.split-leftover.ensures.back c.split-leftover.ensures.apart c.split-leftover.ensures.others in
-    record { ready = (_, corner_along-grant (shelf_of c.args.store.now) (shelf_of c.split-split.new.self) (vec_capacity c.args.store.now.slots) (vec_capacity c.split-split.new.self.slots) c.args.at.number c.split-split.result.number c.args.along c.args.across w1 c.requires.0 c.requires.1 (shelf_of c.wrap-granted.new.self) (vec_capacity c.wrap-granted.new.self.slots) c.wrap-granted.result.number w2 (shelf_of c.split-leftover.new.self) (vec_capacity c.split-leftover.new.self.slots) c.split-leftover.result.number w3) }
+    corner_along-grant (to_z-of_z w32 c.args.along c.ranges.along) c.split-split.ensures c.requires.1 c.wrap-granted.ensures
+    (to_z-of_z w32 c.args.across c.ranges.across) c.split-leftover.ensures
 
 pub list-requires : goal.list-requires
 list-requires g c =
-    let w1 : _ = is-split_at (shelf_of c.args.store.now) (shelf_of c.split-split.new.self) (vec_capacity c.args.store.now.slots) (vec_capacity c.split-split.new.self.slots) (natural c.args.along) (natural (to_z w32 (of_z w32 c.args.along))) c.args.at c.split-split.result (ap natural (to_z-of_z w32 c.args.along c.ranges.along)) c.split-split.ensures.kept c.split-split.ensures.front c.split-split.ensures.back c.split-split.ensures.apart c.split-split.ensures.others in
-    let w2 : _ = is-wrapped (shelf_of c.split-split.new.self) (shelf_of c.wrap-granted.new.self) (vec_capacity c.split-split.new.self.slots) (vec_capacity c.wrap-granted.new.self.slots) c.args.at c.wrap-granted.result c.wrap-granted.ensures.kept c.wrap-granted.ensures.inner c.wrap-granted.ensures.apart c.wrap-granted.ensures.others in
-    let w3 : _ = is-split_at (shelf_of c.wrap-granted.new.self) (shelf_of c.split-leftover.new.self) (vec_capacity c.wrap-granted.new.self.slots) (vec_capacity c.split-leftover.new.self.slots) (natural c.args.across) (natural (to_z w32 (of_z w32 c.args.across))) c.wrap-granted.result c.split-leftover.result (ap natural (to_z-of_z w32 c.args.across c.ranges.across)) c.split-leftover.ensures.kept c.split-leftover.ensures.front c.split-leftover.ensures.back c.split-leftover.ensures.apart c.split-leftover.ensures.others in
-    let w4 : IsGranted (shelf_of c.split-leftover.new.self) (shelf_of c.grant.new.self) c.wrap-granted.result.number = record { kept = c.grant.ensures.kept; granted = c.grant.ensures.granted; others = c.grant.ensures.others } in
-    record { ready = corner_along-list (shelf_of c.args.store.now) (shelf_of c.split-split.new.self) (vec_capacity c.args.store.now.slots) (vec_capacity c.split-split.new.self.slots) c.args.at.number c.split-split.result.number c.args.along c.args.across w1 c.requires.0 c.requires.1 (shelf_of c.wrap-granted.new.self) (vec_capacity c.wrap-granted.new.self.slots) c.wrap-granted.result.number w2 (shelf_of c.split-leftover.new.self) (vec_capacity c.split-leftover.new.self.slots) c.split-leftover.result.number w3 (shelf_of c.grant.new.self) w4 }
+    corner_along-list (to_z-of_z w32 c.args.along c.ranges.along) c.split-split.ensures c.requires.1 c.wrap-granted.ensures
+    (to_z-of_z w32 c.args.across c.ranges.across) c.split-leftover.ensures c.grant.ensures
 
 pub list-requires-2 : goal.list-requires-2
 list-requires-2 g c =
-    let w1 : _ = is-split_at (shelf_of c.args.store.now) (shelf_of c.split-split.new.self) (vec_capacity c.args.store.now.slots) (vec_capacity c.split-split.new.self.slots) (natural c.args.along) (natural (to_z w32 (of_z w32 c.args.along))) c.args.at c.split-split.result (ap natural (to_z-of_z w32 c.args.along c.ranges.along)) c.split-split.ensures.kept c.split-split.ensures.front c.split-split.ensures.back c.split-split.ensures.apart c.split-split.ensures.others in
-    let w2 : _ = is-wrapped (shelf_of c.split-split.new.self) (shelf_of c.wrap-granted.new.self) (vec_capacity c.split-split.new.self.slots) (vec_capacity c.wrap-granted.new.self.slots) c.args.at c.wrap-granted.result c.wrap-granted.ensures.kept c.wrap-granted.ensures.inner c.wrap-granted.ensures.apart c.wrap-granted.ensures.others in
-    let w3 : _ = is-split_at (shelf_of c.wrap-granted.new.self) (shelf_of c.split-leftover.new.self) (vec_capacity c.wrap-granted.new.self.slots) (vec_capacity c.split-leftover.new.self.slots) (natural c.args.across) (natural (to_z w32 (of_z w32 c.args.across))) c.wrap-granted.result c.split-leftover.result (ap natural (to_z-of_z w32 c.args.across c.ranges.across)) c.split-leftover.ensures.kept c.split-leftover.ensures.front c.split-leftover.ensures.back c.split-leftover.ensures.apart c.split-leftover.ensures.others in
-    let w4 : IsGranted (shelf_of c.split-leftover.new.self) (shelf_of c.grant.new.self) c.wrap-granted.result.number = record { kept = c.grant.ensures.kept; granted = c.grant.ensures.granted; others = c.grant.ensures.others } in
-    let w5 : IsListedIn (shelf_of c.grant.new.self) (shelf_of c.list.new.self) c.split-split.result.number = record { kept = c.list.ensures.kept; nodes = c.list.ensures.nodes } in
-    record { ready = corner_along-list_last (shelf_of c.args.store.now) (shelf_of c.split-split.new.self) (vec_capacity c.args.store.now.slots) (vec_capacity c.split-split.new.self.slots) c.args.at.number c.split-split.result.number c.args.along c.args.across w1 c.requires.0 c.requires.1 (shelf_of c.wrap-granted.new.self) (vec_capacity c.wrap-granted.new.self.slots) c.wrap-granted.result.number w2 (shelf_of c.split-leftover.new.self) (vec_capacity c.split-leftover.new.self.slots) c.split-leftover.result.number w3 (shelf_of c.grant.new.self) (shelf_of c.list.new.self) w4 w5 }
+    corner_along-list_last (to_z-of_z w32 c.args.along c.ranges.along) c.split-split.ensures c.requires.1 c.wrap-granted.ensures
+    (to_z-of_z w32 c.args.across c.ranges.across) c.split-leftover.ensures c.grant.ensures c.list.ensures
 
-pub returns-clause-kept : goal.returns-clause-kept
-returns-clause-kept g c = λ h s.
-    let w1 : _ = is-split_at (shelf_of c.args.store.now) (shelf_of c.split-split.new.self) (vec_capacity c.args.store.now.slots) (vec_capacity c.split-split.new.self.slots) (natural c.args.along) (natural (to_z w32 (of_z w32 c.args.along))) c.args.at c.split-split.result (ap natural (to_z-of_z w32 c.args.along c.ranges.along)) c.split-split.ensures.kept c.split-split.ensures.front c.split-split.ensures.back c.split-split.ensures.apart c.split-split.ensures.others in
-    let w2 : _ = is-wrapped (shelf_of c.split-split.new.self) (shelf_of c.wrap-granted.new.self) (vec_capacity c.split-split.new.self.slots) (vec_capacity c.wrap-granted.new.self.slots) c.args.at c.wrap-granted.result c.wrap-granted.ensures.kept c.wrap-granted.ensures.inner c.wrap-granted.ensures.apart c.wrap-granted.ensures.others in
-    let w3 : _ = is-split_at (shelf_of c.wrap-granted.new.self) (shelf_of c.split-leftover.new.self) (vec_capacity c.wrap-granted.new.self.slots) (vec_capacity c.split-leftover.new.self.slots) (natural c.args.across) (natural (to_z w32 (of_z w32 c.args.across))) c.wrap-granted.result c.split-leftover.result (ap natural (to_z-of_z w32 c.args.across c.ranges.across)) c.split-leftover.ensures.kept c.split-leftover.ensures.front c.split-leftover.ensures.back c.split-leftover.ensures.apart c.split-leftover.ensures.others in
-    let w4 : IsGranted (shelf_of c.split-leftover.new.self) (shelf_of c.grant.new.self) c.wrap-granted.result.number = record { kept = c.grant.ensures.kept; granted = c.grant.ensures.granted; others = c.grant.ensures.others } in
-    let w5 : IsListedIn (shelf_of c.grant.new.self) (shelf_of c.list.new.self) c.split-split.result.number = record { kept = c.list.ensures.kept; nodes = c.list.ensures.nodes } in
-    let w6 : IsListedIn (shelf_of c.list.new.self) (shelf_of c.list-2.new.self) c.split-leftover.result.number = record { kept = c.list-2.ensures.kept; nodes = c.list-2.ensures.nodes } in
-    corner_along-planned (shelf_of c.args.store.now) (shelf_of c.split-split.new.self) (vec_capacity c.args.store.now.slots) (vec_capacity c.split-split.new.self.slots) c.args.at.number c.split-split.result.number c.args.along c.args.across w1 h s (shelf_of c.wrap-granted.new.self) (vec_capacity c.wrap-granted.new.self.slots) c.wrap-granted.result.number w2 (shelf_of c.split-leftover.new.self) (vec_capacity c.split-leftover.new.self.slots) c.split-leftover.result.number w3 (shelf_of c.grant.new.self) (shelf_of c.list.new.self) (shelf_of c.list-2.new.self) w4 w5 w6
+pub returns : goal.returns
+returns g c = record {
+  kept = λ h s.
+      corner_along-planned (to_z-of_z w32 c.args.along c.ranges.along) c.split-split.ensures s c.wrap-granted.ensures
+      (to_z-of_z w32 c.args.across c.ranges.across) c.split-leftover.ensures c.grant.ensures c.list.ensures c.list-2.ensures;
+  options =
+      c.list-2.ensures.room.options ∙ c.list.ensures.room.options ∙ c.grant.ensures.room.options ∙ c.split-leftover.ensures.options
+      ∙ c.wrap-granted.ensures.options ∙ c.split-split.ensures.options;
+  turns =
+      c.list-2.ensures.turns ∙ c.list.ensures.turns ∙ c.grant.ensures.turns ∙ c.split-leftover.ensures.turns
+      ∙ c.wrap-granted.ensures.turns ∙ c.split-split.ensures.turns;
+}

@@ -33,28 +33,28 @@ pub loop-next-preserved : goal.loop-next-preserved
 loop-next-preserved g c = record {
   freeing = λ h w.
       let t = c.loop-next.invariant.freeing h w in
-      let r = c.in-Some.ensures.turned t.0 t.1.settling in
+      let r = c.in-Some.ensures.turned.turned t.0 t.1.settling in
       (r.0, freeing-turned _ _ _ _ h t.0 r.0 _ _ t.1 r.1 r.2);
-  turns = omega (arith, c.in-Some.ensures.counted, c.loop-next.invariant.turns);
+  turns = omega (arith, c.in-Some.ensures.turned.counted, c.loop-next.invariant.turns);
   room = keeps-room c.args.store.now c.loop-next.store c.turn.new.store c.loop-next.invariant.room c.turn.ensures.room;
 }
 
 pub list-requires : goal.list-requires
 list-requires g c =
     let t = c.loop-next.invariant.freeing c.requires.0 c.requires.1 in
-    record { ready = (t.0, loose-same (shelf_of c.loop-next.store) (shelf_of c.turn.new.store) c.loop-next.at.number t.0 (c.turn.ensures.same c.in_default.is) t.1.settling) }
+    (t.0, loose-same (shelf_of c.loop-next.store) (shelf_of c.turn.new.store) c.loop-next.at.number t.0 (c.turn.ensures.settled c.in_default.is).same t.1.settling)
 
 pub returns-clause-freed : goal.returns-clause-freed
 returns-clause-freed g c =
     λ h w.
     let t = c.loop-next.invariant.freeing h w in
-    let loose = loose-same (shelf_of c.loop-next.store) (shelf_of c.turn.new.store) c.loop-next.at.number t.0 (c.turn.ensures.same c.in_default.is) t.1.settling in
+    let loose = loose-same (shelf_of c.loop-next.store) (shelf_of c.turn.new.store) c.loop-next.at.number t.0 (c.turn.ensures.settled c.in_default.is).same t.1.settling in
     let k = c.list.ensures.kept t.0 loose in
-    (_, freed-listed (shelf_of c.args.store.now) (shelf_of c.loop-next.store) (shelf_of c.list.new.self) c.args.slot.number c.loop-next.at.number c.loop-next.given h t.0 k.0 w t.1 (c.turn.ensures.settled c.in_default.is t.0 t.1.settling) k.1)
+    (_, freed-listed (shelf_of c.args.store.now) (shelf_of c.loop-next.store) (shelf_of c.list.new.self) c.args.slot.number c.loop-next.at.number c.loop-next.given h t.0 k.0 w t.1 ((c.turn.ensures.settled c.in_default.is).normal t.0 t.1.settling) k.1)
 
 pub returns-clause-turns : goal.returns-clause-turns
 returns-clause-turns g c =
-    ap (λ (n : Turns). n.count) (c.list.ensures.turns ∙ c.turn.ensures.uncounted c.in_default.is) ∙ c.loop-next.invariant.turns
+    ap (λ (n : Turns). n.count) (c.list.ensures.turns ∙ (c.turn.ensures.settled c.in_default.is).uncounted) ∙ c.loop-next.invariant.turns
 
 pub returns-clause-room : goal.returns-clause-room
 returns-clause-room g c =

@@ -1,6 +1,7 @@
-use Rattle.std.proofs.Common.{◌≡◌, ap, ◌∙◌, refl, arith, sym}
+use Rattle.std.proofs.Common.{◌≡◌, ◌+◌, ap, ◌∙◌, refl, arith, sym}
 use Rattle.std.proofs.lemmas.Bool.{true≢false}
 use Rattle.guillotiere.specs.declared.slots.Node.{Node}
+use Rattle.guillotiere.specs.declared.turns.Turns.{Turns}
 use Rattle.guillotiere.specs.declared.slots.NodeKind.TheVariants.{Free}
 use Rattle.guillotiere.specs.Slots.{no_slot}
 use Rattle.guillotiere.specs.Holdings.{shelf_of, node_in}
@@ -35,17 +36,23 @@ join-requires-clause-ready g c =
 
 pub returns-then-is_free-clause-turned : goal.returns-then-is_free-clause-turned
 returns-then-is_free-clause-turned g c =
-    λ h s.
+    let at = c.args.at.number in
     let v = shelf_of c.args.store.now in
     let u = shelf_of c.unlist.new.self in
     let x = c.node-node.result.next.number in
     let e = ap (λ (n : Node). n.next.number) c.node-node.ensures in
     let f = c.is_free.ensures.0 c.if-is_free.true in
-    let k = c.unlist.ensures.kept h s.leaf.holds (next-listed v c.args.at.number x h s e f) in
-    let w = joinable-next v u c.args.at.number x h k.0 s e f c.unlist.ensures.nodes k.1 in
-    let j = c.join.ensures.kept _ (record { holds = w.holds; kind = w.free; loose = w.loose }) (rw w.next w.next_loose) in
-    let r = settling-joined u (shelf_of c.join.new.self) c.args.at.number x c.args.at.number _ w j c.join.ensures.room.slots (c.join.ensures.calm c.args.at.number w.calm (rw w.next w.which)) c.join.ensures.free in
-    (r.0, r.1, turned-same h _ r.0 refl refl r.2)
+    record {
+      turned = λ h s.
+          let k = c.unlist.ensures.kept h s.leaf.holds (next-listed v at x h s e f) in
+          let w = joinable-next v u at x h k.0 s e f c.unlist.ensures.nodes k.1 in
+          let j = c.join.ensures.kept _ (record { holds = w.holds; kind = w.free; loose = w.loose }) (rw w.next w.next_loose) in
+          let r =
+          settling-joined u (shelf_of c.join.new.self) at x at _ w j c.join.ensures.room.slots
+          (c.join.ensures.calm at w.calm (rw w.next w.which)) c.join.ensures.free in
+          (r.0, r.1, turned-same h _ r.0 refl refl r.2);
+      counted = c.join.ensures.turns ∙ ap (λ (t : Turns). t.count + 1) c.unlist.ensures.turns;
+    }
 
 pub unlist-requires-then-is_free-2-clause-ready : goal.unlist-requires-then-is_free-2-clause-ready
 unlist-requires-then-is_free-2-clause-ready g c =
@@ -77,22 +84,34 @@ join-requires-then-is_free-2-clause-next_free g c =
 
 pub returns-then-is_free-2-clause-turned : goal.returns-then-is_free-2-clause-turned
 returns-then-is_free-2-clause-turned g c =
-    λ h s.
+    let at = c.args.at.number in
     let v = shelf_of c.args.store.now in
     let u = shelf_of c.unlist-then-is_free-2.new.self in
     let x = c.node-node.result.previous.number in
     let e = ap (λ (n : Node). n.previous.number) c.node-node.ensures in
     let f = c.is_free-2.ensures.0 c.if-is_free-2.true in
-    let k = c.unlist-then-is_free-2.ensures.kept h s.leaf.holds (previous-listed v c.args.at.number x h s e f) in
-    let w = joinable-previous v u c.args.at.number x h k.0 s e f c.unlist-then-is_free-2.ensures.nodes k.1 in
-    let j = c.join-then-is_free-2.ensures.kept _ (record { holds = w.holds; kind = w.free; loose = w.loose }) (rw w.next w.next_loose) in
-    let r = settling-joined u (shelf_of c.join-then-is_free-2.new.self) x c.args.at.number c.args.at.number _ w j c.join-then-is_free-2.ensures.room.slots (c.join-then-is_free-2.ensures.calm c.args.at.number w.calm (rw w.next w.which)) c.join-then-is_free-2.ensures.free in
-    (r.0, r.1, turned-same h _ r.0 refl refl r.2)
+    let unlist = c.unlist-then-is_free-2.ensures in
+    let join = c.join-then-is_free-2.ensures in
+    record {
+      turned = λ h s.
+          let k = unlist.kept h s.leaf.holds (previous-listed v at x h s e f) in
+          let w = joinable-previous v u at x h k.0 s e f unlist.nodes k.1 in
+          let j = join.kept _ (record { holds = w.holds; kind = w.free; loose = w.loose }) (rw w.next w.next_loose) in
+          let r =
+          settling-joined u (shelf_of c.join-then-is_free-2.new.self) x at at _ w j join.room.slots
+          (join.calm at w.calm (rw w.next w.which)) join.free in
+          (r.0, r.1, turned-same h _ r.0 refl refl r.2);
+      counted = join.turns ∙ ap (λ (t : Turns). t.count + 1) unlist.turns;
+    }
 
 pub returns-then-node-3-clause-turned : goal.returns-then-node-3-clause-turned
 returns-then-node-3-clause-turned g c =
-    λ h s.
-    settling-lifted (shelf_of c.args.store.now) (shelf_of c.lift.new.self) c.lift.result.number c.args.at.number h s (c.lift.ensures.kept h s.leaf) c.lift.ensures.room.slots (c.lift.ensures.calm s.calm) c.lift.ensures.free
+    record {
+      turned = λ h s.
+          settling-lifted (shelf_of c.args.store.now) (shelf_of c.lift.new.self) c.lift.result.number c.args.at.number h s
+          (c.lift.ensures.kept h s.leaf) c.lift.ensures.room.slots (c.lift.ensures.calm s.calm) c.lift.ensures.free;
+      counted = c.lift.ensures.turns;
+    }
 
 pub returns-clause-settled : goal.returns-clause-settled
 returns-clause-settled g c =
@@ -104,4 +123,8 @@ returns-clause-settled g c =
     let v = shelf_of c.args.store.now in
     let nn : (node_in (shelf_of c.args.store.now) c.node-node.result.next.number).kind ≡ Free → ⊥ = (λ f. true≢false (sym (c.is_free.ensures.1 f) ∙ c.if-is_free.false)) in
     let np : (node_in (shelf_of c.args.store.now) c.node-node.result.previous.number).kind ≡ Free → ⊥ = (λ f. true≢false (sym (c.is_free-2.ensures.1 f) ∙ c.if-is_free-2.false)) in
-    λ _ h w. settled-at v c.args.at.number c.node-node.result h c.node-node.ensures w nn np alone
+    λ _. record {
+      normal = λ h w. settled-at v c.args.at.number c.node-node.result h c.node-node.ensures w nn np alone;
+      same = refl;
+      uncounted = refl;
+    }

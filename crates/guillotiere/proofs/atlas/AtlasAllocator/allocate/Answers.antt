@@ -1,7 +1,6 @@
 use Rattle.std.proofs.Common.{rules, ◌≡◌, refl, subst, arith}
-use Rattle.std.specs.Prelude.{vec_capacity, Err}
+use Rattle.std.specs.Prelude.{Err}
 use Rattle.guillotiere.specs.Pixels.{box_of, sides_of}
-use Rattle.guillotiere.specs.Holdings.{shelf_of}
 use Rattle.guillotiere.proofs.Observing.{used-IsAtlas}
 use Rattle.guillotiere.proofs.Storing.{natural-fits}
 use Rattle.guillotiere.proofs.CuttingFromLists.{sides_of-size, unsigned-measurable, unsigned_of}
@@ -35,7 +34,7 @@ returns-in_err-make_room-clause-step g c =
     let same : c.from_residual.result ≡ Err c.in_err-make_room.field-0.0 = search rules in
     rw (← c.self.view_is)
     (refused-step _ c.self.invariant (sides_of c.args.requested_size) c.in-Some.size c.in-Some.ensures c.in-Some-choose.chosen c.in-Some-choose.ensures.some
-    (shelf_of c.make_room.new.store) c.make_room.ensures.same c.slots_needed-needed.result c.slots_needed-needed.ensures c.from_residual.result c.in_err-make_room.field-0.0 same c.in_err-make_room.ensures.refused c.make_room.new.store.turns.count c.self.inside.store.turns.count)
+    c.make_room.new.store c.make_room.ensures.same c.slots_needed-needed.result c.slots_needed-needed.ensures c.from_residual.result c.in_err-make_room.field-0.0 same c.in_err-make_room.ensures.refused c.make_room.new.store.turns.count c.self.inside.store.turns.count)
 
 pub granted-rectangle-requires-clause-measurable : goal.granted-rectangle-requires-clause-measurable
 granted-rectangle-requires-clause-measurable g c =
@@ -50,19 +49,19 @@ granted-rectangle-requires-clause-fits g c =
 pub grant-id-requires : goal.grant-id-requires
 grant-id-requires g c =
     some-grantable _ c.self.invariant (sides_of c.args.requested_size) c.in-Some.size c.in-Some.ensures c.in-Some-choose.chosen c.in-Some-choose.ensures.some
-    (shelf_of c.make_room.new.store) c.make_room.ensures.same c.slots_needed-needed.result c.slots_needed-needed.ensures (vec_capacity c.make_room.new.store.slots) c.in_ok-make_room.ensures.ok
+    c.make_room.new.store c.make_room.ensures.same c.slots_needed-needed.result c.slots_needed-needed.ensures c.in_ok-make_room.ensures.ok
 
 pub invariant_of-self-2 : goal.invariant_of-self-2
 invariant_of-self-2 g c =
     (grant-done _ c.self.invariant (sides_of c.args.requested_size) c.in-Some.size c.in-Some.ensures c.in-Some-choose.chosen c.in-Some-choose.ensures.some
-    (shelf_of c.make_room.new.store) c.make_room.ensures.same c.slots_needed-needed.result c.slots_needed-needed.ensures (vec_capacity c.make_room.new.store.slots) c.in_ok-make_room.ensures.ok
-    (shelf_of c.grant-id.new.store) c.grant-id.result c.granted-rectangle.result c.grant-id.ensures.granted c.grant-id.ensures.options c.granted-rectangle.ensures.boxes).atlas
+    c.make_room.new.store c.make_room.ensures.same c.slots_needed-needed.result c.slots_needed-needed.ensures c.in_ok-make_room.ensures.ok
+    c.grant-id.new.store c.grant-id.result c.granted-rectangle.result c.grant-id.ensures c.granted-rectangle.ensures.boxes).atlas
 
 pub returns-clause-step : goal.returns-clause-step
 returns-clause-step g c =
     let done = grant-done _ c.self.invariant (sides_of c.args.requested_size) c.in-Some.size c.in-Some.ensures c.in-Some-choose.chosen c.in-Some-choose.ensures.some
-    (shelf_of c.make_room.new.store) c.make_room.ensures.same c.slots_needed-needed.result c.slots_needed-needed.ensures (vec_capacity c.make_room.new.store.slots) c.in_ok-make_room.ensures.ok
-    (shelf_of c.grant-id.new.store) c.grant-id.result c.granted-rectangle.result c.grant-id.ensures.granted c.grant-id.ensures.options c.granted-rectangle.ensures.boxes in
+    c.make_room.new.store c.make_room.ensures.same c.slots_needed-needed.result c.slots_needed-needed.ensures c.in_ok-make_room.ensures.ok
+    c.grant-id.new.store c.grant-id.result c.granted-rectangle.result c.grant-id.ensures c.granted-rectangle.ensures.boxes in
     rw (← c.self.view_is) (done.granted c.grant-id.new.store.turns.count c.self.inside.store.turns.count)
 
 pub returns-clause-exact : goal.returns-clause-exact

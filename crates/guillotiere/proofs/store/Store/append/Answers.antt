@@ -1,4 +1,4 @@
-use Rattle.std.proofs.Common.{refl, ℕ}
+use Rattle.std.proofs.Common.{◌∙◌, refl, ℕ}
 use Rattle.guillotiere.specs.Links.{with_count, rest_of}
 use Rattle.guillotiere.specs.Holdings.{shelf_of, after_take}
 use Rattle.guillotiere.specs.Growing.{after_append}
@@ -15,19 +15,33 @@ append_with-requires-clause-ready g c =
       after_take r.0,
       with_count (λ i. 0) fresh 1,
       r.1,
-      c.take-fresh.ensures.taken r.0 (λ i. 0) r.2,
-      with_count-same (λ i. 0) fresh 1,
-      end-taken (sides_of c.args.size) r.1 c.args.last.number r.0 r.3,
-      r.4,
+      record {
+        holds = c.take-fresh.ensures.taken r.0 (λ i. 0) r.2.holds;
+        in_hand = with_count-same (λ i. 0) fresh 1;
+        end = end-taken (sides_of c.args.size) r.1 c.args.last.number r.0 r.2.end;
+        more = r.2.more;
+      },
     )
 
-pub returns-clause-kept : goal.returns-clause-kept
-returns-clause-kept g c = λ h d n holds end some slots.
-    let fresh : ℕ = c.take-fresh.result.number in (
-      rest_of h.spare,
-      used-taken (shelf_of c.append_with.new.self) fresh (λ i. 0) (after_append fresh d (after_take h)) refl
-          (c.append_with.ensures.kept (after_take h) (with_count (λ i. 0) fresh 1) d (c.take-fresh.ensures.taken h (λ i. 0) holds) (with_count-same (λ i. 0) fresh 1)
-          (end-taken (sides_of c.args.size) d c.args.last.number h end) some),
-      slots-kept c.take-fresh.new.self c.append_with.new.self n (after_take h) c.append_with.ensures.room (c.take-fresh.ensures.slots h (λ i. 0) n holds slots),
-      rest-length h.spare,
-    )
+pub returns : goal.returns
+returns g c =
+    let k : ℕ = c.take-fresh.result.number in
+    let take = c.take-fresh.ensures in
+    let append = c.append_with.ensures in
+    record {
+      kept = λ d h n a slots. (
+        rest_of h.spare,
+        used-taken (shelf_of c.append_with.new.self) k (λ i. 0) (after_append k d (after_take h)) refl
+            (append.kept (after_take h) (with_count (λ i. 0) k 1) d (record {
+              holds = take.taken h (λ i. 0) a.holds;
+              in_hand = with_count-same (λ i. 0) k 1;
+              end = end-taken (sides_of c.args.size) d c.args.last.number h a.end;
+              more = a.more;
+            })),
+        slots-kept c.take-fresh.new.self c.append_with.new.self n (after_take h) append.room (take.slots h (λ i. 0) n a.holds slots),
+        rest-length h.spare,
+      );
+      free = append.free;
+      options = append.room.options ∙ take.options;
+      turns = append.turns ∙ take.turns;
+    }

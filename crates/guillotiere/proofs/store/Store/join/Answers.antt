@@ -1,8 +1,9 @@
-use Rattle.std.proofs.Common.{◌≡◌, ◌∙◌, ap, ℕ, List, subst, sym}
+use Rattle.std.proofs.Common.{◌≡◌, ◌∙◌, ap, ℕ, List, refl, subst, sym}
 use Rattle.std.proofs.lemmas.List.{with_items_is}
 use Rattle.std.specs.Vec.{with_items}
 use Rattle.guillotiere.specs.declared.slots.Slot.{Slot}
 use Rattle.guillotiere.specs.declared.slots.Node.{Node}
+use Rattle.guillotiere.specs.declared.slots.NodeKind.TheVariants.{Free}
 use Rattle.guillotiere.specs.Slots.{nodes, node_at}
 use Rattle.guillotiere.specs.SlotCalls.{IsNextJoined}
 use Rattle.guillotiere.specs.Calm.{IsCalmBut}
@@ -52,11 +53,21 @@ module _ (g : given.Over) (c : goal.After-tick g) where
       (over-shelf (λ old left. GivesBack (shelf_of c.args.self.now) old left c.give_back.new.unused c.join_next-next.result.number) _ _ _ _ last
       (record { same_nodes = c.give_back.ensures.same_nodes; long = c.give_back.auto.slots; filed = c.give_back.ensures.filed }))
 
-pub returns-clause-kept : goal.returns-clause-kept
-returns-clause-kept g c =
-    joined-holds (shelf_of c.args.self.now) (mid g c) (new g c) c.give_back.new.unused c.args.at.number (next g c)
-    (long-over _ _ _ _ (first g c)) (joined g c) (back g c) c.requires.next_free
+  abbrev IsFreeIn : List Node → Type 0
+  IsFreeIn ns = (node_at ns c.args.at.number).kind ≡ Free
 
-pub returns-clause-calm : goal.returns-clause-calm
-returns-clause-calm g c = λ k calm which.
-    subst (λ (ns : List Node). IsCalmBut ns c.args.at.number) (sym (back g c).same_nodes) ((joined g c).calm k calm which)
+pub returns : goal.returns
+returns g c = record {
+  kept =
+      joined-holds (shelf_of c.args.self.now) (mid g c) (new g c) c.give_back.new.unused c.args.at.number (next g c)
+      (long-over _ _ _ _ (first g c)) (joined g c) (back g c) c.requires.next_free;
+  calm = λ k calm which.
+      subst (λ (ns : List Node). IsCalmBut ns c.args.at.number) (sym (back g c).same_nodes) ((joined g c).calm k calm which);
+  free = subst (IsFreeIn g c) (sym (back g c).same_nodes) (ap (λ n. n.kind) (joined g c).leaf ∙ c.requires.ready.1.kind);
+  room = record {
+    slots = long-over _ _ _ _ (last g c) ∙ long-over _ _ _ _ (first g c);
+    capacity = refl;
+    options = refl;
+  };
+  turns = c.tick.ensures;
+}

@@ -1,8 +1,10 @@
-use Rattle.std.proofs.Common.{◌∙◌, List, subst, sym}
+use Rattle.std.proofs.Common.{◌≡◌, ◌∙◌, ap, List, refl, subst, sym}
 use Rattle.std.proofs.lemmas.List.{with_items_is}
 use Rattle.std.specs.Vec.{with_items}
 use Rattle.guillotiere.specs.declared.slots.Slot.{Slot}
 use Rattle.guillotiere.specs.declared.slots.Node.{Node}
+use Rattle.guillotiere.specs.declared.slots.NodeKind.TheVariants.{Free}
+use Rattle.guillotiere.specs.Slots.{nodes, node_at}
 use Rattle.guillotiere.specs.SlotCalls.{IsChildLifted}
 use Rattle.guillotiere.specs.Calm.{IsCalmBut}
 use Rattle.guillotiere.specs.Holdings.{shelf_of}
@@ -42,11 +44,22 @@ module _ (g : given.Over) (c : goal.After-tick g) where
       over-shelf (λ old left. GivesBack (shelf_of c.args.self.now) old left c.give_back.new.unused c.args.child.number) _ _ _ _ last
       (record { same_nodes = c.give_back.ensures.same_nodes; long = c.give_back.auto.slots; filed = c.give_back.ensures.filed })
 
-pub returns-clause-kept : goal.returns-clause-kept
-returns-clause-kept g c =
-    lifted-holds (shelf_of c.args.self.now) (mid g c) (new g c) c.give_back.new.unused c.lift-container.result.number c.args.child.number
-    (long-over _ _ _ _ (first g c)) (lifted g c) (back g c)
+  abbrev IsFreeIn : List Node → Type 0
+  IsFreeIn ns = (node_at ns c.lift-container.result.number).kind ≡ Free
 
-pub returns-clause-calm : goal.returns-clause-calm
-returns-clause-calm g c = λ calm.
-    subst (λ (ns : List Node). IsCalmBut ns c.lift-container.result.number) (sym (back g c).same_nodes) ((lifted g c).calm calm)
+pub returns : goal.returns
+returns g c = record {
+  kept =
+      lifted-holds (shelf_of c.args.self.now) (mid g c) (new g c) c.give_back.new.unused c.lift-container.result.number c.args.child.number
+      (long-over _ _ _ _ (first g c)) (lifted g c) (back g c);
+  calm = λ calm.
+      subst (λ (ns : List Node). IsCalmBut ns c.lift-container.result.number) (sym (back g c).same_nodes) ((lifted g c).calm calm);
+  parent = c.lift-container.ensures.parent ∙ ap (λ s. (node_at (nodes s) c.args.child.number).parent) c.deref_mut.ensures.value;
+  free = subst (IsFreeIn g c) (sym (back g c).same_nodes) (ap (λ n. n.kind) (lifted g c).leaf);
+  room = record {
+    slots = long-over _ _ _ _ (last g c) ∙ long-over _ _ _ _ (first g c);
+    capacity = refl;
+    options = refl;
+  };
+  turns = c.tick.ensures;
+}

@@ -1,5 +1,6 @@
-use Rattle.std.proofs.Common.{◌∙◌, false}
+use Rattle.std.proofs.Common.{◌∙◌, ◌≡◌, false, refl}
 use Rattle.std.proofs.lemmas.List.{with_items_is}
+use Rattle.std.specs.Vec.{with_items}
 use Rattle.guillotiere.specs.Pixels.{options_of}
 use Rattle.guillotiere.specs.Slots.{nodes, node_at}
 use Rattle.guillotiere.specs.Bands.{list_of}
@@ -7,24 +8,33 @@ use Rattle.guillotiere.specs.Lists.{node_sides}
 use Rattle.guillotiere.specs.Links.{held_with, with_mark}
 use Rattle.guillotiere.specs.Stored.{places_of}
 use Rattle.guillotiere.specs.Holdings.{shelf_of}
-use Rattle.guillotiere.proofs.StoreSteps.{listed-holds, leaf-exact}
+use Rattle.guillotiere.proofs.StoreFacts.{across-call, slots-room}
+use Rattle.guillotiere.proofs.StoreSteps.{AreSlots, listed-holds, leaf-exact}
 use Rattle.guillotiere.proofs.store.Store.list.Goals as goal
 
 pub enlist-requires-clause-exact : goal.enlist-requires-clause-exact
 enlist-requires-clause-exact g c =
-    leaf-exact (shelf_of c.args.self.now) c.deref_mut.result.now c.args.at.number c.requires.ready.0 c.deref_mut.ensures.value c.requires.ready.1.holds c.requires.ready.1.kind
+    let leaf = c.requires.1 in
+    leaf-exact (shelf_of c.args.self.now) c.deref_mut.result.now c.args.at.number c.requires.0 c.deref_mut.ensures.value leaf.holds leaf.kind
 
-pub returns-clause-kept : goal.returns-clause-kept
-returns-clause-kept g c = λ h leaf.
-    let held : _ = held_with h.held (list_of (options_of c.args.self.now.options) (node_sides (node_at (nodes c.deref_mut.result.now) c.args.at.number))) c.args.at.number in (
-      held,
-      listed-holds (shelf_of c.args.self.now) c.deref_mut.result.now c.enlist.new.slots _ c.enlist.new.lists h held (with_mark h.loose c.args.at.number false)
-          (record {
-            given = c.deref_mut.ensures.value;
-            left = with_items_is c.args.self.now.slots c.enlist.new.slots (c.enlist.auto.slots ∙ c.deref_mut.ensures.len);
-            long = c.enlist.auto.slots;
-          })
-          c.enlist.ensures.same_nodes
-          (λ filed. c.enlist.ensures.filed c.args.self.now.unused (places_of (λ i. 0) h) filed leaf.loose)
-          leaf.holds,
-    )
+pub returns : goal.returns
+returns g c =
+    let slots : AreSlots c.args.self.now.slots.items c.deref_mut.result.now c.enlist.new.slots (with_items c.args.self.now.slots c.enlist.new.slots).items = record {
+      given = c.deref_mut.ensures.value;
+      left = with_items_is c.args.self.now.slots c.enlist.new.slots (c.enlist.auto.slots ∙ c.deref_mut.ensures.len);
+      long = c.enlist.auto.slots;
+    } in
+    record {
+      kept = λ h leaf.
+          let sides = node_sides (node_at (nodes c.deref_mut.result.now) c.args.at.number) in
+          let held : _ = held_with h.held (list_of (options_of c.args.self.now.options) sides) c.args.at.number in (
+            held,
+            listed-holds (shelf_of c.args.self.now) c.deref_mut.result.now c.enlist.new.slots _ c.enlist.new.lists h held
+                (with_mark h.loose c.args.at.number false) slots c.enlist.ensures.same_nodes
+                (λ filed. c.enlist.ensures.filed c.args.self.now.unused (places_of (λ i. 0) h) filed leaf.loose)
+                leaf.holds,
+          );
+      nodes = across-call (λ a b. nodes b ≡ nodes a) slots c.enlist.ensures.same_nodes;
+      room = slots-room c.args.self.now _ slots refl refl;
+      turns = refl;
+    }

@@ -1,43 +1,69 @@
-use Rattle.std.proofs.Common.{◌≡◌, ap, refl, ℕ, subst, to_z, of_z, w32}
+use Rattle.std.proofs.Common.{◌≡◌, ◌≢◌, ◌∙◌, ap, refl, sym, ℕ, subst, w32}
 use Rattle.std.proofs.lemmas.Int.{to_z-of_z}
-use Rattle.guillotiere.specs.Pixels.{natural}
-use Rattle.guillotiere.specs.Parts.{back_node}
-use Rattle.guillotiere.specs.Links.{with_count, rest_of}
-use Rattle.guillotiere.specs.Stored.{HoldsWith}
 use Rattle.guillotiere.specs.declared.slots.Node.{Node}
-use Rattle.guillotiere.specs.Holdings.{shelf_of, node_in, after_take, after_split}
+use Rattle.guillotiere.specs.Pixels.{natural}
+use Rattle.guillotiere.specs.Links.{with_count, rest_of}
+use Rattle.guillotiere.specs.Parts.{front_node}
+use Rattle.guillotiere.specs.Slots.{KeepsUse}
+use Rattle.guillotiere.specs.Holdings.{shelf_of, node_in, across_of, after_take, after_split}
+use Rattle.guillotiere.specs.StoreCalls.{IsSplitWith}
+use Rattle.guillotiere.proofs.PlacingSteps.{across-front}
 use Rattle.guillotiere.proofs.StoreTakes.{ready-taken, used-taken, slots-kept, rest-length, apart-leaf}
-use Rattle.guillotiere.proofs.store.Store.split.Given as given
 use Rattle.guillotiere.proofs.store.Store.split.Goals as goal
 
-same-extent : (g : given.Over) (c : goal.After-split_with g) → natural (to_z w32 (of_z w32 c.args.extent)) ≡ natural c.args.extent
-same-extent g c = ap natural (to_z-of_z w32 c.args.extent c.ranges.extent)
+pub split_with-requires-clause-hand : goal.split_with-requires-clause-hand
+split_with-requires-clause-hand g c =
+    let take = c.take-fresh.ensures in
+    let at : ℕ = c.args.at.number in
+    let k : ℕ = c.take-fresh.result.number in
+    let h = c.requires.ready.0 in
+    let leaf = c.requires.ready.1 in
+    let apart : at ≢ k = apart-leaf (shelf_of c.args.self.now) at k leaf.kind take.was_unused in
+    record {
+      ready = (
+        after_take h,
+        with_count (λ i. 0) k 1,
+        ready-taken (shelf_of c.take-fresh.new.self) at k (λ i. 0) h (take.taken h (λ i. 0) leaf.holds) leaf.loose,
+      );
+      free = ap (λ (n : Node). n.kind) (take.others at apart) ∙ leaf.kind;
+      fresh = take.fresh;
+    }
 
-pub split_with-requires-clause-ready : goal.split_with-requires-clause-ready
-split_with-requires-clause-ready g c =
-    let leaf : _ = c.requires.ready.1 in (
-      after_take c.requires.ready.0,
-      with_count (λ i. 0) c.take-fresh.result.number 1,
-      ready-taken (shelf_of c.take-fresh.new.self) c.args.at.number c.take-fresh.result.number (λ i. 0) c.requires.ready.0
-          (c.take-fresh.ensures.taken c.requires.ready.0 (λ i. 0) leaf.holds) leaf.loose,
-    )
+pub split_with-requires-clause-less : goal.split_with-requires-clause-less
+split_with-requires-clause-less g c =
+    let at : ℕ = c.args.at.number in
+    let k : ℕ = c.take-fresh.result.number in
+    let apart : at ≢ k = apart-leaf (shelf_of c.args.self.now) at k c.requires.ready.1.kind c.take-fresh.ensures.was_unused in
+    rw (c.take-fresh.ensures.others at apart, to_z-of_z w32 c.args.extent c.ranges.extent) c.requires.less
 
-pub returns-clause-kept : goal.returns-clause-kept
-returns-clause-kept g c = λ h n leaf slots.
-    let fresh : ℕ = c.take-fresh.result.number in
-    let P : ℕ → Type 0 = λ p. HoldsWith (with_count (with_count (λ i. 0) fresh 1) fresh 0) (shelf_of c.split_with.new.self) (after_split c.args.at.number fresh p (after_take h)) in
-    let taken : _ = c.take-fresh.ensures.taken h (λ i. 0) leaf.holds in (
-      rest_of h.spare,
-      used-taken (shelf_of c.split_with.new.self) fresh (λ i. 0) (after_split c.args.at.number fresh (natural c.args.extent) (after_take h)) refl
-          (subst P (same-extent g c)
-          (c.split_with.ensures.kept (after_take h) (with_count (λ i. 0) fresh 1)
-          (ready-taken (shelf_of c.take-fresh.new.self) c.args.at.number fresh (λ i. 0) h taken leaf.loose))),
-      slots-kept c.take-fresh.new.self c.split_with.new.self n (after_take h) c.split_with.ensures.room (c.take-fresh.ensures.slots h (λ i. 0) n leaf.holds slots),
-      rest-length h.spare,
-    )
-
-pub returns-clause-back : goal.returns-clause-back
-returns-clause-back g c =
-    let P : ℕ → Type 0 = λ p. node_in (shelf_of c.split_with.new.self) c.take-fresh.result.number ≡ back_node (node_in (shelf_of c.args.self.now) c.args.at.number) p c.args.at (node_in (shelf_of c.take-fresh.new.self) c.take-fresh.result.number) in
-    let Q : Node → Type 0 = λ m. node_in (shelf_of c.split_with.new.self) c.take-fresh.result.number ≡ back_node m (natural (to_z w32 (of_z w32 c.args.extent))) c.args.at (node_in (shelf_of c.take-fresh.new.self) c.take-fresh.result.number) in
-    (node_in (shelf_of c.take-fresh.new.self) c.take-fresh.result.number, subst P (same-extent g c) (subst Q (c.take-fresh.ensures.others c.args.at.number (apart-leaf (shelf_of c.args.self.now) c.args.at.number c.take-fresh.result.number c.requires.ready.1.kind c.take-fresh.ensures.was_unused)) c.split_with.ensures.back))
+pub returns : goal.returns
+returns g c =
+    let old = c.args.self.now in
+    let mid = c.take-fresh.new.self in
+    let new = c.split_with.new.self in
+    let take = c.take-fresh.ensures in
+    let at : ℕ = c.args.at.number in
+    let k : ℕ = c.take-fresh.result.number in
+    let p : ℕ = natural c.args.extent in
+    let cut : IsSplitWith mid new c.args.at c.take-fresh.result p =
+    subst (λ n. IsSplitWith mid new c.args.at c.take-fresh.result (natural n)) (to_z-of_z w32 c.args.extent c.ranges.extent) c.split_with.ensures in
+    let leaf = c.requires.ready.1 in
+    let apart : at ≢ k = apart-leaf (shelf_of old) at k leaf.kind take.was_unused in
+    let same : node_in (shelf_of mid) at ≡ node_in (shelf_of old) at = take.others at apart in
+    record {
+      kept = λ h n leaf slots. (
+        rest_of h.spare,
+        used-taken (shelf_of new) k (λ i. 0) (after_split at k p (after_take h)) refl
+            (cut.kept (after_take h) (with_count (λ i. 0) k 1)
+            (ready-taken (shelf_of mid) at k (λ i. 0) h (take.taken h (λ i. 0) leaf.holds) leaf.loose)),
+        slots-kept mid new n (after_take h) cut.room (take.slots h (λ i. 0) n leaf.holds slots),
+        rest-length h.spare,
+      );
+      front = ap (λ (n : Node). n.kind) (cut.front ∙ ap (λ (n : Node). front_node n p c.take-fresh.result) same) ∙ leaf.kind;
+      across = ap across_of cut.front ∙ across-front (node_in (shelf_of mid) at) p c.take-fresh.result ∙ ap across_of same;
+      back = ap (λ (n : Node). n.kind) cut.back;
+      apart = λ e. apart (sym e);
+      others = λ j ne nf. subst (λ n. KeepsUse n (node_in (shelf_of new) j)) (take.others j nf) (cut.others j ne nf);
+      options = cut.room.options ∙ take.options;
+      turns = cut.turns ∙ take.turns;
+    }

@@ -7,13 +7,10 @@ use Rattle.guillotiere.proofs.store.Store.start.Goals as goal
 pub list-requires : goal.list-requires
 list-requires g c =
     let wide : natural c.args.size.width < 2 ^ 31 = search rules in
-    let high : natural c.args.size.height < 2 ^ 31 = search rules in
-    record {
-      ready = (
-        loose_holding (sides_of c.args.size),
-        whole_leaf _ c.args.size (record { slots = search rules; lists = c.clear-2.ensures; unused = refl; valid = c.requires.options }) c.requires.size wide high,
-      );
-    }
+    let high : natural c.args.size.height < 2 ^ 31 = search rules in (
+      loose_holding (sides_of c.args.size),
+      whole_leaf _ c.args.size (record { slots = search rules; lists = c.clear-2.ensures; unused = refl; valid = c.requires.options }) c.requires.size wide high,
+    )
 
 pub returns-clause-holds : goal.returns-clause-holds
 returns-clause-holds g c =

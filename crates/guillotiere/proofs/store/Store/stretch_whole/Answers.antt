@@ -1,22 +1,33 @@
-use Rattle.std.proofs.Common.{◌∙◌, ap, rules}
+use Rattle.std.proofs.Common.{◌∙◌, ◌≡◌, ap, refl, rules}
 use Rattle.std.proofs.lemmas.List.{with_items_is}
+use Rattle.std.specs.Vec.{with_items}
 use Rattle.guillotiere.specs.Pixels.{sides_of}
+use Rattle.guillotiere.specs.Slots.{nodes, node_at}
 use Rattle.guillotiere.specs.Holdings.{shelf_of}
+use Rattle.guillotiere.proofs.StoreFacts.{across-call, slots-room}
+use Rattle.guillotiere.proofs.StoreSteps.{AreSlots}
 use Rattle.guillotiere.proofs.ExtendingSteps.{sides-fit, whole-holds}
 use Rattle.guillotiere.proofs.store.Store.stretch_whole.Goals as goal
 
-pub returns-clause-kept : goal.returns-clause-kept
-returns-clause-kept g c =
-    whole-holds (shelf_of c.args.self.now) c.deref_mut.result.now c.stretch_leaf.new.slots _ c.args.at.number (sides_of c.args.size)
-    (record {
+pub returns : goal.returns
+returns g c =
+    let slots : AreSlots c.args.self.now.slots.items c.deref_mut.result.now c.stretch_leaf.new.slots (with_items c.args.self.now.slots c.stretch_leaf.new.slots).items = record {
       given = c.deref_mut.ensures.value;
       left = with_items_is c.args.self.now.slots c.stretch_leaf.new.slots (c.stretch_leaf.auto.slots ∙ c.deref_mut.ensures.len);
       long = c.stretch_leaf.auto.slots;
-    })
-    (sides-fit c.args.size (search rules) (search rules)) c.requires.positive c.stretch_leaf.ensures.whole
-    (record {
-      given = c.deref_mut.ensures.value;
-      kind = ap (λ n. n.kind) c.stretch_leaf.ensures.this;
-      others = c.stretch_leaf.ensures.others;
-      same_rings = c.stretch_leaf.ensures.same_rings;
-    })
+    } in
+    let kind = ap (λ n. n.kind) c.stretch_leaf.ensures.this in
+    record {
+      kept =
+          whole-holds (shelf_of c.args.self.now) c.deref_mut.result.now c.stretch_leaf.new.slots _ c.args.at.number (sides_of c.args.size) slots
+          (sides-fit c.args.size (search rules) (search rules)) c.requires.positive c.stretch_leaf.ensures.whole
+          (record {
+            given = c.deref_mut.ensures.value;
+            kind = kind;
+            others = c.stretch_leaf.ensures.others;
+            same_rings = c.stretch_leaf.ensures.same_rings;
+          });
+      free = across-call (λ a b. (node_at (nodes b) c.args.at.number).kind ≡ (node_at (nodes a) c.args.at.number).kind) slots kind ∙ c.requires.ready.1.kind;
+      room = slots-room c.args.self.now _ slots refl refl;
+      turns = refl;
+    }

@@ -1,25 +1,34 @@
-use Rattle.std.proofs.Common.{◌∙◌, true}
+use Rattle.std.proofs.Common.{◌∙◌, ◌≡◌, true, refl}
 use Rattle.std.proofs.lemmas.List.{with_items_is}
+use Rattle.std.specs.Vec.{with_items}
 use Rattle.guillotiere.specs.Links.{held_without, with_mark}
+use Rattle.guillotiere.specs.Slots.{nodes}
 use Rattle.guillotiere.specs.Stored.{places_of}
 use Rattle.guillotiere.specs.Holdings.{shelf_of}
-use Rattle.guillotiere.proofs.StoreSteps.{listed-holds, leaf-exact}
+use Rattle.guillotiere.proofs.StoreFacts.{across-call, slots-room}
+use Rattle.guillotiere.proofs.StoreSteps.{AreSlots, listed-holds, leaf-exact}
 use Rattle.guillotiere.proofs.store.Store.unlist.Goals as goal
 
 pub unlist-requires-clause-exact : goal.unlist-requires-clause-exact
 unlist-requires-clause-exact g c =
     leaf-exact (shelf_of c.args.self.now) c.deref_mut.result.now c.args.at.number c.requires.ready.0 c.deref_mut.ensures.value c.requires.ready.1 c.requires.free
 
-pub returns-clause-kept : goal.returns-clause-kept
-returns-clause-kept g c = λ h holds listed. (
-  held_without h.held c.args.at.number,
-  listed-holds (shelf_of c.args.self.now) c.deref_mut.result.now c.unlist.new.slots _ c.unlist.new.lists h (held_without h.held c.args.at.number) (with_mark h.loose c.args.at.number true)
-      (record {
-        given = c.deref_mut.ensures.value;
-        left = with_items_is c.args.self.now.slots c.unlist.new.slots (c.unlist.auto.slots ∙ c.deref_mut.ensures.len);
-        long = c.unlist.auto.slots;
-      })
-      c.unlist.ensures.same_nodes
-      (λ filed. c.unlist.ensures.filed c.args.self.now.unused (places_of (λ i. 0) h) filed listed)
-      holds,
-)
+pub returns : goal.returns
+returns g c =
+    let slots : AreSlots c.args.self.now.slots.items c.deref_mut.result.now c.unlist.new.slots (with_items c.args.self.now.slots c.unlist.new.slots).items = record {
+      given = c.deref_mut.ensures.value;
+      left = with_items_is c.args.self.now.slots c.unlist.new.slots (c.unlist.auto.slots ∙ c.deref_mut.ensures.len);
+      long = c.unlist.auto.slots;
+    } in
+    record {
+      kept = λ h holds listed. (
+        held_without h.held c.args.at.number,
+        listed-holds (shelf_of c.args.self.now) c.deref_mut.result.now c.unlist.new.slots _ c.unlist.new.lists h
+            (held_without h.held c.args.at.number) (with_mark h.loose c.args.at.number true) slots c.unlist.ensures.same_nodes
+            (λ filed. c.unlist.ensures.filed c.args.self.now.unused (places_of (λ i. 0) h) filed listed)
+            holds,
+      );
+      nodes = across-call (λ a b. nodes b ≡ nodes a) slots c.unlist.ensures.same_nodes;
+      room = slots-room c.args.self.now _ slots refl refl;
+      turns = refl;
+    }

@@ -1,16 +1,31 @@
-use Rattle.std.proofs.Common.{◌∙◌}
+use Rattle.std.proofs.Common.{◌∙◌, ◌≡◌, ◌≢◌, ℕ, refl}
 use Rattle.std.proofs.lemmas.List.{with_items_is}
+use Rattle.std.specs.Vec.{with_items}
+use Rattle.guillotiere.specs.declared.slots.NodeKind.TheVariants.{Unused}
 use Rattle.guillotiere.specs.Pixels.{sides_of}
+use Rattle.guillotiere.specs.Slots.{nodes, node_at}
 use Rattle.guillotiere.specs.Holdings.{shelf_of}
+use Rattle.guillotiere.proofs.StoreFacts.{across-call, slots-room}
+use Rattle.guillotiere.proofs.StoreSteps.{AreSlots}
 use Rattle.guillotiere.proofs.ExtendingSteps.{topped-holds}
 use Rattle.guillotiere.proofs.store.Store.wrap_top_with.Goals as goal
 
-pub returns-clause-kept : goal.returns-clause-kept
-returns-clause-kept g c =
-    topped-holds (shelf_of c.args.self.now) c.deref_mut.result.now c.wrap_top.new.slots _ c.args.first.number c.args.container.number (sides_of c.args.size)
-    (record {
+pub returns : goal.returns
+returns g c =
+    let slots : AreSlots c.args.self.now.slots.items c.deref_mut.result.now c.wrap_top.new.slots (with_items c.args.self.now.slots c.wrap_top.new.slots).items = record {
       given = c.deref_mut.ensures.value;
       left = with_items_is c.args.self.now.slots c.wrap_top.new.slots (c.wrap_top.auto.slots ∙ c.deref_mut.ensures.len);
       long = c.wrap_top.auto.slots;
-    })
-    c.wrap_top.ensures.tree c.requires.unused c.wrap_top.ensures.container c.wrap_top.ensures.others c.wrap_top.ensures.same_rings
+    } in
+    let k : ℕ = c.args.container.number in
+    record {
+      kept = λ h hand a.
+          topped-holds (shelf_of c.args.self.now) c.deref_mut.result.now c.wrap_top.new.slots _ c.args.first.number k (sides_of c.args.size) slots
+          c.wrap_top.ensures.tree c.requires.fresh.unused c.wrap_top.ensures.container c.wrap_top.ensures.others c.wrap_top.ensures.same_rings
+          h hand a.holds a.in_hand a.spans;
+      unused =
+          across-call (λ a b. (j : ℕ) → j ≢ k → (node_at (nodes a) j).kind ≡ Unused → (node_at (nodes b) j).kind ≡ Unused) slots
+          (λ j ne e. (c.wrap_top.ensures.others j ne).kind ∙ e);
+      room = slots-room c.args.self.now _ slots refl refl;
+      turns = refl;
+    }
