@@ -1,7 +1,8 @@
 -- What a call on slots tells of the store whose slots they are.
-use Rattle.std.proofs.Common.{ℕ, ◌+◌, ◌≤◌, ◌≡◌, List, [], ◌∷◌, ◌++◌, sym, ap, ◌∙◌, arith, length, length-set, set, subst, inl, inr, vec_capacity}
+use Rattle.std.proofs.Common.{ℕ, ◌+◌, ◌≤◌, ◌≡◌, List, [], ◌∷◌, ◌++◌, sym, ap, ◌∙◌, arith, length, length-set, set, subst, inl, inr, vec_capacity, vec_len}
 use Rattle.std.proofs.lemmas.Bool.{cases_eq}
-use Rattle.std.proofs.lemmas.List.{length_push}
+use Rattle.std.proofs.lemmas.List.{length_push, with_items_is}
+use Rattle.std.specs.Vec.{with_items}
 use Rattle.guillotiere.specs.declared.store.Store.{Store}
 use Rattle.guillotiere.specs.declared.slots.Slot.{Slot}
 use Rattle.guillotiere.specs.declared.slots.Node.{Node}
@@ -10,6 +11,12 @@ use Rattle.guillotiere.specs.Stored.{Holding, HoldsWith}
 use Rattle.guillotiere.specs.Holdings.{shelf_of, HasSlotsFor, KeepsRoom, after_take}
 use Rattle.guillotiere.proofs.StoreSteps.{AreSlots, length-nodes, length-rings, some-front}
 use Rattle.guillotiere.proofs.StoreTakes.{rest-length}
+
+-- the slots that a store has once a call on them is done
+pub are-slots : {A : Type 0} (s : Store A) {given mid : List Slot} → given ≡ s.slots.items → length given ≡ vec_len s.slots
+    → length mid ≡ length given → AreSlots s.slots.items given mid (with_items s.slots mid).items
+are-slots s {given} {mid} value len long =
+    record { given = value; left = with_items_is s.slots mid (long ∙ len); long = long }
 
 -- a relation of the slots that the call was given and left is one of the store's slots before and after
 pub across-call : (R : List Slot → List Slot → Type 0) {own old mid new : List Slot} → AreSlots own old mid new → R old mid → R own new

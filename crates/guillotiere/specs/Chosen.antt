@@ -24,16 +24,18 @@ pub record IsAtRest (v : Shelf) (h : Holding) : Type 0 where
   pub listed : IsLooseOnly [] h
   pub start : h.sequence.start ≡ 0
 
--- the free slot that a request takes, the list where it stands, a strip that no other slot of that list lies above, and how
--- the slot gives way
+-- the free slot that a request takes, the list where it stands, a strip that no other slot of that list lies above, and
+-- how the slot gives way
 pub record IsChosen (v : Shelf) (r : Sides) (p : Chosen) : Type 0 where
   pub free : (node_in v p.at.number).kind ≡ kind.Free
   pub area : (node_in v p.at.number).area ≡ p.area
-  pub pick : (free : List Box) → AreFreeBoxes (nodes v.slots) free → IsPick free (options_of v.options) r (box_of p.area)
+  pub pick : (free : List Box) → AreFreeBoxes (nodes v.slots) free
+      → IsPick free (options_of v.options) r (box_of p.area)
   pub row : p.place.row < 52
   pub column : p.place.column < 52
   pub place : number_of p.place ≡ list_of (options_of v.options) (node_sides (node_in v p.at.number))
-  pub low : (i : ℕ) → IsFreeSlot (nodes v.slots) i → i ≢ p.at.number → list_of (options_of v.options) (node_sides (node_in v i)) ≡ number_of p.place
+  pub low : (i : ℕ) → IsFreeSlot (nodes v.slots) i → i ≢ p.at.number
+      → list_of (options_of v.options) (node_sides (node_in v i)) ≡ number_of p.place
       → p.low ≤ node_strip (node_in v i)
   pub line : IsPlanFor (node_in v p.at.number) r p.plan
   pub feasible : IsFeasible p.plan (extent_of (node_in v p.at.number)) (across_of (node_in v p.at.number))

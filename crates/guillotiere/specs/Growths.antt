@@ -14,7 +14,8 @@ use Rattle.guillotiere.specs.Holdings.{shelf_of, node_in, HasSlotsFor, KeepsRoom
 use Rattle.guillotiere.specs.Growing.{IsEnd, IsLone, IsSpanning, last_slot, top_along}
 use Rattle.guillotiere.specs.TopCalls.{IsNestable}
 
--- the slots stand for a tree of an atlas of this size, which begins at slot `first`, and each free slot stands in its list
+-- the slots stand for a tree of an atlas of this size, which begins at slot `first`, and each free slot stands in its
+-- list
 pub record IsTreeOf (v : Shelf) (size : Sides) (first : ℕ) (h : Holding) : Type 0 where
   pub holds : Holds v h
   pub listed : IsLooseOnly [] h
@@ -50,7 +51,8 @@ pub record IsLengthened {A : Type 0} (new : Store A) (n d a : ℕ) (h h' : Holdi
   -- so many slots can still be taken without memory
   pub slots : HasSlotsFor n new h'
 
--- the top sequence is the first of two members of a new one, whose first slot is `top`, and a strip of extent d the other
+-- the top sequence is the first of two members of a new one, whose first slot is `top`, and a strip of extent d the
+-- other
 pub record IsWidened (new : Shelf) (top d : ℕ) (h h' : Holding) : Type 0 where
   pub holds : Holds new h'
   pub listed : IsLooseOnly [] h'
@@ -64,7 +66,8 @@ abbrev pub IsNeedOf : (old new : Sides) → Holding → (n : ℕ) → Type 0
 IsNeedOf old new h n = numbers h.tree + n ≡ nodes (grown_members old new h.sequence.axis (erase h.tree)).members
 
 -- the tree isn't one free box, and there are the n slots that the growth takes
-pub record IsGrowable {A : Type 0} (s : Store A) (old new : Sides) (first n : ℕ) (p : Growth) (h : Holding) : Type 0 where
+pub record IsGrowable {A : Type 0} (s : Store A) (old new : Sides) (first n : ℕ) (p : Growth) (h : Holding)
+    : Type 0 where
   pub tree : IsTreeOf (shelf_of s) old first h
   pub growth : IsGrowthOf old new h p
   pub fits : Fits old new

@@ -54,7 +54,8 @@ pub record IsLooseLeaf (v : Shelf) (i : ℕ) (h : Holding) : Type 0 where
 -- no free slot of list k, but those that are loose, lies above a strip
 abbrev pub IsLow : Shelf → Holding → (k low : ℕ) → Type 0
 IsLow v h k low =
-    (i : ℕ) → (node_in v i).kind ≡ kind.Free → h.loose i ≡ false → list_of (options_of v.options) (node_sides (node_in v i)) ≡ k
+    (i : ℕ) → (node_in v i).kind ≡ kind.Free → h.loose i ≡ false
+    → list_of (options_of v.options) (node_sides (node_in v i)) ≡ k
     → low ≤ node_strip (node_in v i)
 
 -- there are as many slots, and room for as many

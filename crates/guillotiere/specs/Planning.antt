@@ -57,7 +57,8 @@ IsPlannedTree (plan.StripAlong p) at width granted g old new =
     (granted ≡ at) × (k : ℕ) × (new ≡ granted_at at g (split_at at k (natural p) old))
 IsPlannedTree (plan.CornerAlong p q) at width granted g old new =
     (k : ℕ) × (l : ℕ)
-    × (new ≡ granted_at granted g (split_at granted l (natural q) (wrapped_at at granted width (split_at at k (natural p) old))))
+    × (new ≡ granted_at granted g (split_at granted l (natural q)
+    (wrapped_at at granted width (split_at at k (natural p) old))))
 IsPlannedTree (plan.StripAcross q) at width granted g old new =
     (k : ℕ) × (new ≡ granted_at granted g (split_at granted k (natural q) (wrapped_at at granted width old)))
 IsPlannedTree (plan.CornerAcross p q) at width granted g old new =

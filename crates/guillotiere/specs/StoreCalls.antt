@@ -103,7 +103,8 @@ pub record IsSplitWith {A : Type 0} (old new : Store A) (at fresh : Link) (p : �
   pub front : node_in (shelf_of new) at.number ≡ front_node (node_in (shelf_of old) at.number) p fresh
   pub back : node_in (shelf_of new) fresh.number
       ≡ back_node (node_in (shelf_of old) at.number) p at (node_in (shelf_of old) fresh.number)
-  pub others : (j : ℕ) → j ≢ at.number → j ≢ fresh.number → KeepsUse (node_in (shelf_of old) j) (node_in (shelf_of new) j)
+  pub others : (j : ℕ) → j ≢ at.number → j ≢ fresh.number
+      → KeepsUse (node_in (shelf_of old) j) (node_in (shelf_of new) j)
   pub room : KeepsRoom old new
   pub turns : new.turns ≡ old.turns
 
@@ -114,12 +115,14 @@ pub record IsWrappedWith {A : Type 0} (old new : Store A) (at fresh : Link) : Ty
   pub outer : node_in (shelf_of new) at.number ≡ record (node_in (shelf_of old) at.number) { kind = kind.Container }
   pub inner : node_in (shelf_of new) fresh.number
       ≡ inner_node (node_in (shelf_of old) at.number) at (node_in (shelf_of old) fresh.number)
-  pub others : (j : ℕ) → j ≢ at.number → j ≢ fresh.number → KeepsUse (node_in (shelf_of old) j) (node_in (shelf_of new) j)
+  pub others : (j : ℕ) → j ≢ at.number → j ≢ fresh.number
+      → KeepsUse (node_in (shelf_of old) j) (node_in (shelf_of new) j)
   pub room : KeepsRoom old new
   pub turns : new.turns ≡ old.turns
 
 -- what is held once slots were taken as `after` tells: m slots of those for which there was room
-abbrev pub TakesSlots : {A : Type 0} → (old new : Store A) → (m : ℕ) → (before : Holding → Type 0) → (after : Holding → Holding) → Type 0
+abbrev pub TakesSlots : {A : Type 0} → (old new : Store A) → (m : ℕ) → (before : Holding → Type 0)
+    → (after : Holding → Holding) → Type 0
 TakesSlots old new m before after =
     (h : Holding) (n : ℕ) → before h → HasSlotsFor (n + m) old h
     → (spare : List ℕ) × Holds (shelf_of new) (with_spare spare (after h)) × HasSlotsFor n new (with_spare spare h)
@@ -147,7 +150,8 @@ pub record IsWrapped {A : Type 0} (old new : Store A) (at k : ℕ) : Type 0 wher
   pub options : new.options ≡ old.options
   pub turns : new.turns ≡ old.turns
 
--- the loose leaf of slot `at` is a container of slot k, which keeps p of it, and slot l, which has the rest; both are loose
+-- the loose leaf of slot `at` is a container of slot k, which keeps p of it, and slot l, which has the rest; both are
+-- loose
 pub record IsWrappedTwo {A : Type 0} (old new : Store A) (at k l p : ℕ) : Type 0 where
   pub kept : TakesSlots old new 2 (IsLooseLeaf (shelf_of old) at) (λ h. after_split k l p (after_wrap at k h))
   pub front : (node_in (shelf_of new) k).kind ≡ kind.Free

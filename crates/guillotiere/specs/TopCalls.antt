@@ -29,7 +29,8 @@ pub record IsStretched {A : Type 0} (old new : Store A) (size : Sides) (last : �
 
 -- the loose leaf of slot `at`, the only member, is as large as a size
 pub record IsEnlarged {A : Type 0} (old new : Store A) (size : Sides) (at : ℕ) : Type 0 where
-  pub kept : (h : Holding) → IsLooseLeaf (shelf_of old) at h → IsLone at h → Holds (shelf_of new) (after_whole size at h)
+  pub kept : (h : Holding) → IsLooseLeaf (shelf_of old) at h → IsLone at h
+      → Holds (shelf_of new) (after_whole size at h)
   pub free : (node_in (shelf_of new) at).kind ≡ kind.Free
   pub room : KeepsRoom old new
   pub turns : new.turns ≡ old.turns
@@ -59,7 +60,8 @@ pub record IsWrappable (hand : ℕ → ℕ) (v : Shelf) (size : Sides) (first c 
 pub record IsTopWrappedWith {A : Type 0} (old new : Store A) (size : Sides) (first c : ℕ) : Type 0 where
   pub kept : (h : Holding) (hand : ℕ → ℕ) → IsWrappable hand (shelf_of old) size first c h
       → HoldsWith (with_count hand c 0) (shelf_of new) (after_wrap_top c h)
-  pub unused : (j : ℕ) → j ≢ c → (node_in (shelf_of old) j).kind ≡ kind.Unused → (node_in (shelf_of new) j).kind ≡ kind.Unused
+  pub unused : (j : ℕ) → j ≢ c → (node_in (shelf_of old) j).kind ≡ kind.Unused
+      → (node_in (shelf_of new) j).kind ≡ kind.Unused
   pub room : KeepsRoom old new
   pub turns : new.turns ≡ old.turns
 

@@ -14,11 +14,13 @@ use std::alloc::Allocator;
 impl<A: Allocator> Store<A> {
     ghost use Rattle.guillotiere.specs.Holdings.{shelf_of, HasSlotsFor, IsLooseLeaf};
     ghost use Rattle.guillotiere.specs.StoreCalls.{IsUnusedSlot};
-    ghost use Rattle.guillotiere.specs.TopCalls.{IsAppendable, IsAppended, IsAppendedWith, IsEnlarged, IsExtendable, IsNestable, IsNested, IsStretched, IsTopWrappedWith, IsWrappable};
+    ghost use Rattle.guillotiere.specs.TopCalls.{IsAppendable, IsAppended, IsAppendedWith, IsEnlarged, IsExtendable};
+    ghost use Rattle.guillotiere.specs.TopCalls.{IsNestable, IsNested, IsStretched, IsTopWrappedWith, IsWrappable};
 
     /// A loose leaf, the last member of the top sequence, reaches to the far corner of a size.
     pub fn stretch(&mut self, at: Link, size: Size)
-        requires ready { (h : Holding) × (d : ℕ) × IsLooseLeaf (shelf_of self.old) at.number h × IsEnd (sides_of size) d at.number h }
+        requires ready { (h : Holding) × (d : ℕ) × IsLooseLeaf (shelf_of self.old) at.number h
+            × IsEnd (sides_of size) d at.number h }
         requires exact { size ≡ size_of (sides_of size) }
         ensures { IsStretched self.old self.new (sides_of size) at.number }
     {
@@ -70,15 +72,17 @@ impl<A: Allocator> Store<A> {
         fresh
     }
 
-    /// The top sequence, which begins at `first` and spans the size `inner`, is put into a new one along the other axis,
-    /// and a free leaf after it reaches to the far corner of `size`. The answer is the slot that holds the old sequence,
-    /// and that of the leaf, which is taken before it and is loose. One pass along the old sequence.
+    /// The top sequence, which begins at `first` and spans the size `inner`, is put into a new one along the other
+    /// axis, and a free leaf after it reaches to the far corner of `size`. The answer is the slot that holds the old
+    /// sequence, and that of the leaf, which is taken before it and is loose. One pass along the old sequence.
     pub fn nest(&mut self, first: Link, inner: Size, size: Size) -> (Link, Link)
         requires ready { (h : Holding) × (d : ℕ)
-            × IsNestable (shelf_of self.old) (sides_of inner) (sides_of size) first.number d h × HasSlotsFor 2 self.old h }
+            × IsNestable (shelf_of self.old) (sides_of inner) (sides_of size) first.number d h
+            × HasSlotsFor 2 self.old h }
         requires inner { inner ≡ size_of (sides_of inner) }
         requires exact { size ≡ size_of (sides_of size) }
-        ensures { IsNested self.old self.new (sides_of inner) (sides_of size) first.number result.0.number result.1.number }
+        ensures { IsNested self.old self.new (sides_of inner) (sides_of size) first.number result.0.number
+            result.1.number }
     {
         let strip = self.take();
         let container = self.take();

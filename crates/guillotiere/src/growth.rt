@@ -8,7 +8,8 @@ ghost use Rattle.guillotiere.specs.Slots.{axis_of};
 ghost use Rattle.guillotiere.specs.Stored.{Holding};
 ghost use Rattle.guillotiere.specs.Holdings.{shelf_of};
 ghost use Rattle.guillotiere.specs.Growing.{last_slot};
-ghost use Rattle.guillotiere.specs.Growths.{CanGrow, IsTreeOf, IsGrowthOf, IsLengthenable, IsLonger, IsNeedOf, IsOneBox, IsBoxGrown, IsTreeGrown, IsWidenable, IsWidenedTo, middle_of};
+ghost use Rattle.guillotiere.specs.Growths.{CanGrow, IsTreeOf, IsGrowthOf, IsLengthenable, IsLonger, IsNeedOf};
+ghost use Rattle.guillotiere.specs.Growths.{IsOneBox, IsBoxGrown, IsTreeGrown, IsWidenable, IsWidenedTo, middle_of};
 
 use crate::cut::Orientation;
 use crate::geometry::{Size, size2};
@@ -30,7 +31,8 @@ pub struct Growth {
 // The last member of the sequence that begins at `first`, found in one pass.
 fn last_member<A: Allocator>(store: &Store<A>, first: Link) -> Link
     requires { (h : Holding) × (size : Sides) × IsTreeOf (shelf_of store.now) size first.number h }
-    ensures { (h : Holding) (size : Sides) → IsTreeOf (shelf_of store.now) size first.number h → last_slot h.tree ≡ result.number }
+    ensures { (h : Holding) (size : Sides) → IsTreeOf (shelf_of store.now) size first.number h
+        → last_slot h.tree ≡ result.number }
 {
     let mut at = first;
     let mut next = store.node(at).next;

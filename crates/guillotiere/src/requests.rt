@@ -36,7 +36,8 @@ pub struct Chosen {
 pub fn choose<A: Allocator>(store: &Store<A>, size: Size) -> Option<Chosen>
     requires positive { IsPositive (sides_of size) }
     requires rest { (h : Holding) × IsAtRest (shelf_of store.now) h }
-    ensures none { result ≡ None → (free : List Box) → AreFreeBoxes (nodes store.now.slots.items) free → (b : Box) → IsFitting free (sides_of size) b → ⊥ }
+    ensures none { result ≡ None → (free : List Box) → AreFreeBoxes (nodes store.now.slots.items) free
+        → (b : Box) → IsFitting free (sides_of size) b → ⊥ }
     ensures some { IfSome result (IsChosen (shelf_of store.now) (sides_of size)) }
 {
     let found = pick(&store.slots, &store.lists, &store.options, size)?;
@@ -61,7 +62,8 @@ pub fn make_room<A: Allocator>(
     requires used { used ≤ limit }
     requires limited { limit ≤ most_slots }
     requires short { length store.old.slots.items ≤ most_slots }
-    ensures ok { OnOk result ((used + needed ≤ limit) × ((used + needed ≤ length store.new.slots.items) ⊎ (used + needed ≤ vec_capacity store.new.slots))) }
+    ensures ok { OnOk result ((used + needed ≤ limit)
+        × ((used + needed ≤ length store.new.slots.items) ⊎ (used + needed ≤ vec_capacity store.new.slots))) }
     ensures refused { IfErr result (IsShortOf used limit needed (length store.old.slots.items)) }
     ensures same { shelf_of store.new ≡ shelf_of store.old }
     ensures turns { store.new.turns ≡ store.old.turns }

@@ -1,11 +1,9 @@
 //! The start of an atlas: one free slot, as large as the atlas.
-ghost use Rattle.std.specs.Prelude.{◌≡◌, ◌<◌, ℕ, List, [], ◌∷◌, length, vec_capacity};
+ghost use Rattle.std.specs.Prelude.{◌≡◌, ◌<◌, vec_capacity};
 ghost use Rattle.guillotiere.specs.Boxes.{IsPositive};
 ghost use Rattle.guillotiere.specs.Choice.{AreValid};
 ghost use Rattle.guillotiere.specs.Pixels.{sides_of, options_of};
-ghost use Rattle.guillotiere.specs.Slots.{nodes};
-ghost use Rattle.guillotiere.specs.Stored.{Holds};
-ghost use Rattle.guillotiere.specs.Starts.{one_free_slot, start_holding};
+ghost use Rattle.guillotiere.specs.Starts.{IsStarted, one_free_slot};
 
 use crate::cut::Orientation;
 use crate::geometry::{Rectangle, Size};
@@ -36,19 +34,12 @@ fn whole_slot(size: Size) -> Slot
 }
 
 impl<A: Allocator> Store<A> {
-    ghost use Rattle.guillotiere.specs.Holdings.{shelf_of};
-
     /// One free slot of this size, in its list, and no other slot. Takes no memory.
     pub fn start(&mut self, size: Size, options: &AllocatorOptions)
         requires room { 0 < vec_capacity self.old.slots }
         requires size { IsPositive (sides_of size) }
         requires options { AreValid (options_of options.now) }
-        ensures holds { (held : ℕ → List ℕ) × Holds (shelf_of self.new) (start_holding held (sides_of size)) }
-        ensures slots { nodes self.new.slots.items ≡ nodes (one_free_slot size ∷ []) }
-        ensures one { length self.new.slots.items ≡ 1 }
-        ensures options { self.new.options ≡ options.now }
-        ensures capacity { vec_capacity self.new.slots ≡ vec_capacity self.old.slots }
-        ensures turns { self.new.turns ≡ self.old.turns }
+        ensures { IsStarted self.old self.new size options.now }
     {
         self.slots.clear();
         self.slots.push_reserved(whole_slot(size));

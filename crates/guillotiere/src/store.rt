@@ -30,7 +30,9 @@ pub struct Store<A: Allocator> {
 
 impl<A: Allocator> Store<A> {
     ghost use Rattle.guillotiere.specs.Holdings.{shelf_of, node_in, across_of, HasSlotsFor, IsHeld, IsLooseLeaf};
-    ghost use Rattle.guillotiere.specs.StoreCalls.{HasInHand, IsGranted, IsJoined, IsLifted, IsListed, IsLoose, IsMarkedFree, IsReadyFor, IsSharpened, IsSlotTaken, IsSplit, IsSplitWith, IsUnlisted, IsWrapped, IsWrappedTwo, IsWrappedWith};
+    ghost use Rattle.guillotiere.specs.StoreCalls.{HasInHand, IsGranted, IsJoined, IsLifted, IsListed, IsLoose};
+    ghost use Rattle.guillotiere.specs.StoreCalls.{IsMarkedFree, IsReadyFor, IsSharpened, IsSlotTaken, IsSplit};
+    ghost use Rattle.guillotiere.specs.StoreCalls.{IsSplitWith, IsUnlisted, IsWrapped, IsWrappedTwo, IsWrappedWith};
 
     /// A copy: the same slots and lists, in new memory of the same allocator. No turn was taken in it yet.
     pub fn copy(&self) -> Result<Store<A>, AllocError>
@@ -179,7 +181,8 @@ impl<A: Allocator> Store<A> {
     pub fn join(&mut self, at: Link)
         requires ready { (h : Holding) × IsLooseLeaf (shelf_of self.old) at.number h
             × (h.loose (node_in (shelf_of self.old) at.number).next.number ≡ true) }
-        requires next_free { (node_in (shelf_of self.old) (node_in (shelf_of self.old) at.number).next.number).kind ≡ Free }
+        requires next_free { (node_in (shelf_of self.old) (node_in (shelf_of self.old) at.number).next.number).kind
+            ≡ Free }
         ensures { IsJoined self.old self.new at.number (node_in (shelf_of self.old) at.number).next.number }
     {
         let next = join_next(&mut self.slots, at);

@@ -54,8 +54,10 @@ fn equal_sides(whole: Size, size: Size) -> u32
     requires positive { IsPositive (sides_of size) }
     ensures most { result ≤ 2 }
     ensures two { result ≡ 2 → cut (sides_of whole) (sides_of size) ≡ Whole }
-    ensures one { result ≡ 1 → cut (sides_of whole) (sides_of size) ≡ Strip (cut_axis (sides_of whole) (sides_of size)) }
-    ensures none { result ≡ 0 → cut (sides_of whole) (sides_of size) ≡ Corner (cut_axis (sides_of whole) (sides_of size)) }
+    ensures one { result ≡ 1
+        → cut (sides_of whole) (sides_of size) ≡ Strip (cut_axis (sides_of whole) (sides_of size)) }
+    ensures none { result ≡ 0
+        → cut (sides_of whole) (sides_of size) ≡ Corner (cut_axis (sides_of whole) (sides_of size)) }
 {
     if whole.width == size.width {
         if whole.height == size.height { 2 } else { 1 }
@@ -178,8 +180,8 @@ fn corner_across<A: Allocator>(store: &mut Store<A>, at: Link, along: i32, acros
     granted
 }
 
-/// One turn of a freeing: the loose leaf of a slot joins a free neighbour, the next before the previous one, or takes the
-/// place of the container that it is alone in. The answer is the slot to go on with, or none where all is settled.
+/// One turn of a freeing: the loose leaf of a slot joins a free neighbour, the next before the previous one, or takes
+/// the place of the container that it is alone in. The answer is the slot to go on with, or none where all is settled.
 fn turn<A: Allocator>(store: &mut Store<A>, at: Link) -> Option<Link>
     requires { (h : Holding) × IsSettlingAt (shelf_of store.old) at.number h }
     ensures turned { IfSome result (λ next. IsTurnTo store.old store.new at.number next.number) }

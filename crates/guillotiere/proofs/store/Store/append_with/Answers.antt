@@ -1,12 +1,9 @@
 use Rattle.std.proofs.Common.{◌∙◌, ◌≡◌, refl, rules}
-use Rattle.std.proofs.lemmas.List.{with_items_is}
-use Rattle.std.specs.Vec.{with_items}
 use Rattle.guillotiere.specs.declared.slots.NodeKind.TheVariants.{Free}
 use Rattle.guillotiere.specs.Pixels.{sides_of}
 use Rattle.guillotiere.specs.Slots.{nodes, node_at}
 use Rattle.guillotiere.specs.Holdings.{shelf_of}
-use Rattle.guillotiere.proofs.StoreFacts.{across-call, slots-room}
-use Rattle.guillotiere.proofs.StoreSteps.{AreSlots}
+use Rattle.guillotiere.proofs.StoreFacts.{are-slots, across-call, slots-room}
 use Rattle.guillotiere.proofs.ExtendingSteps.{sides-fit, end-used, end-inside, appended-holds}
 use Rattle.guillotiere.proofs.store.Store.append_with.Goals as goal
 
@@ -22,11 +19,7 @@ append_leaf-requires-clause-used g c =
 
 pub returns : goal.returns
 returns g c =
-    let slots : AreSlots c.args.self.now.slots.items c.deref_mut.result.now c.append_leaf.new.slots (with_items c.args.self.now.slots c.append_leaf.new.slots).items = record {
-      given = c.deref_mut.ensures.value;
-      left = with_items_is c.args.self.now.slots c.append_leaf.new.slots (c.append_leaf.auto.slots ∙ c.deref_mut.ensures.len);
-      long = c.append_leaf.auto.slots;
-    } in
+    let slots = are-slots c.args.self.now c.deref_mut.ensures.value c.deref_mut.ensures.len c.append_leaf.auto.slots in
     record {
       kept = λ h hand d a.
           appended-holds (shelf_of c.args.self.now) c.deref_mut.result.now c.append_leaf.new.slots _ c.args.last.number c.args.fresh.number

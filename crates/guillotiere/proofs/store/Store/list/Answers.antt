@@ -1,6 +1,4 @@
 use Rattle.std.proofs.Common.{◌∙◌, ◌≡◌, false, refl}
-use Rattle.std.proofs.lemmas.List.{with_items_is}
-use Rattle.std.specs.Vec.{with_items}
 use Rattle.guillotiere.specs.Pixels.{options_of}
 use Rattle.guillotiere.specs.Slots.{nodes, node_at}
 use Rattle.guillotiere.specs.Bands.{list_of}
@@ -8,8 +6,8 @@ use Rattle.guillotiere.specs.Lists.{node_sides}
 use Rattle.guillotiere.specs.Links.{held_with, with_mark}
 use Rattle.guillotiere.specs.Stored.{places_of}
 use Rattle.guillotiere.specs.Holdings.{shelf_of}
-use Rattle.guillotiere.proofs.StoreFacts.{across-call, slots-room}
-use Rattle.guillotiere.proofs.StoreSteps.{AreSlots, listed-holds, leaf-exact}
+use Rattle.guillotiere.proofs.StoreFacts.{are-slots, across-call, slots-room}
+use Rattle.guillotiere.proofs.StoreSteps.{listed-holds, leaf-exact}
 use Rattle.guillotiere.proofs.store.Store.list.Goals as goal
 
 pub enlist-requires-clause-exact : goal.enlist-requires-clause-exact
@@ -19,11 +17,7 @@ enlist-requires-clause-exact g c =
 
 pub returns : goal.returns
 returns g c =
-    let slots : AreSlots c.args.self.now.slots.items c.deref_mut.result.now c.enlist.new.slots (with_items c.args.self.now.slots c.enlist.new.slots).items = record {
-      given = c.deref_mut.ensures.value;
-      left = with_items_is c.args.self.now.slots c.enlist.new.slots (c.enlist.auto.slots ∙ c.deref_mut.ensures.len);
-      long = c.enlist.auto.slots;
-    } in
+    let slots = are-slots c.args.self.now c.deref_mut.ensures.value c.deref_mut.ensures.len c.enlist.auto.slots in
     record {
       kept = λ h leaf.
           let sides = node_sides (node_at (nodes c.deref_mut.result.now) c.args.at.number) in

@@ -1,4 +1,4 @@
-use Rattle.std.proofs.Common.{◌<◌, ◌^◌, refl, rules}
+use Rattle.std.proofs.Common.{◌<◌, ◌^◌, ◌∙◌, refl, rules}
 use Rattle.guillotiere.specs.Pixels.{natural, sides_of}
 use Rattle.guillotiere.specs.Starts.{loose_holding}
 use Rattle.guillotiere.proofs.Starting.{whole_leaf}
@@ -12,9 +12,17 @@ list-requires g c =
       whole_leaf _ c.args.size (record { slots = search rules; lists = c.clear-2.ensures; unused = refl; valid = c.requires.options }) c.requires.size wide high,
     )
 
-pub returns-clause-holds : goal.returns-clause-holds
-returns-clause-holds g c =
+pub returns : goal.returns
+returns g c =
     let wide : natural c.args.size.width < 2 ^ 31 = search rules in
     let high : natural c.args.size.height < 2 ^ 31 = search rules in
-    c.list.ensures.kept (loose_holding (sides_of c.args.size))
-    (whole_leaf _ c.args.size (record { slots = search rules; lists = c.clear-2.ensures; unused = refl; valid = c.requires.options }) c.requires.size wide high)
+    record {
+      holds =
+          c.list.ensures.kept (loose_holding (sides_of c.args.size))
+          (whole_leaf _ c.args.size (record { slots = search rules; lists = c.clear-2.ensures; unused = refl; valid = c.requires.options }) c.requires.size wide high);
+      slots = c.list.ensures.nodes ∙ search rules;
+      one = c.list.ensures.room.slots ∙ search rules;
+      options = c.list.ensures.room.options;
+      capacity = c.list.ensures.room.capacity ∙ search rules;
+      turns = c.list.ensures.turns;
+    }

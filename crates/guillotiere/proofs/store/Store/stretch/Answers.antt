@@ -1,21 +1,14 @@
 use Rattle.std.proofs.Common.{◌∙◌, ◌≡◌, ap, refl, rules}
-use Rattle.std.proofs.lemmas.List.{with_items_is}
-use Rattle.std.specs.Vec.{with_items}
 use Rattle.guillotiere.specs.Pixels.{sides_of}
 use Rattle.guillotiere.specs.Slots.{nodes, node_at}
 use Rattle.guillotiere.specs.Holdings.{shelf_of}
-use Rattle.guillotiere.proofs.StoreFacts.{across-call, slots-room}
-use Rattle.guillotiere.proofs.StoreSteps.{AreSlots}
+use Rattle.guillotiere.proofs.StoreFacts.{are-slots, across-call, slots-room}
 use Rattle.guillotiere.proofs.ExtendingSteps.{sides-fit, stretched-holds}
 use Rattle.guillotiere.proofs.store.Store.stretch.Goals as goal
 
 pub returns : goal.returns
 returns g c =
-    let slots : AreSlots c.args.self.now.slots.items c.deref_mut.result.now c.stretch_leaf.new.slots (with_items c.args.self.now.slots c.stretch_leaf.new.slots).items = record {
-      given = c.deref_mut.ensures.value;
-      left = with_items_is c.args.self.now.slots c.stretch_leaf.new.slots (c.stretch_leaf.auto.slots ∙ c.deref_mut.ensures.len);
-      long = c.stretch_leaf.auto.slots;
-    } in
+    let slots = are-slots c.args.self.now c.deref_mut.ensures.value c.deref_mut.ensures.len c.stretch_leaf.auto.slots in
     let kind = ap (λ n. n.kind) c.stretch_leaf.ensures.this in
     record {
       kept =

@@ -1,12 +1,10 @@
 use Rattle.std.proofs.Common.{◌∙◌, ◌≡◌, true, refl}
-use Rattle.std.proofs.lemmas.List.{with_items_is}
-use Rattle.std.specs.Vec.{with_items}
 use Rattle.guillotiere.specs.Links.{held_without, with_mark}
 use Rattle.guillotiere.specs.Slots.{nodes}
 use Rattle.guillotiere.specs.Stored.{places_of}
 use Rattle.guillotiere.specs.Holdings.{shelf_of}
-use Rattle.guillotiere.proofs.StoreFacts.{across-call, slots-room}
-use Rattle.guillotiere.proofs.StoreSteps.{AreSlots, listed-holds, leaf-exact}
+use Rattle.guillotiere.proofs.StoreFacts.{are-slots, across-call, slots-room}
+use Rattle.guillotiere.proofs.StoreSteps.{listed-holds, leaf-exact}
 use Rattle.guillotiere.proofs.store.Store.unlist.Goals as goal
 
 pub unlist-requires-clause-exact : goal.unlist-requires-clause-exact
@@ -15,11 +13,7 @@ unlist-requires-clause-exact g c =
 
 pub returns : goal.returns
 returns g c =
-    let slots : AreSlots c.args.self.now.slots.items c.deref_mut.result.now c.unlist.new.slots (with_items c.args.self.now.slots c.unlist.new.slots).items = record {
-      given = c.deref_mut.ensures.value;
-      left = with_items_is c.args.self.now.slots c.unlist.new.slots (c.unlist.auto.slots ∙ c.deref_mut.ensures.len);
-      long = c.unlist.auto.slots;
-    } in
+    let slots = are-slots c.args.self.now c.deref_mut.ensures.value c.deref_mut.ensures.len c.unlist.auto.slots in
     record {
       kept = λ h holds listed. (
         held_without h.held c.args.at.number,

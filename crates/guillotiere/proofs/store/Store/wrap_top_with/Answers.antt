@@ -1,22 +1,15 @@
 use Rattle.std.proofs.Common.{◌∙◌, ◌≡◌, ◌≢◌, ℕ, refl}
-use Rattle.std.proofs.lemmas.List.{with_items_is}
-use Rattle.std.specs.Vec.{with_items}
 use Rattle.guillotiere.specs.declared.slots.NodeKind.TheVariants.{Unused}
 use Rattle.guillotiere.specs.Pixels.{sides_of}
 use Rattle.guillotiere.specs.Slots.{nodes, node_at}
 use Rattle.guillotiere.specs.Holdings.{shelf_of}
-use Rattle.guillotiere.proofs.StoreFacts.{across-call, slots-room}
-use Rattle.guillotiere.proofs.StoreSteps.{AreSlots}
+use Rattle.guillotiere.proofs.StoreFacts.{are-slots, across-call, slots-room}
 use Rattle.guillotiere.proofs.ExtendingSteps.{topped-holds}
 use Rattle.guillotiere.proofs.store.Store.wrap_top_with.Goals as goal
 
 pub returns : goal.returns
 returns g c =
-    let slots : AreSlots c.args.self.now.slots.items c.deref_mut.result.now c.wrap_top.new.slots (with_items c.args.self.now.slots c.wrap_top.new.slots).items = record {
-      given = c.deref_mut.ensures.value;
-      left = with_items_is c.args.self.now.slots c.wrap_top.new.slots (c.wrap_top.auto.slots ∙ c.deref_mut.ensures.len);
-      long = c.wrap_top.auto.slots;
-    } in
+    let slots = are-slots c.args.self.now c.deref_mut.ensures.value c.deref_mut.ensures.len c.wrap_top.auto.slots in
     let k : ℕ = c.args.container.number in
     record {
       kept = λ h hand a.
