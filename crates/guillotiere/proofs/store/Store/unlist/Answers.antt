@@ -1,4 +1,4 @@
-use Rattle.std.proofs.Common.{◌∙◌, ◌≡◌, true, refl}
+use Rattle.std.proofs.Common.{◌≡◌, true, refl}
 use Rattle.guillotiere.specs.Links.{held_without, with_mark}
 use Rattle.guillotiere.specs.Slots.{nodes}
 use Rattle.guillotiere.specs.Stored.{places_of}
