@@ -1,6 +1,7 @@
 //! The slots of an atlas with their lists: each call keeps the tree that the slots stand for, and the lists, in order.
 ghost use Rattle.std.specs.Prelude.{◌≡◌, ◌≢◌, ◌<◌, ◌≤◌, ◌↔◌, ℕ, true, false, IsTrue, IfOk, length};
 ghost use Rattle.guillotiere.specs.declared.slots.NodeKind.TheVariants.{Alloc, Free};
+ghost use Rattle.guillotiere.specs.Trees.{most_slots};
 ghost use Rattle.guillotiere.specs.Pixels.{natural};
 ghost use Rattle.guillotiere.specs.Bands.{number_of};
 ghost use Rattle.guillotiere.specs.Slots.{no_slot};
@@ -63,7 +64,7 @@ impl<A: Allocator> Store<A> {
     /// Whether this is a slot of a free leaf.
     pub fn is_free(&self, at: Link) -> bool
         requires slot { IsSlot (length self.now.slots.items) at.number }
-        requires short { length self.now.slots.items ≤ 16777216 }
+        requires short { length self.now.slots.items ≤ most_slots }
         ensures { IsTrue result ↔ ((node_in (shelf_of self.now) at.number).kind ≡ Free) }
     {
         at.number != NO_SLOT && read_node(&self.slots, at).kind == NodeKind::Free
