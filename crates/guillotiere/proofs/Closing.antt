@@ -4,7 +4,7 @@ use Rattle.guillotiere.specs.declared.slots.Node.{Node}
 use Rattle.guillotiere.specs.Slots.{no_slot, node_at}
 use Rattle.guillotiere.specs.Numbered.{Numbered, tally, first_slot, End, Free, Alloc, Seq}
 use Rattle.guillotiere.specs.Standing.{Sequence, Standing}
-use Rattle.guillotiere.proofs.Frames.{same-self}
+use Rattle.guillotiere.proofs.Frames.{same-self, ne-from_same}
 use Rattle.guillotiere.proofs.Suffixes.{suffix-at}
 
 abbrev pub IsNone : ℕ → Type 0
@@ -38,3 +38,10 @@ pub next-in : (ns : List Node) (i : ℕ) (s : Sequence) (before p : ℕ) (n : Nu
 next-in ns i s before p n h l =
     let f = suffix-at ns i s before p n h l in
     in-wider _ f.members n (f.within (node_at ns i).next.number) (next-head ns i f.at f.before f.start f.members f.begins f.here f.standing)
+
+-- what begins at no slot is empty
+pub begins-none : (n : Numbered) → first_slot n ≡ no_slot → tally no_slot n ≡ 0 → n ≡ End
+begins-none End e none = refl
+begins-none (Free i d rest) e none = absurd (ne-from_same no_slot i (omega arith) e)
+begins-none (Alloc i g d rest) e none = absurd (ne-from_same no_slot i (omega arith) e)
+begins-none (Seq i d inner rest) e none = absurd (ne-from_same no_slot i (omega arith) e)

@@ -44,14 +44,7 @@ outermost-numbers (Seq i e inner rest) = omega (arith, outermost-numbers rest)
 pub outermost-few : (ns : List Node) (s : Sequence) (n : Numbered) → Stands ns s n → outermost n ≤ length ns
 outermost-few ns s n h = omega (arith, outermost-numbers n, numbers-few ns s n h)
 
--- what begins at no slot is empty
-pub begins-none : (n : Numbered) → first_slot n ≡ no_slot → tally no_slot n ≡ 0 → n ≡ End
-begins-none End e none = refl
-begins-none (Free i d rest) e none = absurd (ne-from_same no_slot i (omega arith) e)
-begins-none (Alloc i g d rest) e none = absurd (ne-from_same no_slot i (omega arith) e)
-begins-none (Seq i d inner rest) e none = absurd (ne-from_same no_slot i (omega arith) e)
-
--- else a slot begins it
+-- where there is a member, a slot begins it
 pub begins-inside : (ns : List Node) (s : Sequence) (b q : ℕ) (n : Numbered) → Standing ns s b q n → (first_slot n ≡ no_slot → ⊥) → first_slot n < length ns
 begins-inside ns s b q End h ne = absurd (ne refl)
 begins-inside ns s b q (Free i e rest) h ne = used-inside ns i (rw h.0.kind (omega arith))

@@ -24,7 +24,8 @@ use Rattle.guillotiere.proofs.JoiningWrites.{none-unused}
 use Rattle.guillotiere.proofs.TreeBasics.{other_twice}
 use Rattle.guillotiere.proofs.Wrapping.{axis_of-flipped}
 use Rattle.guillotiere.proofs.Reading.{IsNonempty, first-axis}
-use Rattle.guillotiere.proofs.Following.{outermost, outermost-few, followers, followers-outermost, begins-none, begins-inside}
+use Rattle.guillotiere.proofs.Following.{outermost, outermost-few, followers, followers-outermost, begins-inside}
+use Rattle.guillotiere.proofs.Closing.{begins-none}
 
 -- the nodes are hung as far as slot `at`: what is left still stands, and once it hangs too, all of n does
 pub record IsHanging (ns : List Node) (c at : ℕ) (s : Sequence) (n : Numbered) : Type 0 where

@@ -13,7 +13,8 @@ use Rattle.guillotiere.specs.Growing.{last_after, last_slot}
 use Rattle.guillotiere.specs.Growths.{IsTreeOf}
 use Rattle.guillotiere.proofs.JoiningWrites.{none-unused}
 use Rattle.guillotiere.proofs.Observing.{nodes-below, nonempty-total}
-use Rattle.guillotiere.proofs.Following.{outermost, outermost-few, followers, followers-outermost, begins-none, begins-inside}
+use Rattle.guillotiere.proofs.Following.{outermost, outermost-few, followers, followers-outermost, begins-inside}
+use Rattle.guillotiere.proofs.Closing.{begins-none}
 use Rattle.guillotiere.proofs.Frames.{ne-from_count}
 
 -- the search is at a member of n, and slot `next` begins what comes after that

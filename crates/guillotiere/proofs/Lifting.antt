@@ -7,6 +7,7 @@ use Rattle.guillotiere.specs.Slots.{node_at, use_count, no_slot}
 use Rattle.guillotiere.specs.Numbered.{Numbered, tally, first_slot, same, lifted, lifted_to, is_seq_at, End, Free, Alloc, Seq}
 use Rattle.guillotiere.specs.Standing.{Sequence, Standing, Stands, IsPlaced, inside}
 use Rattle.guillotiere.proofs.Frames.{same-self, same-ne, Standing-same, used-le, split_pos, ne-from_same, ne-from_count}
+use Rattle.guillotiere.proofs.Closing.{begins-none}
 use Rattle.guillotiere.proofs.Weights.{places-le}
 use Rattle.guillotiere.proofs.Editing.{lifting, seq_here, first-edited, edited-absent}
 
@@ -66,61 +67,42 @@ module _ (ns ms : List Node) (c k : ℕ) (w : IsLifted ns ms c k) where
   away : (s : Sequence) (b q : ℕ) (n : Numbered) → tally c n ≡ 0 → tally k n ≡ 0 → Standing ns s b q n → Standing ms s b q n
   away s b q n zc zk h = Standing-same ns ms s b q n (λ x l. w.others x (ne-from_count c x n zc l) (ne-from_count k x n zk l)) h
 
-  -- no later member comes first
-  not_first : (s : Sequence) (b q : ℕ) (n : Numbered) → (b ≡ no_slot → ⊥) → tally no_slot n ≡ 0 → tally c n ≡ 0 → 0 < tally k n → Standing ns s b q n → ⊥
-  not_first s b q End nb none zc l h = absurd (omega arith)
-  not_first s b q (Free j e rest) nb none zc l h =
-      elim (cases_eq k j) [
-        | inl x ↦ nb (sym h.0.previous ∙ (rw (← x) w.alone_before))
-        | inr ne ↦ not_first s j (q + e) rest (λ x. ne-from_same no_slot j (omega arith) x) (omega arith) (omega arith) (omega (arith, same-ne k j ne)) h.2
-      ]
-  not_first s b q (Alloc j g e rest) nb none zc l h =
-      elim (cases_eq k j) [
-        | inl x ↦ nb (sym h.0.previous ∙ (rw (← x) w.alone_before))
-        | inr ne ↦ not_first s j (q + e) rest (λ x. ne-from_same no_slot j (omega arith) x) (omega arith) (omega arith) (omega (arith, same-ne k j ne)) h.3
-      ]
-  not_first s b q (Seq j e inner rest) nb none zc l h =
-      elim (cases_eq k j) [
-        | inl x ↦ nb (sym h.0.previous ∙ (rw (← x) w.alone_before))
-        | inr ne ↦ elim (split_pos (tally k inner) (tally k rest) (omega (arith, same-ne k j ne))) [
-          | inl a ↦ elim (parent-in ns k (inside s j q e) no_slot s.start inner h.2 a) [
-            | inl x ↦ ne-from_same c j (omega arith) (sym x ∙ w.parent)
-            | inr y ↦ let z : 0 < tally c inner = rw w.parent at y in absurd (omega arith)
-          ]
-          | inr a ↦ not_first s j (q + e) rest (λ x. ne-from_same no_slot j (omega arith) x) (omega arith) (omega arith) a h.3
+  -- the child follows no slot
+  not_after : (s : Sequence) (b q : ℕ) (n : Numbered) → (b ≡ no_slot → ⊥) → k ≡ first_slot n → 0 < tally k n → Standing ns s b q n → ⊥
+  not_after s b q End nb x l h = absurd (omega arith)
+  not_after s b q (Free j e rest) nb x l h = nb (sym h.0.previous ∙ (rw (← x) w.alone_before))
+  not_after s b q (Alloc j g e rest) nb x l h = nb (sym h.0.previous ∙ (rw (← x) w.alone_before))
+  not_after s b q (Seq j e inner rest) nb x l h = nb (sym h.0.previous ∙ (rw (← x) w.alone_before))
+
+  -- so no later member is the child
+  not_later : (s : Sequence) (b q : ℕ) (n : Numbered) → tally no_slot n ≡ 0 → tally c n ≡ 0 → (k ≡ first_slot n → ⊥) → 0 < tally k n → Standing ns s b q n → ⊥
+  not_later s b q End none zc ne l h = absurd (omega arith)
+  not_later s b q (Free j e rest) none zc ne l h =
+      let lk : 0 < tally k rest = omega (arith, same-ne k j ne) in
+      elim (cases_eq k (first_slot rest)) [ inl x ↦ not_after s j (q + e) rest (ne-from_same no_slot j (omega arith)) x lk h.2 | inr nx ↦ not_later s j (q + e) rest (omega arith) (omega arith) nx lk h.2 ]
+  not_later s b q (Alloc j g e rest) none zc ne l h =
+      let lk : 0 < tally k rest = omega (arith, same-ne k j ne) in
+      elim (cases_eq k (first_slot rest)) [ inl x ↦ not_after s j (q + e) rest (ne-from_same no_slot j (omega arith)) x lk h.3 | inr nx ↦ not_later s j (q + e) rest (omega arith) (omega arith) nx lk h.3 ]
+  not_later s b q (Seq j e inner rest) none zc ne l h =
+      elim (split_pos (tally k inner) (tally k rest) (omega (arith, same-ne k j ne))) [
+        | inl a ↦ elim (parent-in ns k (inside s j q e) no_slot s.start inner h.2 a) [
+          | inl x ↦ ne-from_same c j (omega arith) (sym x ∙ w.parent)
+          | inr y ↦ let z : 0 < tally c inner = rw w.parent at y in absurd (omega arith)
         ]
+        | inr lk ↦ elim (cases_eq k (first_slot rest)) [ inl x ↦ not_after s j (q + e) rest (ne-from_same no_slot j (omega arith)) x lk h.3 | inr nx ↦ not_later s j (q + e) rest (omega arith) (omega arith) nx lk h.3 ]
       ]
 
-  none_end : (n : Numbered) → tally no_slot n ≡ 0 → first_slot n ≡ no_slot → n ≡ End
-  none_end End none e = refl
-  none_end (Free j d rest) none e = absurd (ne-from_same no_slot j (omega arith) e)
-  none_end (Alloc j g d rest) none e = absurd (ne-from_same no_slot j (omega arith) e)
-  none_end (Seq j d inner rest) none e = absurd (ne-from_same no_slot j (omega arith) e)
+  first_alone : (s : Sequence) (b q : ℕ) (n : Numbered) → tally no_slot n ≡ 0 → 0 < tally k n → k ≡ first_slot n → Standing ns s b q n → (d : ℕ) × (n ≡ Free k d End)
+  first_alone s b q End none l x h = absurd (omega arith)
+  first_alone s b q (Free j d rest) none l x h =
+      (d, (let t = begins-none rest (sym h.0.next ∙ (rw (← x) w.alone_after)) (omega arith) in let y = sym x in cc))
+  first_alone s b q (Alloc j g d rest) none l x h = let f = h.0.kind in let y : (node_at ns j).kind ≡ kind.Free = rw (← x, w.free) refl in cc
+  first_alone s b q (Seq j d inner rest) none l x h = let f = h.0.kind in let y : (node_at ns j).kind ≡ kind.Free = rw (← x, w.free) refl in cc
 
   -- in c there is the child alone
   lone : (s : Sequence) (b q : ℕ) (n : Numbered) → tally no_slot n ≡ 0 → tally c n ≡ 0 → 0 < tally k n → Standing ns s b q n → (d : ℕ) × (n ≡ Free k d End)
-  lone s b q End none zc l h = absurd (omega arith)
-  lone s b q (Free j d rest) none zc l h =
-      elim (cases_eq k j) [
-        | inl x ↦ (d, (let t = none_end rest (omega arith) (sym h.0.next ∙ (rw (← x) w.alone_after)) in let y = sym x in cc))
-        | inr ne ↦ absurd (not_first s j (q + d) rest (λ x. ne-from_same no_slot j (omega arith) x) (omega arith) (omega arith) (omega (arith, same-ne k j ne)) h.2)
-      ]
-  lone s b q (Alloc j g d rest) none zc l h =
-      elim (cases_eq k j) [
-        | inl x ↦ (let f = h.0.kind in let y : (node_at ns j).kind ≡ kind.Free = rw (← x, w.free) refl in cc)
-        | inr ne ↦ absurd (not_first s j (q + d) rest (λ x. ne-from_same no_slot j (omega arith) x) (omega arith) (omega arith) (omega (arith, same-ne k j ne)) h.3)
-      ]
-  lone s b q (Seq j d inner rest) none zc l h =
-      elim (cases_eq k j) [
-        | inl x ↦ (let f = h.0.kind in let y : (node_at ns j).kind ≡ kind.Free = rw (← x, w.free) refl in cc)
-        | inr ne ↦ elim (split_pos (tally k inner) (tally k rest) (omega (arith, same-ne k j ne))) [
-          | inl a ↦ absurd (elim (parent-in ns k (inside s j q d) no_slot s.start inner h.2 a) [
-            | inl x ↦ ne-from_same c j (omega arith) (sym x ∙ w.parent)
-            | inr y ↦ let z : 0 < tally c inner = rw w.parent at y in absurd (omega arith)
-          ])
-          | inr a ↦ absurd (not_first s j (q + d) rest (λ x. ne-from_same no_slot j (omega arith) x) (omega arith) (omega arith) a h.3)
-        ]
-      ]
+  lone s b q n none zc l h =
+      elim (cases_eq k (first_slot n)) [ inl x ↦ first_alone s b q n none l x h | inr ne ↦ absurd (not_later s b q n none zc ne l h) ]
 
   not_free : (s : Sequence) (b a j : ℕ) → IsPlaced (node_at ns j) s b a kind.Container → k ≡ j → ⊥
   not_free s b a j h x = let f = h.kind in let y : (node_at ns j).kind ≡ kind.Free = rw (← x, w.free) refl in cc
