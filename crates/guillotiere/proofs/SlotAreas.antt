@@ -1,5 +1,5 @@
 -- the rectangle that a used slot stores is that of a member
-use Rattle.std.proofs.Common.{ℕ, ◌+◌, ◌<◌, ◌≡◌, List, refl, arith}
+use Rattle.std.proofs.Common.{ℕ, ◌<◌, ◌≡◌, List, refl, arith}
 use Rattle.guillotiere.specs.declared.slots.Node.{Node}
 use Rattle.guillotiere.specs.declared.slots.NodeKind.TheVariants as kind
 use Rattle.guillotiere.specs.declared.geometry.Rectangle.{Rectangle}

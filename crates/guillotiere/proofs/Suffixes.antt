@@ -1,5 +1,5 @@
 -- the members from a given one on
-use Rattle.std.proofs.Common.{ℕ, ◌+◌, ◌<◌, ◌≤◌, ◌≡◌, List, sym, ◌⊎◌, inl, inr, arith}
+use Rattle.std.proofs.Common.{ℕ, ◌+◌, ◌<◌, ◌≤◌, ◌≡◌, List, sym, inl, inr, arith}
 use Rattle.std.proofs.lemmas.Bool.{cases_eq}
 use Rattle.guillotiere.specs.declared.slots.Node.{Node}
 use Rattle.guillotiere.specs.Slots.{no_slot}

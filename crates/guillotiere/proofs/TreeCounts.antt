@@ -1,5 +1,6 @@
 -- How many members a placing, a growth and a freeing add.
 use Rattle.std.proofs.Common.{◌≡◌, ℕ, ◌+◌, ◌-◌, ◌*◌, ◌≤◌, Bool, true, false, cond, ltb, refl, ap, subst, ◌∙◌, arith, ap₂}
+use Rattle.std.proofs.lemmas.Bool.{cond_both}
 use Rattle.guillotiere.specs.Boxes.{Axis, Position, Sides, Box, other, same_axis, side, sized, moved, box_at, origin, box_sides, same_box, Fits, IsPositive}
 use Rattle.guillotiere.specs.Cuts.{Cut, cut}
 use Rattle.guillotiere.specs.Cuts.Cut.{Whole, Strip, Corner}
@@ -201,12 +202,8 @@ nodes-nf (Seq e inner rest) =
 nodes-mark : (s : ℕ → Bool) (m : Members) → nodes (mark s m) ≡ nodes m
 nodes-mark s End = refl
 nodes-mark s (Free e rest) = ap (λ k. 1 + k) (nodes-mark s rest)
-nodes-mark s (Alloc id e rest) = by_test (s id) (nodes-mark s rest)
-  where
-    by_test : (b : Bool) → nodes (mark s rest) ≡ nodes rest
-        → nodes (cond b (Free e (mark s rest)) (Alloc id e (mark s rest))) ≡ 1 + nodes rest
-    by_test true h = ap (λ k. 1 + k) h
-    by_test false h = ap (λ k. 1 + k) h
+nodes-mark s (Alloc id e rest) =
+    cond_both (s id) (Free e (mark s rest)) (Alloc id e (mark s rest)) (λ m. nodes m ≡ 1 + nodes rest) (λ _. ap (λ k. 1 + k) (nodes-mark s rest)) (λ _. ap (λ k. 1 + k) (nodes-mark s rest))
 nodes-mark s (Seq e inner rest) = ap₂ (λ i k. 1 + i + k) (nodes-mark s inner) (nodes-mark s rest)
 
 -- a freeing adds no node

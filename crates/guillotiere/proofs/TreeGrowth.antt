@@ -1,6 +1,6 @@
 -- A growth before or after a freeing.
 use Rattle.std.proofs.Common.{◌≡◌, ℕ, ◌+◌, ◌-◌, ◌<◌, ◌≤◌, Bool, true, false, cond, ltb, [], ◌∷◌, refl, ap, subst, sym, ◌∙◌, arith}
-use Rattle.std.proofs.lemmas.Bool.{ltb-false, true≢false, false≢true}
+use Rattle.std.proofs.lemmas.Bool.{ltb-false, true≢false, false≢true, cond_both}
 use Rattle.guillotiere.specs.Boxes.{Axis, Sides, other, side, whole_box, Fits}
 use Rattle.guillotiere.specs.Trees.{Members, Tree, total, is_one_free, IsOneFree, IsWellFormed, free_boxes}
 use Rattle.guillotiere.specs.Trees.Members.{End, Free, Alloc, Seq}
@@ -72,12 +72,8 @@ total-nf (Seq e inner rest) = total-seq_before e (nf inner) (nf rest) ∙ ap (λ
 pub total-mark : (s : ℕ → Bool) (m : Members) → total (mark s m) ≡ total m
 total-mark s End = refl
 total-mark s (Free e rest) = ap (λ k. e + k) (total-mark s rest)
-total-mark s (Alloc id e rest) = by_test (s id) (total-mark s rest)
-  where
-    by_test : (b : Bool) → total (mark s rest) ≡ total rest
-        → total (cond b (Free e (mark s rest)) (Alloc id e (mark s rest))) ≡ e + total rest
-    by_test true h = ap (λ k. e + k) h
-    by_test false h = ap (λ k. e + k) h
+total-mark s (Alloc id e rest) =
+    cond_both (s id) (Free e (mark s rest)) (Alloc id e (mark s rest)) (λ m. total m ≡ e + total rest) (λ _. ap (λ k. e + k) (total-mark s rest)) (λ _. ap (λ k. e + k) (total-mark s rest))
 total-mark s (Seq e inner rest) = ap (λ k. e + k) (total-mark s rest)
 
 -- trees that are one free leaf, and others

@@ -3,7 +3,7 @@ use Rattle.std.proofs.Common.{◌≡◌, ℕ, ◌+◌, ◌-◌, ◌%◌, ◌^◌
 use Rattle.std.specs.List.{count_by}
 use Rattle.std.proofs.lemmas.List.Sums.{sum_by-cons, sum_by-append}
 use Rattle.std.proofs.lemmas.List.{append-nil}
-use Rattle.std.proofs.lemmas.Bool.{ltb-true, ltb-false, true≢false}
+use Rattle.std.proofs.lemmas.Bool.{ltb-true, ltb-false, true≢false, cond_both}
 use Rattle.guillotiere.specs.Boxes.{Axis, Sides, other, side, Fits, IsPositive}
 use Rattle.guillotiere.specs.Trees.{slot_count, Members, Tree, ids, total, IsCut, IsWellFormed, is_idle, IsNormal}
 use Rattle.guillotiere.specs.Trees.Members.{End, Free, Alloc, Seq}
@@ -55,11 +55,8 @@ cut-nf across (Seq e inner rest) cut =
 pub cut-mark : (s : ℕ → Bool) (across : ℕ) (m : Members) → IsCut across m → IsCut across (mark s m)
 cut-mark s across End cut = cut
 cut-mark s across (Free e rest) cut = (cut.0, cut-mark s across rest cut.1)
-cut-mark s across (Alloc id e rest) cut = by_test (s id) (cut-mark s across rest cut.1)
-  where
-    by_test : (b : Bool) → IsCut across (mark s rest) → IsCut across (cond b (Free e (mark s rest)) (Alloc id e (mark s rest)))
-    by_test true h = (cut.0, h)
-    by_test false h = (cut.0, h)
+cut-mark s across (Alloc id e rest) cut =
+    cond_both (s id) (Free e (mark s rest)) (Alloc id e (mark s rest)) (λ m. IsCut across m) (λ _. (cut.0, cut-mark s across rest cut.1)) (λ _. (cut.0, cut-mark s across rest cut.1))
 cut-mark s across (Seq e inner rest) cut =
     (cut.0, total-mark s inner ∙ cut.1, cut-mark s e inner cut.2, cut-mark s across rest cut.3)
 
