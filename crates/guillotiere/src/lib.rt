@@ -45,4 +45,3 @@ pub use error::AtlasError;
 pub use geometry::{Point, Rectangle, Size, point2, size2};
 pub use options::{AllocatorOptions, DEFAULT_OPTIONS};
 pub use simple::SimpleAtlasAllocator;
-pub use slots::NodeKind;
