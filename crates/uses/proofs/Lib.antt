@@ -1,5 +1,7 @@
 pub mod Caching
+pub mod Freeing
 pub mod HighestFirst
+pub mod Keyed
 pub mod Numbering
 pub mod Placing
 pub mod Ranges

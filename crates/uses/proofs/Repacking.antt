@@ -1,11 +1,12 @@
 -- What a change list makes of what is held: each picture is moved or lost, and the moved ones are what is live.
-use Rattle.std.proofs.Common.{◌≡◌, ◌==◌, ◌+◌, ◌≤◌, ℕ, Bool, true, false, List, [], ◌∷◌, ◌++◌, map, All, Contains, IsPermutation, Option, Some, None, option_map, cond, refl, ap, sym, subst, ◌∙◌, arith}
+use Rattle.std.proofs.Common.{◌≡◌, ◌==◌, ◌+◌, ◌≤◌, ℕ, Bool, true, false, List, [], ◌∷◌, ◌++◌, map, length, take, drop, remove, get_or, suc, ◌<◌, All, Contains, IsPermutation, Option, Some, None, option_map, cond, refl, ap, sym, subst, ◌∙◌, arith}
 use Rattle.std.specs.List.{count_by, find, filter_map, cons_option}
 use Rattle.std.proofs.lemmas.Bool.{eq-eqb, eqb-true}
-use Rattle.std.proofs.lemmas.List.{map-append}
+use Rattle.std.proofs.lemmas.List.{map-append, take-append-drop}
+use Rattle.std.proofs.Math.Seq.{drop-cons}
 use Rattle.std.proofs.lemmas.Simd.{map-map}
 use Rattle.std.proofs.lemmas.List.Elements.{All-nil, All-cons, All-head, All-tail, All-weaker, All-contains, All-contains_itself, Contains-append_left}
-use Rattle.std.proofs.lemmas.List.Sorted.{IsPermutation-refl, IsPermutation-sym, IsPermutation-trans, IsPermutation-cons, IsPermutation-middle, IsPermutation-map, IsPermutation-to_front, All-permutation, Contains-permutation}
+use Rattle.std.proofs.lemmas.List.Sorted.{IsPermutation-refl, IsPermutation-sym, IsPermutation-trans, IsPermutation-cons, IsPermutation-middle, IsPermutation-map, IsPermutation-to_front, IsPermutation-append_comm, IsPermutation-remove, All-permutation, Contains-permutation}
 use Rattle.guillotiere.specs.declared.allocation.Allocation.{Allocation}
 use Rattle.guillotiere.specs.declared.change.Change.{Change}
 use Rattle.guillotiere.specs.Boxes.{Sides, box_sides, covers, IsWithin}
@@ -13,8 +14,8 @@ use Rattle.guillotiere.specs.Pixels.{box_of}
 use Rattle.guillotiere.specs.Rearranging.{KeepsSides, transfer_of}
 use Rattle.guillotiere.specs.Refits.{Transfer, Rearrangement}
 use Rattle.guillotiere.specs.Replies.{grant_of}
-use Rattle.guillotiere.specs.States.{State, live_in, IsSound}
-use Rattle.guillotiere.specs.StepLaws.{IsGrantStep}
+use Rattle.guillotiere.specs.States.{State, live_in, IsLive, IsSound}
+use Rattle.guillotiere.specs.StepLaws.{IsGrantStep, IsFreeingStep}
 use Rattle.guillotiere.specs.Steps.{Step}
 use Rattle.guillotiere.specs.Steps.AtlasCall.{ResizeAndRearrange}
 use Rattle.guillotiere.specs.Steps.AtlasReply.{Changed}
@@ -26,10 +27,12 @@ use Rattle.guillotiere.proofs.Counting.{count_by-cons, count_by-append, count_so
 use Rattle.guillotiere.proofs.CallerLemmas.{count_by-permutation, count_by-map, Contains-map, Contains-find, find-counted_once, find-uncounted, uncounted-find}
 use Rattle.guillotiere.proofs.Guarding.{live_are_guarded}
 use Rattle.guillotiere.proofs.LiveBoxes.{few_live}
+use Rattle.uses.proofs.Freeing.{first_live, others_live}
+use Rattle.uses.proofs.Keyed.{once_more, uncounted as keys_uncounted}
 use Rattle.uses.specs.declared.repack.Held.{Held}
 use Rattle.uses.specs.declared.repack.Move.{Move}
 use Rattle.uses.specs.declared.repack.Picture.{Picture}
-use Rattle.uses.specs.Pictures.{Pictures, AreKeyedOnce, IsRepacked, area_in, HoldsLive, shown, before_move, after_move, move_by, kept_by, loss, loss_by}
+use Rattle.uses.specs.Pictures.{Pictures, AreKeyedOnce, IsRepacked, IsTaken, area_in, HoldsLive, shown, before_move, after_move, move_by, kept_by, loss, loss_by}
 
 abbrev pub granted : Held → Grant
 granted h = grant_of h.grant
@@ -327,17 +330,63 @@ module _ (old new : State) (r : Sides) (hs : List Held) (h : Held) (step : IsGra
         (IsPermutation-cons (granted h) (live_in old) (map granted hs) holds.live)
         (IsPermutation-sym (map granted hs ++ granted h ∷ []) (granted h ∷ map granted hs) (IsPermutation-to_front (map granted hs) (granted h)))));
     once = λ k.
-        let all : count_by (has_key k) (map shown (hs ++ h ∷ [])) ≡ count_by (has_key k) (map shown hs) + count_by (has_key k) (shown h ∷ []) =
-        ap (count_by (has_key k)) (map-append shown hs (h ∷ [])) ∙ count_by-append (has_key k) (map shown hs) (shown h ∷ []) in
-        let one : count_by (has_key k) (shown h ∷ []) ≡ one_if (h.key == k) + 0 = count_by-cons (has_key k) (shown h) [] in
-        by_key k (h.key == k) refl all one (holds.once k);
+        omega (
+          arith,
+          once_more (λ p. p.key) (shown h) (map shown hs) uncounted holds.once k,
+          count_by-permutation (has_key k) (shown h ∷ map shown hs) (map shown (hs ++ h ∷ []))
+              (IsPermutation-map shown (h ∷ hs) (hs ++ h ∷ []) (IsPermutation-append_comm (h ∷ []) hs)),
+        );
   }
-    where
-      by_key : (k : ℕ) (b : Bool) → (h.key == k) ≡ b
-          → count_by (has_key k) (map shown (hs ++ h ∷ [])) ≡ count_by (has_key k) (map shown hs) + count_by (has_key k) (shown h ∷ [])
-          → count_by (has_key k) (shown h ∷ []) ≡ one_if b + 0 → count_by (has_key k) (map shown hs) ≤ 1
-          → count_by (has_key k) (map shown (hs ++ h ∷ [])) ≤ 1
-      by_key k true e all one few =
-          let same : count_by (has_key k) (map shown hs) ≡ 0 = subst (λ j. count_by (has_key j) (map shown hs) ≡ 0) (eqb-true h.key k e) uncounted in
-          omega arith
-      by_key k false e all one few = omega arith
+
+-- a picture is taken out
+module _ (old : State) (hs : List Held) (at : ℕ) (h : Held) (holds : HoldsLive old hs) (below : at < length hs) (is : h ≡ get_or hs at h) where
+  abbrev rest : List Held
+  rest = remove hs at
+
+  order : IsPermutation hs (h ∷ rest)
+  order = IsPermutation-remove hs at h below is
+
+  front : IsPermutation (live_in old) (granted h ∷ map granted rest)
+  front = IsPermutation-trans (live_in old) (map granted hs) (granted h ∷ map granted rest) holds.live
+      (IsPermutation-map granted hs (h ∷ rest) order)
+
+  pub taken_live : IsLive old h.grant.id
+  taken_live = first_live old (granted h) (map granted rest) front
+
+  counted : (k : ℕ) → one_if (h.key == k) + count_by (has_key k) (map shown rest) ≤ 1
+  counted k =
+      let counts = count_by-cons (has_key k) (shown h) (map shown rest) in
+      let same = count_by-permutation (has_key k) (map shown hs) (shown h ∷ map shown rest) (IsPermutation-map shown hs (h ∷ rest) order) in
+      omega (arith, holds.once k, counts, same)
+
+  pub taken_holds : (new : State) → IsFreeingStep old h.grant.id new → HoldsLive new rest
+  taken_holds new does = record {
+    live = others_live old (granted h) (map granted rest) front new does;
+    once = λ k. omega (arith, counted k);
+  }
+
+  module _ (key : ℕ) (named : (get_or hs at h).key ≡ key) where
+    pub taken : IsTaken (map shown hs) key (map shown rest)
+    taken = record {
+      before = map shown (take at hs);
+      picture = shown h;
+      after = map shown (drop (suc at) hs);
+      was = ap (map shown) all ∙ map-append shown (take at hs) (h ∷ drop (suc at) hs);
+      is = map-append shown (take at hs) (drop (suc at) hs);
+      named = ap (λ k. k.key) is ∙ named;
+    }
+      where
+        all : hs ≡ take at hs ++ h ∷ drop (suc at) hs
+        all = sym (take-append-drop at hs)
+            ∙ ap (λ l. take at hs ++ l) (drop-cons hs at h below ∙ ap (λ k. k ∷ drop (suc at) hs) (sym is))
+
+    pub taken_gone : area_in (map shown rest) key ≡ None
+    taken_gone =
+        let one = ap one_if (eq-eqb h.key key (ap (λ k. k.key) is ∙ named)) in
+        ap (option_map (λ (p : Picture). p.area)) (find-uncounted (has_key key) (map shown rest) (omega (arith, counted key, one)))
+
+-- a key that nothing has
+pub absent_area : (key : ℕ) (hs : List Held) → All (λ h. h.key ≡ key → ⊥) hs → area_in (map shown hs) key ≡ None
+absent_area key hs none =
+    area_found key hs
+    ∙ ap (option_map (λ (h : Held). h.grant.rectangle)) (find-uncounted (λ (h : Held). h.key == key) hs (keys_uncounted (λ h. h.key) key hs none))

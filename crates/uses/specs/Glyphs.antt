@@ -1,10 +1,10 @@
 -- What a cache of glyphs holds, and what it keeps.
-use Rattle.std.specs.Prelude.{◌≡◌, ℕ, ◌+◌, ◌*◌, ◌<◌, ◌≤◌, ◌==◌, pos, ◌+ℤ◌, ◌-ℤ◌, ◌≤ℤ◌, Bool, List, ◌∷◌, [], ◌++◌, map, find, count_by, drop, All, Option, option_map}
+use Rattle.std.specs.Prelude.{◌≡◌, ℕ, ◌+◌, ◌*◌, ◌<◌, ◌≤◌, ◌==◌, pos, ◌+ℤ◌, ◌-ℤ◌, ◌≤ℤ◌, Bool, List, ◌∷◌, [], ◌++◌, map, find, count_by, drop, All, IsPermutation, Option, option_map}
 use Rattle.guillotiere.specs.declared.geometry.Rectangle.{Rectangle}
 use Rattle.guillotiere.specs.declared.options.TheConstants.{DEFAULT_OPTIONS}
 use Rattle.guillotiere.specs.Boxes.{Sides, box_sides, AreDisjoint, Fits, IsPositive}
 use Rattle.guillotiere.specs.Pixels.{box_of, options_of}
-use Rattle.guillotiere.specs.Trees.{Grant, grant}
+use Rattle.guillotiere.specs.Trees.{grant}
 use Rattle.guillotiere.specs.States.{State, live_in, IsSound}
 use Rattle.uses.specs.declared.glyph_cache.Glyph.{Glyph}
 
@@ -29,7 +29,7 @@ NeverOverlap c = AreDisjoint (map (λ g. box_of g.area) c.glyphs)
 
 -- what is live in the atlas is what the glyphs hold, each as often
 abbrev pub HoldsLive : State → List Glyph → Type 0
-HoldsLive s glyphs = (p : Grant → Bool) → count_by p (map (λ g. grant g.id (box_of g.area)) glyphs) ≡ count_by p (live_in s)
+HoldsLive s glyphs = IsPermutation (live_in s) (map (λ g. grant g.id (box_of g.area)) glyphs)
 
 -- no number has two glyphs
 abbrev pub AreOnce : List Glyph → Type 0

@@ -1,5 +1,5 @@
 -- A cache of pictures that repacks: what it holds, and what a repacking does with it.
-use Rattle.std.specs.Prelude.{ℕ, ◌≡◌, ◌==◌, ◌≤◌, List, ◌++◌, map, find, count_by, All, IsPermutation, Option, Some, None, option_map}
+use Rattle.std.specs.Prelude.{ℕ, ◌≡◌, ◌==◌, ◌≤◌, List, ◌∷◌, ◌++◌, map, find, count_by, All, IsPermutation, Option, Some, None, option_map}
 use Rattle.guillotiere.specs.declared.change.Change.{Change}
 use Rattle.guillotiere.specs.declared.geometry.Rectangle.{Rectangle}
 use Rattle.guillotiere.specs.Boxes.{Sides, IsWithin, AreDisjoint, box_sides}
@@ -42,6 +42,15 @@ pub record IsRepacked (size : Sides) (old : Pictures) (moves : List Move) (lost 
   pub resized : (state_of new.atlas).size ≡ size
   pub within : All (λ m. IsWithin size (box_of m.to)) moves
   pub apart : AreDisjoint (map (λ m. box_of m.to) moves)
+
+-- a picture is taken out, and the others keep their order
+pub record IsTaken (old : List Picture) (key : ℕ) (new : List Picture) : Type 0 where
+  pub before : List Picture
+  pub picture : Picture
+  pub after : List Picture
+  pub was : old ≡ before ++ picture ∷ after
+  pub is : new ≡ before ++ after
+  pub named : picture.key ≡ key
 
 -- what is shown of what is held
 abbrev pub shown : Held → Picture

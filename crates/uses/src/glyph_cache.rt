@@ -1,5 +1,5 @@
 //! A cache of glyphs in an atlas: the least recently used glyph is the first to go.
-ghost use Rattle.std.specs.Prelude.{◌≡◌, ◌<◌, ◌≤◌, ◌*◌, ◌++◌, ◌∷◌, ◌↔◌, [], drop, length, vec_len, vec_capacity, false, None, Some, Ok, option_map, IsTrue, IfErr, IfOk, IfSome, IfNone, OnSome, OnErr, IsOkUnless, All, ◌+ℤ◌, ◌-ℤ◌, pos, FitsSigned};
+ghost use Rattle.std.specs.Prelude.{◌≡◌, ℕ, ◌<◌, ◌≤◌, ◌+◌, ◌-◌, ◌*◌, ◌↔◌, [], count_by, drop, length, false, None, Some, Ok, option_map, IsTrue, IfErr, IfOk, IfSome, IfNone, OnSome, OnErr, OnOk, IsOkUnless, All, ◌+ℤ◌, ◌-ℤ◌, pos, FitsSigned};
 ghost use Rattle.std.specs.Int.{w32};
 ghost use Rattle.std.specs.List.{HoldsAt};
 ghost use Rattle.guillotiere.specs.Boxes.{box_sides, Fits, IsPositive};
@@ -7,7 +7,7 @@ ghost use Rattle.guillotiere.specs.Choice.{HasNoRoom};
 ghost use Rattle.guillotiere.specs.Pixels.{box_of, sides_of, size_of};
 ghost use Rattle.guillotiere.specs.States.{free_in, live_in};
 ghost use Rattle.uses.specs.declared.glyph_cache.Glyph.{Glyph as Entry};
-ghost use Rattle.uses.specs.Glyphs.{area_in, inset, square, padded, AddsLast, HasBorder, HasPlace, IsEvicted, IsKept, IsLast, IsPlaced, NeverOverlap};
+ghost use Rattle.uses.specs.Glyphs.{Cache, area_in, has_number, inset, square, padded, AddsLast, HasBorder, HasPlace, IsEvicted, IsKept, IsLast, IsPlaced, NeverOverlap};
 ghost use Rattle.uses.specs.Shortages.{IsShortage};
 
 use guillotiere::{AllocId, AtlasAllocator, AtlasError, Rectangle, Size, point2, size2};
@@ -45,16 +45,6 @@ impl<A: Allocator + Copy> Model for GlyphCache<A> {
     ghost view = { λ a. record { atlas = state_of a.atlas; glyphs = a.glyphs.items; most = a.most; padding = a.padding } };
 
     ghost invariant = { λ a. IsKept (record { atlas = state_of a.atlas; glyphs = a.glyphs.items; most = a.most; padding = a.padding }) };
-}
-
-// Appends to a vector that has room.
-fn append<T: Drop, A: Allocator>(items: &mut Vec<T, A>, item: T)
-    requires { vec_len items.old < vec_capacity items.old }
-    ensures { items.new.items ≡ items.old.items ++ item ∷ [] }
-{
-    if items.push(item).is_err() {
-        unreachable!();
-    }
 }
 
 // Where a glyph stands in a list.
@@ -212,11 +202,7 @@ impl<A: Allocator + Copy> GlyphCache<A> {
             if let Some(area) = self.place(number, size)? {
                 return Ok(Some(area));
             }
-            self.prove_kept();
-            if !self.double()? && !self.evict() {
-                // what fits an empty atlas of the greatest size had room there
-                unreachable!();
-            }
+            self.make_room(size)?;
         }
     }
 
@@ -240,17 +226,18 @@ impl<A: Allocator + Copy> GlyphCache<A> {
         ensures here { IfSome result (λ area. area_in self.new number ≡ Some area) }
         ensures rest { self.new ≡ record self.old { glyphs = self.new.glyphs } }
         ensures none { IfNone result (self.new ≡ self.old) }
+        ensures absent { IfNone result (count_by (has_number number) self.old.glyphs ≡ 0) }
     {
         let at = place_of(&self.glyphs, number)?;
         let glyph = self.glyphs.remove(at);
         let area = glyph.area;
-        append(&mut self.glyphs, glyph);
+        self.glyphs.push_reserved(glyph);
         Some(area)
     }
 
     // Places a new glyph without letting any go; None where the atlas has no room.
     fn place(&mut self, number: u32, size: Size) -> Result<Option<Rectangle>, AtlasError>
-        requires new { area_in self.old number ≡ None }
+        requires new { count_by (has_number number) self.old.glyphs ≡ 0 }
         requires wide { 2 * self.old.padding ≤ (sides_of size).width }
         requires high { 2 * self.old.padding ≤ (sides_of size).height }
         ensures placed { IfOk result (λ placed. IfSome placed (λ area.
@@ -270,7 +257,7 @@ impl<A: Allocator + Copy> GlyphCache<A> {
             id: granted.id,
             area,
         };
-        append(&mut self.glyphs, glyph);
+        self.glyphs.push_reserved(glyph);
         Ok(Some(area))
     }
 
@@ -296,22 +283,43 @@ impl<A: Allocator + Copy> GlyphCache<A> {
         Ok(true)
     }
 
-    // Lets the least recently used glyph go; `false` if there is none.
-    fn evict(&mut self) -> bool
+    // Lets the least recently used glyph go.
+    fn evict(&mut self)
+        requires { 1 ≤ length self.old.glyphs }
+        ensures some { 1 ≤ length self.old.glyphs }
         ensures gone { self.new.glyphs ≡ drop 1 self.old.glyphs }
-        ensures some { IsTrue result → 1 ≤ length self.old.glyphs }
-        ensures none { result ≡ false → self.old.glyphs ≡ [] }
         ensures size { self.new.atlas.size ≡ self.old.atlas.size }
         ensures most { self.new.most ≡ self.old.most }
         ensures padding { self.new.padding ≡ self.old.padding }
     {
-        if self.glyphs.is_empty() {
-            return false;
-        }
         let oldest = self.glyphs.remove(0);
         let freed = self.atlas.deallocate(oldest.id);
         prove!(freed.is_ok());
-        true
+    }
+
+    // Doubles the atlas, or at its greatest size lets the least recently used glyph go. What fits an empty atlas of that
+    // size has no room, so there is a glyph.
+    fn make_room(&mut self, size: Size) -> Result<(), AtlasError>
+        requires full { HasNoRoom (free_in self.old.atlas) self.old.atlas.options (sides_of size) }
+        requires positive { IsPositive (sides_of size) }
+        requires fits { Fits (sides_of size) (square self.old.most) }
+        ensures evicted { OnOk result ((first : Cache) → IsEvicted first self.old self.old.glyphs
+            → IsEvicted first self.new self.new.glyphs) }
+        ensures fewer { OnOk result ((number : ℕ) → count_by (has_number number) self.new.glyphs
+            ≤ count_by (has_number number) self.old.glyphs) }
+        ensures less { OnOk result ((self.new.most - self.new.atlas.size.width) + length self.new.glyphs
+            < (self.old.most - self.old.atlas.size.width) + length self.old.glyphs) }
+        ensures most { self.new.most ≡ self.old.most }
+        ensures padding { self.new.padding ≡ self.old.padding }
+        ensures refused { OnErr result (self.new ≡ self.old) }
+        ensures errors { IfErr result IsShortage }
+    {
+        if self.double()? {
+            return Ok(());
+        }
+        self.prove_kept();
+        self.evict();
+        Ok(())
     }
 }
 

@@ -1,13 +1,14 @@
 //! A cache of pictures in an atlas, which packs them anew and says which pixels to copy where.
-ghost use Rattle.std.specs.Prelude.{◌≡◌, ◌==◌, ◌≤◌, ◌++◌, ◌∷◌, [], find, length, vec_capacity, None, Ok, IfErr, IfOk, IfSome, IsOkUnless, OnErr};
-ghost use Rattle.std.specs.List.{filter_map};
+ghost use Rattle.std.specs.Prelude.{◌≡◌, ◌==◌, ◌<◌, ◌≤◌, ◌++◌, ◌∷◌, [], find, length, vec_capacity, false, All, None, Ok, IfErr, IfNone, IfOk, IfSome, IsOkUnless, IsTrue, OnErr};
+ghost use Rattle.std.specs.List.{filter_map, HoldsAt};
 ghost use Rattle.guillotiere.specs.Boxes.{IsPositive, box_sides};
 ghost use Rattle.guillotiere.specs.Choice.{HasNoRoom, rounded};
 ghost use Rattle.guillotiere.specs.Pixels.{box_of, options_of, sides_of};
 ghost use Rattle.guillotiere.specs.States.{free_in};
 ghost use Rattle.guillotiere.specs.Stored.{state_of};
 ghost use Rattle.guillotiere.specs.declared.error.AtlasError.TheVariants as error;
-ghost use Rattle.uses.specs.Pictures.{IsRepacked, area_in, kept_by, loss_by, move_by};
+ghost use Rattle.uses.specs.declared.repack.Held.{Held as Kept};
+ghost use Rattle.uses.specs.Pictures.{IsRepacked, IsTaken, area_in, kept_by, loss_by, move_by};
 ghost use Rattle.uses.specs.Shortages.{IsShortage};
 
 use guillotiere::{AllocId, Allocation, AtlasAllocator, AtlasError, Change, Rectangle, Size};
@@ -110,6 +111,24 @@ impl PictureCache {
         Ok(Some(area))
     }
 
+    /// Takes a picture out and frees its rectangle; the others keep their order. Whether the cache held it; if not,
+    /// nothing changes. Takes no memory.
+    pub fn remove(&mut self, key: u32) -> bool
+        ensures taken { IsTrue result → IsTaken self.old.held key self.new.held }
+        ensures none { result ≡ false → self.new ≡ self.old }
+        ensures gone { area_in self.new.held key ≡ None }
+    {
+        let PictureCache { atlas, held } = self;
+        atlas.prove_sound();
+        let Some(at) = place_for(held, key) else {
+            return false;
+        };
+        let picture = held.remove(at);
+        let freed = atlas.deallocate(picture.grant.id);
+        prove!(freed.is_ok());
+        true
+    }
+
     /// Packs the pictures anew, the largest first. Each is moved or lost. After an error, `Memory` or `Slots`, everything
     /// is as before.
     pub fn repack(&mut self) -> Result<Repacking, AtlasError>
@@ -150,6 +169,15 @@ fn held_for(held: &[Held], key: u32) -> Option<Held>
     ensures { result ≡ find (λ h. h.key == key) held.now }
 {
     held.iter().copied().find(|held| held.key == key)
+}
+
+// Where a key stands in what is held, if it does.
+fn place_for(held: &[Held], key: u32) -> Option<usize>
+    ensures inside { IfSome result (λ at. at < length held.now) }
+    ensures found { IfSome result (λ at. HoldsAt (λ (h : Kept). h.key ≡ key) held.now at) }
+    ensures none { IfNone result (All (λ (h : Kept). h.key ≡ key → ⊥) held.now) }
+{
+    held.iter().position(|held| held.key == key)
 }
 
 // The change of an id, if there is one.

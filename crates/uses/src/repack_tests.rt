@@ -63,6 +63,21 @@ fn repacked(rt: HostRuntime) {
     }
 }
 
+// What is taken out leaves room for another.
+#[test]
+fn removed(rt: HostRuntime) {
+    let mut cache = filled(&rt, rt.alloc());
+    assert!(&rt; !cache.remove(3));
+    assert!(&rt; cache.remove(5));
+    assert!(&rt; !cache.remove(5));
+    assert!(&rt; cache.get(5) == None);
+    for k in [0_usize, 2, 3] {
+        assert!(&rt; cache.get(KEYS[k]) == Some(rectangle(FIRST[k])), "get {k}");
+    }
+    let area = cache.put(3, size2(60, 60)).expect(&rt, "memory");
+    assert!(&rt; area == Some(rectangle(FIRST[1])));
+}
+
 #[test]
 fn resized(rt: HostRuntime) {
     let mut cache = filled(&rt, rt.alloc());
