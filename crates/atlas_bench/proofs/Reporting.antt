@@ -2,13 +2,13 @@
 use Rattle.std.proofs.Common.{◌≡◌, ℕ, ◌+◌, ◌<◌, List, [], ◌∷◌, ◌++◌, Option, Some, None, IfSome, length, drop, get_or, refl, sym, ◌∙◌, ap, subst, append_assoc, append-nil, add-one, drop-cons}
 use Rattle.std.specs.Io.KnownBytes.{Appends}
 use Rattle.atlas_lines.proofs.Known.{Appends_none, Appends_twice}
-use Rattle.atlas_lines.specs.Devices.{Holds}
+use Rattle.atlas_lines.specs.Devices.{HoldsBytes}
 use Rattle.atlas_bench.specs.declared.answers.Answers.{Answers}
 use Rattle.atlas_bench.specs.declared.workload.Job.{Job}
 use Rattle.atlas_bench.specs.Reports.{report_text, Reports}
 use Rattle.atlas_bench.specs.Workloads.{Makes}
 
--- the jobs before this index were reported
+-- The jobs before this index were reported.
 pub record HasReported (jobs : List Job) (index : ℕ) (out_old out_new : Option (List ℕ)) : Type 0 where
   pub text : List ℕ
   pub written : Appends out_old out_new text
@@ -36,7 +36,7 @@ all_reported jobs index old new before end =
     let P : List Job → Type 0 = λ rest. Reports rest [] in
     subst (Reports jobs) (append-nil before.text) (before.others [] (subst P (sym end) refl))
 
--- what was read is all that there was
-pub read_all : (known : Option (List ℕ)) (before after bytes : List ℕ) → IfSome known (λ xs. after ≡ before ++ xs) → before ≡ [] → bytes ≡ after → Holds known bytes
+-- What was read is all that there was.
+pub read_all : (known : Option (List ℕ)) (before after bytes : List ℕ) → IfSome known (λ xs. after ≡ before ++ xs) → before ≡ [] → bytes ≡ after → HoldsBytes known bytes
 read_all None before after bytes h e f = tt
 read_all (Some xs) before after bytes h e f = sym (f ∙ h ∙ ap (λ (ys : List ℕ). ys ++ xs) e)

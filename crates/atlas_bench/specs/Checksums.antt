@@ -6,26 +6,26 @@ use Rattle.guillotiere.specs.declared.change.Change.{Change}
 use Rattle.guillotiere.specs.declared.geometry.Point.{Point}
 use Rattle.guillotiere.specs.declared.geometry.Rectangle.{Rectangle}
 
--- a checksum after one more word: FNV-1a, by words of 64 bits
+-- A checksum after one more word: FNV-1a, by words of 64 bits.
 abbrev pub with_word : (checksum word : ℕ) → ℕ
 with_word checksum word = bit_xor checksum word * 0x100000001b3 % 2 ^ 64
 
--- a point as a word
+-- A point as a word.
 abbrev pub point_word : Point → ℕ
 point_word p = cast_unsigned w32 p.x * 2 ^ 32 + cast_unsigned w32 p.y
 
--- a checksum after a box that has no id
+-- A checksum after a box that has no id.
 abbrev pub with_box : (checksum : ℕ) → Rectangle → ℕ
 with_box checksum r = with_word (with_word checksum (point_word r.min)) (point_word r.max)
 
--- a checksum after a granted box
+-- A checksum after a granted box.
 abbrev pub with_grant : (checksum : ℕ) → Allocation → ℕ
 with_grant checksum a = with_box (with_word checksum a.id) a.rectangle
 
--- a checksum after what a box was and what it became
-abbrev pub with_change : (checksum : ℕ) → Change → ℕ
-with_change checksum c = with_grant (with_grant checksum c.old) c.new
+-- A checksum after what a box was and what it became.
+abbrev pub with_moved : (checksum : ℕ) → Change → ℕ
+with_moved checksum c = with_grant (with_grant checksum c.old) c.new
 
--- a checksum after both lists of a rearranging
+-- A checksum after both lists of a rearranging.
 abbrev pub with_list : (checksum : ℕ) → List Change → List Allocation → ℕ
-with_list checksum changes failures = fold with_grant (fold with_change checksum changes) failures
+with_list checksum changes failures = fold with_grant (fold with_moved checksum changes) failures

@@ -3,11 +3,14 @@ use Rattle.std.specs.Prelude.{◌≡◌, ℕ, ◌+◌, ◌*◌, ◌^◌, ◌<◌
 use Rattle.guillotiere.specs.declared.geometry.Size.{Size}
 use Rattle.atlas_bench.specs.SplitMix.{next_state, number_below, size_between}
 use Rattle.atlas_bench.specs.declared.workload.Workload.{Workload}
-use Rattle.atlas_bench.specs.declared.workload.Workload.TheVariants.{Glyph, Record, Sprite, SortedSprite, Checker, Search, Growth, Rearrange, Glyph1024, Glyph4096, Glyph8192, Glyph16384, Mixed4096, Tiles, Sheet, Sheet16384}
+use Rattle.atlas_bench.specs.declared.workload.Workload.TheVariants.{Glyph, Record, Sprite, SortedSprite, Checker}
+use Rattle.atlas_bench.specs.declared.workload.Workload.TheVariants.{Search, Growth, Rearrange, Glyph1024, Glyph4096}
+use Rattle.atlas_bench.specs.declared.workload.Workload.TheVariants.{Glyph8192, Glyph16384, Mixed4096, Tiles, Sheet}
+use Rattle.atlas_bench.specs.declared.workload.Workload.TheVariants.{Sheet16384}
 use Rattle.atlas_bench.specs.declared.sizes.Kind.{Kind}
 use Rattle.atlas_bench.specs.declared.sizes.Kind.TheVariants.{Glyphs, Sprites}
 
--- the name of a workload
+-- The name of a workload.
 abbrev pub name : Workload → List ℕ
 name Glyph = codes "glyph"
 name Record = codes "record"
@@ -26,7 +29,7 @@ name Tiles = codes "tiles"
 name Sheet = codes "sheet"
 name Sheet16384 = codes "sheet-16384"
 
--- its greatest size
+-- Its greatest size.
 abbrev pub most_size : Workload → ℕ
 most_size Glyph = 1000000000
 most_size Record = 10000000
@@ -65,7 +68,7 @@ Makes Tiles size calls = calls ≡ 24576 + size
 Makes Sheet size calls = calls ≡ size
 Makes Sheet16384 size calls = calls ≡ size
 
--- the size of the next sprite: of ten six have sides of 16 to 64, three of 32 to 96, one of 64 to 160
+-- The size of the next sprite: of ten six have sides of 16 to 64, three of 32 to 96, one of 64 to 160.
 abbrev pub sprite_size : (state : ℕ) → Size
 sprite_size state =
     let kind = number_below state 10 in
@@ -74,12 +77,12 @@ sprite_size state =
     else if nat_lt kind 9 then size_between after 32 96
     else size_between after 64 160
 
--- the size of this kind that is drawn next
+-- The size of this kind that is drawn next.
 abbrev pub drawn_size : Kind → (state : ℕ) → Size
 drawn_size Glyphs state = size_between state 8 64
 drawn_size Sprites state = sprite_size state
 
--- the state after it: a size takes two steps, a sprite's one more
+-- The state after it: a size takes two steps, a sprite's one more.
 abbrev pub state_after : Kind → (state : ℕ) → ℕ
 state_after Glyphs state = next_state (next_state state)
 state_after Sprites state = next_state (next_state (next_state state))

@@ -1,6 +1,6 @@
 //! What a workload was answered.
 ghost use Rattle.std.specs.Prelude.{◌≡◌, ◌<◌, ◌+◌, ◌^◌, fold};
-ghost use Rattle.atlas_bench.specs.Checksums.{with_word, with_box, with_grant, with_change, with_list, point_word};
+ghost use Rattle.atlas_bench.specs.Checksums.{with_word, with_box, with_grant, with_moved, with_list, point_word};
 
 use guillotiere::{Allocation, Change, ChangeList, Point, Rectangle};
 use std::marker::Model;
@@ -90,7 +90,7 @@ impl Answers {
     fn add_changes(&mut self, changes: &[Change])
         ensures { self.new ≡ record {
           calls = self.old.calls;
-          checksum = fold with_change self.old.checksum changes.now;
+          checksum = fold with_moved self.old.checksum changes.now;
         } }
     {
         for change in changes {

@@ -72,8 +72,8 @@ impl BoxCache {
     }
 }
 
-/// Requests boxes of this kind, one after another, in an atlas of this side, in pixels. Where one has no room a random box
-/// goes, and it is requested again.
+/// Requests boxes of this kind, one after another, in an atlas of this side, in pixels. Where one has no room a random
+/// box goes, and it is requested again.
 pub fn cache(alloc: Global, kind: Kind, side: u16, calls: u32) -> Result<Answers, BenchError>
     requires { 1 ≤ side }
     ensures { IfOk result (λ it. it.calls ≡ calls) }
@@ -111,8 +111,8 @@ fn half_tiled(alloc: Global) -> Result<BoxCache, BenchError>
     Ok(cache)
 }
 
-/// Fills an atlas of 2048x2048 pixels with tiles of 16x16 and frees a random half. Then so many calls request a tile and
-/// free a random one in turn.
+/// Fills an atlas of 2048x2048 pixels with tiles of 16x16 and frees a random half. Then so many calls request a tile
+/// and free a random one in turn.
 pub fn tiles(alloc: Global, calls: u32) -> Result<Answers, BenchError>
     ensures { IfOk result (λ it. it.calls ≡ 24576 + calls) }
 {

@@ -21,8 +21,10 @@ fn enlarged(size: Size, limit: i32) -> Option<Size>
     requires wide { pos 0 ≤ℤ size.width }
     requires high { pos 0 ≤ℤ size.height }
     requires limit { limit ≤ℤ pos 32768 }
-    ensures wide { IfSome result (λ it. size.width ≤ℤ size.height → it ≡ record { width = size.width *ℤ pos 2; height = size.height }) }
-    ensures high { IfSome result (λ it. size.height <ℤ size.width → it ≡ record { width = size.width; height = size.height *ℤ pos 2 }) }
+    ensures wide { IfSome result
+        (λ it. size.width ≤ℤ size.height → it ≡ record { width = size.width *ℤ pos 2; height = size.height }) }
+    ensures high { IfSome result
+        (λ it. size.height <ℤ size.width → it ≡ record { width = size.width; height = size.height *ℤ pos 2 }) }
     ensures fits { IfSome result (λ it. Fits (sides_of size) (sides_of it)) }
     ensures none { result ≡ None → (limit ≤ℤ size.width) × (limit ≤ℤ size.height) }
 {
@@ -83,8 +85,8 @@ impl GrowingAtlas {
     }
 }
 
-/// Requests boxes with sides of 4 to 100 pixels, one after another, in an atlas of 64x64 at first. Where one has no room,
-/// the atlas grows and it is requested again, until both sides have reached the limit.
+/// Requests boxes with sides of 4 to 100 pixels, one after another, in an atlas of 64x64 at first. Where one has no
+/// room, the atlas grows and it is requested again, until both sides have reached the limit.
 pub fn growth(alloc: Global, limit: u32) -> Result<Answers, BenchError>
     requires { limit ≤ 32768 }
     ensures { IfOk result (λ it. it.calls < 2 ^ 32) }

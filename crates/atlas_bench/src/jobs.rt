@@ -1,7 +1,7 @@
 //! The jobs that lines of input spell.
 ghost use Rattle.std.specs.Prelude.{◌≡◌, ℕ, List, Err, IfSome, IfOk, IsSomeAnd};
 ghost use Rattle.atlas_bench.specs.declared.workload.Job.{Job};
-ghost use Rattle.atlas_bench.specs.Grammar.{Spells, SpellsAll};
+ghost use Rattle.atlas_bench.specs.Grammar.{SpellsJob, SpellsJobs};
 
 use crate::error::BenchError;
 use crate::workload::{Job, Workload};
@@ -10,8 +10,9 @@ use std::alloc::{AllocError, Global};
 
 // The job that the bytes of a line, without its LF, spell.
 fn parse_line(line: &[u8]) -> Option<Job>
-    ensures found { IfSome result (λ job. Spells job line.now) }
-    ensures only { (job : Job) → Spells job line.now → IsSomeAnd result (λ it. (it.workload ≡ job.workload) × (it.size ≡ job.size)) }
+    ensures found { IfSome result (λ job. SpellsJob job line.now) }
+    ensures only { (job : Job) → SpellsJob job line.now
+        → IsSomeAnd result (λ it. (it.workload ≡ job.workload) × (it.size ≡ job.size)) }
 {
     let (word, rest) = first_word(line);
     let workload = Workload::named(word)?;
@@ -25,8 +26,8 @@ fn parse_line(line: &[u8]) -> Option<Job>
 
 /// The jobs that the lines of a text spell. `BadLine` at the first line that spells none.
 pub fn jobs(alloc: Global, text: &[u8]) -> Result<Vec<Job>, BenchError>
-    ensures found { IfOk result (λ jobs. SpellsAll jobs.items text.now) }
-    ensures bad { (n : ℕ) (all : List Job) → result ≡ Err (BenchError.BadLine n) → SpellsAll all text.now → ⊥ }
+    ensures found { IfOk result (λ jobs. SpellsJobs jobs.items text.now) }
+    ensures bad { (n : ℕ) (all : List Job) → result ≡ Err (BenchError.BadLine n) → SpellsJobs all text.now → ⊥ }
 {
     let mut jobs = Vec::new(alloc);
     let mut rest = text;

@@ -9,7 +9,7 @@ short_decimal n h = length-decimal-le 20 n (omega arith) (omega arith) h
 pub length_step : (n : ℕ) → 10 ≤ n → n < 2 ^ 64 → length (decimal n) ≡ length (decimal (n / 10)) + 1
 length_step n low high = ap length (decimal_step n low high) ∙ length-append _ _
 
--- one more digit before those that stand
+-- One more digit before those that stand.
 pub one_digit_more : (n start : ℕ) (digits : List ℕ) → 10 ≤ n → n < 2 ^ 64 → 0 < start → start ≤ length digits
     → decimal (n / 10) ++ drop (start - 1) (set digits (start - 1) (48 + n % 10)) ≡ decimal n ++ drop start digits
 one_digit_more n start digits low high above within =
@@ -22,6 +22,6 @@ last_digit n start digits low above within =
     let e : (start - 1) + 1 ≡ start = omega arith in
     rw (drop-set digits (start - 1) _ (omega arith), e, decimal_digit n low) refl
 
--- four parts, added one after another
+-- Four parts, added one after another.
 pub four_parts : (t0 t1 t2 t3 t4 a b c d : List ℕ) → t1 ≡ t0 ++ a → t2 ≡ t1 ++ b → t3 ≡ t2 ++ c → t4 ≡ t3 ++ d → t4 ≡ t0 ++ (((a ++ b) ++ c) ++ d)
 four_parts t0 t1 t2 t3 t4 a b c d e f g h = rw (h, g, f, e) (simp append_assoc)

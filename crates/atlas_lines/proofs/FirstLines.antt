@@ -11,12 +11,12 @@ parts t l r m s hl hm (inl a) (inr b) = absurd (no_first l r m hm (sym b.0 ∙ a
 parts t l r m s hl hm (inr a) (inl b) = absurd (no_first m s l hl (sym a.0 ∙ b))
 parts t l r m s hl hm (inr a) (inr b) = (sym a.0 ∙ b.0, a.1 ∙ sym b.1)
 
--- a text has one first line
+-- A text has one first line.
 pub one_first_line : (text line rest other others : List ℕ)
     → BeginsWithLine text line rest → BeginsWithLine text other others → (line ≡ other) × (rest ≡ others)
 one_first_line text line rest other others a b = parts text line rest other others a.no_end b.no_end a.whole b.whole
 
--- what follows a first line is shorter
+-- What follows a first line is shorter.
 pub rest_shorter : (text line rest : List ℕ) → text ≢ [] → BeginsWithLine text line rest → length rest < length text
 rest_shorter text line rest some begins =
     elim begins.whole [

@@ -9,15 +9,15 @@ use Rattle.guillotiere.specs.Choice.{ComesFirst}
 use Rattle.guillotiere.specs.Pixels.{rectangle_of}
 use Rattle.guillotiere.specs.Trees.{Grant}
 use Rattle.guillotiere.specs.States.{State, live_in, free_in, IsSound}
-use Rattle.guillotiere.proofs.Counting.{count_by-cons, count_by-append}
-use Rattle.guillotiere.proofs.LiveBoxes.{sound_is_tiled}
-use Rattle.guillotiere.proofs.LyingApart.{covered_few}
-use Rattle.guillotiere.proofs.TreeBasics.{one_if, same_box-true, same_box-itself}
+use Rattle.guillotiere.proofs.ListLemmas.Counting.{count_by-cons, count_by-append}
+use Rattle.guillotiere.proofs.StepLemmas.LiveBoxes.{sound_is_tiled}
+use Rattle.guillotiere.proofs.StepLemmas.LyingApart.{covered_few}
+use Rattle.guillotiere.proofs.TreeLemmas.TreeBasics.{one_if, same_box-true, same_box-itself}
 use Rattle.atlas_lines.specs.Machine.{AreInOrder, HoldsHoles}
 
 -- ---- what is counted
 
--- a box that is counted in a list has what all its boxes have
+-- A box that is counted in a list has what all its boxes have.
 counted_has : (P : Box → Type 0) (y : Box) (xs : List Box) → 0 < count_by (same_box y) xs → All P xs → P y
 counted_has P y [] some all = absurd (omega arith)
 counted_has P y (x ∷ xs) some all = by_test (same_box y x) refl (λ more. counted_has P y xs more (All-tail P x xs all))
@@ -40,7 +40,7 @@ covers_corner b h =
     and_from _ _ (and_from _ _ (le-leb b.min.x b.min.x (omega arith)) (lt-ltb b.min.x b.max.x h.0))
     (and_from _ _ (le-leb b.min.y b.min.y (omega arith)) (lt-ltb b.min.y b.max.y h.1))
 
--- at most one of the boxes covers each unit square
+-- At most one of the boxes covers each unit square.
 abbrev pub CoverOnce : List Box → Type 0
 CoverOnce xs = (x y : ℕ) → count_by (covers x y) xs ≤ 1
 
@@ -59,7 +59,7 @@ covered_some y a b (x ∷ xs) covered some = by_test (same_box y x) refl (λ mor
         let some_rest = others (omega (arith, rest)) in
         omega (arith, more)
 
--- of boxes that share no unit square, two with the same corner are one
+-- Of boxes that share no unit square, two with the same corner are one.
 same_corner : (x y : Box) (xs : List Box) → CoverOnce (x ∷ xs) → IsNonempty x → IsNonempty y → 0 < count_by (same_box y) (x ∷ xs) → y.min.x ≡ x.min.x → y.min.y ≡ x.min.y → x ≡ y
 same_corner x y xs once hx hy some ex ey = by_test (same_box y x) refl
   where

@@ -12,7 +12,7 @@ use Rattle.atlas_lines.specs.Devices.{WritesBeginning}
 use Rattle.atlas_lines.specs.Lines.{HasNoEnd, ended, all_ended}
 use Rattle.atlas_lines.specs.Machine.{ToolState}
 use Rattle.atlas_lines.specs.Replies.{bad_line_text}
-use Rattle.atlas_lines.specs.Texts.{IsBad, LineOwes, OwesText}
+use Rattle.atlas_lines.specs.Texts.{IsBadLine, LineOwes, OwesText}
 use Rattle.atlas_lines.specs.Progress.{Place, state_at, Advances, IsCertainlyBad, MeetsBadLine, OwesBeginning, Stops, Continues, EndsBadly, EndsInReply, RepliesTo, LineEnds}
 use Rattle.atlas_lines.proofs.Blocks.{gathered_begins, gathered_begun, gathered_appends, gathered_written, gathered_twice, gathered_nothing}
 
@@ -31,7 +31,7 @@ owes_twice old middle new [] ys s t a b =
 owes_twice old middle new (x ∷ xs) ys s t a b =
     (a.0, a.1, a.2 ++ t, a.3, owes_twice a.0 middle new xs ys a.2 t a.4 b, ap (λ u. u ++ t) a.5 ∙ append_assoc a.1 a.2 t)
 
--- what follows whole lines and the line that has begun
+-- What follows whole lines and the line that has begun.
 regroup : (l x y p q all_first all_second rest : List ℕ) → l ++ x ≡ all_first ++ p → p ++ y ≡ all_second ++ rest → l ++ (x ++ y) ≡ (all_first ++ all_second) ++ rest
 regroup l x y p q f s rest a b = sym (append_assoc l x y) ∙ ap (λ u. u ++ y) a ∙ append_assoc f p y ∙ ap (λ u. f ++ u) b ∙ sym (append_assoc f s rest)
 
@@ -106,7 +106,7 @@ owes_more a x y t o = record {
   advances = o.advances;
 }
 
--- the run ended among the bytes that came next
+-- The run ended among the bytes that came next.
 pub stops_after : (end : Result ToolEnd ToolFault) (a b : Place) (x y s : List ℕ) (o p q : Option (List ℕ)) (before middle : List ℕ) → Advances a x s b → IsGathered o p middle (before ++ s)
     → Stops end b y p q middle → Stops end a (x ++ y) o q before
 stops_after (Ok (BadLine n)) a b x y s o p q before middle f w e = (
@@ -129,7 +129,7 @@ stops_after (Ok Done) a b x y s o p q before middle f w e = absurd e
 stops_after (Ok Limit) a b x y s o p q before middle f w e = absurd e
 stops_after (Err Read) a b x y s o p q before middle f w e = absurd e
 
--- the run ended before more bytes
+-- The run ended before more bytes.
 pub stops_before : (end : Result ToolEnd ToolFault) (a : Place) (x y : List ℕ) (o q : Option (List ℕ)) (before : List ℕ) → Stops end a x o q before → Stops end a (x ++ y) o q before
 stops_before (Ok (BadLine n)) a x y o q before e = (e.0, meets_more a x y e.0 n e.1, e.2)
 stops_before (Err Write) a x y o q before e =
@@ -150,7 +150,7 @@ advances_by_line old new text no_end owed line number = record {
   owed = (state_at new, text, [], owed, (refl, refl), sym (append-nil text));
 }
 
-bad_whole : (old : Place) (n : ℕ) → HasNoEnd old.line → IsBad old.line → n ≡ old.number + 1 → MeetsBadLine old (10 ∷ []) n (bad_line_text n)
+bad_whole : (old : Place) (n : ℕ) → HasNoEnd old.line → IsBadLine old.line → n ≡ old.number + 1 → MeetsBadLine old (10 ∷ []) n (bad_line_text n)
 bad_whole old n no_end bad number = record {
   lines = [];
   bad = old.line;
@@ -166,7 +166,7 @@ bad_whole old n no_end bad number = record {
   text_is = refl;
 }
 
--- a line and its LF
+-- A line and its LF.
 line_stops : (end : Result ToolEnd ToolFault) (old new : Place) (o q : Option (List ℕ)) (before after : List ℕ) → HasNoEnd old.line → LineEnds (Some end) old new o q before after
     → Stops end old (10 ∷ []) o q before
 line_stops (Ok (BadLine n)) old new o q before after h (inl bad) = (bad_line_text n, bad_whole old n h bad.0 bad.1.0, bad.1.1)
@@ -211,7 +211,7 @@ bad_long old byte n other no_end long number = record {
   text_is = refl;
 }
 
--- the byte that makes a line too long
+-- The byte that makes a line too long.
 pub long_stops : (end : Result ToolEnd ToolFault) (old : Place) (byte : ℕ) (o q : Option (List ℕ)) (before : List ℕ) → byte ≢ 10 → HasNoEnd old.line → 120 ≤ length old.line
     → EndsBadly end old o q before → Stops end old (byte ∷ []) o q before
 long_stops (Ok (BadLine n)) old byte o q before other h long e = (bad_line_text n, bad_long old byte n other h long e.0, e.1)
@@ -220,7 +220,7 @@ long_stops (Ok Done) old byte o q before other h long e = absurd e
 long_stops (Ok Limit) old byte o q before other h long e = absurd e
 long_stops (Err Read) old byte o q before other h long e = absurd e
 
--- one more byte of a block
+-- One more byte of a block.
 pub block_advances : (a b c : Place) (block : List ℕ) (i : ℕ) (s : List ℕ) (o p q : Option (List ℕ)) (before middle after : List ℕ) → i < length block → Advances a (take i block) s b
     → IsGathered o p middle (before ++ s) → (t : List ℕ) × Advances b (get_or block i 0 ∷ []) t c × IsGathered p q after (middle ++ t)
     → (u : List ℕ) × Advances a (take (i + 1) block) u c × IsGathered o q after (before ++ u)
@@ -240,7 +240,7 @@ block_stops end a b block i s o p q before middle h f w step =
     subst P parts (stops_before end a (take (i + 1) block) (drop (i + 1) block) o q before
     (subst P (sym (take_more block i 0 h)) (stops_after end a b (take i block) (get_or block i 0 ∷ []) s o p q before middle f w step)))
 
--- a byte that goes on with the line
+-- A byte that goes on with the line.
 pub byte_continues : (inside old : Place) (byte : ℕ) (line : List ℕ) (o : Option (List ℕ)) (before : List ℕ) → inside ≡ old → line ≡ inside.line ++ byte ∷ []
     → Continues None old (byte ∷ []) (record { held = inside.held; line = line; number = inside.number }) o o before before
 byte_continues inside old byte line o before e f = (
@@ -257,7 +257,7 @@ byte_continues inside old byte line o before e f = (
 
 -- ---- writing what waits
 
--- what waited was written, and then nothing waits
+-- What waited was written, and then nothing waits.
 pub line_written : (old new : Place) (o p q : Option (List ℕ)) (before middle : List ℕ) → RepliesTo old new o p before middle → Appends p q middle → RepliesTo old new o q before []
 line_written old new o p q before middle r w =
     record { text = r.text; owed = r.owed; gathered = gathered_written o p q middle (before ++ r.text) r.gathered w; line = r.line; number = r.number }

@@ -11,7 +11,7 @@ use Rattle.atlas_lines.specs.Grammar.{SpellsSize, SpellsAtlas, SpellsId, SpellsA
 use Rattle.atlas_lines.specs.Words.{HasNoSpace, IsEmptyOrSpaced, BeginsWithWord, SpellsInParts}
 use Rattle.atlas_lines.proofs.Parting.{one_word, numbers_spaced}
 
--- two texts that differ
+-- Two texts that differ.
 pub differ : (a b : List ℕ) → bytes_eq a b ≡ false → a ≡ b → ⊥
 differ a b e same = both_ways (bytes_eq a b) e ((bytes_eq-Decides a b).1 same)
 
@@ -69,13 +69,13 @@ arguments_spaced FromAtlas text spells = subst IsEmptyOrSpaced (sym spells) tt
 arguments_spaced (Record size) text spells = size_spaced size text spells
 arguments_spaced Replay text spells = subst IsEmptyOrSpaced (sym spells) tt
 
--- the first word of a line that spells a command is its keyword
+-- The first word of a line that spells a command is its keyword.
 pub in_parts : (c : Command) (line word rest : List ℕ) → BeginsWithWord line word rest → Spells c line → SpellsInParts c word rest
 in_parts c line word rest begins spells =
     let same = one_word line word rest (keyword c) spells.0 begins (record { whole = spells.1; no_space = keyword_no_space c; spaced = arguments_spaced c spells.0 spells.2 }) in
     (same.0, subst (SpellsArguments c) (sym same.1) spells.2)
 
--- each keyword begins one command alone
+-- Each keyword begins one command alone.
 pub only_simple : (c : Command) (word rest : List ℕ) → word ≡ codes "simple" → SpellsInParts c word rest → (size : Size) × (c ≡ Simple size) × SpellsSize size rest
 only_simple (Simple size) word rest e parts = (size, refl, parts.1)
 only_simple c word rest e parts = absurd (differ (codes "simple") (keyword c) refl (sym e ∙ parts.0))
@@ -152,7 +152,7 @@ pub no_bytes : (text : List ℕ) → length text ≡ 0 → text ≡ []
 no_bytes [] e = refl
 no_bytes (b ∷ bs) e = absurd (omega arith)
 
--- nothing follows the word of a command without arguments
+-- Nothing follows the word of a command without arguments.
 pub ends_alone : (c : Command) (rest : List ℕ) → SpellsArguments c [] → SpellsArguments c rest → rest ≡ []
 ends_alone (Simple size) rest alone spells = absurd (no_size size alone)
 ends_alone (Take size) rest alone spells = absurd (no_size size alone)
@@ -171,7 +171,7 @@ ends_alone Rearrange rest alone spells = spells
 ends_alone FromAtlas rest alone spells = spells
 ends_alone Replay rest alone spells = spells
 
--- no other word begins a command with arguments
+-- No other word begins a command with arguments.
 pub stands_alone : (c : Command) (word rest : List ℕ) → word ≢ codes "simple" → word ≢ codes "take" → word ≢ codes "atlas" → word ≢ codes "alloc" → word ≢ codes "free"
     → word ≢ codes "grow" → word ≢ codes "resize" → word ≢ codes "record" → SpellsInParts c word rest → SpellsArguments c []
 stands_alone (Simple size) word rest simple take atlas alloc free grow resize recorded parts = absurd (simple parts.0)
@@ -191,7 +191,7 @@ stands_alone FromAtlas word rest simple take atlas alloc free grow resize record
 stands_alone Replay word rest simple take atlas alloc free grow resize recorded parts = refl
 stands_alone (Record size) word rest simple take atlas alloc free grow resize recorded parts = absurd (recorded parts.0)
 
--- no other word begins a command without arguments
+-- No other word begins a command without arguments.
 pub no_keyword : (c : Command) (word rest : List ℕ) → SpellsArguments c [] → word ≢ codes "live" → word ≢ codes "holes" → word ≢ codes "size" → word ≢ codes "empty"
     → word ≢ codes "clear" → word ≢ codes "rearrange" → word ≢ codes "from-atlas" → word ≢ codes "replay" → SpellsInParts c word rest → ⊥
 no_keyword (Simple size) word rest alone live holes ask empty clear rearrange from replayed parts = no_size size alone

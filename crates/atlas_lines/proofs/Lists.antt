@@ -24,7 +24,7 @@ use Rattle.guillotiere.specs.Rearranging.{IsExactChange, transfer_of}
 use Rattle.guillotiere.specs.Simple.{SimpleState}
 use Rattle.guillotiere_recording.specs.Recordings.{SessionValue}
 use Rattle.atlas_lines.specs.declared.standing.Standing.TheVariants.{Atlas, Session}
-use Rattle.atlas_lines.specs.Machine.{state_of as tool_state_of}
+use Rattle.atlas_lines.specs.Machine.{tool_state_of}
 use Rattle.atlas_lines.specs.Machine.{ToolReply, Held, with_atlas, with_session, session_in, ShowsLive, HoldsHoles, AreInOrder, allocation_of, change_of}
 
 same_allocation : (a : Allocation) → IsExact a.rectangle → a ≡ allocation_of (grant_of a)
@@ -57,7 +57,7 @@ changes_shown changes failures exact lost =
     let left = granted_back failures lost in
     λ i. ToolReply.ChangeLines (moved i) (left i)
 
--- the gathered live list is one that may be shown
+-- The gathered live list is one that may be shown.
 pub live_shown : (state : State) (found : List Allocation) → AreGrants state found → ShowsLive state (ToolReply.LiveLines found)
 live_shown state found grants = (map grant_of found, grants.list, granted_back found grants.exact)
 
@@ -70,7 +70,7 @@ areas_back (r ∷ found) exact =
 
 -- ---- the order of the holes
 
--- whether the lower left corner of the first comes before that of the second
+-- Whether the lower left corner of the first comes before that of the second.
 by_corner : (o p : Ordering) (a b x y : ℤ) → MatchOrdering o (a <ℤ b) (a ≡ b) (b <ℤ a) → MatchOrdering p (x <ℤ y) (x ≡ y) (y <ℤ x) → is_lt (ordering_then o p) ≡ false
     → (b <ℤ a) ⊎ ((b ≡ a) × (y ≤ℤ x))
 by_corner Less p a b x y m n e = absurd (cc)
@@ -124,12 +124,12 @@ holes_listed state found sorted areas moved order =
       areas_back sorted exact,
     )
 
--- a new atlas in the tool
+-- A new atlas in the tool.
 pub made_atlas : (held : Held) (simple : Option SimpleState) (value : AtlasValue) (made : State) → simple ≡ held.simple → state_of value ≡ made
     → tool_state_of (record { stand = Atlas value; simple = simple }) ≡ with_atlas (tool_state_of held) made
 made_atlas held simple value made e f = λ i. record { stand = Atlas (f i); simple = e i }
 
--- a new session in the tool
+-- A new session in the tool.
 pub made_session : (held : Held) (simple : Option SimpleState) (value : SessionValue) → simple ≡ held.simple
     → tool_state_of (record { stand = Session value; simple = simple }) ≡ with_session (tool_state_of held) (session_in value)
 made_session held simple value e = λ i. record { stand = Session (session_in value); simple = e i }

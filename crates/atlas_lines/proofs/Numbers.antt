@@ -4,12 +4,12 @@ use Rattle.std.specs.Char.{digit_value}
 use Rattle.std.specs.Str.Parse.{AllDigits, digits_value_after}
 use Rattle.atlas_lines.specs.Grammar.{SpellsUnsigned}
 
--- more digits make no number smaller
+-- More digits make no number smaller.
 pub after_ge : (n : ℕ) (digits : List ℕ) → n ≤ digits_value_after 10 n digits
 after_ge n [] = omega arith
 after_ge n (c ∷ cs) = let h = after_ge (n * 10 + digit_value c) cs in omega arith
 
--- a number that is too great already spells nothing
+-- A number that is too great already spells nothing.
 pub too_great : (value byte n : ℕ) (rest tail text : List ℕ) → rest ≡ byte ∷ tail → digits_value_after 10 value rest ≡ digits_value_after 10 0 text
     → 2 ^ 32 ≤ value * 10 + digit_value byte → SpellsUnsigned n text → ⊥
 too_great value byte n rest tail text e same great spells =
@@ -17,7 +17,7 @@ too_great value byte n rest tail text e same great spells =
     let whole : digits_value_after 10 (value * 10 + digit_value byte) tail ≡ digits_value_after 10 0 text = sym (ap (digits_value_after 10 value) e) ∙ same in
     omega (arith, spells.1, spells.2)
 
--- at the end of the digits
+-- At the end of the digits.
 pub all_read : (value : ℕ) (rest text : List ℕ) → length rest ≡ 0 → 0 < length text → (AllDigits 10 rest → AllDigits 10 text)
     → digits_value_after 10 value rest ≡ digits_value_after 10 0 text → value < 2 ^ 32 → SpellsUnsigned value text
 all_read value [] text e some digits same small = ((some, digits tt), same, small)

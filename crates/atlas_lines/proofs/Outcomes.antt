@@ -7,18 +7,18 @@ use Rattle.atlas_lines.specs.declared.run.ToolEnd.{ToolEnd}
 use Rattle.atlas_lines.specs.declared.run.ToolEnd.TheVariants.{Done, BadLine, Limit}
 use Rattle.atlas_lines.specs.declared.run.ToolFault.{ToolFault}
 use Rattle.atlas_lines.specs.declared.run.ToolFault.TheVariants.{Read, Write}
-use Rattle.atlas_lines.specs.Devices.{KeepsOrHides, Holds, WritesBeginning}
+use Rattle.atlas_lines.specs.Devices.{KeepsOrHides, HoldsBytes, WritesBeginning}
 use Rattle.atlas_lines.specs.Lines.{HasNoEnd, ended, all_ended, ArePieces, AreLines, last_line}
-use Rattle.atlas_lines.specs.Machine.{ToolState, state_of, at_start}
+use Rattle.atlas_lines.specs.Machine.{ToolState, tool_state_of, at_start}
 use Rattle.atlas_lines.specs.Replies.{bad_line_text}
-use Rattle.atlas_lines.specs.Texts.{IsBad, LineOwes, OwesText}
+use Rattle.atlas_lines.specs.Texts.{IsBadLine, LineOwes, OwesText}
 use Rattle.atlas_lines.specs.Ends.{is_read_fault, is_write_fault, OwesFirst, OwesToBadLine, OwesBegun, OwesToBadRead, EndsAtEnd, EndsAtRead, EndsAtWrite, Ends}
 use Rattle.atlas_lines.specs.Progress.{Place, state_at, place_at_start, Advances, IsCertainlyBad, MeetsBadLine, OwesBeginning, Stops, Continues, RepliesTo, LineEnds, HasRun, is_write_end}
 use Rattle.atlas_lines.proofs.Known.{Appends_none, Appends_twice, Consumes_none, Consumes_nothing, Consumes_twice, ReadsBeginning_kept, WritesBeginning_after, Holds_at_end, Holds_with_rest}
 use Rattle.atlas_lines.proofs.Blocks.{gathered_all, written_all}
 use Rattle.atlas_lines.proofs.Joins.{all_ended_twice, each_twice, owes_twice, advance_none, advance_twice, stops_after, meets_more}
 
--- the lines and the rest of some bytes
+-- The lines and the rest of some bytes.
 pub record Parted (bytes : List ℕ) : Type 0 where
   pub lines : List (List ℕ)
   pub rest : List ℕ
@@ -41,7 +41,7 @@ with_byte byte bytes (l ∷ ls) rest other p =
       pieces = record { whole = ap (λ t. byte ∷ t) p.whole; each = ((other, p.each.0), p.each.1); partial = p.partial };
     }
 
--- all bytes have lines and a rest
+-- All bytes have lines and a rest.
 pub parted : (bytes : List ℕ) → Parted bytes
 parted [] = record { lines = []; rest = []; pieces = record { whole = refl; each = tt; partial = tt } }
 parted (byte ∷ bytes) =
@@ -53,7 +53,7 @@ parted (byte ∷ bytes) =
 
 -- ---- the first lines of an input
 
--- whole lines, and then whatever follows
+-- Whole lines, and then whatever follows.
 lines_then : (input after : List ℕ) (lines : List (List ℕ)) → input ≡ all_ended lines ++ after → AllByRecursion HasNoEnd lines → (p : Parted after)
     → AreLines input (lines ++ (p.lines ++ last_line p.rest))
 lines_then input after lines whole each p = record {
@@ -79,7 +79,7 @@ first_owes input bytes later text e o =
 
 -- ---- the first bad line of an input
 
--- a bad line with its LF
+-- A bad line with its LF.
 bad_ended : (input bad more : List ℕ) (lines : List (List ℕ)) → input ≡ all_ended lines ++ (bad ++ 10 ∷ more) → AllByRecursion HasNoEnd lines → HasNoEnd bad
     → (others : List (List ℕ)) × AreLines input (lines ++ bad ∷ others)
 bad_ended input bad more lines whole each no_end =
@@ -99,7 +99,7 @@ some_last : (line : List ℕ) → 0 < length line → last_line line ≡ line �
 some_last [] some = absurd (omega arith)
 some_last (b ∷ bs) some = refl
 
--- a bad line of which at least its beginning is there
+-- A bad line of which at least its beginning is there.
 bad_begun : (input bad after : List ℕ) (lines : List (List ℕ)) → input ≡ all_ended lines ++ (bad ++ after) → AllByRecursion HasNoEnd lines → HasNoEnd bad → 120 < length bad
     → (before : List (List ℕ)) (rest : List ℕ) → ArePieces after before rest → (line : List ℕ) × (others : List (List ℕ)) × (120 < length line) × AreLines input (lines ++ line ∷ others)
 bad_begun input bad after lines whole each no_end long [] rest p =
@@ -127,7 +127,7 @@ bad_begun input bad after lines whole each no_end long (l ∷ ls) rest p =
     (bad ++ l, ls ++ last_line rest, omega (arith, length-append bad l), lines_then input (bad ++ after) lines whole each q)
 
 bad_found : (input bad after : List ℕ) (lines : List (List ℕ)) → input ≡ all_ended lines ++ (bad ++ after) → AllByRecursion HasNoEnd lines → HasNoEnd bad → IsCertainlyBad bad after
-    → (line : List ℕ) × (others : List (List ℕ)) × IsBad line × AreLines input (lines ++ line ∷ others)
+    → (line : List ℕ) × (others : List (List ℕ)) × IsBadLine line × AreLines input (lines ++ line ∷ others)
 bad_found input bad after lines whole each no_end (inl long) =
     let p = parted after in
     let f = bad_begun input bad after lines whole each no_end long p.lines p.rest p.pieces in
@@ -163,7 +163,7 @@ no_end_at_start place e = subst (λ (p : Place). HasNoEnd p.line) (sym e) tt
 pub no_room_at_start : (place : Place) → place ≡ place_at_start → place.number + length place.line ≤ 0
 no_room_at_start place e = subst (λ (p : Place). p.number + length p.line ≤ 0) (sym e) (omega arith)
 
--- one more block
+-- One more block.
 pub run_goes_on : (i j k o p q : Option (List ℕ)) (old new : Place) (block : List ℕ) (n m : ℕ) → HasRun i j o p old n → Consumes j k block → Continues None old block new p q [] [] → length block + n ≡ m
     → HasRun i k o q new m
 run_goes_on i j k o p q old new block n m run read step count = record {
@@ -175,8 +175,8 @@ run_goes_on i j k o p q old new block n m run read step count = record {
   written = Appends_twice o p q run.text step.0 run.written (written_all p q step.0 step.2);
 }
 
--- a write that failed
-write_ends : (i j o q : Option (List ℕ)) (bytes later text : List ℕ) → Consumes i j bytes → Holds i (bytes ++ later)
+-- A write that failed.
+write_ends : (i j o q : Option (List ℕ)) (bytes later text : List ℕ) → Consumes i j bytes → HoldsBytes i (bytes ++ later)
     → OwesBeginning place_at_start bytes text ⊎ ((number : ℕ) × MeetsBadLine place_at_start bytes number text) → WritesBeginning o q text → EndsAtWrite i j o q
 write_ends i j o q bytes later text read holds (inl owes) written =
     let all = first_owes (bytes ++ later) bytes later text refl owes in
@@ -223,7 +223,7 @@ stop_ends (Ok Done) i j o q bytes read stops = absurd stops
 stop_ends (Ok Limit) i j o q bytes read stops = absurd stops
 stop_ends (Err Read) i j o q bytes read stops = absurd stops
 
--- the run ended among the bytes of a block
+-- The run ended among the bytes of a block.
 pub run_stops : (end : Result ToolEnd ToolFault) (i j k o p q : Option (List ℕ)) (old : Place) (block : List ℕ) (n : ℕ) → HasRun i j o p old n → Consumes j k block → Stops end old block p q []
     → Ends end i k o q
 run_stops end i j k o p q old block n run read stops =
@@ -236,16 +236,16 @@ owes_last : (old new : ToolState) (line text : List ℕ) → LineOwes old line t
 owes_last old new [] text owed = owed
 owes_last old new (b ∷ bs) text owed = (new, text, [], owed, (refl, refl), sym (append-nil text))
 
-some_bad : (line : List ℕ) → IsBad line → last_line line ≡ line ∷ []
+some_bad : (line : List ℕ) → IsBadLine line → last_line line ≡ line ∷ []
 some_bad [] (inl long) = absurd (omega arith)
 some_bad [] (inr bad) = absurd (bad.0 refl)
 some_bad (b ∷ bs) bad = refl
 
--- the lines of an input that was read to its end
+-- The lines of an input that was read to its end.
 all_lines : (bytes text : List ℕ) (place : Place) → Advances place_at_start bytes text place → HasNoEnd place.line → (a : Advances place_at_start bytes text place) → AreLines bytes (a.lines ++ last_line place.line)
 all_lines bytes text place x no_end a = record { before = a.lines; rest = place.line; pieces = record { whole = a.whole; each = a.each; partial = no_end }; lines_are = refl }
 
-last_bad : (bytes text : List ℕ) (place : Place) (n : ℕ) → Advances place_at_start bytes text place → HasNoEnd place.line → IsBad place.line → n ≡ place.number + 1
+last_bad : (bytes text : List ℕ) (place : Place) (n : ℕ) → Advances place_at_start bytes text place → HasNoEnd place.line → IsBadLine place.line → n ≡ place.number + 1
     → OwesToBadLine bytes n (text ++ bad_line_text n)
 last_bad bytes text place n a no_end bad number = record {
   lines = a.lines;
@@ -279,7 +279,7 @@ last_first bytes text more place new a no_end owed = record {
   owed = owes_twice at_start (state_at place) new a.lines (last_line place.line) text more a.owed (owes_last (state_at place) new place.line more owed);
 }
 
--- what holds of the bytes read holds of the whole input, where nothing is unread
+-- What holds of the bytes read holds of the whole input, where nothing is unread.
 begun_at_end : (bytes : List ℕ) (lines others : List (List ℕ)) (text : List ℕ) → OwesFirst bytes lines others text → OwesBegun bytes [] lines text
 begun_at_end bytes lines others text owed =
     let P : List ℕ → Type 0 = λ input. OwesFirst input lines others text in
@@ -290,8 +290,8 @@ bad_at_end bytes n text owed =
     let P : List ℕ → Type 0 = λ input. OwesToBadLine input n text in
     record { owed = subst P (sym (append-nil bytes)) owed; read = owed }
 
-holds_at_end : (i j : Option (List ℕ)) (bytes : List ℕ) → Consumes i j bytes → IsAtEnd j → Holds i (bytes ++ [])
-holds_at_end i j bytes read at_end = subst (Holds i) (sym (append-nil bytes)) (Holds_at_end i j bytes read at_end)
+holds_at_end : (i j : Option (List ℕ)) (bytes : List ℕ) → Consumes i j bytes → IsAtEnd j → HoldsBytes i (bytes ++ [])
+holds_at_end i j bytes read at_end = subst (HoldsBytes i) (sym (append-nil bytes)) (Holds_at_end i j bytes read at_end)
 
 end_stopped : (end : Result ToolEnd ToolFault) (i j o p q : Option (List ℕ)) (place new : Place) (n : ℕ) → HasRun i j o p place n → IsAtEnd j → HasNoEnd place.line → LineEnds (Some end) place new p q [] []
     → Ends end i j o q
@@ -333,7 +333,7 @@ end_stopped (Err Write) i j o p q place new n run at_end no_end (inr reply) =
       owes = inl (
         lines,
         begun_at_end run.bytes lines [] (run.text ++ reply.1.text)
-            (last_first run.bytes run.text reply.1.text place (state_of reply.1.held) run.advances no_end reply.1.owed),
+            (last_first run.bytes run.text reply.1.text place (tool_state_of reply.1.held) run.advances no_end reply.1.owed),
       );
       written = WritesBeginning_after o p q run.text reply.1.text run.written reply.1.written;
     }
@@ -343,7 +343,7 @@ last_line_ends : (end : Option (Result ToolEnd ToolFault)) (i j o p q : Option (
 last_line_ends None i j o p q place new n run at_end no_end r = end_replied i j o p q place new n run at_end no_end r
 last_line_ends (Some end) i j o p q place new n run at_end no_end r = end_stopped end i j o p q place new n run at_end no_end r
 
--- at the reader's end, where the last line may lack its LF
+-- At the reader's end, where the last line may lack its LF.
 pub input_ends : (result : Result ToolEnd ToolFault) (end : Option (Result ToolEnd ToolFault)) (i j k o p q : Option (List ℕ)) (place new : Place) (n count : ℕ) (buffer : List ℕ)
     → result ≡ unwrap_or end (Ok Done) → HasRun i j o p place n → count ≡ 0 → Consumes j k (take count buffer) → IsAtEnd k → HasNoEnd place.line → LineEnds end place new p q [] [] → Ends result i k o q
 input_ends result end i j k o p q place new n count buffer is run zero read at_end no_end ends =
@@ -358,7 +358,7 @@ input_ends result end i j k o p q place new n count buffer is run zero read at_e
     let P : Result ToolEnd ToolFault → Type 0 = λ r. Ends r i k o q in
     subst P (sym is) (last_line_ends end i k o p q place new n here at_end no_end ends)
 
--- a run that was answered in full or in part isn't one that ended at a read
+-- A run that was answered in full or in part isn't one that ended at a read.
 pub end_not_read : (end : Option (Result ToolEnd ToolFault)) (place new : Place) (p q : Option (List ℕ)) (before : List ℕ) → LineEnds end place new p q before [] → is_read_fault (unwrap_or end (Ok Done)) ≡ false
 end_not_read None place new p q before ends = refl
 end_not_read (Some (Ok end)) place new p q before ends = refl
@@ -375,7 +375,7 @@ stop_not_read (Ok end) place bytes p q before stops = refl
 stop_not_read (Err Write) place bytes p q before stops = refl
 stop_not_read (Err Read) place bytes p q before stops = absurd stops
 
--- a read that failed
+-- A read that failed.
 pub read_ends : (i j k o p : Option (List ℕ)) (place : Place) (n : ℕ) → HasRun i j o p place n → KeepsOrHides j k → HasNoEnd place.line → EndsAtRead i k o p
 read_ends i j k o p place n run kept no_end = record {
   bytes = run.bytes;

@@ -8,7 +8,7 @@ use Rattle.guillotiere.specs.declared.options.TheConstants.{DEFAULT_OPTIONS}
 use Rattle.atlas_lines.specs.Grammar.{SpellsNumber, SpellsNumbers, SpellsSize, SpellsAtlas}
 use Rattle.atlas_lines.specs.Words.{HasNoSpace, IsEmptyOrSpaced, BeginsWithWord, BeginsWithNumber, BeginsWithSize, SpellsOptions}
 
--- where a word has ended, no other byte of a word comes
+-- Where a word has ended, no other byte of a word comes.
 ends_here : (rest bytes : List ℕ) (byte : ℕ) → IsEmptyOrSpaced rest → rest ≡ byte ∷ bytes → byte ≡ 32
 ends_here [] bytes byte spaced e = absurd (cc)
 ends_here (b ∷ bs) bytes byte spaced e = cc
@@ -40,7 +40,7 @@ number_no_space z word spells =
           subst P (sym minus.1) parts
     ]
 
--- the word after the first byte is the one that spells the number
+-- The word after the first byte is the one that spells the number.
 pub spelled_word : (text after w r rest : List ℕ) (first : ℕ) (z : ℤ) → text ≡ first ∷ after → BeginsWithWord after w r → BeginsWithNumber text z rest
     → SpellsNumber z w × (r ≡ rest)
 spelled_word text after w r rest first z e begins number =
@@ -49,7 +49,7 @@ spelled_word text after w r rest first z e begins number =
     let P : List ℕ → Type 0 = SpellsNumber z in
     (subst P (sym same.0) number.spells, same.1)
 
--- after a number comes nothing or a space
+-- After a number comes nothing or a space.
 pub numbers_spaced : (zs : List ℤ) (text : List ℕ) → SpellsNumbers zs text → IsEmptyOrSpaced text
 numbers_spaced [] text spells = subst IsEmptyOrSpaced (sym spells) tt
 numbers_spaced (z ∷ zs) text spells = subst IsEmptyOrSpaced (sym spells.2) refl
@@ -60,7 +60,7 @@ number_begins z zs text spells = record { word = spells.0; whole = spells.2; spe
 pub numbers_from : (z : ℤ) (zs : List ℤ) (text rest : List ℕ) → BeginsWithNumber text z rest → SpellsNumbers zs rest → SpellsNumbers (z ∷ zs) text
 numbers_from z zs text rest begins spells = (begins.word, rest, begins.whole, begins.spells, spells)
 
--- two numbers at the front
+-- Two numbers at the front.
 abbrev pub size_begins : (size : Size) (zs : List ℤ) (text : List ℕ) → SpellsNumbers (size.width ∷ size.height ∷ zs) text
     → (rest : List ℕ) × BeginsWithSize text size rest × SpellsNumbers zs rest
 size_begins size zs text spells = (
@@ -80,7 +80,7 @@ size_from size zs text rest begins spells =
 pub same_size : (a b : Size) → a.width ≡ b.width → a.height ≡ b.height → a ≡ b
 same_size a b e f = λ i. record { width = e i; height = f i }
 
--- the second number, after the first
+-- The second number, after the first.
 pub next_begins : (size : Size) (text middle rest : List ℕ) (begins : BeginsWithSize text size rest) → middle ≡ begins.middle → BeginsWithNumber middle size.height rest
 next_begins size text middle rest begins e =
     let P : List ℕ → Type 0 = λ t. BeginsWithNumber t size.height rest in
@@ -94,7 +94,7 @@ same_end rest end e f = ap length (e ∙ f)
 
 -- ---- options
 
--- the alignment, and then the thresholds
+-- The alignment, and then the thresholds.
 abbrev pub thresholds_of : AllocatorOptions → Size
 thresholds_of o = record { width = o.small_size_threshold; height = o.large_size_threshold }
 
@@ -105,7 +105,7 @@ options_begin o text spells = size_begins o.alignment (o.small_size_threshold �
 pub options_rest : (o : AllocatorOptions) (rest middle : List ℕ) → rest ≡ middle → SpellsSize (thresholds_of o) middle → SpellsSize (thresholds_of o) rest
 options_rest o rest middle e spells = subst (SpellsSize (thresholds_of o)) (sym e) spells
 
--- the options that were read, with the thresholds as the code copied them
+-- The options that were read, with the thresholds as the code copied them.
 pub options_found : (alignment thresholds : Size) (small large : ℤ) (text rest : List ℕ) → thresholds.width ≡ small → thresholds.height ≡ large → BeginsWithSize text alignment rest
     → SpellsSize thresholds rest → SpellsOptions (record { alignment = alignment; small_size_threshold = small; large_size_threshold = large }) text
 options_found alignment thresholds small large text rest e f begins spells =
@@ -120,7 +120,7 @@ same_options_read o alignment thresholds small large e f g h =
     let read : AllocatorOptions = record { alignment = alignment; small_size_threshold = small; large_size_threshold = large } in
     ap (λ p. Some p) (same_options read o g (sym e ∙ ap (λ (s : Size). s.width) t) (sym f ∙ ap (λ (s : Size). s.height) t))
 
--- the size, and then nothing or the options
+-- The size, and then nothing or the options.
 abbrev pub EndsAtlas : AllocatorOptions → List ℕ → Type 0
 EndsAtlas o rest = ((rest ≡ []) × (o ≡ DEFAULT_OPTIONS)) ⊎ SpellsOptions o rest
 

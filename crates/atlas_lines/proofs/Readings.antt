@@ -16,7 +16,7 @@ use Rattle.atlas_lines.proofs.Outcomes.{parted}
 
 -- ---- lines
 
--- a line with its LF stands at the front in one way
+-- A line with its LF stands at the front in one way.
 pub same_first : (l m x y : List ℕ) → HasNoEnd l → HasNoEnd m → l ++ 10 ∷ x ≡ m ++ 10 ∷ y → (l ≡ m) × (x ≡ y)
 same_first [] [] x y hl hm e = (refl, cc)
 same_first [] (b ∷ m) x y hl hm e = absurd (hm.0 (let h : 10 ≡ b = cc in sym h))
@@ -27,7 +27,7 @@ same_first (a ∷ l) (b ∷ m) x y hl hm e =
     let more = same_first l m x y hl.1 hm.1 tails in
     (let first = more.0 in cc, more.1)
 
--- bytes without an LF are no line with its LF
+-- Bytes without an LF are no line with its LF.
 pub no_first : (l x rest : List ℕ) → HasNoEnd rest → rest ≡ l ++ 10 ∷ x → ⊥
 no_first [] x [] h e = absurd (cc)
 no_first [] x (r ∷ rest) h e = h.0 cc
@@ -75,7 +75,7 @@ same_number y z text a b =
           ]
     ]
 
--- the number at the front and what follows it
+-- The number at the front and what follows it.
 same_argument : (text : List ℕ) (y z : ℤ) (r s : List ℕ) → BeginsWithNumber text y r → BeginsWithNumber text z s → (y ≡ z) × (r ≡ s)
 same_argument text y z r s a b =
     let after : a.word ++ r ≡ b.word ++ s = (let e = a.whole in let f = b.whole in cc) in
@@ -132,7 +132,7 @@ one_id a b text p q =
     let word : p.0 ≡ q.0 = (let e = p.1 in let f = q.1 in cc) in
     p.2.1 ∙ ap (digits_value 10) word ∙ sym q.2.1
 
--- the keyword at the front of a line that spells a command
+-- The keyword at the front of a line that spells a command.
 begins_with_keyword : (c : Command) (line : List ℕ) (spells : Spells c line) → BeginsWithWord line (keyword c) spells.0
 begins_with_keyword c line spells = record { whole = spells.1; no_space = keyword_no_space c; spaced = arguments_spaced c spells.0 spells.2 }
 

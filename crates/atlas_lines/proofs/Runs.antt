@@ -7,27 +7,27 @@ use Rattle.guillotiere.specs.Pixels.{natural, sides_of}
 use Rattle.atlas_lines.specs.Blocks.{IsGathered}
 use Rattle.atlas_lines.specs.declared.commands.Command.{Command}
 use Rattle.atlas_lines.specs.Grammar.{Spells}
-use Rattle.atlas_lines.specs.Machine.{ToolReply, ToolState, ToolStep, Held, state_of}
+use Rattle.atlas_lines.specs.Machine.{ToolReply, ToolState, ToolStep, Held, tool_state_of}
 use Rattle.atlas_lines.specs.Progress.{Place, state_at, RepliesTo}
 use Rattle.atlas_lines.specs.Replies.{reply_text}
 use Rattle.atlas_lines.proofs.Blocks.{gathered_nothing}
-use Rattle.atlas_lines.specs.Texts.{IsBad, LineOwes}
+use Rattle.atlas_lines.specs.Texts.{IsBadLine, LineOwes}
 
--- a line that isn't empty and that the parser doesn't read is bad
-pub bad_unread : (line text : List ℕ) (read : Option Command) → text ≡ line → 0 < length line → read ≡ None → ((command : Command) → Spells command text → read ≡ Some command) → IsBad line
+-- A line that isn't empty and that the parser doesn't read is bad.
+pub bad_unread : (line text : List ℕ) (read : Option Command) → text ≡ line → 0 < length line → read ≡ None → ((command : Command) → Spells command text → read ≡ Some command) → IsBadLine line
 bad_unread line text read e some none only =
     inr (
       λ empty. omega (arith, ap length empty),
       λ command spells. let P : List ℕ → Type 0 = Spells command in let is = only command (subst P (sym e) spells) in absurd (cc),
     )
 
--- a step from what a place holds
+-- A step from what a place holds.
 pub step_from : (inside place : Place) (command : Command) (reply : ToolReply) (new : ToolState) → inside ≡ place → ToolStep (state_at inside) command reply new → ToolStep (state_at place) command reply new
 step_from inside place command reply new e step =
     let P : Place → Type 0 = λ p. ToolStep (state_at p) command reply new in
     subst P e step
 
--- what a command's line owes
+-- What a command's line owes.
 pub owed_by : (old new : ToolState) (line text : List ℕ) (command : Command) (reply : ToolReply) → text ≡ line → 0 < length line
     → Spells command text → ToolStep old command reply new → LineOwes old line (reply_text reply) new
 owed_by old new [] text command reply e some spells step = absurd (omega arith)
@@ -35,13 +35,13 @@ owed_by old new (b ∷ bs) text command reply e some spells step =
     let P : List ℕ → Type 0 = Spells command in
     (command, reply, subst P e spells, step, refl)
 
--- the reply was given, and the next line begins
-pub replied : (old middle new : Place) (held : Held) (out_old out_sent out_new : Option (List ℕ)) (before sent after text : List ℕ) → LineOwes (state_at old) old.line text (state_of held)
+-- The reply was given, and the next line begins.
+pub replied : (old middle new : Place) (held : Held) (out_old out_sent out_new : Option (List ℕ)) (before sent after text : List ℕ) → LineOwes (state_at old) old.line text (tool_state_of held)
     → IsGathered out_old out_sent sent (before ++ text) → out_new ≡ out_sent → after ≡ sent → middle ≡ record old { held = held }
     → new ≡ record { held = middle.held; line = []; number = middle.number + 1 } → RepliesTo old new out_old out_new before after
 replied old middle new held out_old out_sent out_new before sent after text owed gathered same waits e f =
     let is : new ≡ record { held = held; line = []; number = old.number + 1 } = f ∙ ap (λ (p : Place). record { held = p.held; line = []; number = p.number + 1 }) e in
-    let P : Held → Type 0 = λ held. LineOwes (state_at old) old.line text (state_of held) in
+    let P : Held → Type 0 = λ held. LineOwes (state_at old) old.line text (tool_state_of held) in
     let Q : Option (List ℕ) → List ℕ → Type 0 = λ out block. IsGathered out_old out block (before ++ text) in
     record {
       text = text;
@@ -55,7 +55,7 @@ owed_nothing : (state : ToolState) (line : List ℕ) → length line ≤ 0 → L
 owed_nothing state [] none = (refl, refl)
 owed_nothing state (b ∷ bs) none = absurd (omega arith)
 
--- an empty line owes nothing
+-- An empty line owes nothing.
 pub skipped : (old middle new : Place) (out_old out_new : Option (List ℕ)) (before after : List ℕ) → length old.line ≤ 0 → out_new ≡ out_old → after ≡ before → middle ≡ old
     → new ≡ record { held = middle.held; line = []; number = middle.number + 1 } → RepliesTo old new out_old out_new before after
 skipped old middle new out_old out_new before after none same waits e f =
@@ -65,7 +65,7 @@ not_above : (z : ℤ) → z ≤ℤ pos 0 → 0 < natural z → ⊥
 not_above (pos n) low high = omega (arith, ints)
 not_above (negsuc n) low high = omega arith
 
--- a size with a side of 0 or less has no positive sides
+-- A size with a side of 0 or less has no positive sides.
 pub empty_size : (size : Size) → (size.width ≤ℤ pos 0) ⊎ (size.height ≤ℤ pos 0) → IsPositive (sides_of size) → ⊥
 empty_size size (inl width) positive = not_above size.width width positive.0
 empty_size size (inr height) positive = not_above size.height height positive.1

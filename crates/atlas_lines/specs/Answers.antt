@@ -14,14 +14,16 @@ shown_by (LiveLines found) = ToolReply.LiveLines found.items
 shown_by (HoleLines found) = ToolReply.HoleLines found.items
 shown_by (ChangeLines list) = ToolReply.ChangeLines list.changes.items list.failures.items
 
--- the command was carried out, and its reply follows the text that waited
-pub record Replies (old : ToolState) (command : Command) (new : ToolState) (out_old out_new : Option (List ℕ)) (before after : List ℕ) : Type 0 where
+-- The command was carried out, and its reply follows the text that waited.
+pub record Replies (old : ToolState) (command : Command) (new : ToolState) (out_old out_new : Option (List ℕ))
+    (before after : List ℕ) : Type 0 where
   pub reply : ToolReply
   pub step : ToolStep old command reply new
   pub gathered : IsGathered out_old out_new after (before ++ reply_text reply)
 
--- the command was carried out, and a beginning of the text that waited and of its reply was written
-pub record BeginsToReply (old : ToolState) (command : Command) (new : ToolState) (out_old out_new : Option (List ℕ)) (before : List ℕ) : Type 0 where
+-- The command was carried out, and a beginning of the text that waited and of its reply was written.
+pub record BeginsToReply (old : ToolState) (command : Command) (new : ToolState) (out_old out_new : Option (List ℕ))
+    (before : List ℕ) : Type 0 where
   pub reply : ToolReply
   pub step : ToolStep old command reply new
   pub written : WritesBeginning out_old out_new (before ++ reply_text reply)

@@ -2,7 +2,7 @@
 use Rattle.std.specs.Prelude.{◌≡◌, ℕ, Option, List, ◌++◌}
 use Rattle.std.specs.Io.KnownBytes.{Appends}
 
--- of this text a beginning was written, and the rest stands in the block
+-- Of this text a beginning was written, and the rest stands in the block.
 pub record IsGathered (out_old out_new : Option (List ℕ)) (block text : List ℕ) : Type 0 where
   pub done : List ℕ
   pub written : Appends out_old out_new done

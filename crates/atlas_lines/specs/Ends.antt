@@ -1,23 +1,24 @@
 -- How a run of the tool ends, and what was written by then.
-use Rattle.std.specs.Prelude.{◌≡◌, ℕ, ◌+◌, ◌-◌, ◌^◌, ◌⊎◌, Bool, true, false, Option, Result, Ok, Err, List, ◌∷◌, ◌++◌, length}
+use Rattle.std.specs.Prelude.{◌≡◌, ℕ, ◌+◌, ◌-◌, ◌^◌, ◌⊎◌, Bool, true, false, Option, Result, Ok, Err, List, ◌∷◌, ◌++◌}
+use Rattle.std.specs.Prelude.{length}
 use Rattle.std.specs.Io.KnownBytes.{Appends, Consumes, IsAtEnd}
 use Rattle.atlas_lines.specs.declared.run.ToolEnd.{ToolEnd}
 use Rattle.atlas_lines.specs.declared.run.ToolEnd.TheVariants.{Done, BadLine, Limit}
 use Rattle.atlas_lines.specs.declared.run.ToolFault.{ToolFault}
 use Rattle.atlas_lines.specs.declared.run.ToolFault.TheVariants.{Read, Write}
-use Rattle.atlas_lines.specs.Devices.{Holds, ReadsBeginning, WritesBeginning}
+use Rattle.atlas_lines.specs.Devices.{HoldsBytes, ReadsBeginning, WritesBeginning}
 use Rattle.atlas_lines.specs.Lines.{ArePieces, AreLines}
 use Rattle.atlas_lines.specs.Machine.{ToolState, at_start}
 use Rattle.atlas_lines.specs.Replies.{bad_line_text}
-use Rattle.atlas_lines.specs.Texts.{IsBad, OwesText}
+use Rattle.atlas_lines.specs.Texts.{IsBadLine, OwesText}
 
--- the first lines of an input, none of them bad, owe this text; others follow
+-- The first lines of an input, none of them bad, owe this text; others follow.
 pub record OwesFirst (input : List ℕ) (lines others : List (List ℕ)) (text : List ℕ) : Type 0 where
   pub state : ToolState
   pub lines_are : AreLines input (lines ++ others)
   pub owed : OwesText at_start lines text state
 
--- the whole lines read, none of them bad, owe this text; the rest is no whole line
+-- The whole lines read, none of them bad, owe this text; the rest is no whole line.
 pub record OwesRead (bytes text : List ℕ) : Type 0 where
   pub lines : List (List ℕ)
   pub rest : List ℕ
@@ -25,38 +26,38 @@ pub record OwesRead (bytes text : List ℕ) : Type 0 where
   pub pieces : ArePieces bytes lines rest
   pub owed : OwesText at_start lines text state
 
--- the first bad line of the input has this number, and this is the text up to it and with its answer
+-- The first bad line of the input has this number, and this is the text up to it and with its answer.
 pub record OwesToBadLine (input : List ℕ) (number : ℕ) (text : List ℕ) : Type 0 where
   pub lines : List (List ℕ)
   pub bad : List ℕ
   pub others : List (List ℕ)
   pub before : List ℕ
   pub owes : OwesFirst input lines (bad ∷ others) before
-  pub is_bad : IsBad bad
+  pub is_bad : IsBadLine bad
   pub number_is : number ≡ length lines + 1
   pub text_is : text ≡ before ++ bad_line_text number
 
--- at the reader's end: the text over all lines of the input
+-- At the reader's end: the text over all lines of the input.
 pub record EndsAtEnd (in_old in_new out_old out_new : Option (List ℕ)) : Type 0 where
   pub input : List ℕ
   pub lines : List (List ℕ)
   pub text : List ℕ
   pub state : ToolState
-  pub holds : Holds in_old input
+  pub holds : HoldsBytes in_old input
   pub at_end : IsAtEnd in_new
   pub lines_are : AreLines input lines
   pub owed : OwesText at_start lines text state
   pub written : Appends out_old out_new text
 
--- at the first bad line of the input
+-- At the first bad line of the input.
 pub record EndsAtBadLine (number : ℕ) (in_old out_old out_new : Option (List ℕ)) : Type 0 where
   pub input : List ℕ
   pub text : List ℕ
-  pub holds : Holds in_old input
+  pub holds : HoldsBytes in_old input
   pub owes : OwesToBadLine input number text
   pub written : Appends out_old out_new text
 
--- at the most bytes that a run reads
+-- At the most bytes that a run reads.
 pub record EndsAtLimit (in_old in_new out_old out_new : Option (List ℕ)) : Type 0 where
   pub bytes : List ℕ
   pub text : List ℕ
@@ -65,7 +66,7 @@ pub record EndsAtLimit (in_old in_new out_old out_new : Option (List ℕ)) : Typ
   pub owes : OwesRead bytes text
   pub written : Appends out_old out_new text
 
--- at a read that failed
+-- At a read that failed.
 pub record EndsAtRead (in_old in_new out_old out_new : Option (List ℕ)) : Type 0 where
   pub bytes : List ℕ
   pub text : List ℕ
@@ -73,30 +74,30 @@ pub record EndsAtRead (in_old in_new out_old out_new : Option (List ℕ)) : Type
   pub owes : OwesRead bytes text
   pub written : Appends out_old out_new text
 
--- the first lines, which are lines of the bytes read and of the whole input, owe this text; of both other lines follow
+-- The first lines, which are lines of the bytes read and of the whole input, owe this text; of both other lines follow.
 pub record OwesBegun (bytes unread : List ℕ) (lines : List (List ℕ)) (text : List ℕ) : Type 0 where
   pub others : List (List ℕ)
   pub others_read : List (List ℕ)
   pub owed : OwesFirst (bytes ++ unread) lines others text
   pub read : OwesFirst bytes lines others_read text
 
--- the first bad line of the input is among the bytes read, and this is the text up to it and with its answer
+-- The first bad line of the input is among the bytes read, and this is the text up to it and with its answer.
 pub record OwesToBadRead (bytes unread : List ℕ) (number : ℕ) (text : List ℕ) : Type 0 where
   pub owed : OwesToBadLine (bytes ++ unread) number text
   pub read : OwesToBadLine bytes number text
 
--- at a write that failed: a beginning of the text over the first lines read, which the answer to a bad line may end
+-- At a write that failed: a beginning of the text over the first lines read, which the answer to a bad line may end.
 pub record EndsAtWrite (in_old in_new out_old out_new : Option (List ℕ)) : Type 0 where
   pub bytes : List ℕ
   pub unread : List ℕ
   pub text : List ℕ
   pub read : Consumes in_old in_new bytes
-  pub holds : Holds in_old (bytes ++ unread)
+  pub holds : HoldsBytes in_old (bytes ++ unread)
   pub owes : ((lines : List (List ℕ)) × OwesBegun bytes unread lines text)
       ⊎ ((number : ℕ) × OwesToBadRead bytes unread number text)
   pub written : WritesBeginning out_old out_new text
 
--- how a run ended, by the bytes that its devices tell before and after it
+-- How a run ended, by the bytes that its devices tell before and after it.
 abbrev pub Ends : Result ToolEnd ToolFault → (in_old in_new out_old out_new : Option (List ℕ)) → Type 0
 Ends (Ok Done) in_old in_new out_old out_new = EndsAtEnd in_old in_new out_old out_new
 Ends (Ok (BadLine number)) in_old in_new out_old out_new = EndsAtBadLine number in_old out_old out_new

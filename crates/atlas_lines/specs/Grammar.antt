@@ -6,42 +6,45 @@ use Rattle.guillotiere.specs.declared.geometry.Size.{Size}
 use Rattle.guillotiere.specs.declared.options.AllocatorOptions.{AllocatorOptions}
 use Rattle.guillotiere.specs.declared.options.TheConstants.{DEFAULT_OPTIONS}
 use Rattle.atlas_lines.specs.declared.commands.Command.{Command}
-use Rattle.atlas_lines.specs.declared.commands.Command.TheVariants.{Simple, Take, Atlas, Alloc, Live, Holes, AskSize, Free, Grow, Empty, Clear, Rearrange, Resize, FromAtlas, Record, Replay}
+use Rattle.atlas_lines.specs.declared.commands.Command.TheVariants.{Simple, Take, Atlas, Alloc, Live, Holes, AskSize}
+use Rattle.atlas_lines.specs.declared.commands.Command.TheVariants.{Free, Grow, Empty, Clear, Rearrange, Resize}
+use Rattle.atlas_lines.specs.declared.commands.Command.TheVariants.{FromAtlas, Record, Replay}
 
--- one or more decimal digits, with a value that fits a `u32`
+-- One or more decimal digits, with a value that fits a `u32`.
 abbrev pub SpellsUnsigned : ℕ → List ℕ → Type 0
 SpellsUnsigned n text = IsNumeral 10 text × (n ≡ digits_value 10 text) × (n < 2 ^ 32)
 
--- an optional `-`, then one or more decimal digits, with a value that fits an `i32`
+-- An optional `-`, then one or more decimal digits, with a value that fits an `i32`.
 abbrev pub SpellsNumber : ℤ → List ℕ → Type 0
 SpellsNumber z text =
     FitsSigned w32 z
     × ((IsNumeral 10 text × (z ≡ pos (digits_value 10 text)))
     ⊎ ((digits : List ℕ) × (text ≡ 45 ∷ digits) × IsNumeral 10 digits × (z ≡ neg_ℤ (pos (digits_value 10 digits)))))
 
--- numbers, each after one space
+-- Numbers, each after one space.
 abbrev pub SpellsNumbers : List ℤ → List ℕ → Type 0
 SpellsNumbers [] text = text ≡ []
 SpellsNumbers (z ∷ zs) text =
     (word : List ℕ) × (rest : List ℕ) × (text ≡ 32 ∷ (word ++ rest)) × SpellsNumber z word × SpellsNumbers zs rest
 
--- the width and the height
+-- The width and the height.
 abbrev pub SpellsSize : Size → List ℕ → Type 0
 SpellsSize size text = SpellsNumbers (size.width ∷ size.height ∷ []) text
 
--- the size alone, for the default options, or the size, the alignment, and the small and the large threshold
+-- The size alone, for the default options, or the size, the alignment, and the small and the large threshold.
 abbrev pub SpellsAtlas : Size → AllocatorOptions → List ℕ → Type 0
 SpellsAtlas size options text =
     (SpellsSize size text × (options ≡ DEFAULT_OPTIONS))
     ⊎ SpellsNumbers
-    (size.width ∷ size.height ∷ options.alignment.width ∷ options.alignment.height ∷ options.small_size_threshold ∷ options.large_size_threshold ∷ [])
+    (size.width ∷ size.height ∷ options.alignment.width ∷ options.alignment.height ∷ options.small_size_threshold
+    ∷ options.large_size_threshold ∷ [])
     text
 
--- an id, after one space
+-- An id, after one space.
 abbrev pub SpellsId : ℕ → List ℕ → Type 0
 SpellsId id text = (word : List ℕ) × (text ≡ 32 ∷ word) × SpellsUnsigned id word
 
--- the word that a command's line begins with
+-- The word that a command's line begins with.
 abbrev pub keyword : Command → List ℕ
 keyword (Simple size) = codes "simple"
 keyword (Take size) = codes "take"
@@ -60,7 +63,7 @@ keyword FromAtlas = codes "from-atlas"
 keyword (Record size) = codes "record"
 keyword Replay = codes "replay"
 
--- what follows that word
+-- What follows that word.
 abbrev pub SpellsArguments : Command → List ℕ → Type 0
 SpellsArguments (Simple size) text = SpellsSize size text
 SpellsArguments (Take size) text = SpellsSize size text
@@ -79,7 +82,8 @@ SpellsArguments FromAtlas text = text ≡ []
 SpellsArguments (Record size) text = SpellsSize size text
 SpellsArguments Replay text = text ≡ []
 
--- the bytes of a line, without its LF, of which there are at most 120, spell this command
+-- The bytes of a line, without its LF, of which there are at most 120, spell this command.
 abbrev pub Spells : Command → List ℕ → Type 0
 Spells command line =
-    (arguments : List ℕ) × (line ≡ keyword command ++ arguments) × SpellsArguments command arguments × (length line ≤ 120)
+    (arguments : List ℕ) × (line ≡ keyword command ++ arguments) × SpellsArguments command arguments
+    × (length line ≤ 120)

@@ -2,35 +2,35 @@
 use Rattle.std.specs.Prelude.{◌≡◌, ℕ, ◌≢◌, ◌⊎◌, List, [], ◌∷◌, ◌++◌, flat_map}
 use Rattle.std.specs.List.{AllByRecursion}
 
--- no byte of it is an LF
+-- No byte of it is an LF.
 abbrev pub HasNoEnd : List ℕ → Type 0
 HasNoEnd line = AllByRecursion (λ byte. byte ≢ 10) line
 
--- a first line and what stands after its LF; the last line may lack it
+-- A first line and what stands after its LF; the last line may lack it.
 pub record BeginsWithLine (text line rest : List ℕ) : Type 0 where
   pub no_end : HasNoEnd line
   pub whole : (text ≡ line ++ 10 ∷ rest) ⊎ ((text ≡ line) × (rest ≡ []))
 
--- a line with its LF
+-- A line with its LF.
 abbrev pub ended : List ℕ → List ℕ
 ended line = line ++ 10 ∷ []
 
--- lines, each with its LF
+-- Lines, each with its LF.
 abbrev pub all_ended : List (List ℕ) → List ℕ
 all_ended lines = flat_map ended lines
 
--- the bytes are these lines, each with its LF, and then less than a whole line
+-- The bytes are these lines, each with its LF, and then less than a whole line.
 pub record ArePieces (bytes : List ℕ) (lines : List (List ℕ)) (rest : List ℕ) : Type 0 where
   pub whole : bytes ≡ all_ended lines ++ rest
   pub each : AllByRecursion HasNoEnd lines
   pub partial : HasNoEnd rest
 
--- what stands after the last LF is a line too, if it isn't empty
+-- What stands after the last LF is a line too, if it isn't empty.
 abbrev pub last_line : List ℕ → List (List ℕ)
 last_line [] = []
 last_line (byte ∷ bytes) = (byte ∷ bytes) ∷ []
 
--- the lines of a whole input
+-- The lines of a whole input.
 pub record AreLines (bytes : List ℕ) (lines : List (List ℕ)) : Type 0 where
   pub before : List (List ℕ)
   pub rest : List ℕ

@@ -1,5 +1,6 @@
 -- The tool as a machine: the reply to each command, by the steps of the allocators.
-use Rattle.std.specs.Prelude.{ℕ, ◌≡◌, ⊤, ◌+◌, ◌<◌, ◌^◌, ◌↔◌, IsTrue, List, [], map, length, slice_index_or, count_by, Option, Some, None, Ok, Err}
+use Rattle.std.specs.Prelude.{ℕ, ◌≡◌, ⊤, ◌+◌, ◌<◌, ◌^◌, ◌↔◌, IsTrue, List, [], map, length, slice_index_or, count_by}
+use Rattle.std.specs.Prelude.{Option, Some, None, Ok, Err}
 use Rattle.guillotiere.specs.declared.allocation.Allocation.{Allocation}
 use Rattle.guillotiere.specs.declared.change.Change.{Change}
 use Rattle.guillotiere.specs.declared.error.AtlasError.TheVariants.{Memory}
@@ -25,35 +26,40 @@ use Rattle.guillotiere_recording.specs.declared.error.RecordingError.TheVariants
 use Rattle.guillotiere_recording.specs.Events.{EventValue, ListValue}
 use Rattle.guillotiere_recording.specs.Logs.{RecordingValue, with_event}
 use Rattle.guillotiere_recording.specs.Recordings.{SessionValue, AreBooked, session_of}
-use Rattle.guillotiere_recording.specs.Replays.{IsRecorded, IsFaultOf, MayFail, is_grant, is_freeing, is_failed_request}
+use Rattle.guillotiere_recording.specs.Replays.{IsRecorded, IsFaultOf, MayFail, is_granted_event, is_freeing}
+use Rattle.guillotiere_recording.specs.Replays.{is_failed_request}
 use Rattle.guillotiere_recording.specs.Sessions.{Named, IsLiveName, Leads}
 use Rattle.atlas_lines.specs.declared.commands.Command.{Command}
-use Rattle.atlas_lines.specs.declared.commands.Command.TheVariants.{Simple, Take, Atlas, Alloc, Live, Holes, AskSize, Free, Grow, Empty, Clear, Rearrange, Resize, FromAtlas, Record, Replay}
+use Rattle.atlas_lines.specs.declared.commands.Command.TheVariants.{Simple, Take, Atlas, Alloc, Live, Holes, AskSize}
+use Rattle.atlas_lines.specs.declared.commands.Command.TheVariants.{Free, Grow, Empty, Clear, Rearrange, Resize}
+use Rattle.atlas_lines.specs.declared.commands.Command.TheVariants.{FromAtlas, Record, Replay}
 use Rattle.atlas_lines.specs.declared.replies.ReplayCounts.{ReplayCounts}
 use Rattle.atlas_lines.specs.declared.replies.Reply.{Reply}
-use Rattle.atlas_lines.specs.declared.replies.Reply.TheVariants.{Completed, Placed, NotPlaced, Allocated, Extent, Truth, NoAtlas, NoSimple, Invalid, Declined, NoNames, NoRecording, Replayed}
+use Rattle.atlas_lines.specs.declared.replies.Reply.TheVariants.{Completed, Placed, NotPlaced, Allocated, Extent, Truth}
+use Rattle.atlas_lines.specs.declared.replies.Reply.TheVariants.{NoAtlas, NoSimple, Invalid, Declined, NoNames}
+use Rattle.atlas_lines.specs.declared.replies.Reply.TheVariants.{NoRecording, Replayed}
 use Rattle.atlas_lines.specs.declared.standing.Standing.{Standing}
 use Rattle.atlas_lines.specs.declared.standing.Standing.TheVariants as stands
 
--- a reply of one line, or of a line for each and one for their count
+-- A reply of one line, or of a line for each and one for their count.
 pub data ToolReply : Type 0 where
   OneLine : (reply : Reply) → ToolReply
   LiveLines : (granted : List Allocation) → ToolReply
   HoleLines : (areas : List Rectangle) → ToolReply
   ChangeLines : (changes : List Change) → (failures : List Allocation) → ToolReply
 
--- a session that is recorded: an atlas under names, how many names were given, and what was recorded
+-- A session that is recorded: an atlas under names, how many names were given, and what was recorded.
 pub record Session : Type 0 where
   pub named : Named
   pub given : ℕ
   pub recording : RecordingValue
 
--- an atlas or a recorded session stands in one place
+-- An atlas or a recorded session stands in one place.
 pub record ToolState : Type 0 where
   pub stand : Standing State Session
   pub simple : Option SimpleState
 
--- what the tool stores: the values of its allocators
+-- What the tool stores: the values of its allocators.
 pub record Held : Type 0 where
   pub stand : Standing AtlasValue SessionValue
   pub simple : Option SimpleState
@@ -66,16 +72,16 @@ standing_in stands.Nothing = stands.Nothing
 standing_in (stands.Atlas value) = stands.Atlas (stored.state_of value)
 standing_in (stands.Session value) = stands.Session (session_in value)
 
-abbrev pub state_of : Held → ToolState
-state_of held = record { stand = standing_in held.stand; simple = held.simple }
+abbrev pub tool_state_of : Held → ToolState
+tool_state_of held = record { stand = standing_in held.stand; simple = held.simple }
 
--- the atlas, if it stands there itself
+-- The atlas, if it stands there itself.
 abbrev pub atlas_of : Standing State Session → Option State
 atlas_of stands.Nothing = None
 atlas_of (stands.Atlas state) = Some state
 atlas_of (stands.Session session) = None
 
--- no atlas, no recorded session and no simple allocator
+-- No atlas, no recorded session and no simple allocator.
 abbrev pub at_start : ToolState
 at_start = record { stand = stands.Nothing; simple = None }
 
@@ -88,12 +94,13 @@ with_session old made = record old { stand = stands.Session made }
 abbrev pub with_simple : ToolState → SimpleState → ToolState
 with_simple old made = record old { simple = Some made }
 
--- the creation of a simple allocator, which takes the place of an earlier one
+-- The creation of a simple allocator, which takes the place of an earlier one.
 abbrev pub CreatesSimple : ToolState → Sides → Reply → ToolState → Type 0
-CreatesSimple old size Completed new = IsPositive size × (new ≡ with_simple old (simple_start size (options_of DEFAULT_OPTIONS)))
+CreatesSimple old size Completed new =
+    IsPositive size × (new ≡ with_simple old (simple_start size (options_of DEFAULT_OPTIONS)))
 CreatesSimple old size Invalid new = (IsPositive size → ⊥) × (new ≡ old)
 CreatesSimple old size (Declined error) new = (error ≡ Memory) × IsPositive size × (new ≡ old)
--- no other reply comes
+-- No other reply comes.
 CreatesSimple old size _ new = ⊥
 
 abbrev pub simple_reply : SimpleAnswer → Reply
@@ -103,14 +110,14 @@ simple_reply SimpleAnswer.Done = Completed
 simple_reply (SimpleAnswer.Refused error) = Declined error
 simple_reply SimpleAnswer.BadCall = Invalid
 
--- a request to the simple allocator, if there is one
+-- A request to the simple allocator, if there is one.
 abbrev pub RequestsSimple : Option SimpleState → Sides → Reply → Option SimpleState → Type 0
 RequestsSimple None size reply new = (reply ≡ NoSimple) × (new ≡ None)
 RequestsSimple (Some state) size reply new =
     (answer : SimpleAnswer) × (later : SimpleState)
     × SimpleStep state (SimpleAtlasCall.Allocate size) answer later × (reply ≡ simple_reply answer) × (new ≡ Some later)
 
--- the simple allocator takes over from the atlas, if there are both
+-- The simple allocator takes over from the atlas, if there are both.
 abbrev pub StartsSimple : Option State → Option SimpleState → Reply → Option SimpleState → Type 0
 StartsSimple None simple reply new = (reply ≡ NoAtlas) × (new ≡ simple)
 StartsSimple (Some source) None reply new = (reply ≡ NoSimple) × (new ≡ None)
@@ -118,100 +125,103 @@ StartsSimple (Some source) (Some state) reply new =
     (answer : SimpleAnswer) × (later : SimpleState)
     × SimpleStep state (SimpleAtlasCall.Start source) answer later × (reply ≡ simple_reply answer) × (new ≡ Some later)
 
--- the creation of an atlas, which takes the place of an earlier one or of a recorded session
+-- The creation of an atlas, which takes the place of an earlier one or of a recorded session.
 abbrev pub CreatesAtlas : ToolState → Sides → Options → Reply → ToolState → Type 0
 CreatesAtlas old size options Completed new =
     IsPositive size × AreValid options × (new ≡ with_atlas old (started size options 16777216))
 CreatesAtlas old size options Invalid new = (IsPositive size × AreValid options → ⊥) × (new ≡ old)
 CreatesAtlas old size options (Declined error) new = (error ≡ Memory) × IsPositive size × AreValid options × (new ≡ old)
--- no other reply comes
+-- No other reply comes.
 CreatesAtlas old size options _ new = ⊥
 
--- a recorded session that is new: an atlas of this size with the default options, and nothing recorded
+-- A recorded session that is new: an atlas of this size with the default options, and nothing recorded.
 pub record IsNewSession (size : Size) (session : Session) : Type 0 where
   pub state : session.named.state ≡ started (sides_of size) (options_of DEFAULT_OPTIONS) 16777216
   pub recording : session.recording ≡ record { size = size; options = DEFAULT_OPTIONS; events = [] }
   pub given : session.given ≡ 0
 
--- the beginning of a recorded session, which takes the place of an atlas or of an earlier session
+-- The beginning of a recorded session, which takes the place of an atlas or of an earlier session.
 abbrev pub BeginsSession : ToolState → Size → Reply → ToolState → Type 0
 BeginsSession old size Completed new =
     IsPositive (sides_of size) × ((session : Session) × IsNewSession size session × (new ≡ with_session old session))
 BeginsSession old size Invalid new = (IsPositive (sides_of size) → ⊥) × (new ≡ old)
 BeginsSession old size (Declined error) new = (error ≡ Memory) × IsPositive (sides_of size) × (new ≡ old)
--- no other reply comes
+-- No other reply comes.
 BeginsSession old size _ new = ⊥
 
 abbrev pub allocation_of : Grant → Allocation
 allocation_of g = record { id = g.id; rectangle = rectangle_of g.box }
 
--- the line that shows what the atlas answers
+-- The line that shows what the atlas answers.
 abbrev pub ShowsAnswer : AtlasReply → Reply → Type 0
 ShowsAnswer (AtlasReply.Allocated grant) reply = reply ≡ Allocated (allocation_of grant)
 ShowsAnswer AtlasReply.NoRoom reply = reply ≡ NotPlaced
 ShowsAnswer AtlasReply.Done reply = reply ≡ Completed
 ShowsAnswer (AtlasReply.Refused error) reply = reply ≡ Declined error
 ShowsAnswer AtlasReply.BadCall reply = reply ≡ Invalid
--- one line shows no list of changes
+-- One line shows no list of changes.
 ShowsAnswer (AtlasReply.Changed list) reply = ⊥
 
--- a call of an atlas
+-- A call of an atlas.
 abbrev pub AnswersCall : State → AtlasCall → Reply → State → Type 0
 AnswersCall old call reply new = (answer : AtlasReply) × Step old call answer new × ShowsAnswer answer reply
 
--- what stands in the tool's place is called: an atlas, or a recorded session, of which R tells
-abbrev pub CallsStanding : Standing State Session → AtlasCall → (R : Session → Session → Type 0) → Reply → Standing State Session → Type 0
+-- What stands in the tool's place is called: an atlas, or a recorded session, of which R tells.
+abbrev pub CallsStanding : Standing State Session → AtlasCall → (R : Session → Session → Type 0) → Reply
+    → Standing State Session → Type 0
 CallsStanding stands.Nothing call R reply new = (reply ≡ NoAtlas) × (new ≡ stands.Nothing)
 CallsStanding (stands.Atlas state) call R reply new =
     (later : State) × AnswersCall state call reply later × (new ≡ stands.Atlas later)
-CallsStanding (stands.Session session) call R reply new = (later : Session) × R session later × (new ≡ stands.Session later)
+CallsStanding (stands.Session session) call R reply new =
+    (later : Session) × R session later × (new ≡ stands.Session later)
 
--- a session isn't asked what an atlas alone can answer
+-- A session isn't asked what an atlas alone can answer.
 abbrev pub HasNoAtlas : Reply → Session → Session → Type 0
 HasNoAtlas reply old new = (reply ≡ NoAtlas) × (new ≡ old)
 
--- the line of a refusal in a session
+-- The line of a refusal in a session.
 abbrev pub declined_line : RecordingError → Reply
 declined_line recording.Memory = Declined refusal.Memory
 declined_line recording.Slots = Declined refusal.Slots
 declined_line recording.NotLive = Declined refusal.NotLive
 declined_line recording.Names = NoNames
 
--- an event of a session: it led on, and was recorded
+-- An event of a session: it led on, and was recorded.
 pub record Records (old : Session) (event : EventValue) (new : Session) : Type 0 where
   pub led : Leads old.named event new.named
   pub recorded : new.recording ≡ with_event event old.recording
 
--- a refusal of a call to a session, for memory, or for slots where its atlas may refuse it so; nothing changes
+-- A refusal of a call to a session, for memory, or for slots where its atlas may refuse it so; nothing changes.
 pub record Refuses (old : Session) (call : AtlasCall) (error : AtlasError) (new : Session) : Type 0 where
   pub slots : error ≡ refusal.Slots → Step old.named.state call (AtlasReply.Refused error) old.named.state
   pub live : error ≡ refusal.NotLive → ⊥
   pub kept : new ≡ old
 
--- a request to a session: granted under the next name, or without room; refused for names once all were given
+-- A request to a session: granted under the next name, or without room; refused for names once all were given.
 abbrev pub RecordsRequest : Session → Size → Reply → Session → Type 0
 RecordsRequest old size (Allocated a) new =
     Records old (EventValue.Allocate size (Some a)) new × (a.id ≡ old.given) × (old.given ≡ 2 ^ 32 → ⊥)
 RecordsRequest old size NotPlaced new = Records old (EventValue.Allocate size None) new × (old.given ≡ 2 ^ 32 → ⊥)
 RecordsRequest old size NoNames new = (old.given ≡ 2 ^ 32) × (new ≡ old)
-RecordsRequest old size (Declined error) new = Refuses old (Allocate (sides_of size)) error new × (old.given ≡ 2 ^ 32 → ⊥)
--- no other reply comes
+RecordsRequest old size (Declined error) new =
+    Refuses old (Allocate (sides_of size)) error new × (old.given ≡ 2 ^ 32 → ⊥)
+-- No other reply comes.
 RecordsRequest old size _ new = ⊥
 
--- a freeing in a session, by name
+-- A freeing in a session, by name.
 abbrev pub RecordsFreeing : Session → (name : ℕ) → Reply → Session → Type 0
 RecordsFreeing old name Completed new = Records old (EventValue.Deallocate name) new
 RecordsFreeing old name (Declined error) new =
     ((error ≡ refusal.NotLive) ↔ (IsLiveName old.named name → ⊥)) × (error ≡ refusal.Slots → ⊥) × (new ≡ old)
--- no other reply comes
+-- No other reply comes.
 RecordsFreeing old name _ new = ⊥
 
--- a growth in a session
+-- A growth in a session.
 abbrev pub RecordsGrowth : Session → Size → Reply → Session → Type 0
 RecordsGrowth old size Completed new = Records old (EventValue.Grow size) new
 RecordsGrowth old size Invalid new = (Fits old.named.state.size (sides_of size) → ⊥) × (new ≡ old)
 RecordsGrowth old size (Declined error) new = Refuses old (AtlasCall.Grow (sides_of size)) error new
--- no other reply comes
+-- No other reply comes.
 RecordsGrowth old size _ new = ⊥
 
 abbrev pub change_of : Transfer → Change
@@ -220,53 +230,58 @@ change_of t = record { old = allocation_of t.old; new = allocation_of t.new }
 abbrev pub change_lines : Rearrangement → ToolReply
 change_lines list = ChangeLines (map change_of list.changes) (map allocation_of list.failures)
 
--- the lines that show what a rearranging answers: a list of changes, or one line
+-- The lines that show what a rearranging answers: a list of changes, or one line.
 abbrev pub ShowsRearranging : AtlasReply → ToolReply → Type 0
 ShowsRearranging (AtlasReply.Changed list) reply = reply ≡ change_lines list
 ShowsRearranging AtlasReply.BadCall reply = reply ≡ OneLine Invalid
 ShowsRearranging (AtlasReply.Refused error) reply = reply ≡ OneLine (Declined error)
--- no other answer comes
+-- No other answer comes.
 ShowsRearranging _ reply = ⊥
 
--- a rearranging of an atlas
+-- A rearranging of an atlas.
 abbrev pub AnswersRearranging : State → AtlasCall → ToolReply → State → Type 0
 AnswersRearranging old call reply new = (answer : AtlasReply) × Step old call answer new × ShowsRearranging answer reply
 
--- a rearranging in a session, whose lists hold names; `asks` says whether the call's condition holds
-abbrev pub RecordsRearranging : Session → AtlasCall → (asks : Type 0) → (recorded : ListValue → EventValue) → ToolReply → Session → Type 0
+-- A rearranging in a session, whose lists hold names; `asks` says whether the call's condition holds.
+abbrev pub RecordsRearranging : Session → AtlasCall → (asks : Type 0) → (recorded : ListValue → EventValue) → ToolReply
+    → Session → Type 0
 RecordsRearranging old call asks recorded (ChangeLines changes failures) new =
     Records old (recorded (record { changes = changes; failures = failures })) new
 RecordsRearranging old call asks recorded (OneLine Invalid) new = (asks → ⊥) × (new ≡ old)
 RecordsRearranging old call asks recorded (OneLine (Declined error)) new = Refuses old call error new
--- no other reply comes
+-- No other reply comes.
 RecordsRearranging old call asks recorded _ new = ⊥
 
--- a rearranging of what stands in the tool's place: an atlas, or a recorded session, of which R tells
-abbrev pub RearrangesStanding : Standing State Session → AtlasCall → (R : Session → Session → Type 0) → ToolReply → Standing State Session → Type 0
+-- A rearranging of what stands in the tool's place: an atlas, or a recorded session, of which R tells.
+abbrev pub RearrangesStanding : Standing State Session → AtlasCall → (R : Session → Session → Type 0) → ToolReply
+    → Standing State Session → Type 0
 RearrangesStanding stands.Nothing call R reply new = (reply ≡ OneLine NoAtlas) × (new ≡ stands.Nothing)
 RearrangesStanding (stands.Atlas state) call R reply new =
     (later : State) × AnswersRearranging state call reply later × (new ≡ stands.Atlas later)
-RearrangesStanding (stands.Session session) call R reply new = (later : Session) × R session later × (new ≡ stands.Session later)
+RearrangesStanding (stands.Session session) call R reply new =
+    (later : Session) × R session later × (new ≡ stands.Session later)
 
--- the live grants by rising slot, or no memory for the list
+-- The live grants by rising slot, or no memory for the list.
 abbrev pub ShowsLive : State → ToolReply → Type 0
-ShowsLive state (LiveLines granted) = (grants : List Grant) × IsLiveList state grants × (granted ≡ map allocation_of grants)
+ShowsLive state (LiveLines granted) =
+    (grants : List Grant) × IsLiveList state grants × (granted ≡ map allocation_of grants)
 ShowsLive state (OneLine reply) = reply ≡ Declined Memory
 ShowsLive state (HoleLines areas) = ⊥
 ShowsLive state (ChangeLines changes failures) = ⊥
 
--- the live names with their rectangles by rising name, or no memory for the list
+-- The live names with their rectangles by rising name, or no memory for the list.
 abbrev pub ShowsNames : Session → ToolReply → Type 0
 ShowsNames session (LiveLines granted) = AreBooked session.recording.events granted
 ShowsNames session (OneLine reply) = reply ≡ Declined Memory
 ShowsNames session (HoleLines areas) = ⊥
 ShowsNames session (ChangeLines changes failures) = ⊥
 
--- each box lies above the next one, or at the same height and not right of it
+-- Each box lies above the next one, or at the same height and not right of it.
 abbrev pub AreInOrder : List Box → Type 0
-AreInOrder boxes = (k : ℕ) (b : Box) → k + 1 < length boxes → ComesFirst (slice_index_or boxes k b) (slice_index_or boxes (k + 1) b)
+AreInOrder boxes =
+    (k : ℕ) (b : Box) → k + 1 < length boxes → ComesFirst (slice_index_or boxes k b) (slice_index_or boxes (k + 1) b)
 
--- the free boxes from above to below and from left to right
+-- The free boxes from above to below and from left to right.
 pub record AreHoles (state : State) (boxes : List Box) : Type 0 where
   pub free : AreSameBoxes boxes (free_in state)
   pub ordered : AreInOrder boxes
@@ -274,7 +289,7 @@ pub record AreHoles (state : State) (boxes : List Box) : Type 0 where
 abbrev pub HoldsHoles : State → List Rectangle → Type 0
 HoldsHoles state areas = (boxes : List Box) × AreHoles state boxes × (areas ≡ map rectangle_of boxes)
 
--- these boxes, or no memory for the list
+-- These boxes, or no memory for the list.
 abbrev pub ShowsHoles : State → ToolReply → Type 0
 ShowsHoles state (HoleLines areas) = HoldsHoles state areas
 ShowsHoles state (OneLine reply) = reply ≡ Declined Memory
@@ -284,32 +299,33 @@ ShowsHoles state (ChangeLines changes failures) = ⊥
 abbrev pub ShowsSize : State → Reply → Type 0
 ShowsSize state reply = reply ≡ Extent (size_of state.size)
 
--- `true` exactly if no id is live
+-- `true` exactly if no id is live.
 abbrev pub ShowsEmpty : State → Reply → Type 0
 ShowsEmpty state (Truth answer) = IsTrue answer ↔ (live_in state ≡ [])
 ShowsEmpty state _ = ⊥
 
--- one line of which this holds
+-- One line of which this holds.
 abbrev pub IsLine : (Reply → Type 0) → ToolReply → Type 0
 IsLine P (OneLine reply) = P reply
 IsLine P (LiveLines granted) = ⊥
 IsLine P (HoleLines areas) = ⊥
 IsLine P (ChangeLines changes failures) = ⊥
 
--- a look at what stands in the tool's place: P tells of an atlas, Q of a recorded session
-abbrev pub LooksAtStanding : Standing State Session → (P : State → ToolReply → Type 0) → (Q : Session → ToolReply → Type 0) → ToolReply → Type 0
+-- A look at what stands in the tool's place: P tells of an atlas, Q of a recorded session.
+abbrev pub LooksAtStanding : Standing State Session → (P : State → ToolReply → Type 0)
+    → (Q : Session → ToolReply → Type 0) → ToolReply → Type 0
 LooksAtStanding stands.Nothing P Q reply = reply ≡ OneLine NoAtlas
 LooksAtStanding (stands.Atlas state) P Q reply = P state reply
 LooksAtStanding (stands.Session session) P Q reply = Q session reply
 
--- a session isn't looked at where an atlas alone can answer
+-- A session isn't looked at where an atlas alone can answer.
 abbrev pub SaysNoAtlas : Session → ToolReply → Type 0
 SaysNoAtlas session reply = reply ≡ OneLine NoAtlas
 
 -- The events are those of a session; each kind of event is counted, and what is live at its end.
 pub record CountsReplay (r : RecordingValue) (counts : ReplayCounts) : Type 0 where
   pub recorded : IsRecorded r
-  pub allocations : counts.allocations ≡ count_by is_grant r.events
+  pub allocations : counts.allocations ≡ count_by is_granted_event r.events
   pub deallocations : counts.deallocations ≡ count_by is_freeing r.events
   pub failed : counts.failed_allocations ≡ count_by is_failed_request r.events
   pub live : (booked : List Allocation) × AreBooked r.events booked × (counts.live ≡ length booked)
@@ -319,10 +335,10 @@ pub record CountsReplay (r : RecordingValue) (counts : ReplayCounts) : Type 0 wh
 abbrev pub ShowsReplay : RecordingValue → Reply → Type 0
 ShowsReplay r (Replayed (Ok counts)) = CountsReplay r counts
 ShowsReplay r (Replayed (Err fault)) = IsFaultOf r fault × (IsRecorded r → MayFail r fault)
--- no other reply comes
+-- No other reply comes.
 ShowsReplay r _ = ⊥
 
--- a replay, which ends the recorded session
+-- A replay, which ends the recorded session.
 abbrev pub ReplaysStanding : Standing State Session → Reply → Standing State Session → Type 0
 ReplaysStanding stands.Nothing reply new = (reply ≡ NoRecording) × (new ≡ stands.Nothing)
 ReplaysStanding (stands.Atlas state) reply new = (reply ≡ NoRecording) × (new ≡ stands.Atlas state)
@@ -333,27 +349,35 @@ abbrev pub ToolStep : ToolState → Command → ToolReply → ToolState → Type
 ToolStep old (Simple size) reply new = IsLine (λ line. CreatesSimple old (sides_of size) line new) reply
 ToolStep old (Take size) reply new =
     IsLine (λ line. RequestsSimple old.simple (sides_of size) line new.simple) reply × (new.stand ≡ old.stand)
-ToolStep old (Atlas size options) reply new = IsLine (λ line. CreatesAtlas old (sides_of size) (options_of options) line new) reply
+ToolStep old (Atlas size options) reply new =
+    IsLine (λ line. CreatesAtlas old (sides_of size) (options_of options) line new) reply
 ToolStep old (Record size) reply new = IsLine (λ line. BeginsSession old size line new) reply
 ToolStep old Replay reply new =
     IsLine (λ line. ReplaysStanding old.stand line new.stand) reply × (new.simple ≡ old.simple)
 ToolStep old (Alloc size) reply new =
-    IsLine (λ line. CallsStanding old.stand (Allocate (sides_of size)) (λ s t. RecordsRequest s size line t) line new.stand) reply
+    IsLine
+    (λ line. CallsStanding old.stand (Allocate (sides_of size)) (λ s t. RecordsRequest s size line t) line
+    new.stand) reply
     × (new.simple ≡ old.simple)
 ToolStep old (Free id) reply new =
     IsLine (λ line. CallsStanding old.stand (Deallocate id) (λ s t. RecordsFreeing s id line t) line new.stand) reply
     × (new.simple ≡ old.simple)
 ToolStep old (Grow size) reply new =
-    IsLine (λ line. CallsStanding old.stand (AtlasCall.Grow (sides_of size)) (λ s t. RecordsGrowth s size line t) line new.stand) reply
+    IsLine
+    (λ line. CallsStanding old.stand (AtlasCall.Grow (sides_of size)) (λ s t. RecordsGrowth s size line t) line
+    new.stand) reply
     × (new.simple ≡ old.simple)
 ToolStep old Clear reply new =
-    IsLine (λ line. CallsStanding old.stand AtlasCall.Clear (λ s t. HasNoAtlas line s t) line new.stand) reply × (new.simple ≡ old.simple)
+    IsLine (λ line. CallsStanding old.stand AtlasCall.Clear (λ s t. HasNoAtlas line s t) line new.stand) reply
+    × (new.simple ≡ old.simple)
 ToolStep old Rearrange reply new =
-    RearrangesStanding old.stand AtlasCall.Rearrange (λ s t. RecordsRearranging s AtlasCall.Rearrange ⊤ EventValue.Rearrange reply t) reply new.stand
+    RearrangesStanding old.stand AtlasCall.Rearrange
+    (λ s t. RecordsRearranging s AtlasCall.Rearrange ⊤ EventValue.Rearrange reply t) reply new.stand
     × (new.simple ≡ old.simple)
 ToolStep old (Resize size) reply new =
     RearrangesStanding old.stand (ResizeAndRearrange (sides_of size))
-    (λ s t. RecordsRearranging s (ResizeAndRearrange (sides_of size)) (IsPositive (sides_of size)) (EventValue.ResizeAndRearrange size) reply t)
+    (λ s t. RecordsRearranging s (ResizeAndRearrange (sides_of size)) (IsPositive (sides_of size))
+    (EventValue.ResizeAndRearrange size) reply t)
     reply new.stand
     × (new.simple ≡ old.simple)
 ToolStep old FromAtlas reply new =
@@ -361,6 +385,7 @@ ToolStep old FromAtlas reply new =
 ToolStep old Live reply new = LooksAtStanding old.stand ShowsLive ShowsNames reply × (new ≡ old)
 ToolStep old Holes reply new = LooksAtStanding old.stand ShowsHoles (λ s. ShowsHoles s.named.state) reply × (new ≡ old)
 ToolStep old AskSize reply new =
-    LooksAtStanding old.stand (λ state. IsLine (ShowsSize state)) (λ s. IsLine (ShowsSize s.named.state)) reply × (new ≡ old)
+    LooksAtStanding old.stand (λ state. IsLine (ShowsSize state)) (λ s. IsLine (ShowsSize s.named.state)) reply
+    × (new ≡ old)
 ToolStep old Empty reply new =
     LooksAtStanding old.stand (λ state. IsLine (ShowsEmpty state)) SaysNoAtlas reply × (new ≡ old)

@@ -10,16 +10,18 @@ use Rattle.guillotiere_recording.specs.declared.replay.ReplayFault.{ReplayFault}
 use Rattle.guillotiere_recording.specs.declared.replay.ReplayFault.TheVariants as fault
 use Rattle.atlas_lines.specs.declared.replies.ReplayCounts.{ReplayCounts}
 use Rattle.atlas_lines.specs.declared.replies.Reply.{Reply}
-use Rattle.atlas_lines.specs.declared.replies.Reply.TheVariants.{Completed, Placed, NotPlaced, Allocated, Extent, Truth, NoAtlas, NoSimple, Invalid, Declined, NoNames, NoRecording, Replayed}
+use Rattle.atlas_lines.specs.declared.replies.Reply.TheVariants.{Completed, Placed, NotPlaced, Allocated, Extent, Truth}
+use Rattle.atlas_lines.specs.declared.replies.Reply.TheVariants.{NoAtlas, NoSimple, Invalid, Declined, NoNames}
+use Rattle.atlas_lines.specs.declared.replies.Reply.TheVariants.{NoRecording, Replayed}
 use Rattle.atlas_lines.specs.Lines.{ended}
 use Rattle.atlas_lines.specs.Machine.{ToolReply}
 use Rattle.atlas_lines.specs.Machine.ToolReply.{OneLine, LiveLines, HoleLines, ChangeLines}
 
--- a space and a number
+-- A space and a number.
 abbrev pub spaced_number : ℤ → List ℕ
 spaced_number z = codes " " ++ signed_decimal z
 
--- the corners of a rectangle: ` X0 Y0 X1 Y1`
+-- The corners of a rectangle: ` X0 Y0 X1 Y1`.
 abbrev pub corners_text : Rectangle → List ℕ
 corners_text r = spaced_number r.min.x ++ spaced_number r.min.y ++ spaced_number r.max.x ++ spaced_number r.max.y
 
@@ -32,30 +34,30 @@ abbrev pub truth_text : Bool → List ℕ
 truth_text true = codes "true"
 truth_text false = codes "false"
 
--- a word and a count
+-- A word and a count.
 abbrev pub counted_text : (word : List ℕ) → (count : ℕ) → List ℕ
 counted_text word count = word ++ decimal count
 
--- what a replay counted
+-- What a replay counted.
 abbrev pub counts_text : ReplayCounts → List ℕ
 counts_text counts =
     counted_text (codes "replayed allocations ") counts.allocations
     ++ counted_text (codes " deallocations ") counts.deallocations
     ++ counted_text (codes " failed ") counts.failed_allocations ++ counted_text (codes " live ") counts.live
 
--- why a replay ended early
+-- Why a replay ended early.
 abbrev pub fault_text : ReplayFault → List ℕ
 fault_text fault.Memory = codes "refused memory"
 fault_text fault.Slots = codes "refused slots"
 fault_text (fault.Differs i) = codes "differs " ++ decimal i
 fault_text (fault.BadEvent i) = codes "bad event " ++ decimal i
 
--- what a replay answers
+-- What a replay answers.
 abbrev pub replay_text : Result ReplayCounts ReplayFault → List ℕ
 replay_text (Ok counts) = counts_text counts
 replay_text (Err fault) = codes "replay " ++ fault_text fault
 
--- a reply line with its LF
+-- A reply line with its LF.
 abbrev pub line_text : Reply → List ℕ
 line_text Completed = ended (codes "ok")
 line_text (Placed r) = ended (codes "at" ++ corners_text r)
@@ -71,33 +73,34 @@ line_text NoNames = ended (codes "refused names")
 line_text NoRecording = ended (codes "no recording")
 line_text (Replayed outcome) = ended (replay_text outcome)
 
--- the line of a live rectangle
+-- The line of a live rectangle.
 abbrev pub live_line : Allocation → List ℕ
 live_line a = ended (codes "box " ++ decimal a.id ++ corners_text a.rectangle)
 
--- the line of a free rectangle
+-- The line of a free rectangle.
 abbrev pub hole_line : Rectangle → List ℕ
 hole_line r = ended (codes "hole" ++ corners_text r)
 
--- the line of a rectangle that was placed anew
+-- The line of a rectangle that was placed anew.
 abbrev pub change_line : Change → List ℕ
 change_line c =
     ended
-    (codes "moved " ++ decimal c.old.id ++ corners_text c.old.rectangle ++ codes " to " ++ decimal c.new.id ++ corners_text c.new.rectangle)
+    (codes "moved " ++ decimal c.old.id ++ corners_text c.old.rectangle ++ codes " to " ++ decimal c.new.id
+    ++ corners_text c.new.rectangle)
 
--- the line of a rectangle that found no room
+-- The line of a rectangle that found no room.
 abbrev pub lost_line : Allocation → List ℕ
 lost_line a = ended (codes "lost " ++ decimal a.id ++ corners_text a.rectangle)
 
--- how many were placed anew, and how many found no room
+-- How many were placed anew, and how many found no room.
 abbrev pub counts_line : (changes failures : ℕ) → List ℕ
 counts_line changes failures = ended (codes "changes " ++ decimal changes ++ codes " failures " ++ decimal failures)
 
--- a word and a count
+-- A word and a count.
 abbrev pub count_line : (word : List ℕ) → (count : ℕ) → List ℕ
 count_line word count = ended (word ++ decimal count)
 
--- the reply lines, each with its LF
+-- The reply lines, each with its LF.
 abbrev pub reply_text : ToolReply → List ℕ
 reply_text (OneLine reply) = line_text reply
 reply_text (LiveLines granted) = flat_map live_line granted ++ count_line (codes "live ") (length granted)
@@ -105,6 +108,6 @@ reply_text (HoleLines areas) = flat_map hole_line areas ++ count_line (codes "ho
 reply_text (ChangeLines changes failures) =
     flat_map change_line changes ++ (flat_map lost_line failures ++ counts_line (length changes) (length failures))
 
--- the answer to a bad line with this number
+-- The answer to a bad line with this number.
 abbrev pub bad_line_text : ℕ → List ℕ
 bad_line_text n = ended (codes "bad line " ++ decimal n)

@@ -5,9 +5,9 @@ use Rattle.atlas_lines.specs.Grammar.{Spells}
 use Rattle.atlas_lines.specs.Machine.{ToolReply, ToolState, ToolStep}
 use Rattle.atlas_lines.specs.Replies.{reply_text}
 
--- a line of more than 120 bytes is bad, and so is every other one that spells no command and isn't empty
-abbrev pub IsBad : List ℕ → Type 0
-IsBad line = (120 < length line) ⊎ ((line ≢ []) × ((command : Command) → Spells command line → ⊥))
+-- A line of more than 120 bytes is bad, and so is every other one that spells no command and isn't empty.
+abbrev pub IsBadLine : List ℕ → Type 0
+IsBadLine line = (120 < length line) ⊎ ((line ≢ []) × ((command : Command) → Spells command line → ⊥))
 
 -- From old, a line that isn't bad owes this text and leads to new.
 abbrev pub LineOwes : ToolState → List ℕ → List ℕ → ToolState → Type 0

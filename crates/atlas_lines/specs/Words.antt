@@ -9,35 +9,37 @@ use Rattle.atlas_lines.specs.Grammar.{SpellsNumber, SpellsNumbers, SpellsArgumen
 abbrev pub HasNoSpace : List ℕ → Type 0
 HasNoSpace text = AllByRecursion (λ byte. byte ≢ 32) text
 
--- nothing, or a space and more
+-- Nothing, or a space and more.
 abbrev pub IsEmptyOrSpaced : List ℕ → Type 0
 IsEmptyOrSpaced [] = ⊤
 IsEmptyOrSpaced (byte ∷ bytes) = byte ≡ 32
 
--- the bytes before the first space, and the rest
+-- The bytes before the first space, and the rest.
 pub record BeginsWithWord (text word rest : List ℕ) : Type 0 where
   pub whole : text ≡ word ++ rest
   pub no_space : HasNoSpace word
   pub spaced : IsEmptyOrSpaced rest
 
--- a space, a number, and the rest
+-- A space, a number, and the rest.
 pub record BeginsWithNumber (text : List ℕ) (number : ℤ) (rest : List ℕ) : Type 0 where
   pub word : List ℕ
   pub whole : text ≡ 32 ∷ (word ++ rest)
   pub spells : SpellsNumber number word
   pub spaced : IsEmptyOrSpaced rest
 
--- two numbers, each after a space, and the rest
+-- Two numbers, each after a space, and the rest.
 pub record BeginsWithSize (text : List ℕ) (size : Size) (rest : List ℕ) : Type 0 where
   pub middle : List ℕ
   pub width : BeginsWithNumber text size.width middle
   pub height : BeginsWithNumber middle size.height rest
 
--- the alignment, and the small and the large threshold
+-- The alignment, and the small and the large threshold.
 abbrev pub SpellsOptions : AllocatorOptions → List ℕ → Type 0
 SpellsOptions options text =
-    SpellsNumbers (options.alignment.width ∷ options.alignment.height ∷ options.small_size_threshold ∷ options.large_size_threshold ∷ []) text
+    SpellsNumbers
+    (options.alignment.width ∷ options.alignment.height ∷ options.small_size_threshold
+    ∷ options.large_size_threshold ∷ []) text
 
--- the first word and the rest of a line spell this command
+-- The first word and the rest of a line spell this command.
 abbrev pub SpellsInParts : Command → (word rest : List ℕ) → Type 0
 SpellsInParts command word rest = (word ≡ keyword command) × SpellsArguments command rest

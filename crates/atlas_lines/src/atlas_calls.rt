@@ -8,7 +8,8 @@ ghost use Rattle.guillotiere.specs.Rearranging.{AreExactChanges, change_reply};
 ghost use Rattle.guillotiere.specs.Steps.AtlasCall.{Allocate, Deallocate, Grow, Clear, Rearrange, ResizeAndRearrange};
 ghost use Rattle.guillotiere.specs.Stored.{state_of};
 ghost use Rattle.atlas_lines.specs.Answers.{shown_by};
-ghost use Rattle.atlas_lines.specs.Machine.{AnswersCall, AnswersRearranging, ShowsRearranging, ShowsLive, ShowsHoles, HoldsHoles};
+ghost use Rattle.atlas_lines.specs.Machine.{AnswersCall, AnswersRearranging, ShowsRearranging, ShowsLive, ShowsHoles};
+ghost use Rattle.atlas_lines.specs.Machine.{HoldsHoles};
 
 use crate::replies::{Answer, Reply};
 use guillotiere::{AllocId, AtlasAllocator, AtlasError, ChangeList, Rectangle, Size};
@@ -105,7 +106,8 @@ pub fn rearrange<A: Allocator + Copy>(atlas: &mut AtlasAllocator<A>) -> Answer<A
 
 /// Places what is allocated anew in this size.
 pub fn resize<A: Allocator + Copy>(atlas: &mut AtlasAllocator<A>, new_size: Size) -> Answer<A>
-    ensures { AnswersRearranging (state_of atlas.old) (ResizeAndRearrange (sides_of new_size)) (shown_by result) (state_of atlas.new) }
+    ensures { AnswersRearranging (state_of atlas.old) (ResizeAndRearrange (sides_of new_size)) (shown_by result)
+        (state_of atlas.new) }
 {
     if !is_positive(new_size) {
         return Answer::OneLine(Reply::Invalid);

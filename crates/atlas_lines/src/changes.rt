@@ -58,9 +58,13 @@ fn push_counts<const N: usize>(text: &mut FixedBytes<N>, changes: usize, failure
 
 fn send_moved<W: ToolOutput>(output: &mut W, waiting: &mut Waiting, changes: &[Change]) -> bool
     requires { W.has_failed output.old ≡ false }
-    ensures gathered { result ≡ true → IsGathered (W.contents output.old) (W.contents output.new) waiting.new (waiting.old ++ flat_map change_line changes.now) }
+    ensures gathered { result ≡ true
+        → IsGathered (W.contents output.old) (W.contents output.new) waiting.new
+        (waiting.old ++ flat_map change_line changes.now) }
     ensures failed { W.has_failed output.new ≡ not result }
-    ensures beginning { result ≡ false → WritesBeginning (W.contents output.old) (W.contents output.new) (waiting.old ++ flat_map change_line changes.now) }
+    ensures beginning { result ≡ false
+        → WritesBeginning (W.contents output.old) (W.contents output.new)
+        (waiting.old ++ flat_map change_line changes.now) }
 {
     for change in changes {
         if !make_room(output, waiting) {
@@ -73,9 +77,13 @@ fn send_moved<W: ToolOutput>(output: &mut W, waiting: &mut Waiting, changes: &[C
 
 fn send_lost<W: ToolOutput>(output: &mut W, waiting: &mut Waiting, failures: &[Allocation]) -> bool
     requires { W.has_failed output.old ≡ false }
-    ensures gathered { result ≡ true → IsGathered (W.contents output.old) (W.contents output.new) waiting.new (waiting.old ++ flat_map lost_line failures.now) }
+    ensures gathered { result ≡ true
+        → IsGathered (W.contents output.old) (W.contents output.new) waiting.new
+        (waiting.old ++ flat_map lost_line failures.now) }
     ensures failed { W.has_failed output.new ≡ not result }
-    ensures beginning { result ≡ false → WritesBeginning (W.contents output.old) (W.contents output.new) (waiting.old ++ flat_map lost_line failures.now) }
+    ensures beginning { result ≡ false
+        → WritesBeginning (W.contents output.old) (W.contents output.new)
+        (waiting.old ++ flat_map lost_line failures.now) }
 {
     for allocation in failures {
         if !make_room(output, waiting) {
@@ -94,9 +102,13 @@ fn end_changes<W: ToolOutput>(
     failures: usize,
 ) -> bool
     requires { W.has_failed output.old ≡ false }
-    ensures gathered { result ≡ true → IsGathered (W.contents output.old) (W.contents output.new) waiting.new (waiting.old ++ counts_line changes failures) }
+    ensures gathered { result ≡ true
+        → IsGathered (W.contents output.old) (W.contents output.new) waiting.new
+        (waiting.old ++ counts_line changes failures) }
     ensures failed { W.has_failed output.new ≡ not result }
-    ensures beginning { result ≡ false → WritesBeginning (W.contents output.old) (W.contents output.new) (waiting.old ++ counts_line changes failures) }
+    ensures beginning { result ≡ false
+        → WritesBeginning (W.contents output.old) (W.contents output.new)
+        (waiting.old ++ counts_line changes failures) }
 {
     if !make_room(output, waiting) {
         return false;
@@ -113,9 +125,13 @@ pub fn send_changes<W: ToolOutput>(
     failures: &[Allocation],
 ) -> bool
     requires { W.has_failed output.old ≡ false }
-    ensures gathered { result ≡ true → IsGathered (W.contents output.old) (W.contents output.new) waiting.new (waiting.old ++ reply_text (ToolReply.ChangeLines changes.now failures.now)) }
+    ensures gathered { result ≡ true
+        → IsGathered (W.contents output.old) (W.contents output.new) waiting.new
+        (waiting.old ++ reply_text (ToolReply.ChangeLines changes.now failures.now)) }
     ensures failed { W.has_failed output.new ≡ not result }
-    ensures beginning { result ≡ false → WritesBeginning (W.contents output.old) (W.contents output.new) (waiting.old ++ reply_text (ToolReply.ChangeLines changes.now failures.now)) }
+    ensures beginning { result ≡ false
+        → WritesBeginning (W.contents output.old) (W.contents output.new)
+        (waiting.old ++ reply_text (ToolReply.ChangeLines changes.now failures.now)) }
 {
     if !send_moved(output, waiting, changes) {
         return false;

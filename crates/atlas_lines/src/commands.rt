@@ -14,8 +14,8 @@ pub enum Command {
     Simple(Size),
     /// `take W H`: request a rectangle of this size from the simple allocator.
     Take(Size),
-    /// `atlas W H`, or `atlas W H AW AH SMALL LARGE` with the alignment and the thresholds: make an atlas of this size with
-    /// these options, in place of an earlier one. The first form has the default options.
+    /// `atlas W H`, or `atlas W H AW AH SMALL LARGE` with the alignment and the thresholds: make an atlas of this size
+    /// with these options, in place of an earlier one. The first form has the default options.
     Atlas(Size, AllocatorOptions),
     /// `alloc W H`: request a rectangle of this size from the atlas.
     Alloc(Size),
@@ -51,7 +51,8 @@ pub const LINE: usize = 120;
 // The command that begins with this word and has this rest, if it has no arguments.
 fn parse_alone(word: &[u8], rest: &[u8]) -> Option<Command>
     ensures found { IfSome result (λ command. SpellsInParts command word.now rest.now) }
-    ensures only { (command : Command) → SpellsArguments command [] → SpellsInParts command word.now rest.now → result ≡ Some command }
+    ensures only { (command : Command) → SpellsArguments command [] → SpellsInParts command word.now rest.now
+        → result ≡ Some command }
 {
     if !rest.is_empty() {
         return None;

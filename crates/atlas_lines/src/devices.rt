@@ -11,8 +11,8 @@ pub trait ToolInput {
     // A read has failed.
     ghost has_failed: { Self → Bool };
 
-    /// How many bytes were put at the start of `buffer`: none of them only at the end or where `buffer` is empty. `None`
-    /// for an error, at which none was.
+    /// How many bytes were put at the start of `buffer`: none of them only at the end or where `buffer` is empty.
+    /// `None` for an error, at which none was.
     fn read(&mut self, buffer: &mut [u8]) -> Option<usize>
         ensures bytes { Reads (remaining self.old) (remaining self.new) result buffer.new }
         ensures failed { has_failed self.new ≡ has_failed_read (has_failed self.old) result };

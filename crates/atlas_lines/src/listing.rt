@@ -76,7 +76,8 @@ fn push_count<const N: usize>(text: &mut FixedBytes<N>, word: &[u8], count: usiz
 pub fn make_room<W: ToolOutput>(output: &mut W, waiting: &mut Waiting) -> bool
     requires { W.has_failed output.old ≡ false }
     ensures room { result ≡ true → length waiting.new + LINE ≤ BLOCK }
-    ensures gathered { result ≡ true → IsGathered (W.contents output.old) (W.contents output.new) waiting.new waiting.old }
+    ensures gathered { result ≡ true
+        → IsGathered (W.contents output.old) (W.contents output.new) waiting.new waiting.old }
     ensures failed { W.has_failed output.new ≡ not result }
     ensures beginning { result ≡ false → WritesBeginning (W.contents output.old) (W.contents output.new) waiting.old }
 {
@@ -88,9 +89,11 @@ pub fn make_room<W: ToolOutput>(output: &mut W, waiting: &mut Waiting) -> bool
 
 fn send_line<W: ToolOutput>(output: &mut W, waiting: &mut Waiting, reply: Reply) -> bool
     requires { W.has_failed output.old ≡ false }
-    ensures gathered { result ≡ true → IsGathered (W.contents output.old) (W.contents output.new) waiting.new (waiting.old ++ line_text reply) }
+    ensures gathered { result ≡ true
+        → IsGathered (W.contents output.old) (W.contents output.new) waiting.new (waiting.old ++ line_text reply) }
     ensures failed { W.has_failed output.new ≡ not result }
-    ensures beginning { result ≡ false → WritesBeginning (W.contents output.old) (W.contents output.new) (waiting.old ++ line_text reply) }
+    ensures beginning { result ≡ false
+        → WritesBeginning (W.contents output.old) (W.contents output.new) (waiting.old ++ line_text reply) }
 {
     if !make_room(output, waiting) {
         return false;
@@ -102,9 +105,11 @@ fn send_line<W: ToolOutput>(output: &mut W, waiting: &mut Waiting, reply: Reply)
 /// Adds the answer to a bad line with this number, and writes all that waits. `false` where the device failed.
 pub fn send_bad_line<W: ToolOutput>(output: &mut W, waiting: &mut Waiting, number: u64) -> bool
     requires { W.has_failed output.old ≡ false }
-    ensures written { result ≡ true → Appends (W.contents output.old) (W.contents output.new) (waiting.old ++ bad_line_text number) }
+    ensures written { result ≡ true
+        → Appends (W.contents output.old) (W.contents output.new) (waiting.old ++ bad_line_text number) }
     ensures failed { W.has_failed output.new ≡ not result }
-    ensures beginning { result ≡ false → WritesBeginning (W.contents output.old) (W.contents output.new) (waiting.old ++ bad_line_text number) }
+    ensures beginning { result ≡ false
+        → WritesBeginning (W.contents output.old) (W.contents output.new) (waiting.old ++ bad_line_text number) }
 {
     if !make_room(output, waiting) {
         return false;
@@ -117,9 +122,12 @@ pub fn send_bad_line<W: ToolOutput>(output: &mut W, waiting: &mut Waiting, numbe
 fn end_list<W: ToolOutput>(output: &mut W, waiting: &mut Waiting, word: &[u8], count: usize) -> bool
     requires output { W.has_failed output.old ≡ false }
     requires short { length word.now ≤ 100 }
-    ensures gathered { result ≡ true → IsGathered (W.contents output.old) (W.contents output.new) waiting.new (waiting.old ++ count_line word.now count) }
+    ensures gathered { result ≡ true
+        → IsGathered (W.contents output.old) (W.contents output.new) waiting.new
+        (waiting.old ++ count_line word.now count) }
     ensures failed { W.has_failed output.new ≡ not result }
-    ensures beginning { result ≡ false → WritesBeginning (W.contents output.old) (W.contents output.new) (waiting.old ++ count_line word.now count) }
+    ensures beginning { result ≡ false
+        → WritesBeginning (W.contents output.old) (W.contents output.new) (waiting.old ++ count_line word.now count) }
 {
     if !make_room(output, waiting) {
         return false;
@@ -130,9 +138,13 @@ fn end_list<W: ToolOutput>(output: &mut W, waiting: &mut Waiting, word: &[u8], c
 
 fn send_live<W: ToolOutput>(output: &mut W, waiting: &mut Waiting, found: &[Allocation]) -> bool
     requires { W.has_failed output.old ≡ false }
-    ensures gathered { result ≡ true → IsGathered (W.contents output.old) (W.contents output.new) waiting.new (waiting.old ++ reply_text (ToolReply.LiveLines found.now)) }
+    ensures gathered { result ≡ true
+        → IsGathered (W.contents output.old) (W.contents output.new) waiting.new
+        (waiting.old ++ reply_text (ToolReply.LiveLines found.now)) }
     ensures failed { W.has_failed output.new ≡ not result }
-    ensures beginning { result ≡ false → WritesBeginning (W.contents output.old) (W.contents output.new) (waiting.old ++ reply_text (ToolReply.LiveLines found.now)) }
+    ensures beginning { result ≡ false
+        → WritesBeginning (W.contents output.old) (W.contents output.new)
+        (waiting.old ++ reply_text (ToolReply.LiveLines found.now)) }
 {
     for allocation in found {
         if !make_room(output, waiting) {
@@ -145,9 +157,13 @@ fn send_live<W: ToolOutput>(output: &mut W, waiting: &mut Waiting, found: &[Allo
 
 fn send_holes<W: ToolOutput>(output: &mut W, waiting: &mut Waiting, found: &[Rectangle]) -> bool
     requires { W.has_failed output.old ≡ false }
-    ensures gathered { result ≡ true → IsGathered (W.contents output.old) (W.contents output.new) waiting.new (waiting.old ++ reply_text (ToolReply.HoleLines found.now)) }
+    ensures gathered { result ≡ true
+        → IsGathered (W.contents output.old) (W.contents output.new) waiting.new
+        (waiting.old ++ reply_text (ToolReply.HoleLines found.now)) }
     ensures failed { W.has_failed output.new ≡ not result }
-    ensures beginning { result ≡ false → WritesBeginning (W.contents output.old) (W.contents output.new) (waiting.old ++ reply_text (ToolReply.HoleLines found.now)) }
+    ensures beginning { result ≡ false
+        → WritesBeginning (W.contents output.old) (W.contents output.new)
+        (waiting.old ++ reply_text (ToolReply.HoleLines found.now)) }
 {
     for area in found {
         if !make_room(output, waiting) {
@@ -165,9 +181,13 @@ pub fn send<A: Allocator + Copy, W: ToolOutput>(
     answer: &Answer<A>,
 ) -> bool
     requires { W.has_failed output.old ≡ false }
-    ensures gathered { result ≡ true → IsGathered (W.contents output.old) (W.contents output.new) waiting.new (waiting.old ++ reply_text (shown_by answer.now)) }
+    ensures gathered { result ≡ true
+        → IsGathered (W.contents output.old) (W.contents output.new) waiting.new
+        (waiting.old ++ reply_text (shown_by answer.now)) }
     ensures failed { W.has_failed output.new ≡ not result }
-    ensures beginning { result ≡ false → WritesBeginning (W.contents output.old) (W.contents output.new) (waiting.old ++ reply_text (shown_by answer.now)) }
+    ensures beginning { result ≡ false
+        → WritesBeginning (W.contents output.old) (W.contents output.new)
+        (waiting.old ++ reply_text (shown_by answer.now)) }
 {
     match answer {
         Answer::OneLine(reply) => send_line(output, waiting, *reply),

@@ -1,6 +1,7 @@
 //! Replies, and their text in a fixed buffer.
 ghost use Rattle.std.specs.Prelude.{◌≡◌, ◌≤◌, ◌+◌, ◌++◌, length};
-ghost use Rattle.atlas_lines.specs.Replies.{spaced_number, line_text, bad_line_text, corners_text, refusal_text, counted_text, counts_text, fault_text, replay_text};
+ghost use Rattle.atlas_lines.specs.Replies.{spaced_number, line_text, bad_line_text, corners_text, refusal_text};
+ghost use Rattle.atlas_lines.specs.Replies.{counted_text, counts_text, fault_text, replay_text};
 
 use crate::buffer::FixedBytes;
 use crate::digits::{push_signed, push_unsigned};
@@ -34,7 +35,7 @@ pub enum Reply {
     Allocated(Allocation),
     /// `size W H`
     Extent(Size),
-    /// `true` or `false`
+    /// `true` or `false`.
     Truth(bool),
     /// `no atlas`
     NoAtlas,
@@ -42,14 +43,14 @@ pub enum Reply {
     NoSimple,
     /// `bad call`
     Invalid,
-    /// `refused` and what was refused
+    /// `refused` and what was refused.
     Declined(AtlasError),
     /// `refused names`
     NoNames,
     /// `no recording`
     NoRecording,
     /// `replayed allocations A deallocations D failed F live L`; or `replay differs I`, `replay bad event I`,
-    /// `replay refused slots` or `replay refused memory`
+    /// `replay refused slots` or `replay refused memory`.
     Replayed(Result<ReplayCounts, ReplayFault>),
 }
 
@@ -58,12 +59,12 @@ pub enum Reply {
 pub enum Answer<A: Allocator + Copy> {
     /// One line.
     OneLine(Reply),
-    /// `box N X0 Y0 X1 Y1` for each, then `live COUNT`
+    /// `box N X0 Y0 X1 Y1` for each, then `live COUNT`.
     LiveLines(Vec<Allocation, A>),
-    /// `hole X0 Y0 X1 Y1` for each, then `holes COUNT`
+    /// `hole X0 Y0 X1 Y1` for each, then `holes COUNT`.
     HoleLines(Vec<Rectangle, A>),
     /// `moved N X0 Y0 X1 Y1 to N X0 Y0 X1 Y1` for each change, `lost N X0 Y0 X1 Y1` for each failure, then
-    /// `changes COUNT failures COUNT`
+    /// `changes COUNT failures COUNT`.
     ChangeLines(ChangeList<A>),
 }
 

@@ -102,7 +102,8 @@ impl<'a, A: Allocator> Progress<'a, A> {
     ) -> Option<Result<ToolEnd, ToolFault>>
         requires room { self.old.number < 2 ^ 64 - 1 }
         requires output { W.has_failed output.old ≡ false }
-        ensures line { LineEnds result self.old self.new (W.contents output.old) (W.contents output.new) waiting.old waiting.new }
+        ensures line { LineEnds result self.old self.new (W.contents output.old) (W.contents output.new) waiting.old
+            waiting.new }
         ensures failed { W.has_failed output.new ≡ is_write_end result }
     {
         if self.line.len() > 0 {
@@ -125,7 +126,8 @@ impl<'a, A: Allocator> Progress<'a, A> {
     ) -> Option<Result<ToolEnd, ToolFault>>
         requires room { self.old.number < 2 ^ 64 - 1 }
         requires output { W.has_failed output.old ≡ false }
-        ensures line { LineEnds result self.old self.new (W.contents output.old) (W.contents output.new) waiting.old [] }
+        ensures line { LineEnds result self.old self.new (W.contents output.old) (W.contents output.new) waiting.old
+            [] }
         ensures failed { W.has_failed output.new ≡ is_write_end result }
     {
         if let Some(end) = self.end_line(output, waiting) {
@@ -156,9 +158,11 @@ impl<'a, A: Allocator> Progress<'a, A> {
         requires room { self.old.number + length self.old.line < 2 ^ 64 - 1 }
         requires line { HasNoEnd self.old.line }
         requires output { W.has_failed output.old ≡ false }
-        ensures continues { Continues result self.old (byte ∷ []) self.new (W.contents output.old) (W.contents output.new) waiting.old waiting.new }
+        ensures continues { Continues result self.old (byte ∷ []) self.new (W.contents output.old)
+            (W.contents output.new) waiting.old waiting.new }
         ensures line { IsNone result → HasNoEnd self.new.line }
-        ensures room { IsNone result → self.new.number + length self.new.line ≤ self.old.number + length self.old.line + 1 }
+        ensures room { IsNone result
+            → self.new.number + length self.new.line ≤ self.old.number + length self.old.line + 1 }
         ensures failed { W.has_failed output.new ≡ is_write_end result }
     {
         if byte == b'\n' {
@@ -181,9 +185,11 @@ impl<'a, A: Allocator> Progress<'a, A> {
         requires room { self.old.number + length self.old.line + length block.now < 2 ^ 64 }
         requires line { HasNoEnd self.old.line }
         requires output { W.has_failed output.old ≡ false }
-        ensures continues { Continues result self.old block.now self.new (W.contents output.old) (W.contents output.new) waiting.old waiting.new }
+        ensures continues { Continues result self.old block.now self.new (W.contents output.old)
+            (W.contents output.new) waiting.old waiting.new }
         ensures line { IsNone result → HasNoEnd self.new.line }
-        ensures room { IsNone result → self.new.number + length self.new.line ≤ self.old.number + length self.old.line + length block.now }
+        ensures room { IsNone result
+            → self.new.number + length self.new.line ≤ self.old.number + length self.old.line + length block.now }
         ensures failed { W.has_failed output.new ≡ is_write_end result }
     {
         for byte in block {
@@ -204,9 +210,11 @@ impl<'a, A: Allocator> Progress<'a, A> {
         requires room { self.old.number + length self.old.line + length block.now < 2 ^ 64 }
         requires line { HasNoEnd self.old.line }
         requires output { W.has_failed output.old ≡ false }
-        ensures continues { Continues result self.old block.now self.new (W.contents output.old) (W.contents output.new) waiting.old [] }
+        ensures continues { Continues result self.old block.now self.new (W.contents output.old)
+            (W.contents output.new) waiting.old [] }
         ensures line { IsNone result → HasNoEnd self.new.line }
-        ensures room { IsNone result → self.new.number + length self.new.line ≤ self.old.number + length self.old.line + length block.now }
+        ensures room { IsNone result
+            → self.new.number + length self.new.line ≤ self.old.number + length self.old.line + length block.now }
         ensures waiting { IsNone result → waiting.new ≡ [] }
         ensures failed { W.has_failed output.new ≡ is_write_end result }
     {
@@ -228,7 +236,8 @@ impl<'a, A: Allocator> Progress<'a, A> {
         requires start { self.old ≡ place_at_start }
         requires input { R.has_failed input.old ≡ false }
         requires output { W.has_failed output.old ≡ false }
-        ensures ends { Ends result (R.remaining input.old) (R.remaining input.new) (W.contents output.old) (W.contents output.new) }
+        ensures ends { Ends result (R.remaining input.old) (R.remaining input.new) (W.contents output.old)
+            (W.contents output.new) }
         ensures read_failed { R.has_failed input.new ≡ is_read_fault result }
         ensures write_failed { W.has_failed output.new ≡ is_write_fault result }
     {
@@ -254,8 +263,9 @@ impl<'a, A: Allocator> Progress<'a, A> {
     }
 }
 
-/// Carries out the lines that the reader gives, one after another, and writes their replies, up to the reader's end, the
-/// first bad line, the limit or the first failure of a device. Reading takes no memory. A failure isn't tried again.
+/// Carries out the lines that the reader gives, one after another, and writes their replies, up to the reader's end,
+/// the first bad line, the limit or the first failure of a device. Reading takes no memory.
+/// A failure isn't tried again.
 pub fn run_lines<A: Allocator + Copy, R: ToolInput, W: ToolOutput>(
     alloc: A,
     input: &mut R,
@@ -264,7 +274,8 @@ pub fn run_lines<A: Allocator + Copy, R: ToolInput, W: ToolOutput>(
     requires input { R.has_failed input.old ≡ false }
     requires output { W.has_failed output.old ≡ false }
     // How the run ended, and what was written by then.
-    ensures ends { Ends result (R.remaining input.old) (R.remaining input.new) (W.contents output.old) (W.contents output.new) }
+    ensures ends { Ends result (R.remaining input.old) (R.remaining input.new) (W.contents output.old)
+        (W.contents output.new) }
     // A fault comes exactly where its device failed.
     ensures read_failed { R.has_failed input.new ≡ is_read_fault result }
     ensures write_failed { W.has_failed output.new ≡ is_write_fault result }

@@ -6,7 +6,8 @@ ghost use Rattle.guillotiere.specs.Steps.AtlasCall.{Rearrange, ResizeAndRearrang
 ghost use Rattle.guillotiere_recording.specs.declared.error.RecordingError.TheVariants as error;
 ghost use Rattle.guillotiere_recording.specs.Events.{EventValue};
 ghost use Rattle.atlas_lines.specs.Answers.{shown_by};
-ghost use Rattle.atlas_lines.specs.Machine.{RecordsRequest, RecordsFreeing, RecordsGrowth, RecordsRearranging, ShowsNames, ShowsHoles, HoldsHoles, ShowsReplay, session_in, declined_line};
+ghost use Rattle.atlas_lines.specs.Machine.{RecordsRequest, RecordsFreeing, RecordsGrowth, RecordsRearranging};
+ghost use Rattle.atlas_lines.specs.Machine.{ShowsNames, ShowsHoles, HoldsHoles, ShowsReplay, session_in, declined_line};
 
 use crate::atlas_calls::is_positive;
 use crate::replies::{Answer, ReplayCounts, Reply};
@@ -82,7 +83,8 @@ pub fn grow<A: Allocator + Copy>(session: &mut RecordingAllocator<A>, new_size: 
 
 /// Places what is allocated anew.
 pub fn rearrange<A: Allocator + Copy>(session: &mut RecordingAllocator<A>) -> Answer<A>
-    ensures { RecordsRearranging (session_in session.old) Rearrange ⊤ EventValue.Rearrange (shown_by result) (session_in session.new) }
+    ensures { RecordsRearranging (session_in session.old) Rearrange ⊤ EventValue.Rearrange (shown_by result)
+        (session_in session.new) }
 {
     match session.rearrange() {
         Ok(list) => Answer::ChangeLines(list),
@@ -92,7 +94,9 @@ pub fn rearrange<A: Allocator + Copy>(session: &mut RecordingAllocator<A>) -> An
 
 /// Places what is allocated anew in this size.
 pub fn resize<A: Allocator + Copy>(session: &mut RecordingAllocator<A>, new_size: Size) -> Answer<A>
-    ensures { RecordsRearranging (session_in session.old) (ResizeAndRearrange (sides_of new_size)) (IsPositive (sides_of new_size)) (EventValue.ResizeAndRearrange new_size) (shown_by result) (session_in session.new) }
+    ensures { RecordsRearranging (session_in session.old) (ResizeAndRearrange (sides_of new_size))
+        (IsPositive (sides_of new_size)) (EventValue.ResizeAndRearrange new_size) (shown_by result)
+        (session_in session.new) }
 {
     if !is_positive(new_size) {
         return Answer::OneLine(Reply::Invalid);

@@ -6,7 +6,12 @@ ghost use Rattle.guillotiere.specs.Boxes.{IsPositive};
 ghost use Rattle.guillotiere_recording.specs.Events.{EventValue};
 ghost use Rattle.atlas_lines.specs.declared.standing.Standing.TheVariants.{Nothing};
 ghost use Rattle.atlas_lines.specs.Answers.{shown_by, Replies, BeginsToReply};
-ghost use Rattle.atlas_lines.specs.Machine.{ToolReply, ToolStep, CreatesSimple, RequestsSimple, StartsSimple, CreatesAtlas, BeginsSession, CallsStanding, RearrangesStanding, LooksAtStanding, ReplaysStanding, HasNoAtlas, RecordsRequest, RecordsFreeing, RecordsGrowth, RecordsRearranging, IsLine, ShowsLive, ShowsNames, ShowsHoles, ShowsSize, ShowsEmpty, SaysNoAtlas, atlas_of, standing_in, state_of};
+ghost use Rattle.atlas_lines.specs.Machine.{ToolReply, ToolStep, CreatesSimple, RequestsSimple, StartsSimple};
+ghost use Rattle.atlas_lines.specs.Machine.{CreatesAtlas, BeginsSession, CallsStanding, RearrangesStanding};
+ghost use Rattle.atlas_lines.specs.Machine.{LooksAtStanding, ReplaysStanding, HasNoAtlas, RecordsRequest};
+ghost use Rattle.atlas_lines.specs.Machine.{RecordsFreeing, RecordsGrowth, RecordsRearranging, IsLine, ShowsLive};
+ghost use Rattle.atlas_lines.specs.Machine.{ShowsNames, ShowsHoles, ShowsSize, ShowsEmpty, SaysNoAtlas, atlas_of};
+ghost use Rattle.atlas_lines.specs.Machine.{standing_in, tool_state_of};
 
 use crate::atlas_calls::is_positive;
 use crate::commands::Command;
@@ -52,7 +57,7 @@ impl<'a, A: Allocator> Tool<'a, A> {
 
     /// Carries out a command.
     pub fn carry_out(&mut self, command: Command) -> Answer<&'a A>
-        ensures { ToolStep (state_of self.old) command (shown_by result) (state_of self.new) }
+        ensures { ToolStep (tool_state_of self.old) command (shown_by result) (tool_state_of self.new) }
     {
         match command {
             Command::Simple(size) => Answer::OneLine(self.create_simple(size)),
@@ -82,16 +87,20 @@ impl<'a, A: Allocator> Tool<'a, A> {
         waiting: &mut Waiting,
     ) -> bool
         requires { W.has_failed output.old ≡ false }
-        ensures gathered { result ≡ true → Replies (state_of self.old) command (state_of self.new) (W.contents output.old) (W.contents output.new) waiting.old waiting.new }
+        ensures gathered { result ≡ true
+            → Replies (tool_state_of self.old) command (tool_state_of self.new) (W.contents output.old)
+            (W.contents output.new) waiting.old waiting.new }
         ensures failed { W.has_failed output.new ≡ not result }
-        ensures beginning { result ≡ false → BeginsToReply (state_of self.old) command (state_of self.new) (W.contents output.old) (W.contents output.new) waiting.old }
+        ensures beginning { result ≡ false
+            → BeginsToReply (tool_state_of self.old) command (tool_state_of self.new) (W.contents output.old)
+            (W.contents output.new) waiting.old }
     {
         let answer = self.carry_out(command);
         send(output, waiting, &answer)
     }
 
     fn create_simple(&mut self, size: Size) -> Reply
-        ensures { CreatesSimple (state_of self.old) (sides_of size) result (state_of self.new) }
+        ensures { CreatesSimple (tool_state_of self.old) (sides_of size) result (tool_state_of self.new) }
     {
         if size.is_empty() {
             return Reply::Invalid;
@@ -136,7 +145,8 @@ impl<'a, A: Allocator> Tool<'a, A> {
     }
 
     fn create_atlas(&mut self, size: Size, options: &AllocatorOptions) -> Reply
-        ensures { CreatesAtlas (state_of self.old) (sides_of size) (options_of options.now) result (state_of self.new) }
+        ensures { CreatesAtlas (tool_state_of self.old) (sides_of size) (options_of options.now) result
+            (tool_state_of self.new) }
     {
         if !is_positive(size) {
             return Reply::Invalid;
@@ -154,7 +164,7 @@ impl<'a, A: Allocator> Tool<'a, A> {
     }
 
     fn begin_session(&mut self, size: Size) -> Reply
-        ensures { BeginsSession (state_of self.old) size result (state_of self.new) }
+        ensures { BeginsSession (tool_state_of self.old) size result (tool_state_of self.new) }
     {
         if !is_positive(size) {
             return Reply::Invalid;
@@ -182,7 +192,8 @@ impl<'a, A: Allocator> Tool<'a, A> {
     }
 
     fn request(&mut self, size: Size) -> Reply
-        ensures step { CallsStanding (standing_in self.old.stand) (Allocate (sides_of size)) (λ s t. RecordsRequest s size result t) result (standing_in self.new.stand) }
+        ensures step { CallsStanding (standing_in self.old.stand) (Allocate (sides_of size))
+            (λ s t. RecordsRequest s size result t) result (standing_in self.new.stand) }
         ensures simple { self.new.simple ≡ self.old.simple }
     {
         match &mut self.stand {
@@ -193,7 +204,8 @@ impl<'a, A: Allocator> Tool<'a, A> {
     }
 
     fn give_back(&mut self, id: AllocId) -> Reply
-        ensures step { CallsStanding (standing_in self.old.stand) (Deallocate id) (λ s t. RecordsFreeing s id result t) result (standing_in self.new.stand) }
+        ensures step { CallsStanding (standing_in self.old.stand) (Deallocate id) (λ s t. RecordsFreeing s id result t)
+            result (standing_in self.new.stand) }
         ensures simple { self.new.simple ≡ self.old.simple }
     {
         match &mut self.stand {
@@ -204,7 +216,8 @@ impl<'a, A: Allocator> Tool<'a, A> {
     }
 
     fn grow(&mut self, new_size: Size) -> Reply
-        ensures step { CallsStanding (standing_in self.old.stand) (Grow (sides_of new_size)) (λ s t. RecordsGrowth s new_size result t) result (standing_in self.new.stand) }
+        ensures step { CallsStanding (standing_in self.old.stand) (Grow (sides_of new_size))
+            (λ s t. RecordsGrowth s new_size result t) result (standing_in self.new.stand) }
         ensures simple { self.new.simple ≡ self.old.simple }
     {
         match &mut self.stand {
@@ -215,7 +228,8 @@ impl<'a, A: Allocator> Tool<'a, A> {
     }
 
     fn clear(&mut self) -> Reply
-        ensures step { CallsStanding (standing_in self.old.stand) Clear (λ s t. HasNoAtlas result s t) result (standing_in self.new.stand) }
+        ensures step { CallsStanding (standing_in self.old.stand) Clear (λ s t. HasNoAtlas result s t) result
+            (standing_in self.new.stand) }
         ensures simple { self.new.simple ≡ self.old.simple }
     {
         match &mut self.stand {
@@ -226,7 +240,9 @@ impl<'a, A: Allocator> Tool<'a, A> {
     }
 
     fn rearrange(&mut self) -> Answer<&'a A>
-        ensures step { RearrangesStanding (standing_in self.old.stand) Rearrange (λ s t. RecordsRearranging s Rearrange ⊤ EventValue.Rearrange (shown_by result) t) (shown_by result) (standing_in self.new.stand) }
+        ensures step { RearrangesStanding (standing_in self.old.stand) Rearrange
+            (λ s t. RecordsRearranging s Rearrange ⊤ EventValue.Rearrange (shown_by result) t) (shown_by result)
+            (standing_in self.new.stand) }
         ensures simple { self.new.simple ≡ self.old.simple }
     {
         match &mut self.stand {
@@ -237,7 +253,10 @@ impl<'a, A: Allocator> Tool<'a, A> {
     }
 
     fn resize(&mut self, new_size: Size) -> Answer<&'a A>
-        ensures step { RearrangesStanding (standing_in self.old.stand) (ResizeAndRearrange (sides_of new_size)) (λ s t. RecordsRearranging s (ResizeAndRearrange (sides_of new_size)) (IsPositive (sides_of new_size)) (EventValue.ResizeAndRearrange new_size) (shown_by result) t) (shown_by result) (standing_in self.new.stand) }
+        ensures step { RearrangesStanding (standing_in self.old.stand) (ResizeAndRearrange (sides_of new_size))
+            (λ s t. RecordsRearranging s (ResizeAndRearrange (sides_of new_size)) (IsPositive (sides_of new_size))
+            (EventValue.ResizeAndRearrange new_size) (shown_by result) t) (shown_by result)
+            (standing_in self.new.stand) }
         ensures simple { self.new.simple ≡ self.old.simple }
     {
         match &mut self.stand {
@@ -258,7 +277,8 @@ impl<'a, A: Allocator> Tool<'a, A> {
     }
 
     fn list_holes(&self) -> Answer<&'a A>
-        ensures { LooksAtStanding (standing_in self.now.stand) ShowsHoles (λ s. ShowsHoles s.named.state) (shown_by result) }
+        ensures { LooksAtStanding (standing_in self.now.stand) ShowsHoles (λ s. ShowsHoles s.named.state)
+            (shown_by result) }
     {
         match &self.stand {
             Standing::Nothing => Answer::OneLine(Reply::NoAtlas),
@@ -268,7 +288,8 @@ impl<'a, A: Allocator> Tool<'a, A> {
     }
 
     fn tell_size(&self) -> Reply
-        ensures { LooksAtStanding (standing_in self.now.stand) (λ state. IsLine (ShowsSize state)) (λ s. IsLine (ShowsSize s.named.state)) (ToolReply.OneLine result) }
+        ensures { LooksAtStanding (standing_in self.now.stand) (λ state. IsLine (ShowsSize state))
+            (λ s. IsLine (ShowsSize s.named.state)) (ToolReply.OneLine result) }
     {
         match &self.stand {
             Standing::Nothing => Reply::NoAtlas,
@@ -278,7 +299,8 @@ impl<'a, A: Allocator> Tool<'a, A> {
     }
 
     fn tell_empty(&self) -> Reply
-        ensures { LooksAtStanding (standing_in self.now.stand) (λ state. IsLine (ShowsEmpty state)) SaysNoAtlas (ToolReply.OneLine result) }
+        ensures { LooksAtStanding (standing_in self.now.stand) (λ state. IsLine (ShowsEmpty state)) SaysNoAtlas
+            (ToolReply.OneLine result) }
     {
         match &self.stand {
             Standing::Atlas(atlas) => Reply::Truth(atlas.is_empty()),

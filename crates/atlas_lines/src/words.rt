@@ -8,8 +8,8 @@ ghost use Rattle.atlas_lines.specs.Words.{BeginsWithWord, BeginsWithNumber, Begi
 
 use guillotiere::{AllocId, AllocatorOptions, DEFAULT_OPTIONS, Size, size2};
 
-/// The bytes before the first space, all of them where there is none, and the rest from that space on. For programs that
-/// read lines of their own, as `atlas_bench`. It takes no memory.
+/// The bytes before the first space, all of them where there is none, and the rest from that space on. For programs
+/// that read lines of their own, as `atlas_bench`. It takes no memory.
 pub fn first_word(text: &[u8]) -> (&[u8], &[u8])
     ensures { BeginsWithWord text.now result.0.now result.1.now }
 {
@@ -34,8 +34,8 @@ pub fn first_line(text: &[u8]) -> (&[u8], &[u8])
     (text, &[])
 }
 
-/// The number that one or more decimal digits write, where it fits a `u32`; None for every other text. For programs that
-/// read lines of their own, as `atlas_bench`. It takes no memory.
+/// The number that one or more decimal digits write, where it fits a `u32`; None for every other text. For programs
+/// that read lines of their own, as `atlas_bench`. It takes no memory.
 pub fn unsigned(text: &[u8]) -> Option<u32>
     ensures found { IfSome result (λ n. SpellsUnsigned n text.now) }
     ensures only { (n : ℕ) → SpellsUnsigned n text.now → result ≡ Some n }
@@ -70,7 +70,8 @@ pub fn number(text: &[u8]) -> Option<i32>
 /// The number that a space and a word spell, and what follows them.
 pub fn number_argument(text: &[u8]) -> Option<(i32, &[u8])>
     ensures found { IfSome result (λ found. BeginsWithNumber text.now found.0 found.1.now) }
-    ensures only { (z : ℤ) (rest : List ℕ) → BeginsWithNumber text.now z rest → IsSomeAnd result (λ found. (found.0 ≡ z) × (found.1.now ≡ rest)) }
+    ensures only { (z : ℤ) (rest : List ℕ) → BeginsWithNumber text.now z rest
+        → IsSomeAnd result (λ found. (found.0 ≡ z) × (found.1.now ≡ rest)) }
 {
     let (first, after) = text.split_first()?;
     if *first != b' ' {
@@ -83,7 +84,8 @@ pub fn number_argument(text: &[u8]) -> Option<(i32, &[u8])>
 /// The size that two numbers spell, each after one space, and what follows them.
 pub fn size_argument(text: &[u8]) -> Option<(Size, &[u8])>
     ensures found { IfSome result (λ found. BeginsWithSize text.now found.0 found.1.now) }
-    ensures only { (size : Size) (rest : List ℕ) → BeginsWithSize text.now size rest → IsSomeAnd result (λ found. (found.0 ≡ size) × (found.1.now ≡ rest)) }
+    ensures only { (size : Size) (rest : List ℕ) → BeginsWithSize text.now size rest
+        → IsSomeAnd result (λ found. (found.0 ≡ size) × (found.1.now ≡ rest)) }
 {
     let (width, rest) = number_argument(text)?;
     let (height, rest) = number_argument(rest)?;
@@ -102,7 +104,8 @@ pub fn size_arguments(text: &[u8]) -> Option<Size>
 /// The size and the options that two or six numbers spell, each after one space.
 pub fn atlas_arguments(text: &[u8]) -> Option<(Size, AllocatorOptions)>
     ensures found { IfSome result (λ found. SpellsAtlas found.0 found.1 text.now) }
-    ensures only { (size : Size) (options : AllocatorOptions) → SpellsAtlas size options text.now → IsSomeAnd result (λ found. (found.0 ≡ size) × (found.1 ≡ options)) }
+    ensures only { (size : Size) (options : AllocatorOptions) → SpellsAtlas size options text.now
+        → IsSomeAnd result (λ found. (found.0 ≡ size) × (found.1 ≡ options)) }
 {
     let (size, rest) = size_argument(text)?;
     if rest.is_empty() {

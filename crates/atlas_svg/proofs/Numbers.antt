@@ -11,7 +11,7 @@ digits_no_space : (digits : List ℕ) → AllDigits 10 digits → HasNoSpace dig
 digits_no_space [] h = tt
 digits_no_space (d ∷ ds) h = (λ e. let value : digit_value d ≡ 36 = ap digit_value e in omega (arith, h.0), digits_no_space ds h.1)
 
--- the word after the first byte is the one that spells the number
+-- The word after the first byte is the one that spells the number.
 pub spelled_word : (text after w r rest : List ℕ) (first n : ℕ) → text ≡ first ∷ after → BeginsWithWord after w r → BeginsWithUnsigned text n rest
     → SpellsUnsigned n w × (r ≡ rest)
 spelled_word text after w r rest first n e begins number =
@@ -20,6 +20,6 @@ spelled_word text after w r rest first n e begins number =
     let P : List ℕ → Type 0 = SpellsUnsigned n in
     (subst P (sym same.0) number.spells, same.1)
 
--- numbers stand in a text that is the same
+-- Numbers stand in a text that is the same.
 pub moved_to : (ns : List ℕ) (a b : List ℕ) → SpellsAll ns a → b ≡ a → SpellsAll ns b
 moved_to ns a b spells e = subst (SpellsAll ns) (sym e) spells

@@ -2,7 +2,7 @@
 use Rattle.std.proofs.Common.{◌≡◌, ℕ, ◌≢◌, ◌↔◌, IsTrue, Bool, false, true, ◌||◌, List, [], ◌∷◌, ◌++◌, Contains, codes, refl, sym, ◌∙◌, subst, inl, inr}
 use Rattle.std.proofs.lemmas.Bool.{or_parts}
 use Rattle.std.specs.Str.{bytes_eq}
-use Rattle.guillotiere.proofs.TreeIds.{Contains-cons_cases, Contains-none}
+use Rattle.guillotiere.proofs.TreeLemmas.TreeIds.{Contains-cons_cases, Contains-none}
 use Rattle.atlas_lines.specs.Words.{IsEmptyOrSpaced, BeginsWithWord}
 use Rattle.atlas_lines.proofs.Keywords.{differ, has_no_space, no_space_by_test}
 use Rattle.atlas_lines.proofs.Parting.{one_word}
@@ -11,7 +11,7 @@ use Rattle.atlas_svg.specs.declared.lines.Sides.{Sides}
 use Rattle.atlas_svg.specs.declared.lines.Named.{Named}
 use Rattle.atlas_svg.specs.declared.lines.Line.{Line}
 use Rattle.atlas_svg.specs.declared.lines.Line.TheVariants.{Size, Live, Free, Other}
-use Rattle.atlas_svg.specs.Lines.{SpellsAll, corner_numbers, call_words, answer_words, list_words, IsOther, Says}
+use Rattle.atlas_svg.specs.Lines.{SpellsAll, corner_numbers, call_words, answer_words, list_words, IsOther, SaysLine}
 
 unfoldable pub is_one_of : List (List ℕ) → List ℕ → Bool
 is_one_of [] word = false
@@ -24,7 +24,7 @@ not_one_of (first ∷ others) word e h =
     let parts = or_parts (bytes_eq first word) (is_one_of others word) e in
     elim (Contains-cons_cases first others word h) [ inl same ↦ differ first word parts.0 same | inr more ↦ not_one_of others word parts.1 more ]
 
--- a line that begins with this word and goes on with numbers
+-- A line that begins with this word and goes on with numbers.
 said_numbers : (key : List ℕ) (n : ℕ) (ns line word rest args : List ℕ) → has_no_space key ≡ true → BeginsWithWord line word rest → line ≡ key ++ args
     → SpellsAll (n ∷ ns) args → (word ≡ key) × SpellsAll (n ∷ ns) rest
 said_numbers key n ns line word rest args plain begins e spells =
@@ -32,7 +32,7 @@ said_numbers key n ns line word rest args plain begins e spells =
     let same = one_word line word rest key args begins (record { whole = e; no_space = no_space_by_test key plain; spaced = spaced }) in
     (same.0, subst (SpellsAll (n ∷ ns)) (sym same.1) spells)
 
--- a line that says nothing of a size or a box doesn't begin with this word
+-- A line that says nothing of a size or a box doesn't begin with this word.
 not_other : (key line word rest : List ℕ) → bytes_eq key (codes "bad") ≡ false → is_one_of call_words key ≡ false → is_one_of answer_words key ≡ false → is_one_of list_words key ≡ false
     → BeginsWithWord line word rest → word ≡ key → IsOther line → ⊥
 unfolding has_no_space
@@ -48,33 +48,33 @@ not_other key line word rest a b c d begins e (inr other) =
       | inr (inr h) ↦ not_one_of list_words key d (subst (Contains list_words) is h)
     ]
 
-size_first : (s : Sides) (line word rest : List ℕ) → BeginsWithWord line word rest → Says (Size s) line → (word ≡ codes "size") × SpellsAll (s.width ∷ s.height ∷ []) rest
+size_first : (s : Sides) (line word rest : List ℕ) → BeginsWithWord line word rest → SaysLine (Size s) line → (word ≡ codes "size") × SpellsAll (s.width ∷ s.height ∷ []) rest
 unfolding has_no_space
 size_first s line word rest begins says = said_numbers (codes "size") s.width (s.height ∷ []) line word rest says.0 refl begins says.1 says.2
 
-box_first : (n : Named) (line word rest : List ℕ) → BeginsWithWord line word rest → Says (Live n) line → (word ≡ codes "box") × SpellsAll (n.id ∷ corner_numbers n.corners) rest
+box_first : (n : Named) (line word rest : List ℕ) → BeginsWithWord line word rest → SaysLine (Live n) line → (word ≡ codes "box") × SpellsAll (n.id ∷ corner_numbers n.corners) rest
 unfolding has_no_space
 box_first n line word rest begins says = said_numbers (codes "box") n.id (corner_numbers n.corners) line word rest says.0 refl begins says.1 says.2
 
-hole_first : (k : Corners) (line word rest : List ℕ) → BeginsWithWord line word rest → Says (Free k) line → (word ≡ codes "hole") × SpellsAll (corner_numbers k) rest
+hole_first : (k : Corners) (line word rest : List ℕ) → BeginsWithWord line word rest → SaysLine (Free k) line → (word ≡ codes "hole") × SpellsAll (corner_numbers k) rest
 unfolding has_no_space
 hole_first k line word rest begins says = said_numbers (codes "hole") k.left (k.top ∷ k.right ∷ k.bottom ∷ []) line word rest says.0 refl begins says.1 says.2
 
-pub by_size : (said : Line) (line word rest : List ℕ) → BeginsWithWord line word rest → word ≡ codes "size" → Says said line → (s : Sides) × SpellsAll (s.width ∷ s.height ∷ []) rest
+pub by_size : (said : Line) (line word rest : List ℕ) → BeginsWithWord line word rest → word ≡ codes "size" → SaysLine said line → (s : Sides) × SpellsAll (s.width ∷ s.height ∷ []) rest
 unfolding is_one_of
 by_size (Size s) line word rest begins e says = (s, (size_first s line word rest begins says).1)
 by_size (Live n) line word rest begins e says = absurd (differ (codes "size") (codes "box") refl (sym e ∙ (box_first n line word rest begins says).0))
 by_size (Free k) line word rest begins e says = absurd (differ (codes "size") (codes "hole") refl (sym e ∙ (hole_first k line word rest begins says).0))
 by_size Other line word rest begins e says = absurd (not_other (codes "size") line word rest refl refl refl refl begins e says)
 
-pub by_box : (said : Line) (line word rest : List ℕ) → BeginsWithWord line word rest → word ≡ codes "box" → Says said line → (n : Named) × SpellsAll (n.id ∷ corner_numbers n.corners) rest
+pub by_box : (said : Line) (line word rest : List ℕ) → BeginsWithWord line word rest → word ≡ codes "box" → SaysLine said line → (n : Named) × SpellsAll (n.id ∷ corner_numbers n.corners) rest
 unfolding is_one_of
 by_box (Size s) line word rest begins e says = absurd (differ (codes "box") (codes "size") refl (sym e ∙ (size_first s line word rest begins says).0))
 by_box (Live n) line word rest begins e says = (n, (box_first n line word rest begins says).1)
 by_box (Free k) line word rest begins e says = absurd (differ (codes "box") (codes "hole") refl (sym e ∙ (hole_first k line word rest begins says).0))
 by_box Other line word rest begins e says = absurd (not_other (codes "box") line word rest refl refl refl refl begins e says)
 
-pub by_hole : (said : Line) (line word rest : List ℕ) → BeginsWithWord line word rest → word ≡ codes "hole" → Says said line → (k : Corners) × SpellsAll (corner_numbers k) rest
+pub by_hole : (said : Line) (line word rest : List ℕ) → BeginsWithWord line word rest → word ≡ codes "hole" → SaysLine said line → (k : Corners) × SpellsAll (corner_numbers k) rest
 unfolding is_one_of
 by_hole (Size s) line word rest begins e says = absurd (differ (codes "hole") (codes "size") refl (sym e ∙ (size_first s line word rest begins says).0))
 by_hole (Live n) line word rest begins e says = absurd (differ (codes "hole") (codes "box") refl (sym e ∙ (box_first n line word rest begins says).0))
@@ -82,7 +82,7 @@ by_hole (Free k) line word rest begins e says = (k, (hole_first k line word rest
 by_hole Other line word rest begins e says = absurd (not_other (codes "hole") line word rest refl refl refl refl begins e says)
 
 pub by_none : (said : Line) (line word rest : List ℕ) → BeginsWithWord line word rest → word ≢ codes "size" → word ≢ codes "box" → word ≢ codes "hole"
-    → (Contains call_words word → ⊥) → (Contains answer_words word → ⊥) → (Contains list_words word → ⊥) → line ≢ codes "bad call" → Says said line → ⊥
+    → (Contains call_words word → ⊥) → (Contains answer_words word → ⊥) → (Contains list_words word → ⊥) → line ≢ codes "bad call" → SaysLine said line → ⊥
 by_none (Size s) line word rest begins a b c d e f g says = a (size_first s line word rest begins says).0
 by_none (Live n) line word rest begins a b c d e f g says = b (box_first n line word rest begins says).0
 by_none (Free k) line word rest begins a b c d e f g says = c (hole_first k line word rest begins says).0

@@ -8,7 +8,7 @@ use Rattle.atlas_svg.specs.declared.lines.Sides.{Sides}
 use Rattle.atlas_svg.specs.declared.lines.Named.{Named}
 use Rattle.atlas_svg.specs.declared.lines.Line.{Line}
 use Rattle.atlas_svg.specs.declared.lines.Line.TheVariants.{Size}
-use Rattle.atlas_svg.specs.Pictures.{live_in, free_in, TellsNoSize, IsShownSoFar}
+use Rattle.atlas_svg.specs.Pictures.{named_in, holes_in, TellsNoSize, IsShownSoFar}
 
 one_more : (front : List Line) (line : Line) → AllByRecursion TellsNoSize front → TellsNoSize line → AllByRecursion TellsNoSize (front ++ line ∷ [])
 one_more [] line all h = (h, tt)
@@ -21,17 +21,17 @@ pub after_size : (front : List Line) (sides : Sides) → IsShownSoFar (front ++ 
 after_size front sides = record { before = front; after = []; whole = refl; last = tt; live_are = refl; free_are = refl }
 
 pub after_line : (front : List Line) (line : Line) (shown : Option Sides) (live : List Named) (free : List Corners) → TellsNoSize line
-    → IsShownSoFar front shown live free → IsShownSoFar (front ++ line ∷ []) shown (live ++ live_in line) (free ++ free_in line)
+    → IsShownSoFar front shown live free → IsShownSoFar (front ++ line ∷ []) shown (live ++ named_in line) (free ++ holes_in line)
 after_line front line None live free h so = one_more front line so h
 after_line front line (Some sides) live free h so = record {
   before = so.before;
   after = so.after ++ line ∷ [];
   whole = ap (λ (xs : List Line). xs ++ line ∷ []) so.whole ∙ append_assoc so.before (Size sides ∷ so.after) (line ∷ []);
   last = one_more so.after line so.last h;
-  live_are = ap (λ (xs : List Named). xs ++ live_in line) so.live_are ∙ sym (told_by live_in so.after line);
-  free_are = ap (λ (xs : List Corners). xs ++ free_in line) so.free_are ∙ sym (told_by free_in so.after line);
+  live_are = ap (λ (xs : List Named). xs ++ named_in line) so.live_are ∙ sym (told_by named_in so.after line);
+  free_are = ap (λ (xs : List Corners). xs ++ holes_in line) so.free_are ∙ sym (told_by holes_in so.after line);
 }
 
--- the lines up to the next one
+-- The lines up to the next one.
 pub next_front : (lines : List Line) (i : ℕ) (line : Line) → i < length lines → get_or lines i line ≡ line → take (i + 1) lines ≡ take i lines ++ line ∷ []
 next_front lines i line low at = rw (add-one, take-suc lines i line low, at) refl

@@ -1,20 +1,20 @@
 -- Lines of a text, one after another.
 use Rattle.std.proofs.Common.{◌≡◌, ℕ, ◌≢◌, List, [], ◌∷◌, ◌++◌, Option, Some, None, IfSome, sym, ap, ◌∙◌, subst}
-use Rattle.atlas_lines.specs.Devices.{Holds}
+use Rattle.atlas_lines.specs.Devices.{HoldsBytes}
 use Rattle.atlas_lines.specs.Lines.{BeginsWithLine}
 use Rattle.atlas_lines.proofs.FirstLines.{one_first_line}
 use Rattle.atlas_svg.specs.declared.lines.Line.{Line}
-use Rattle.atlas_svg.specs.Lines.{Says, SayAll}
+use Rattle.atlas_svg.specs.Lines.{SaysLine, SayAll}
 
--- where lines say something, the first line says the first
+-- Where lines say something, the first line says the first.
 pub next_said : (all : List Line) (text line rest : List ℕ) → SayAll all text → text ≢ [] → BeginsWithLine text line rest
-    → (said : Line) × (others : List Line) × Says said line × SayAll others rest
+    → (said : Line) × (others : List Line) × SaysLine said line × SayAll others rest
 next_said [] text line rest says some begins = absurd (some says)
 next_said (said ∷ others) text line rest says some begins =
     let same = one_first_line text says.0 says.1 line rest says.2 begins in
-    (said, others, subst (Says said) same.0 says.3, subst (SayAll others) same.1 says.4)
+    (said, others, subst (SaysLine said) same.0 says.3, subst (SayAll others) same.1 says.4)
 
--- what was read is all that there was
-pub read_all : (known : Option (List ℕ)) (before after bytes : List ℕ) → IfSome known (λ xs. after ≡ before ++ xs) → before ≡ [] → bytes ≡ after → Holds known bytes
+-- What was read is all that there was.
+pub read_all : (known : Option (List ℕ)) (before after bytes : List ℕ) → IfSome known (λ xs. after ≡ before ++ xs) → before ≡ [] → bytes ≡ after → HoldsBytes known bytes
 read_all None before after bytes h e f = tt
 read_all (Some xs) before after bytes h e f = sym (f ∙ h ∙ ap (λ (ys : List ℕ). ys ++ xs) e)

@@ -7,14 +7,14 @@ use Rattle.atlas_svg.specs.declared.lines.Corners.{Corners}
 use Rattle.atlas_svg.specs.declared.lines.Line.{Line}
 use Rattle.atlas_svg.specs.declared.lines.Line.TheVariants.{Size, Live, Free, Other}
 
--- a space and a number, and what follows them
+-- A space and a number, and what follows them.
 pub record BeginsWithUnsigned (text : List ℕ) (number : ℕ) (rest : List ℕ) : Type 0 where
   pub word : List ℕ
   pub whole : text ≡ 32 ∷ (word ++ rest)
   pub spells : SpellsUnsigned number word
   pub spaced : IsEmptyOrSpaced rest
 
--- numbers, each after one space
+-- Numbers, each after one space.
 abbrev pub SpellsAll : List ℕ → List ℕ → Type 0
 SpellsAll [] text = text ≡ []
 SpellsAll (n ∷ ns) text = (rest : List ℕ) × BeginsWithUnsigned text n rest × SpellsAll ns rest
@@ -22,33 +22,37 @@ SpellsAll (n ∷ ns) text = (rest : List ℕ) × BeginsWithUnsigned text n rest 
 abbrev pub corner_numbers : Corners → List ℕ
 corner_numbers c = c.left ∷ c.top ∷ c.right ∷ c.bottom ∷ []
 
--- the words that begin the answers to requests and changes
+-- The words that begin the answers to requests and changes.
 abbrev pub call_words : List (List ℕ)
 call_words = codes "ok" ∷ codes "at" ∷ codes "id" ∷ codes "none" ∷ codes "refused" ∷ []
 
--- the words that begin the answers to `empty` and `replay`, and `no atlas` and its like
+-- The words that begin the answers to `empty` and `replay`, and `no atlas` and its like.
 abbrev pub answer_words : List (List ℕ)
 answer_words = codes "true" ∷ codes "false" ∷ codes "no" ∷ codes "replayed" ∷ codes "replay" ∷ []
 
--- the words that begin counts and changes
+-- The words that begin counts and changes.
 abbrev pub list_words : List (List ℕ)
 list_words = codes "live" ∷ codes "holes" ∷ codes "moved" ∷ codes "lost" ∷ codes "changes" ∷ []
 
 abbrev pub IsOtherWord : List ℕ → Type 0
 IsOtherWord word = Contains call_words word ⊎ (Contains answer_words word ⊎ Contains list_words word)
 
--- a reply that shows no box and no size
+-- A reply that shows no box and no size.
 abbrev pub IsOther : List ℕ → Type 0
-IsOther line = (line ≡ codes "bad call") ⊎ ((word : List ℕ) × (rest : List ℕ) × BeginsWithWord line word rest × IsOtherWord word)
+IsOther line =
+    (line ≡ codes "bad call") ⊎ ((word : List ℕ) × (rest : List ℕ) × BeginsWithWord line word rest × IsOtherWord word)
 
--- a line, without its LF, says this
-abbrev pub Says : Line → List ℕ → Type 0
-Says (Size sides) line = (rest : List ℕ) × (line ≡ codes "size" ++ rest) × SpellsAll (sides.width ∷ sides.height ∷ []) rest
-Says (Live named) line = (rest : List ℕ) × (line ≡ codes "box" ++ rest) × SpellsAll (named.id ∷ corner_numbers named.corners) rest
-Says (Free corners) line = (rest : List ℕ) × (line ≡ codes "hole" ++ rest) × SpellsAll (corner_numbers corners) rest
-Says Other line = IsOther line
+-- A line, without its LF, says this.
+abbrev pub SaysLine : Line → List ℕ → Type 0
+SaysLine (Size sides) line =
+    (rest : List ℕ) × (line ≡ codes "size" ++ rest) × SpellsAll (sides.width ∷ sides.height ∷ []) rest
+SaysLine (Live named) line =
+    (rest : List ℕ) × (line ≡ codes "box" ++ rest) × SpellsAll (named.id ∷ corner_numbers named.corners) rest
+SaysLine (Free corners) line = (rest : List ℕ) × (line ≡ codes "hole" ++ rest) × SpellsAll (corner_numbers corners) rest
+SaysLine Other line = IsOther line
 
--- these bytes are lines that say this, in order
+-- These bytes are lines that say this, in order.
 abbrev pub SayAll : List Line → List ℕ → Type 0
 SayAll [] text = text ≡ []
-SayAll (said ∷ others) text = (line : List ℕ) × (rest : List ℕ) × BeginsWithLine text line rest × Says said line × SayAll others rest
+SayAll (said ∷ others) text =
+    (line : List ℕ) × (rest : List ℕ) × BeginsWithLine text line rest × SaysLine said line × SayAll others rest

@@ -7,19 +7,19 @@ use Rattle.atlas_svg.specs.declared.lines.Named.{Named}
 use Rattle.atlas_svg.specs.declared.lines.Line.{Line}
 use Rattle.atlas_svg.specs.declared.lines.Line.TheVariants.{Size, Live, Free, Other}
 
--- the live box that a line tells, if it tells one
-abbrev pub live_in : Line → List Named
-live_in (Live named) = named ∷ []
-live_in (Size sides) = []
-live_in (Free corners) = []
-live_in Other = []
+-- The live box that a line tells, if it tells one.
+abbrev pub named_in : Line → List Named
+named_in (Live named) = named ∷ []
+named_in (Size sides) = []
+named_in (Free corners) = []
+named_in Other = []
 
--- the free box that a line tells, if it tells one
-abbrev pub free_in : Line → List Corners
-free_in (Free corners) = corners ∷ []
-free_in (Size sides) = []
-free_in (Live named) = []
-free_in Other = []
+-- The free box that a line tells, if it tells one.
+abbrev pub holes_in : Line → List Corners
+holes_in (Free corners) = corners ∷ []
+holes_in (Size sides) = []
+holes_in (Live named) = []
+holes_in Other = []
 
 abbrev pub TellsNoSize : Line → Type 0
 TellsNoSize (Size sides) = ⊥
@@ -27,16 +27,16 @@ TellsNoSize (Live named) = ⊤
 TellsNoSize (Free corners) = ⊤
 TellsNoSize Other = ⊤
 
--- the last size that lines tell, and the boxes that those after it tell, in order
+-- The last size that lines tell, and the boxes that those after it tell, in order.
 pub record IsShown (said : List Line) (sides : Sides) (live : List Named) (free : List Corners) : Type 0 where
   pub before : List Line
   pub after : List Line
   pub whole : said ≡ before ++ Size sides ∷ after
   pub last : AllByRecursion TellsNoSize after
-  pub live_are : live ≡ flat_map live_in after
-  pub free_are : free ≡ flat_map free_in after
+  pub live_are : live ≡ flat_map named_in after
+  pub free_are : free ≡ flat_map holes_in after
 
--- what the lines so far show: nothing of note before the first size
+-- What the lines so far show: nothing of note before the first size.
 abbrev pub IsShownSoFar : List Line → Option Sides → List Named → List Corners → Type 0
 IsShownSoFar said None live free = AllByRecursion TellsNoSize said
 IsShownSoFar said (Some sides) live free = IsShown said sides live free

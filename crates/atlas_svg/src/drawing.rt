@@ -1,6 +1,7 @@
 //! The text of a picture.
 ghost use Rattle.std.specs.Prelude.{◌≡◌, ◌<◌, ◌+◌, ◌/◌, ◌++◌, IfOk, string_bytes, flat_map, length, codes};
-ghost use Rattle.atlas_svg.specs.Drawings.{scale, frame_text, hatching_text, sheet_text, outline, free_text, path_text, text_height, label_text, live_text, svg_text};
+ghost use Rattle.atlas_svg.specs.Drawings.{scale, frame_text, hatching_text, sheet_text, outline, free_text, path_text};
+ghost use Rattle.atlas_svg.specs.Drawings.{text_height, label_text, live_text, svg_text};
 
 use crate::lines::{Corners, Named, Sides};
 use crate::picture::Picture;
@@ -172,7 +173,8 @@ fn join(
 /// The SVG picture, as text: a hatched box for each free one, and over them one with its id for each live one. It takes
 /// memory for the text.
 pub fn svg(alloc: Global, picture: &Picture) -> Result<String, AllocError>
-    ensures { IfOk result (λ text. string_bytes text ≡ svg_text picture.now.sides picture.now.live.items picture.now.free.items) }
+    ensures { IfOk result
+        (λ text. string_bytes text ≡ svg_text picture.now.sides picture.now.live.items picture.now.free.items) }
 {
     let scale = scale(picture.sides);
     let frame = frame(alloc, picture.sides)?;

@@ -2,7 +2,8 @@
 ghost use Rattle.std.specs.Prelude.{◌≡◌, ℕ, List, IfSome, IsSome, IsSomeAnd, IsTrue, Contains, ◌↔◌, ◌∷◌, []};
 ghost use Rattle.atlas_svg.specs.declared.lines.Corners.{Corners};
 ghost use Rattle.atlas_svg.specs.declared.lines.Line.{Line};
-ghost use Rattle.atlas_svg.specs.Lines.{BeginsWithUnsigned, SpellsAll, corner_numbers, call_words, answer_words, list_words, Says};
+ghost use Rattle.atlas_svg.specs.Lines.{BeginsWithUnsigned, SpellsAll, corner_numbers, call_words, answer_words};
+ghost use Rattle.atlas_svg.specs.Lines.{list_words, SaysLine};
 
 use atlas_lines::{first_word, unsigned};
 
@@ -53,7 +54,8 @@ pub enum Line {
 // The number that a space and a word spell, and what follows them.
 fn next_number(text: &[u8]) -> Option<(u32, &[u8])>
     ensures found { IfSome result (λ found. BeginsWithUnsigned text.now found.0 found.1.now) }
-    ensures only { (n : ℕ) (rest : List ℕ) → BeginsWithUnsigned text.now n rest → IsSomeAnd result (λ found. (found.0 ≡ n) × (found.1.now ≡ rest)) }
+    ensures only { (n : ℕ) (rest : List ℕ) → BeginsWithUnsigned text.now n rest
+        → IsSomeAnd result (λ found. (found.0 ≡ n) × (found.1.now ≡ rest)) }
 {
     let (space, after) = text.split_first()?;
     if *space != b' ' {
@@ -151,11 +153,11 @@ fn is_list_word(word: &[u8]) -> bool
         || word == b"changes".as_slice()
 }
 
-/// What the bytes of a line, without its LF, say. None for a line that can't be read: one that no reply of the tool looks
-/// like, and `bad line N`, after which the tool wrote no more.
+/// What the bytes of a line, without its LF, say. None for a line that can't be read: one that no reply of the tool
+/// looks like, and `bad line N`, after which the tool wrote no more.
 pub fn read_line(line: &[u8]) -> Option<Line>
-    ensures found { IfSome result (λ said. Says said line.now) }
-    ensures all { (said : Line) → Says said line.now → IsSome result }
+    ensures found { IfSome result (λ said. SaysLine said line.now) }
+    ensures all { (said : Line) → SaysLine said line.now → IsSome result }
 {
     let (word, rest) = first_word(line);
     if word == b"size".as_slice() {

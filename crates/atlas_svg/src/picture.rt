@@ -99,12 +99,14 @@ fn show(alloc: Global, said: &[Line]) -> Result<Picture, SvgError>
     }
 }
 
-/// The picture that the lines of a text show. `BadLine` at the first line that can't be read, `NoSize` where no line tells
-/// the size, `Memory` where memory was refused.
+/// The picture that the lines of a text show. `BadLine` at the first line that can't be read, `NoSize` where no line
+/// tells the size, `Memory` where memory was refused.
 pub fn read_picture(alloc: Global, text: &[u8]) -> Result<Picture, SvgError>
-    ensures shown { IfOk result (λ p. (said : List Line) × SayAll said text.now × IsShown said p.sides p.live.items p.free.items) }
+    ensures shown { IfOk result
+        (λ p. (said : List Line) × SayAll said text.now × IsShown said p.sides p.live.items p.free.items) }
     ensures bad { (n : ℕ) (all : List Line) → result ≡ Err (SvgError.BadLine n) → SayAll all text.now → ⊥ }
-    ensures none { result ≡ Err SvgError.NoSize → (said : List Line) × SayAll said text.now × AllByRecursion TellsNoSize said }
+    ensures none { result ≡ Err SvgError.NoSize
+        → (said : List Line) × SayAll said text.now × AllByRecursion TellsNoSize said }
 {
     let said = read_lines(alloc, text)?;
     show(alloc, &said)

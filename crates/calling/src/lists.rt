@@ -1,6 +1,6 @@
 //! Lists of calls, made by `session::run`.
 ghost use Rattle.std.specs.Prelude.{◌≡◌, ◌≤◌, ◌+◌, true, All, length, IfOk, OnOk, OnErr};
-ghost use Rattle.guillotiere.specs.RunLaws.{IsInOrder, IsRunInOrder, LeavesNoTrace};
+ghost use Rattle.guillotiere.specs.Laws.RunLaws.{IsInOrder, IsRunInOrder, LeavesNoTrace};
 ghost use Rattle.guillotiere.specs.RunTurns.{turns_within};
 ghost use Rattle.guillotiere.specs.Runs.{is_plain};
 ghost use Rattle.guillotiere.specs.Sessions.{IsExactReply, call_of, calls_of, replies_of};

@@ -3,7 +3,7 @@ ghost use Rattle.std.specs.Prelude.{◌≡◌, IfOk, OnErr};
 ghost use Rattle.guillotiere.specs.Boxes.{IsPositive, box_sides};
 ghost use Rattle.guillotiere.specs.Pixels.{sides_of, box_of};
 ghost use Rattle.guillotiere.specs.Stored.{state_of};
-ghost use Rattle.guillotiere.specs.StepLaws.{IsRearrangingStep};
+ghost use Rattle.guillotiere.specs.Laws.StepLaws.{IsRearrangingStep};
 
 use guillotiere::{AtlasAllocator, AtlasError, Change, Rectangle, Size};
 use std::alloc::Allocator;

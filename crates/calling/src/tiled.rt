@@ -1,5 +1,5 @@
 //! How a law is used: by a call in the body, or by an import of its lemma.
-ghost use Rattle.guillotiere.specs.RunLaws.{IsTiled};
+ghost use Rattle.guillotiere.specs.Laws.RunLaws.{IsTiled};
 ghost use Rattle.guillotiere.specs.Stored.{state_of};
 
 use guillotiere::AtlasAllocator;

@@ -5,30 +5,30 @@ use Rattle.guillotiere.specs.declared.slots.NodeKind.{NodeKind}
 use Rattle.guillotiere.specs.declared.slots.NodeKind.TheVariants as kind
 use Rattle.guillotiere.specs.Trees.{slot_of}
 use Rattle.guillotiere.specs.States.{State, IsLive}
-use Rattle.guillotiere.specs.TreeLaws.{is_among}
+use Rattle.guillotiere.specs.Laws.TreeLaws.{is_among}
 use Rattle.guillotiere.specs.Slots.{node_at}
 use Rattle.guillotiere.specs.Visits.{is_named}
 
--- each id is live, and none stands twice
+-- Each id is live, and none stands twice.
 abbrev pub AreLiveOnce : State → List ℕ → Type 0
 AreLiveOnce s [] = Unit {0}
 AreLiveOnce s (id ∷ rest) = IsLive s id × (is_among rest id ≡ false) × AreLiveOnce s rest
 
--- the same of the slots: each id names an allocated one
+-- The same of the slots: each id names an allocated one.
 abbrev pub AreNamedOnce : List Node → List ℕ → Type 0
 AreNamedOnce ns [] = Unit {0}
 AreNamedOnce ns (id ∷ rest) = (is_named ns id ≡ true) × (is_among rest id ≡ false) × AreNamedOnce ns rest
 
--- slot i is used for something else
+-- Slot i is used for something else.
 abbrev pub with_kind : List Node → ℕ → NodeKind → List Node
 with_kind ns i k = slice_set ns i (record (node_at ns i) { kind = k })
 
--- the slots of these ids are hidden: they are no longer those of allocated leaves, so that no id names them
+-- The slots of these ids are hidden: they are no longer those of allocated leaves, so that no id names them.
 abbrev pub hidden : List Node → List ℕ → List Node
 hidden ns [] = ns
 hidden ns (id ∷ rest) = hidden (with_kind ns (slot_of id) kind.Unused) rest
 
--- each id names an allocated slot where those before it are hidden
+-- Each id names an allocated slot where those before it are hidden.
 abbrev pub AreHidable : List Node → List ℕ → Type 0
 AreHidable ns [] = Unit {0}
 AreHidable ns (id ∷ rest) = (is_named ns id ≡ true) × AreHidable (with_kind ns (slot_of id) kind.Unused) rest

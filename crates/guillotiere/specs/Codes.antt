@@ -24,7 +24,7 @@ axis_from-is_horizontal Vertical = refl
 abbrev pub axis_code : Coded Axis
 axis_code = code_by Bool coded_bool is_horizontal axis_from axis_from-is_horizontal
 
--- members as the list of their constructors, in order: 0 is the end, 1 a free member, 2 an allocated one, 3 a sequence
+-- Members as the list of their constructors, in order: 0 is the end, 1 a free member, 2 an allocated one, 3 a sequence.
 abbrev Parts : Type 0
 Parts = List (ℕ × (ℕ × ℕ))
 
@@ -34,7 +34,7 @@ parts_before (Free e rest) parts = (1, (e, 0)) ∷ parts_before rest parts
 parts_before (Alloc id e rest) parts = (2, (id, e)) ∷ parts_before rest parts
 parts_before (Seq e inner rest) parts = (3, (e, 0)) ∷ parts_before inner (parts_before rest parts)
 
--- a constructor put over members that are built
+-- A constructor put over members that are built.
 abbrev with_part : ℕ → ℕ → ℕ → List Members → List Members
 with_part zero a b ms = End ∷ ms
 with_part (suc zero) a b (rest ∷ ms) = Free a rest ∷ ms
@@ -87,7 +87,7 @@ options_code =
     (λ o. (o.alignment, (o.small_threshold, o.large_threshold)))
     (λ p. record { alignment = p.0; small_threshold = p.1.0; large_threshold = p.1.1 }) (λ _. refl)
 
--- the code of a state, for `ghost coded`
+-- The code of a state, for `ghost coded`.
 abbrev pub state_code : Coded State
 state_code =
     code_by (Tree × (Sides × (Options × (ℕ × ℕ))))

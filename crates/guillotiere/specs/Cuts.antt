@@ -3,17 +3,17 @@ use Rattle.std.specs.Prelude.{ℕ, ◌+◌, ◌-◌, ◌*◌, ◌==◌, nat_lt, 
 use Rattle.guillotiere.specs.Boxes.{Axis, Sides, Box, Horizontal, Vertical, box_sides}
 use Rattle.guillotiere.specs.Boxes.Axis.{Horizontal, Vertical}
 
--- nothing is left; one part along an axis; or one part along an axis and another beside the request
+-- Nothing is left; one part along an axis; or one part along an axis and another beside the request.
 pub data Cut : Type 0 where
   Whole : Cut
   Strip : (axis : Axis) → Cut
   Corner : (axis : Axis) → Cut
 
--- areas count up to 2147483647 and no further
+-- Areas count up to 2147483647 and no further.
 abbrev pub cap : ℕ → ℕ
 cap n = min n 2147483647
 
--- horizontal if what remains to the right of the request is larger than what remains below it
+-- Horizontal if what remains to the right of the request is larger than what remains below it.
 abbrev pub cut_axis : (whole r : Sides) → Axis
 cut_axis whole r =
     if nat_lt (cap (r.width * (whole.height - r.height))) (cap ((whole.width - r.width) * r.height))
@@ -26,12 +26,12 @@ cut whole r =
     else if (whole.width == r.width) || (whole.height == r.height) then Strip (cut_axis whole r)
     else Corner (cut_axis whole r)
 
--- the part of a box that lies beyond the request along an axis, as wide across as the box
+-- The part of a box that lies beyond the request along an axis, as wide across as the box.
 abbrev pub split_along : Axis → Box → Sides → Box
 split_along Horizontal f r = record { min = record { x = f.min.x + r.width; y = f.min.y }; max = f.max }
 split_along Vertical f r = record { min = record { x = f.min.x; y = f.min.y + r.height }; max = f.max }
 
--- the part of a box beside the request, as long along the axis as the request
+-- The part of a box beside the request, as long along the axis as the request.
 abbrev pub leftover_along : Axis → Box → Sides → Box
 leftover_along Horizontal f r =
     record {
@@ -44,7 +44,7 @@ leftover_along Vertical f r =
       max = record { x = f.max.x; y = f.min.y + r.height };
     }
 
--- the split and the leftover of a box cut for a request; a part without area is a part all the same
+-- The split and the leftover of a box cut for a request; a part without area is a part all the same.
 abbrev pub rest_of : Box → Sides → List Box
 rest_of f r =
     let axis = cut_axis (box_sides f) r in

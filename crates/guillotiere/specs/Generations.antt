@@ -3,6 +3,6 @@ use Rattle.std.specs.Prelude.{◌≡◌, All}
 use Rattle.guillotiere.specs.Slots.{nodes}
 use Rattle.guillotiere.specs.Stored.{AtlasValue}
 
--- each slot is in its first generation
+-- Each slot is in its first generation.
 abbrev pub AreFirstGenerations : AtlasValue → Type 0
 AreFirstGenerations v = All (λ n. n.generation ≡ 0) (nodes v.stored.shelf.slots)

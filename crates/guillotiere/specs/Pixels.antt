@@ -9,7 +9,7 @@ use Rattle.guillotiere.specs.declared.options.AllocatorOptions.{AllocatorOptions
 use Rattle.guillotiere.specs.Boxes.{Position, Sides, Box}
 use Rattle.guillotiere.specs.Choice.{Options}
 
--- a number below 0 counts as 0
+-- A number below 0 counts as 0.
 abbrev pub natural : ℤ → ℕ
 natural (pos n) = n
 natural (negsuc n) = 0
@@ -41,6 +41,6 @@ rectangle_of b =
       max = record { x = pos b.max.x; y = pos b.max.y };
     }
 
--- both differences of the sides fit an `i32`
+-- Both differences of the sides fit an `i32`.
 abbrev pub IsMeasurable : Rectangle → Type 0
 IsMeasurable r = FitsSigned w32 (r.max.x -ℤ r.min.x) × FitsSigned w32 (r.max.y -ℤ r.min.y)

@@ -14,20 +14,20 @@ use Rattle.guillotiere.specs.Steps.AtlasReply.{Changed, Refused}
 abbrev pub transfer_of : Change → Transfer
 transfer_of c = record { old = grant_of c.old; new = grant_of c.new }
 
--- both lists, in their order
+-- Both lists, in their order.
 abbrev pub rearrangement_of : {A : Type 0} → ChangeList A → Rearrangement
 rearrangement_of list =
     record { changes = map transfer_of list.changes.items; failures = map grant_of list.failures.items }
 
--- both rectangles of a change have the coordinates of boxes
+-- Both rectangles of a change have the coordinates of boxes.
 abbrev pub IsExactChange : Change → Type 0
 IsExactChange c = IsExact c.old.rectangle × IsExact c.new.rectangle
 
--- the new rectangle has the sides of the old one
+-- The new rectangle has the sides of the old one.
 abbrev pub KeepsSides : Change → Type 0
 KeepsSides c = box_sides (box_of c.new.rectangle) ≡ box_sides (box_of c.old.rectangle)
 
--- each rectangle of both lists has the coordinates of a box
+-- Each rectangle of both lists has the coordinates of a box.
 pub record AreExactChanges {A : Type 0} (list : ChangeList A) : Type 0 where
   pub changes : All IsExactChange list.changes.items
   pub failures : All (λ (a : Allocation). IsExact a.rectangle) list.failures.items

@@ -2,7 +2,7 @@
 use Rattle.std.specs.Prelude.{◌≡◌, ℕ, ◌==◌, Bool, true, false, ◌↔◌, if◌then◌else◌, List, Contains, map}
 use Rattle.guillotiere.specs.declared.error.AtlasError.TheVariants.{Memory}
 use Rattle.guillotiere.specs.Boxes.{Sides, Box}
-use Rattle.guillotiere.specs.Trees.{Members, Tree, Grant, grant, live, free_boxes, ids, nodes}
+use Rattle.guillotiere.specs.Trees.{Members, Tree, Grant, grant, live, free_boxes, ids, node_count}
 use Rattle.guillotiere.specs.Trees.Members.{End, Free, Alloc, Seq}
 use Rattle.guillotiere.specs.Changes.{only, place, release, grown}
 use Rattle.guillotiere.specs.States.{State, IsLive, IsSound}
@@ -10,7 +10,7 @@ use Rattle.guillotiere.specs.Steps.{AtlasCall, AtlasReply, Step}
 use Rattle.guillotiere.specs.Steps.AtlasCall.{Allocate, Deallocate, Grow}
 use Rattle.guillotiere.specs.Steps.AtlasReply.{Allocated, Refused}
 
--- members with the name f id in place of each id
+-- Members with the name f id in place of each id.
 abbrev pub renamed : (ℕ → ℕ) → Members → Members
 renamed f End = End
 renamed f (Free e rest) = Free e (renamed f rest)
@@ -23,29 +23,29 @@ renamed_tree f t = record { axis = t.axis; members = renamed f t.members }
 abbrev pub renamed_grant : (ℕ → ℕ) → Grant → Grant
 renamed_grant f g = grant (f g.id) g.box
 
--- names as before, but for one id
+-- Names as before, but for one id.
 abbrev pub with_name : (ℕ → ℕ) → (id name : ℕ) → ℕ → ℕ
 with_name f id name k = if k == id then name else f k
 
--- no two of the ids have one name
+-- No two of the ids have one name.
 abbrev pub IsOneToOne : (ℕ → ℕ) → List ℕ → Type 0
 IsOneToOne f xs = (a b : ℕ) → Contains xs a → Contains xs b → f a ≡ f b → a ≡ b
 
--- no id of the tree has this name
+-- No id of the tree has this name.
 abbrev pub IsNewName : (ℕ → ℕ) → Tree → (name : ℕ) → Type 0
 IsNewName f t name = Contains (ids (renamed f t.members)) name → ⊥
 
--- the ids of a list have the same names by both
+-- The ids of a list have the same names by both.
 abbrev pub AreNamedAlike : (f g : ℕ → ℕ) → List ℕ → Type 0
 AreNamedAlike f g xs = (id : ℕ) → Contains xs id → g id ≡ f id
 
--- what a tree shows doesn't depend on its ids, and placing, freeing and growing are the same under names
+-- What a tree shows doesn't depend on its ids, and placing, freeing and growing are the same under names.
 pub record RenamingChangesNothing : Type 0 where
   pub itself : (t : Tree) → renamed_tree (λ id. id) t ≡ t
-  -- the names of other ids don't count
+  -- The names of other ids don't count.
   pub own_ids : (f g : ℕ → ℕ) (t : Tree) → AreNamedAlike f g (ids t.members) → renamed_tree g t ≡ renamed_tree f t
   pub names : (f : ℕ → ℕ) (t : Tree) → ids (renamed_tree f t).members ≡ map f (ids t.members)
-  pub members : (f : ℕ → ℕ) (t : Tree) → nodes (renamed_tree f t).members ≡ nodes t.members
+  pub members : (f : ℕ → ℕ) (t : Tree) → node_count (renamed_tree f t).members ≡ node_count t.members
   pub live : (f : ℕ → ℕ) (size : Sides) (t : Tree) → live size (renamed_tree f t) ≡ map (renamed_grant f) (live size t)
   pub free : (f : ℕ → ℕ) (size : Sides) (t : Tree) → free_boxes size (renamed_tree f t) ≡ free_boxes size t
   pub grown :
@@ -68,7 +68,7 @@ pub record AreAlike (f g : ℕ → ℕ) (s t : State) : Type 0 where
   pub names : IsOneToOne f (ids s.tree.members)
   pub twins : IsOneToOne g (ids t.tree.members)
 
--- the two calls ask for the same: a grant or a growth of the same sides, or that ids of one name be freed
+-- The two calls ask for the same: a grant or a growth of the same sides, or that ids of one name be freed.
 abbrev pub AreSameCalls : (f g : ℕ → ℕ) → (s t : State) → (call twin : AtlasCall) → Type 0
 AreSameCalls f g s t (Allocate r) (Allocate q) = q ≡ r
 AreSameCalls f g s t (Grow n) (Grow m) = m ≡ n
@@ -83,7 +83,7 @@ AnswerAlike f g s s' t' (Allocated a) (Allocated b) =
     × ((name : ℕ) → IsNewName f s.tree name → AreAlike (with_name f a.id name) (with_name g b.id name) s' t')
 AnswerAlike f g s s' t' reply answer = (answer ≡ reply) × AreAlike f g s' t'
 
--- whether memory was wanting
+-- Whether memory was wanting.
 abbrev pub is_out_of_memory : AtlasReply → Bool
 is_out_of_memory (Refused Memory) = true
 is_out_of_memory _ = false

@@ -18,12 +18,12 @@ abbrev pub growths_of : AtlasCall → AtlasReply → ℕ
 growths_of (Grow n) Done = 1
 growths_of _ _ = 0
 
--- how many boxes a rearranging placed anew
+-- How many boxes a rearranging placed anew.
 abbrev pub moves_of : AtlasCall → AtlasReply → ℕ
 moves_of call (Changed list) = length list.changes
 moves_of _ _ = 0
 
--- what the calls of a run and their replies count, added up
+-- What the calls of a run and their replies count, added up.
 abbrev pub in_all : (AtlasCall → AtlasReply → ℕ) → List AtlasCall → List AtlasReply → ℕ
 in_all count (call ∷ calls) (reply ∷ replies) = count call reply + in_all count calls replies
 in_all count _ _ = 0

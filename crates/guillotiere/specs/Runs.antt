@@ -8,18 +8,18 @@ use Rattle.guillotiere.specs.Steps.{AtlasCall, AtlasReply, Step}
 use Rattle.guillotiere.specs.Steps.AtlasCall.{Allocate, Deallocate, Grow}
 use Rattle.guillotiere.specs.Steps.AtlasReply.{Allocated, Done}
 
--- as many replies as calls, and a step from each state to the next
+-- As many replies as calls, and a step from each state to the next.
 abbrev pub Run : State → List AtlasCall → List AtlasReply → State → Type 0
 Run old [] [] new = new ≡ old
 Run old (call ∷ calls) (reply ∷ replies) new = (mid : State) × Step old call reply mid × Run mid calls replies new
 Run old [] (reply ∷ replies) new = ⊥
 Run old (call ∷ calls) [] new = ⊥
 
--- a set without an id
+-- A set without an id.
 abbrev pub but_id : (ℕ → Bool) → ℕ → ℕ → Bool
 but_id s id k = s k && not (k == id)
 
--- the ids that a run granted and still holds, and the tree that its growths and its freeings of older ids alone make
+-- The ids that a run granted and still holds, and the tree that its growths and its freeings of older ids alone make.
 pub record Since : Type 0 where
   pub held : ℕ → Bool
   pub size : Sides
@@ -28,7 +28,7 @@ pub record Since : Type 0 where
 abbrev pub since_start : State → Since
 since_start s = record { held = λ id. false; size = s.size; tree = s.tree }
 
--- a granted id is held; a freed id is held no more or, if it was older, is freed in the tree; a growth grows the tree
+-- A granted id is held; a freed id is held no more or, if it was older, is freed in the tree; a growth grows the tree.
 abbrev pub since_call : Since → AtlasCall → AtlasReply → Since
 since_call s (Allocate r) (Allocated g) = record s { held = and_id s.held g.id }
 since_call s (Deallocate id) Done =
@@ -40,13 +40,13 @@ abbrev pub since : Since → List AtlasCall → List AtlasReply → Since
 since s (call ∷ calls) (reply ∷ replies) = since (since_call s call reply) calls replies
 since s _ _ = s
 
--- only grants, freeings and growths are asked for
+-- Only grants, freeings and growths are asked for.
 abbrev pub is_plain : AtlasCall → Bool
 is_plain (Allocate r) = true
 is_plain (Deallocate id) = true
 is_plain (Grow n) = true
 is_plain _ = false
 
--- the trees are one; or, only where the size has changed, both are one free leaf as large as the atlas
+-- The trees are one; or, only where the size has changed, both are one free leaf as large as the atlas.
 abbrev pub IsAsWithout : (before now : Sides) → Tree → Tree → Type 0
 IsAsWithout before now t u = (t ≡ u) ⊎ ((now ≡ before → ⊥) × IsOneFree now t × IsOneFree now u)

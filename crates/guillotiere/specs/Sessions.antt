@@ -9,9 +9,9 @@ use Rattle.guillotiere.specs.States.{used_in}
 use Rattle.guillotiere.specs.Steps.{AtlasCall, AtlasReply, Step}
 use Rattle.guillotiere.specs.Steps.AtlasCall.{Allocate, Deallocate, Grow, Clear, Reset, Rearrange, ResizeAndRearrange}
 use Rattle.guillotiere.specs.Steps.AtlasReply.{Allocated, NoRoom, Done, Changed, Refused, BadCall}
-use Rattle.guillotiere.specs.StepLaws.{is_refusal}
+use Rattle.guillotiere.specs.Laws.StepLaws.{is_refusal}
 use Rattle.guillotiere.specs.Runs.{Run, is_plain}
-use Rattle.guillotiere.specs.RunLaws.{IsInOrder, IsRunInOrder, LeavesNoTrace}
+use Rattle.guillotiere.specs.Laws.RunLaws.{IsInOrder, IsRunInOrder, LeavesNoTrace}
 use Rattle.guillotiere.specs.RunTurns.{turns_within}
 use Rattle.guillotiere.specs.Replies.{grant_of, IsExact}
 use Rattle.guillotiere.specs.Rearranging.{rearrangement_of, AreExactChanges}
@@ -34,7 +34,7 @@ reply_of (reply.Changed list) = Changed (rearrangement_of list)
 reply_of (reply.Refused error) = Refused error
 reply_of reply.BadCall = BadCall
 
--- each rectangle of a reply has the coordinates of its box
+-- Each rectangle of a reply has the coordinates of its box.
 abbrev pub IsExactReply : {A : Type 0} → Reply A → Type 0
 IsExactReply (reply.Allocated allocation) = IsExact allocation.rectangle
 IsExactReply (reply.Changed list) = AreExactChanges list

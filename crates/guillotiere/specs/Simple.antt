@@ -1,4 +1,8 @@
 -- The simple allocator: a set of free boxes, which grants and never takes back.
+pub mod SimpleRuns
+pub mod SimpleSessions
+pub mod FreeLists
+pub mod BoxShelves
 use Rattle.std.specs.Prelude.{◌≡◌, ◌≢◌, nat_le, Bool, ◌&&◌, List, [], ◌∷◌, ◌++◌, map, filter, All}
 use Rattle.std.specs.Prelude.{Option, Some, None, Result, Ok, Err}
 use Rattle.guillotiere.specs.declared.error.AtlasError.{AtlasError}
@@ -17,7 +21,7 @@ pub record SimpleState : Type 0 where
   pub size : Sides
   pub options : Options
 
--- what each simple allocator keeps
+-- What each simple allocator keeps.
 pub record IsSimple (s : SimpleState) : Type 0 where
   pub nonempty : IsPositive s.size
   pub valid : AreValid s.options
@@ -27,11 +31,11 @@ pub record IsSimple (s : SimpleState) : Type 0 where
 abbrev pub simple_start : Sides → Options → SimpleState
 simple_start size options = record { free = whole_box size ∷ []; size = size; options = options }
 
--- whether a part is neither narrower nor lower than the alignment
+-- Whether a part is neither narrower nor lower than the alignment.
 abbrev pub is_kept : Options → Box → Bool
 is_kept o b = nat_le o.alignment.width (box_sides b).width && nat_le o.alignment.height (box_sides b).height
 
--- what is kept of a box cut for a request
+-- What is kept of a box cut for a request.
 abbrev pub kept_rest : Options → Box → Sides → List Box
 kept_rest o f r = filter (is_kept o) (rest_of f r)
 
@@ -45,7 +49,7 @@ pub record SimplyGrants (old : SimpleState) (s : Sides) (box : Box) (new : Simpl
   pub size : new.size ≡ old.size
   pub options : new.options ≡ old.options
 
--- what a growth to a new size adds: what is kept of the new size cut for the old one
+-- What a growth to a new size adds: what is kept of the new size cut for the old one.
 abbrev pub added_by : SimpleState → Sides → List Box
 added_by s n = kept_rest s.options (whole_box n) s.size
 
@@ -62,16 +66,16 @@ pub record StartsFrom (source : State) (new : SimpleState) : Type 0 where
   pub size : new.size ≡ source.size
   pub options : new.options ≡ source.options
 
--- a list of boxes that are held: inside the allocator, and disjoint from each other and from the free boxes
+-- A list of boxes that are held: inside the allocator, and disjoint from each other and from the free boxes.
 pub record IsGuarded (s : SimpleState) (held : List Box) : Type 0 where
   pub within : All (λ b. IsWithin s.size b) held
   pub disjoint : AreDisjoint (held ++ s.free)
 
--- the live boxes of an atlas
+-- The live boxes of an atlas.
 abbrev pub live_boxes : State → List Box
 live_boxes s = map (λ g. g.box) (live_in s)
 
--- the calls; a start takes over from an atlas in the state `source`
+-- The calls; a start takes over from an atlas in the state `source`.
 pub data SimpleAtlasCall : Type 0 where
   Allocate : (request : Sides) → SimpleAtlasCall
   Grow : (size : Sides) → SimpleAtlasCall
@@ -79,7 +83,7 @@ pub data SimpleAtlasCall : Type 0 where
   Reset : (size : Sides) → (options : Options) → SimpleAtlasCall
   Start : (source : State) → SimpleAtlasCall
 
--- the answers to calls
+-- The answers to calls.
 pub data SimpleAnswer : Type 0 where
   Granted : (box : Box) → SimpleAnswer
   NoRoom : SimpleAnswer
@@ -91,31 +95,31 @@ pub data SimpleAnswer : Type 0 where
 abbrev pub SimpleStep : SimpleState → SimpleAtlasCall → SimpleAnswer → SimpleState → Type 0
 SimpleStep old (Allocate r) NoRoom new = HasNoRoom old.free old.options r × (new ≡ old)
 SimpleStep old (Allocate r) (Granted box) new = SimplyGrants old r box new
--- memory is asked for only where there is room
+-- Memory is asked for only where there is room.
 SimpleStep old (Allocate r) (Refused Memory) new = HasRoom old.free old.options r × (new ≡ old)
--- no side may shrink
+-- No side may shrink.
 SimpleStep old (Grow n) BadCall new = (Fits old.size n → ⊥) × (new ≡ old)
 SimpleStep old (Grow n) Done new = Fits old.size n × SimplyGrows old n new
--- memory is asked for only where a part is added
+-- Memory is asked for only where a part is added.
 SimpleStep old (Grow n) (Refused Memory) new = Fits old.size n × (added_by old n ≢ []) × (new ≡ old)
 SimpleStep old Clear Done new = new ≡ simple_start old.size old.options
 SimpleStep old Clear (Refused Memory) new = new ≡ old
--- a reset asks for a size that isn't empty and for valid options
+-- A reset asks for a size that isn't empty and for valid options.
 SimpleStep old (Reset n o) BadCall new = (IsPositive n × AreValid o → ⊥) × (new ≡ old)
 SimpleStep old (Reset n o) Done new = IsPositive n × AreValid o × (new ≡ simple_start n o)
 SimpleStep old (Reset n o) (Refused Memory) new = IsPositive n × AreValid o × (new ≡ old)
 SimpleStep old (Start source) Done new = StartsFrom source new
 SimpleStep old (Start source) (Refused Memory) new = new ≡ old
--- no other answer comes
+-- No other answer comes.
 SimpleStep old call answer new = ⊥
 
--- what a request is answered, as the model sees it
+-- What a request is answered, as the model sees it.
 abbrev pub simple_answer : Result (Option Rectangle) AtlasError → SimpleAnswer
 simple_answer (Ok (Some rectangle)) = Granted (box_of rectangle)
 simple_answer (Ok None) = NoRoom
 simple_answer (Err error) = Refused error
 
--- of a call that gives nothing back
+-- Of a call that gives nothing back.
 abbrev pub simple_done : Result (Unit {0}) AtlasError → SimpleAnswer
 simple_done (Ok _) = Done
 simple_done (Err error) = Refused error

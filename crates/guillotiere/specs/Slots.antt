@@ -1,4 +1,14 @@
 -- The two parts of stored slots. No public clause cites this module.
+pub mod Numbered
+pub mod Standing
+pub mod Lists
+pub mod Reading
+pub mod Parts
+pub mod Calm
+pub mod Links
+pub mod Areas
+pub mod Growing
+pub mod SlotCalls
 use Rattle.std.specs.Prelude.{ℕ, ◌≡◌, List, map, pos, slice_index_or}
 use Rattle.guillotiere.specs.declared.slots.Slot.{Slot}
 use Rattle.guillotiere.specs.declared.slots.Node.{Node}
@@ -8,19 +18,19 @@ use Rattle.guillotiere.specs.declared.slots.NodeKind.TheVariants as kind
 use Rattle.guillotiere.specs.declared.cut.Orientation.TheVariants as orientation
 pub use Rattle.guillotiere.specs.Rectangles.{axis_of}
 
--- the number of no slot
+-- The number of no slot.
 abbrev pub no_slot : ℕ
 no_slot = 4294967295
 
--- the tree's part of each slot
+-- The tree's part of each slot.
 abbrev pub nodes : List Slot → List Node
 nodes slots = map (λ s. s.node) slots
 
--- the lists' part of each slot
+-- The lists' part of each slot.
 abbrev pub rings : List Slot → List Ring
 rings slots = map (λ s. s.ring) slots
 
--- what stands for a slot past the end: it is unused
+-- What stands for a slot past the end: it is unused.
 abbrev pub blank_node : Node
 blank_node =
     record {
@@ -45,14 +55,14 @@ node_at ns i = slice_index_or ns i blank_node
 abbrev pub ring_at : List Ring → ℕ → Ring
 ring_at rs i = slice_index_or rs i blank_ring
 
--- 1 if a slot of this kind is used
+-- 1 if a slot of this kind is used.
 abbrev pub use_count : NodeKind → ℕ
 use_count kind.Container = 1
 use_count kind.Alloc = 1
 use_count kind.Free = 1
 use_count kind.Unused = 0
 
--- what a slot is used for, its rectangle and its generation stay
+-- What a slot is used for, its rectangle and its generation stay.
 pub record KeepsUse (old new : Node) : Type 0 where
   pub kind : new.kind ≡ old.kind
   pub area : new.area ≡ old.area

@@ -2,10 +2,10 @@
 use Rattle.std.specs.Prelude.{◌≡◌, ℕ, ◌≤◌, ◌%◌, max, Bool, List, All, Contains}
 use Rattle.guillotiere.specs.Boxes.{Sides, Box, box_sides}
 use Rattle.guillotiere.specs.Choice.{Options, AreValid}
-use Rattle.guillotiere.specs.Trees.{Tree, Grant, live, free_boxes, ids, nodes, IsWellFormed, IsNormal}
+use Rattle.guillotiere.specs.Trees.{Tree, Grant, live, free_boxes, ids, node_count, IsWellFormed, IsNormal}
 use Rattle.guillotiere.specs.Changes.{place, release, grown, fresh}
 
--- `limit` members may be used at once; `kept` is the most that were used at once since the last start or rearranging
+-- `limit` members may be used at once; `kept` is the most that were used at once since the last start or rearranging.
 pub record State : Type 0 where
   pub tree : Tree
   pub size : Sides
@@ -13,26 +13,26 @@ pub record State : Type 0 where
   pub limit : ℕ
   pub kept : ℕ
 
--- the live ids with their boxes
+-- The live ids with their boxes.
 abbrev pub live_in : State → List Grant
 live_in s = live s.size s.tree
 
--- the free boxes
+-- The free boxes.
 abbrev pub free_in : State → List Box
 free_in s = free_boxes s.size s.tree
 
--- how many members are used
+-- How many members are used.
 abbrev pub used_in : State → ℕ
-used_in s = nodes s.tree.members
+used_in s = node_count s.tree.members
 
 abbrev pub IsLive : State → ℕ → Type 0
 IsLive s id = Contains (ids s.tree.members) id
 
--- both sides are multiples of the alignment
+-- Both sides are multiples of the alignment.
 abbrev pub IsAligned : Options → Sides → Type 0
 IsAligned o s = (s.width % o.alignment.width ≡ 0) × (s.height % o.alignment.height ≡ 0)
 
--- what each atlas keeps
+-- What each atlas keeps.
 pub record IsSound (s : State) : Type 0 where
   pub well_formed : IsWellFormed s.size s.tree
   pub normal : IsNormal s.tree.members
@@ -41,27 +41,27 @@ pub record IsSound (s : State) : Type 0 where
   pub counted : used_in s ≤ s.kept
   pub limited : s.kept ≤ s.limit
 
--- one free box: the state after a creation, a clearing and a reset
+-- One free box: the state after a creation, a clearing and a reset.
 abbrev pub started : Sides → Options → (limit : ℕ) → State
 started size o limit = record { tree = fresh size; size = size; options = o; limit = limit; kept = 1 }
 
 abbrev pub with_tree : State → Tree → State
-with_tree s t = record s { tree = t; kept = max s.kept (nodes t.members) }
+with_tree s t = record s { tree = t; kept = max s.kept (node_count t.members) }
 
--- a request placed in the free box f
+-- A request placed in the free box f.
 abbrev pub after_placing : State → (f : Box) (r : Sides) (id : ℕ) → State
 after_placing s f r id = with_tree s (place s.size f r id s.tree)
 
--- the ids of a set freed
+-- The ids of a set freed.
 abbrev pub after_freeing : State → (ℕ → Bool) → State
 after_freeing s set = with_tree s (release set s.tree)
 
--- grown to a new size
+-- Grown to a new size.
 abbrev pub after_growth : State → Sides → State
 after_growth s n =
     let t = grown s.size n s.tree in
-    record s { tree = t; size = n; kept = max s.kept (nodes t.members) }
+    record s { tree = t; size = n; kept = max s.kept (node_count t.members) }
 
--- rearranged into a tree of a new size
+-- Rearranged into a tree of a new size.
 abbrev pub after_refit : State → Sides → Tree → State
-after_refit s n t = record s { tree = t; size = n; kept = nodes t.members }
+after_refit s n t = record s { tree = t; size = n; kept = node_count t.members }

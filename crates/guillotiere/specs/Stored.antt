@@ -2,7 +2,7 @@
 use Rattle.std.specs.Prelude.{ℕ, ◌≡◌, ◌+◌, ◌<◌, ◌≤◌, ◌^◌, Bool, false, List, [], length}
 use Rattle.guillotiere.specs.declared.slots.Slot.{Slot}
 use Rattle.guillotiere.specs.declared.slots.Link.{Link}
-use Rattle.guillotiere.specs.declared.table.ListHead.{ListHead}
+use Rattle.guillotiere.specs.declared.search.table.ListHead.{ListHead}
 use Rattle.guillotiere.specs.declared.geometry.Size.{Size}
 use Rattle.guillotiere.specs.declared.options.AllocatorOptions.{AllocatorOptions}
 use Rattle.guillotiere.specs.Boxes.{other, side}
@@ -11,19 +11,19 @@ use Rattle.guillotiere.specs.Choice.{AreValid}
 use Rattle.guillotiere.specs.Trees.{IsCut, total, most_slots}
 use Rattle.guillotiere.specs.States.{State, IsSound}
 use Rattle.guillotiere.specs.Slots.{nodes, rings, no_slot}
-use Rattle.guillotiere.specs.Numbered.{Numbered, erase, first_slot, numbers}
-use Rattle.guillotiere.specs.Standing.{Sequence, Stands}
-use Rattle.guillotiere.specs.Lists.{AreFiled, Places, occurs}
-use Rattle.guillotiere.specs.Reading.{tree_of}
+use Rattle.guillotiere.specs.Slots.Numbered.{Numbered, erase, first_slot, numbers}
+use Rattle.guillotiere.specs.Slots.Standing.{Sequence, Stands}
+use Rattle.guillotiere.specs.Slots.Lists.{AreFiled, Places, occurs}
+use Rattle.guillotiere.specs.Slots.Reading.{tree_of}
 
--- the slots with their lists
+-- The slots with their lists.
 pub record Shelf : Type 0 where
   pub slots : List Slot
   pub heads : List ListHead
   pub unused : Link
   pub options : AllocatorOptions
 
--- the fields of an atlas; `first` is the first slot of the top sequence, and `used` counts the slots that are used
+-- The fields of an atlas; `first` is the first slot of the top sequence, and `used` counts the slots that are used.
 pub record Stored : Type 0 where
   pub shelf : Shelf
   pub first : Link
@@ -31,12 +31,12 @@ pub record Stored : Type 0 where
   pub size : Size
   pub limit : ℕ
 
--- what contracts see of an atlas: what it stores, and how many turns it took
+-- What contracts see of an atlas: what it stores, and how many turns it took.
 pub record AtlasValue : Type 0 where
   pub stored : Stored
   pub turns : ℕ
 
--- the state that an atlas stands for
+-- The state that an atlas stands for.
 abbrev pub state_of : AtlasValue → State
 state_of v =
     record {
@@ -47,8 +47,8 @@ state_of v =
       kept = length v.stored.shelf.slots;
     }
 
--- the numbered tree that slots stand for, and the lists that run through them: `spare` are the unused slots, `held k`
--- those of list k, and `loose` the free slots that stand in no list
+-- The numbered tree that slots stand for, and the lists that run through them: `spare` are the unused slots, `held k`
+-- those of list k, and `loose` the free slots that stand in no list.
 pub record Holding : Type 0 where
   pub sequence : Sequence
   pub tree : Numbered
@@ -56,7 +56,7 @@ pub record Holding : Type 0 where
   pub held : ℕ → List ℕ
   pub loose : ℕ → Bool
 
--- where slots stand, once `hand i` counts a slot that is taken and not used yet
+-- Where slots stand, once `hand i` counts a slot that is taken and not used yet.
 abbrev pub places_of : (hand : ℕ → ℕ) → Holding → Places
 places_of hand h = record { spare = h.spare; held = h.held; hand = hand; loose = h.loose }
 
@@ -67,21 +67,21 @@ pub record HoldsWith (hand : ℕ → ℕ) (v : Shelf) (h : Holding) : Type 0 whe
   pub filed : AreFiled (options_of v.options) (nodes v.slots) (rings v.slots) v.heads v.unused (places_of hand h)
   pub short : length v.slots ≤ most_slots
   pub valid : AreValid (options_of v.options)
-  -- extents are positive, and no box passes what an `i32` holds
+  -- Extents are positive, and no box passes what an `i32` holds.
   pub cut : IsCut h.sequence.width (erase h.tree)
   pub wide : 0 < h.sequence.width
   pub across : h.sequence.start + h.sequence.width < 2 ^ 31
   pub along : total (erase h.tree) < 2 ^ 31
 
--- the same with nothing in hand
+-- The same with nothing in hand.
 abbrev pub Holds : Shelf → Holding → Type 0
 Holds v h = HoldsWith (λ i. 0) v h
 
--- no free slot is loose but for these
+-- No free slot is loose but for these.
 abbrev pub IsLooseOnly : List ℕ → Holding → Type 0
 IsLooseOnly ks h = (i : ℕ) → occurs i ks ≡ 0 → h.loose i ≡ false
 
--- what each stored atlas keeps
+-- What each stored atlas keeps.
 pub record IsAtlas (v : Stored) : Type 0 where
   pub holding : Holding
   pub holds : Holds v.shelf holding

@@ -11,21 +11,21 @@ use Rattle.guillotiere.specs.States.{State}
 use Rattle.guillotiere.specs.Replies.{IsExact, live_box}
 use Rattle.guillotiere.specs.Visits.{CalledAtGrant}
 
--- the first of a list, and the rest
+-- The first of a list, and the rest.
 abbrev pub first_of : {X : Type 0} → List X → Option X → List X → Type 0
 first_of xs first rest = MatchOption first (xs ≡ []) (λ x. xs ≡ x ∷ rest)
 
--- a callback may be called at an id and at a `&` to its rectangle
+-- A callback may be called at an id and at a `&` to its rectangle.
 abbrev pub TakesAtGrant : {F : Type 0} → Mut F (ℕ × (Bor Rectangle × Unit {0})) (Unit {0}) → F → Allocation → Type 0
 TakesAtGrant g f x = (shown : Bor Rectangle) → shown.now ≡ x.rectangle → Takes g f (x.id, (shown, tt))
 
--- what a callback may rely on at a free rectangle
+-- What a callback may rely on at a free rectangle.
 pub record IsShownArea (area : Rectangle) : Type 0 where
   pub exact : IsExact area
   pub measurable : IsMeasurable area
   pub nonempty : IsNonempty (box_of area)
 
--- and at an id with its rectangle: the id is live
+-- And at an id with its rectangle: the id is live.
 pub record IsShownGrant (s : State) (x : Allocation) : Type 0 where
   pub live : IsSome (live_box s x.id)
   pub box : live_box s x.id ≡ Some (box_of x.rectangle)
@@ -33,13 +33,13 @@ pub record IsShownGrant (s : State) (x : Allocation) : Type 0 where
   pub measurable : IsMeasurable x.rectangle
   pub nonempty : IsNonempty (box_of x.rectangle)
 
--- f may be called at each rectangle of a list in turn, from the first on; each has P
+-- f may be called at each rectangle of a list in turn, from the first on; each has P.
 abbrev pub IsCallableAlong : {F : Type 0} → Mut F (Bor Rectangle × Unit {0}) (Unit {0}) → (Rectangle → Type 0)
     → F → List Rectangle → Type 0
 IsCallableAlong g P f areas =
     CallableAtEachTurn first_of (λ p x q. CalledAt g p x tt q) (λ p x. P x → TakesAt g p x) areas f
 
--- the same at ids with their rectangles
+-- The same at ids with their rectangles.
 abbrev pub IsCallableAlongGrants : {F : Type 0} → Mut F (ℕ × (Bor Rectangle × Unit {0})) (Unit {0})
     → (Allocation → Type 0) → F → List Allocation → Type 0
 IsCallableAlongGrants g P f grants =

@@ -1,5 +1,6 @@
 //! The atlas allocator.
-ghost use Rattle.std.specs.Prelude.{◌≡◌, ◌≤◌, ◌<◌, ◌+◌, ◌-◌, ◌*◌, ◌↔◌, List, [], sum_by, IsTrue, IfOk, IfSome, OnErr, IsOkUnless, OnOk, length, IsSome, option_map, None, Some, Ok, All, map};
+ghost use Rattle.std.specs.Prelude.{◌≡◌, ◌≤◌, ◌<◌, ◌+◌, ◌-◌, ◌*◌, ◌↔◌, List, [], sum_by, IsTrue, IfOk, IfSome, OnErr};
+ghost use Rattle.std.specs.Prelude.{IsOkUnless, OnOk, length, IsSome, option_map, None, Some, Ok, All, map};
 ghost use Rattle.guillotiere.specs.Boxes.{area, Fits, IsPositive, IsWithin};
 ghost use Rattle.guillotiere.specs.Choice.{AreValid};
 ghost use Rattle.guillotiere.specs.Pixels.{sides_of, size_of, options_of, rectangle_of, box_of, IsMeasurable};
@@ -12,33 +13,36 @@ ghost use Rattle.guillotiere.specs.Visits.{AreFreeAreas, AreGrants, CalledAtGran
 ghost use Rattle.guillotiere.specs.Slots.{nodes};
 ghost use Rattle.guillotiere.specs.Walks.{IsCallableAlong, IsCallableAlongGrants, IsShownArea, IsShownGrant};
 ghost use Rattle.guillotiere.specs.Changes.{only};
-ghost use Rattle.guillotiere.specs.TreeLaws.{is_among};
+ghost use Rattle.guillotiere.specs.Laws.TreeLaws.{is_among};
 ghost use Rattle.guillotiere.specs.Batches.{AreLiveOnce};
-ghost use Rattle.guillotiere.specs.RunLaws.{IsTiled};
+ghost use Rattle.guillotiere.specs.Laws.RunLaws.{IsTiled};
 ghost use Rattle.guillotiere.specs.Steps.{Step};
-ghost use Rattle.guillotiere.specs.Steps.AtlasCall.{Allocate, Deallocate, Grow, Clear, Reset, Rearrange, ResizeAndRearrange};
+ghost use Rattle.guillotiere.specs.Steps.AtlasCall.{Allocate, Deallocate, Grow, Clear, Reset, Rearrange};
+ghost use Rattle.guillotiere.specs.Steps.AtlasCall.{ResizeAndRearrange};
 ghost use Rattle.guillotiere.specs.Steps.AtlasReply.{Done};
 
+pub mod rearranging;
+
 use crate::allocation::{AllocId, Allocation, SlotCount};
-use crate::batch::are_named_once;
+use crate::atlas::rearranging::{refit, sort_for_refit};
 use crate::change::ChangeList;
 use crate::choice::rounded;
 use crate::cut::granted;
 use crate::error::AtlasError;
 use crate::geometry::{Rectangle, Size};
-use crate::growth::{grow_tree, grow_whole, growth_for, slots_for};
 use crate::options::{AllocatorOptions, DEFAULT_OPTIONS};
-use crate::refit::{refit, sort_for_refit};
-use crate::requests::{choose, grant, make_room};
-use crate::slots::{Link, MOST_SLOTS, NO_SLOT, NodeKind};
-use crate::store::Store;
-use crate::table::Table;
-use crate::tree::{free_leaf, slots_needed};
-use crate::turns::Turns;
-use crate::walks::{
+use crate::search::table::Table;
+use crate::slots::batch::are_named_once;
+use crate::slots::walks::{
     free_sum, gather_allocated, gather_free, live_sum, named_slot, slot_number, visit_allocated,
     visit_free,
 };
+use crate::slots::{Link, MOST_SLOTS, NO_SLOT, NodeKind};
+use crate::store::Store;
+use crate::store::turns::Turns;
+use crate::tree::growth::{grow_tree, grow_whole, growth_for, slots_for};
+use crate::tree::requests::{choose, grant, make_room};
+use crate::tree::{free_leaf, slots_needed};
 use std::alloc::{Allocator, Global};
 use std::marker::Model;
 use std::ops::Index;
@@ -60,7 +64,7 @@ pub struct AtlasAllocator<A: Allocator + Copy = Global> {
 
 impl<A: Allocator + Copy> Model for AtlasAllocator<A> {
     ghost use Rattle.guillotiere.specs.Stored.{AtlasValue, IsAtlas};
-    ghost use Rattle.guillotiere.specs.Holdings.{shelf_of};
+    ghost use Rattle.guillotiere.specs.Store.Holdings.{shelf_of};
 
     ghost Value = { AtlasValue };
 
@@ -69,7 +73,8 @@ impl<A: Allocator + Copy> Model for AtlasAllocator<A> {
       turns = a.store.turns.count;
     } };
 
-    ghost invariant = { λ a. IsAtlas (record { shelf = shelf_of a.store; first = a.first; used = a.used; size = a.size; limit = a.limit }) };
+    ghost invariant = { λ a. IsAtlas
+        (record { shelf = shelf_of a.store; first = a.first; used = a.used; size = a.size; limit = a.limit }) };
 }
 
 impl<A: Allocator + Copy> AtlasAllocator<A> {
@@ -77,17 +82,19 @@ impl<A: Allocator + Copy> AtlasAllocator<A> {
     ghost use Rattle.guillotiere.specs.Generations.{AreFirstGenerations};
     ghost use Rattle.guillotiere.specs.Replies.{allocate_reply, done_reply, grant_of, live_box, IsExact};
     ghost use Rattle.guillotiere.specs.Rearranging.{change_reply, rearrangement_of, AreExactChanges, KeepsSides};
-    ghost use Rattle.guillotiere.specs.StepLaws.{IsRearrangingStep};
+    ghost use Rattle.guillotiere.specs.Laws.StepLaws.{IsRearrangingStep};
     ghost use Rattle.guillotiere.specs.Refits.{IsRefitOrder};
-    ghost use Rattle.guillotiere.specs.Refitted.{HasExactRectangle};
-    ghost use Rattle.guillotiere.specs.Callers.{AreGuarded, KeepsLive, AddsBox, JoinsGuarded, LeavesNoBox, LeavesNoBoxes, KeepsAll, AllLieApart, AllLieWithin};
+    ghost use Rattle.guillotiere.specs.Refits.Refitted.{HasExactRectangle};
+    ghost use Rattle.guillotiere.specs.Callers.{AreGuarded, KeepsLive, AddsBox, JoinsGuarded, LeavesNoBox};
+    ghost use Rattle.guillotiere.specs.Callers.{LeavesNoBoxes, KeepsAll, AllLieApart, AllLieWithin};
 
     /// An atlas of this size, in pixels, with the default options: one free rectangle. Asks a size that isn't empty.
     /// `Memory` is the only error.
     pub fn new(alloc: A, size: Size) -> Result<Self, AtlasError>
         requires { IsPositive (sides_of size) }
         ensures unless { IsOkUnless result AtlasError.Memory }
-        ensures state { IfOk result (λ it. state_of it ≡ started (sides_of size) (options_of DEFAULT_OPTIONS) MOST_SLOTS) }
+        ensures state { IfOk result
+            (λ it. state_of it ≡ started (sides_of size) (options_of DEFAULT_OPTIONS) MOST_SLOTS) }
         ensures turns { IfOk result (λ it. it.turns ≡ 0) }
         ensures sound { IfOk result (λ it. IsSound (state_of it)) }
     {
@@ -110,8 +117,8 @@ impl<A: Allocator + Copy> AtlasAllocator<A> {
         AtlasAllocator::with_slot_limit(alloc, size, options, MOST_SLOTS)
     }
 
-    /// The same with a limit on the slots that are used at once. Asks a size that isn't empty, valid options and a limit
-    /// from 1 to 16777216.
+    /// The same with a limit on the slots that are used at once. Asks a size that isn't empty, valid options and a
+    /// limit from 1 to 16777216.
     pub fn with_slot_limit(
         alloc: A,
         size: Size,
@@ -153,8 +160,8 @@ impl<A: Allocator + Copy> AtlasAllocator<A> {
         self.size
     }
 
-    /// Says what each atlas keeps, and does nothing: it is sound, live and free boxes tile it, and the rectangles of live
-    /// ids lie within it and apart from one another. A list of no held box is guarded.
+    /// Says what each atlas keeps, and does nothing: it is sound, live and free boxes tile it, and the rectangles of
+    /// live ids lie within it and apart from one another. A list of no held box is guarded.
     pub fn prove_sound(&self)
         ensures sound { IsSound (state_of self.now) }
         ensures tiled { IsTiled (state_of self.now) }
@@ -197,12 +204,13 @@ impl<A: Allocator + Copy> AtlasAllocator<A> {
         Some(self.store.slots[at].node.area)
     }
 
-    /// Grants a request: the part of the rounded size at the `min` of the free rectangle that is picked. None if the size
-    /// is empty or, rounded up, fits no free rectangle. `Slots` if more slots would be used than the limit allows;
+    /// Grants a request: the part of the rounded size at the `min` of the free rectangle that is picked. None if the
+    /// size is empty or, rounded up, fits no free rectangle. `Slots` if more slots would be used than the limit allows;
     /// `Memory` if more would be used than ever since the last start, and memory for them is refused. Unless something
     /// is granted, nothing changes. Takes no turns.
     pub fn allocate(&mut self, requested_size: Size) -> Result<Option<Allocation>, AtlasError>
-        ensures step { Step (state_of self.old) (Allocate (sides_of requested_size)) (allocate_reply result) (state_of self.new) }
+        ensures step { Step (state_of self.old) (Allocate (sides_of requested_size)) (allocate_reply result)
+            (state_of self.new) }
         ensures exact { IfOk result (λ granted. IfSome granted (λ allocation. IsExact allocation.rectangle)) }
         ensures none { result ≡ Ok None → self.new ≡ self.old }
         ensures refused { OnErr result (self.new ≡ self.old) }
@@ -227,14 +235,15 @@ impl<A: Allocator + Copy> AtlasAllocator<A> {
         Ok(Some(Allocation { id, rectangle }))
     }
 
-    /// Frees the box of an id: it joins the free space beside it. `NotLive` if the id isn't live, and then nothing changes.
-    /// Takes no memory, and one turn more than there are members fewer. A turn marks a leaf as free, joins it with the
-    /// next one or lifts it into its container's place; links of lists are written beside the turns.
+    /// Frees the box of an id: it joins the free space beside it. `NotLive` if the id isn't live, and then nothing
+    /// changes. Takes no memory, and one turn more than there are members fewer. A turn marks a leaf as free, joins it
+    /// with the next one or lifts it into its container's place; links of lists are written beside the turns.
     pub fn deallocate(&mut self, id: AllocId) -> Result<(), AtlasError>
         ensures step { Step (state_of self.old) (Deallocate id) (done_reply result) (state_of self.new) }
         ensures refused { OnErr result (self.new ≡ self.old) }
         ensures unless { IsOkUnless result AtlasError.NotLive }
-        ensures turns { OnOk result (self.new.turns + used_in (state_of self.new) ≡ self.old.turns + 1 + used_in (state_of self.old)) }
+        ensures turns { OnOk result
+            (self.new.turns + used_in (state_of self.new) ≡ self.old.turns + 1 + used_in (state_of self.old)) }
         ensures ok { (result ≡ Ok tt) ↔ IsLive (state_of self.old) id }
         ensures leaves { LeavesNoBox (state_of self.old) (state_of self.new) id }
         ensures count { OnOk result (length (live_in (state_of self.new)) + 1 ≡ length (live_in (state_of self.old))) }
@@ -246,8 +255,8 @@ impl<A: Allocator + Copy> AtlasAllocator<A> {
         Ok(())
     }
 
-    /// Frees the boxes of the ids of a list. The tree that is left doesn't tell in which order; the numbers of later ids
-    /// may. `NotLive` if one of them isn't live or stands twice, and then nothing changes. Takes no memory, time in
+    /// Frees the boxes of the ids of a list. The tree that is left doesn't tell in which order; the numbers of later
+    /// ids may. `NotLive` if one of them isn't live or stands twice, and then nothing changes. Takes no memory, time in
     /// proportion to the list, and one turn an id more than there are members fewer.
     pub fn deallocate_all(&mut self, ids: &[AllocId]) -> Result<(), AtlasError>
         ensures freed { OnOk result (state_of self.new ≡ after_freeing (state_of self.old) (is_among ids.now)) }
@@ -255,7 +264,9 @@ impl<A: Allocator + Copy> AtlasAllocator<A> {
         ensures unless { IsOkUnless result AtlasError.NotLive }
         ensures refused { OnErr result (self.new ≡ self.old) }
         ensures none { ids.now ≡ [] → self.new ≡ self.old }
-        ensures turns { OnOk result (self.new.turns + used_in (state_of self.new) ≡ self.old.turns + length ids.now + used_in (state_of self.old)) }
+        ensures turns { OnOk result
+            (self.new.turns + used_in (state_of self.new)
+            ≡ self.old.turns + length ids.now + used_in (state_of self.old)) }
         ensures leaves { OnOk result (LeavesNoBoxes (state_of self.old) (state_of self.new) ids.now) }
         ensures sound { IsSound (state_of self.new) }
     {
@@ -268,12 +279,12 @@ impl<A: Allocator + Copy> AtlasAllocator<A> {
         Ok(())
     }
 
-    /// Makes the atlas larger; every live id keeps its rectangle. Asks that neither side shrinks. One free rectangle alone
-    /// is enlarged. Else, first along the top sequence, a free last member is enlarged or a free strip is appended, and
-    /// then, across it, a free strip along the whole side (docs/MODEL.md, "Changes of a tree"); each only if that side
-    /// grows. `Slots` if more slots would be used than the limit allows; `Memory` if more would be used than ever since
-    /// the last start, and memory for them is refused; then nothing changes. Takes no turns, and one pass along the top
-    /// sequence for each side that grows.
+    /// Makes the atlas larger; every live id keeps its rectangle. Asks that neither side shrinks. One free rectangle
+    /// alone is enlarged. Else, first along the top sequence, a free last member is enlarged or a free strip is
+    /// appended, and then, across it, a free strip along the whole side (docs/MODEL.md, "Changes of a tree"); each only
+    /// if that side grows. `Slots` if more slots would be used than the limit allows; `Memory` if more would be used
+    /// than ever since the last start, and memory for them is refused; then nothing changes. Takes no turns, and one
+    /// pass along the top sequence for each side that grows.
     pub fn grow(&mut self, new_size: Size) -> Result<(), AtlasError>
         requires { Fits (state_of self.old).size (sides_of new_size) }
         ensures step { Step (state_of self.old) (Grow (sides_of new_size)) (done_reply result) (state_of self.new) }
@@ -388,7 +399,8 @@ impl<A: Allocator + Copy> AtlasAllocator<A> {
         requires size { IsPositive (sides_of size) }
         requires options { AreValid (options_of options.now) }
         ensures ok { result ≡ Ok tt }
-        ensures step { Step (state_of self.old) (Reset (sides_of size) (options_of options.now)) (done_reply result) (state_of self.new) }
+        ensures step { Step (state_of self.old) (Reset (sides_of size) (options_of options.now)) (done_reply result)
+            (state_of self.new) }
         ensures anew { AreFirstGenerations self.new }
         ensures turns { self.new.turns ≡ self.old.turns }
         ensures sound { IsSound (state_of self.new) }
@@ -420,7 +432,8 @@ impl<A: Allocator + Copy> AtlasAllocator<A> {
     fn restart(&mut self, whole: Size, options: &AllocatorOptions)
         requires size { IsPositive (sides_of whole) }
         requires options { AreValid (options_of options.now) }
-        ensures state { state_of self.new ≡ started (sides_of whole) (options_of options.now) (state_of self.old).limit }
+        ensures state { state_of self.new
+            ≡ started (sides_of whole) (options_of options.now) (state_of self.old).limit }
         ensures anew { AreFirstGenerations self.new }
         ensures turns { self.new.turns ≡ self.old.turns }
         ensures sound { IsSound (state_of self.new) }
@@ -464,7 +477,8 @@ impl<A: Allocator + Copy> AtlasAllocator<A> {
     fn free(&mut self, id: AllocId)
         requires { IsLive (state_of self.old) id }
         ensures state { state_of self.new ≡ after_freeing (state_of self.old) (only id) }
-        ensures turns { self.new.turns + used_in (state_of self.new) ≡ self.old.turns + 1 + used_in (state_of self.old) }
+        ensures turns { self.new.turns + used_in (state_of self.new)
+            ≡ self.old.turns + 1 + used_in (state_of self.old) }
     {
         let number = slot_number(id);
         let given = free_leaf(&mut self.store, Link { number });
@@ -479,11 +493,12 @@ impl<A: Allocator + Copy> AtlasAllocator<A> {
         &self.store
     }
 
-    /// The area of all live rectangles together, in unit squares: with `free_area` it is the width times the height of the
-    /// atlas. One pass over the slots, and no memory.
+    /// The area of all live rectangles together, in unit squares: with `free_area` it is the width times the height of
+    /// the atlas. One pass over the slots, and no memory.
     pub fn allocated_area(&self) -> u64
         ensures area { result ≡ sum_by (λ g. area g.box) (live_in (state_of self.now)) }
-        ensures whole { result + sum_by area (free_in (state_of self.now)) ≡ (state_of self.now).size.width * (state_of self.now).size.height }
+        ensures whole { result + sum_by area (free_in (state_of self.now))
+            ≡ (state_of self.now).size.width * (state_of self.now).size.height }
     {
         live_sum(&self.store.slots)
     }
@@ -491,25 +506,30 @@ impl<A: Allocator + Copy> AtlasAllocator<A> {
     /// The area of all free rectangles together, in unit squares. One pass over the slots, and no memory.
     pub fn free_area(&self) -> u64
         ensures area { result ≡ sum_by area (free_in (state_of self.now)) }
-        ensures whole { sum_by (λ g. area g.box) (live_in (state_of self.now)) + result ≡ (state_of self.now).size.width * (state_of self.now).size.height }
+        ensures whole { sum_by (λ g. area g.box) (live_in (state_of self.now)) + result
+            ≡ (state_of self.now).size.width * (state_of self.now).size.height }
     {
         free_sum(&self.store.slots)
     }
 
-    /// Calls `visit` on each free rectangle once, in an order that is left open. Asks that `visit` may be called along each
-    /// list that may be shown, and no more: nothing else is called. No coordinate of these rectangles is negative.
+    /// Calls `visit` on each free rectangle once, in an order that is left open. Asks that `visit` may be called along
+    /// each list that may be shown, and no more: nothing else is called. No coordinate of these rectangles is negative.
     pub fn for_each_free_rectangle<F: FnMut(&Rectangle)>(&self, visit: F)
-        requires { (areas : List Area) → AreFreeAreas (state_of self.now) areas → IsCallableAlong F.FnMut IsShownArea visit areas }
-        ensures { (areas : List Area) × AreFreeAreas (state_of self.now) areas × ((last : F) × FoldsTo (λ p x q. CalledAt F.FnMut p x tt q) visit areas last) }
+        requires { (areas : List Area) → AreFreeAreas (state_of self.now) areas
+            → IsCallableAlong F.FnMut IsShownArea visit areas }
+        ensures { (areas : List Area) × AreFreeAreas (state_of self.now) areas
+            × ((last : F) × FoldsTo (λ p x q. CalledAt F.FnMut p x tt q) visit areas last) }
     {
         visit_free(&self.store.slots, visit);
     }
 
-    /// Calls `visit` on each live id and its rectangle once, by rising number of the slot, which is the low 24 bits of the
-    /// id. Asks that `visit` may be called along that list, and no more: nothing else is called.
+    /// Calls `visit` on each live id and its rectangle once, by rising number of the slot, which is the low 24 bits of
+    /// the id. Asks that `visit` may be called along that list, and no more: nothing else is called.
     pub fn for_each_allocated_rectangle<F: FnMut(AllocId, &Rectangle)>(&self, visit: F)
-        requires { (grants : List Grant) → AreGrants (state_of self.now) grants → IsCallableAlongGrants F.FnMut (IsShownGrant (state_of self.now)) visit grants }
-        ensures { (grants : List Grant) × AreGrants (state_of self.now) grants × ((last : F) × FoldsTo (CalledAtGrant F.FnMut) visit grants last) }
+        requires { (grants : List Grant) → AreGrants (state_of self.now) grants
+            → IsCallableAlongGrants F.FnMut (IsShownGrant (state_of self.now)) visit grants }
+        ensures { (grants : List Grant) × AreGrants (state_of self.now) grants
+            × ((last : F) × FoldsTo (CalledAtGrant F.FnMut) visit grants last) }
     {
         visit_allocated(&self.store.slots, visit);
     }

@@ -4,7 +4,7 @@ ghost use Rattle.guillotiere.specs.Boxes.{Fits, IsNonempty, IsPositive, Sides, b
 ghost use Rattle.guillotiere.specs.Choice.{AreValid, class_of, least_margin, reaches, rounded, up};
 ghost use Rattle.guillotiere.specs.Pixels.{box_of, natural, options_of, sides_of, size_of};
 ghost use Rattle.guillotiere.specs.Rectangles.{IsUnsigned};
-ghost use Rattle.guillotiere.specs.Requests.{CanBeRounded, IsBefore};
+ghost use Rattle.guillotiere.specs.Search.Requests.{CanBeRounded, IsBefore};
 
 use crate::geometry::{Point, Rectangle, Size};
 use crate::options::AllocatorOptions;
@@ -12,7 +12,8 @@ use crate::options::AllocatorOptions;
 // The least multiple of the alignment that is at least `side`, if an `i32` can hold it.
 fn rounded_side(side: i32, alignment: i32) -> Option<i32>
     requires { pos 0 <ℤ alignment }
-    ensures { SomeIff result ((0 < natural side) × (up (natural side) (natural alignment) ≤ 2147483647)) (pos (up (natural side) (natural alignment))) }
+    ensures { SomeIff result ((0 < natural side) × (up (natural side) (natural alignment) ≤ 2147483647))
+        (pos (up (natural side) (natural alignment))) }
 {
     if side <= 0 {
         return None;
@@ -33,7 +34,8 @@ fn rounded_side(side: i32, alignment: i32) -> Option<i32>
 /// passes 2147483647.
 pub fn rounded(size: Size, options: &AllocatorOptions) -> Option<Size>
     requires { AreValid (options_of options.now) }
-    ensures { SomeIff result (CanBeRounded (options_of options.now) (sides_of size)) (size_of (rounded (options_of options.now) (sides_of size))) }
+    ensures { SomeIff result (CanBeRounded (options_of options.now) (sides_of size))
+        (size_of (rounded (options_of options.now) (sides_of size))) }
 {
     let width = rounded_side(size.width, options.alignment.width)?;
     let height = rounded_side(size.height, options.alignment.height)?;

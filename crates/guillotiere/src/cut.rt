@@ -3,7 +3,7 @@ ghost use Rattle.std.specs.Prelude.{◌≡◌, ◌≤ℤ◌, ◌*◌, [], ◌∷
 ghost use Rattle.guillotiere.specs.Boxes.{Box, box_at};
 ghost use Rattle.guillotiere.specs.Cuts.{cap, cut_axis};
 ghost use Rattle.guillotiere.specs.Pixels.{IsMeasurable, natural, rectangle_of, sides_of};
-ghost use Rattle.guillotiere.specs.Parts.{back_in, front_in, length_in};
+ghost use Rattle.guillotiere.specs.Slots.Parts.{back_in, front_in, length_in};
 ghost use Rattle.guillotiere.specs.Rectangles.{FitsInto, IsRestOf, Tile, axis_of, granted_in, measured, rest_in};
 
 use crate::geometry::{Point, Rectangle, Size};
@@ -138,12 +138,20 @@ fn rest_along(orientation: Orientation, chosen: Rectangle, size: Size) -> Rest
         Orientation::Horizontal => Rest {
             orientation,
             split: back(chosen, orientation, width),
-            leftover: back(front(chosen, orientation, width), Orientation::Vertical, height),
+            leftover: back(
+                front(chosen, orientation, width),
+                Orientation::Vertical,
+                height,
+            ),
         },
         Orientation::Vertical => Rest {
             orientation,
             split: back(chosen, orientation, height),
-            leftover: back(front(chosen, orientation, height), Orientation::Horizontal, width),
+            leftover: back(
+                front(chosen, orientation, height),
+                Orientation::Horizontal,
+                width,
+            ),
         },
     }
 }

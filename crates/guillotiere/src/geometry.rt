@@ -90,7 +90,8 @@ impl Rectangle {
     /// `width` and `height`. Asks that the rectangle is measurable.
     pub fn size(&self) -> Size
         requires { IsMeasurable self.now }
-        ensures { result ≡ record { width = self.now.max.x -ℤ self.now.min.x; height = self.now.max.y -ℤ self.now.min.y } }
+        ensures { result
+            ≡ record { width = self.now.max.x -ℤ self.now.min.x; height = self.now.max.y -ℤ self.now.min.y } }
     {
         Size {
             width: self.width(),
@@ -102,7 +103,8 @@ impl Rectangle {
 impl From<Size> for Rectangle {
     ghost use Rattle.std.specs.Prelude.{◌≡◌, pos};
 
-    ghost from_gives = { λ size rectangle. rectangle ≡ record { min = record { x = pos 0; y = pos 0 }; max = record { x = size.width; y = size.height } } };
+    ghost from_gives = { λ size rectangle. rectangle
+        ≡ record { min = record { x = pos 0; y = pos 0 }; max = record { x = size.width; y = size.height } } };
 
     /// The rectangle from (0, 0) to the width and the height. It is empty where a side is 0 or less, and always
     /// measurable.

@@ -4,24 +4,33 @@ ghost use Rattle.guillotiere.specs.Boxes.Axis.{Horizontal, Vertical};
 ghost use Rattle.guillotiere.specs.Trees.{grant, live};
 ghost use Rattle.guillotiere.specs.Trees.Members.{End, Free, Alloc};
 ghost use Rattle.guillotiere.specs.Changes.{fresh, only, release, grown};
-ghost use Rattle.guillotiere.specs.Examples.{Shows, sides, box, both, one_corner, other_corner, capped_corner, grown_full, grown_below, quarters, row_of_three, half_between};
+ghost use Rattle.guillotiere.specs.Laws.Examples.{Shows, sides, box, both, one_corner, other_corner, capped_corner};
+ghost use Rattle.guillotiere.specs.Laws.Examples.{grown_full, grown_below, quarters, row_of_three, half_between};
 ghost use Rattle.guillotiere.specs.Choice.{up, class_of, IsPick};
-ghost use Rattle.guillotiere.specs.ChoiceExamples.{IsDefaultPick, default_options, large_options, alike_boxes, large_boxes, mixed_boxes};
+ghost use Rattle.guillotiere.specs.Laws.ChoiceExamples.{IsDefaultPick, default_options, large_options, alike_boxes};
+ghost use Rattle.guillotiere.specs.Laws.ChoiceExamples.{large_boxes, mixed_boxes};
 ghost use Rattle.guillotiere.specs.declared.error.AtlasError.TheVariants.{Slots};
 ghost use Rattle.guillotiere.specs.States.{after_refit};
 ghost use Rattle.guillotiere.specs.Refits.{Refits, RefitPasses, IsRanked, IsRefitOrder};
-ghost use Rattle.guillotiere.specs.RefitExamples.{three_boxes, three_within, three_in_order, three_moved, moved_tree, upright, one_older, five_calls, five_replies, after_five, since_five};
+ghost use Rattle.guillotiere.specs.Laws.RefitExamples.{three_boxes, three_within, three_in_order, three_moved};
+ghost use Rattle.guillotiere.specs.Laws.RefitExamples.{moved_tree, upright, one_older, five_calls, five_replies};
+ghost use Rattle.guillotiere.specs.Laws.RefitExamples.{after_five, since_five};
 ghost use Rattle.guillotiere.specs.Runs.{Run};
 ghost use Rattle.guillotiere.specs.Steps.{Step};
 ghost use Rattle.guillotiere.specs.Steps.AtlasCall.{Rearrange};
 ghost use Rattle.guillotiere.specs.Steps.AtlasReply.{Changed, Refused};
-ghost use Rattle.guillotiere.specs.TreeLaws.{LeavesTile, AreasAddUp, ReleasesInAnyOrder, GrantsAreUndone, GrowthAndReleaseSwap, NothingLiveIsOneFree, PlacingsKeepTrees, ReleasesKeepTrees, GrowthsKeepTrees, FreedHasRoom, MembersAreCounted};
-ghost use Rattle.guillotiere.specs.StepLaws.{StepsKeep, PicksAreOne, PicksExist, SmallerFits, GrantsLieInside, FreeingsRemoveOne, GrowthsKeepBoxes, RearrangingsLoseNothing, RefusalsChangeNothing, StepsAnswerAsDue};
-ghost use Rattle.guillotiere.specs.SimpleRuns.{GuardedAreDisjoint, SimpleRunsKeepGuard, SimpleStartsGuard};
-ghost use Rattle.guillotiere.specs.RunLaws.{RunsKeepOrder, RunsLeaveNoTrace};
-ghost use Rattle.guillotiere.specs.Existence.{RoundingIsLeast, StartsAreSound, StepsExist};
+ghost use Rattle.guillotiere.specs.Laws.TreeLaws.{LeavesTile, AreasAddUp, ReleasesInAnyOrder, GrantsAreUndone};
+ghost use Rattle.guillotiere.specs.Laws.TreeLaws.{GrowthAndReleaseSwap, NothingLiveIsOneFree, PlacingsKeepTrees};
+ghost use Rattle.guillotiere.specs.Laws.TreeLaws.{ReleasesKeepTrees, GrowthsKeepTrees, FreedHasRoom, MembersAreCounted};
+ghost use Rattle.guillotiere.specs.Laws.StepLaws.{StepsKeep, PicksAreOne, PicksExist, SmallerFits, GrantsLieInside};
+ghost use Rattle.guillotiere.specs.Laws.StepLaws.{FreeingsRemoveOne, GrowthsKeepBoxes, RearrangingsLoseNothing};
+ghost use Rattle.guillotiere.specs.Laws.StepLaws.{RefusalsChangeNothing, StepsAnswerAsDue};
+ghost use Rattle.guillotiere.specs.Simple.SimpleRuns.{GuardedAreDisjoint, SimpleRunsKeepGuard, SimpleStartsGuard};
+ghost use Rattle.guillotiere.specs.Laws.RunLaws.{RunsKeepOrder, RunsLeaveNoTrace};
+ghost use Rattle.guillotiere.specs.Laws.Existence.{RoundingIsLeast, StartsAreSound, StepsExist};
 ghost use Rattle.guillotiere.specs.Renaming.{RenamingChangesNothing, AnswersWithoutIds, LiveNamesCount};
-ghost use Rattle.guillotiere.specs.Callers.{SoundIsTiled, LiveHaveBoxes, LiveShareNothing, LiveLieWithin, LiveAreGuarded};
+ghost use Rattle.guillotiere.specs.Callers.{SoundIsTiled, LiveHaveBoxes, LiveShareNothing, LiveLieWithin};
+ghost use Rattle.guillotiere.specs.Callers.{LiveAreGuarded};
 
 /// In a well formed tree of cuts each unit square of the atlas lies in exactly one leaf's box, and no
 /// such box is empty or passes the sides of the atlas.
@@ -84,11 +93,11 @@ pub fn counts()
     ensures { MembersAreCounted }
 {}
 
-/// Worked examples: what the trees of `specs/Examples.antt` show, by computation.
+/// Worked examples: what the trees of `specs/Laws/Examples.antt` show, by computation.
 pub fn examples()
     ensures one_corner { Shows (sides 100 100) one_corner (grant 3 (box 0 0 20 60) ∷ [])
         (box 0 60 20 100 ∷ box 20 0 100 100 ∷ []) 5 }
-    // two sequences give way, one after the other
+    // Two sequences give way, one after the other.
     ensures one_corner_freed { release (only 3) one_corner ≡ fresh (sides 100 100) }
     ensures other_corner { Shows (sides 310 20) other_corner (grant 2 (box 0 0 300 10) ∷ [])
         (box 300 0 310 10 ∷ box 0 10 310 20 ∷ []) 4 }
@@ -96,13 +105,13 @@ pub fn examples()
         (box 50000 0 200000 100000 ∷ box 0 100000 200000 200000 ∷ []) 4 }
     ensures grown_full { Shows (sides 150 150) grown_full (grant 0 (box 0 0 100 100) ∷ [])
         (box 0 100 100 150 ∷ box 100 0 150 150 ∷ []) 4 }
-    // the one box runs along the other axis than in a fresh tree, and keeps it
+    // The one box runs along the other axis than in a fresh tree, and keeps it.
     ensures grown_full_freed { release (only 0) grown_full ≡ record { axis = Horizontal; members = Free 150 End } }
     ensures one_box_grows { grown (sides 150 150) (sides 200 160) (release (only 0) grown_full)
         ≡ record { axis = Horizontal; members = Free 200 End } }
-    // the free box at the end grows, and no member is added
+    // The free box at the end grows, and no member is added.
     ensures grown_below { Shows (sides 100 150) grown_below (grant 0 (box 0 0 100 60) ∷ []) (box 0 60 100 150 ∷ []) 2 }
-    // free boxes of two sequences stay apart
+    // Free boxes of two sequences stay apart.
     ensures quarters_left { Shows (sides 100 100) (release (both 1 3) quarters)
         (grant 2 (box 50 0 100 50) ∷ grant 4 (box 50 50 100 100) ∷ [])
         (box 0 0 50 50 ∷ box 0 50 50 100 ∷ []) 6 }
@@ -111,8 +120,9 @@ pub fn examples()
     ensures two_of_three_freed { Shows (sides 300 200) (release (only 2) (release (only 3) row_of_three))
         (grant 0 (box 0 0 300 100) ∷ grant 4 (box 200 100 300 200) ∷ [])
         (box 0 100 200 200 ∷ []) 4 }
-    // its neighbours at both sides are free, and two sequences give way
-    ensures half_freed { release (only 5) half_between ≡ record { axis = Vertical; members = Alloc 0 100 (Free 100 End) } }
+    // Its neighbours at both sides are free, and two sequences give way.
+    ensures half_freed { release (only 5) half_between
+        ≡ record { axis = Vertical; members = Alloc 0 100 (Free 100 End) } }
 {}
 
 /// Worked roundings and classes, by computation.
@@ -128,13 +138,13 @@ pub fn examples_of_choice()
 
 /// Worked picks, by computation.
 pub fn examples_of_picks()
-    // the highest of boxes that are equally good, and then the one furthest left
+    // The highest of boxes that are equally good, and then the one furthest left.
     ensures tie { IsDefaultPick 10 10 alike_boxes (box 30 0 50 20) }
-    // an equal side wins, though a large request wants the greatest margin otherwise
+    // An equal side wins, though a large request wants the greatest margin otherwise.
     ensures equal_side { IsDefaultPick 300 300 large_boxes (box 0 0 300 400) }
     ensures large { IsDefaultPick 301 301 large_boxes (box 400 0 900 500) }
     ensures medium { IsDefaultPick 100 250 large_boxes (box 0 400 310 710) }
-    // the box of the lower class, though one of a higher class has an equal side
+    // The box of the lower class, though one of a higher class has an equal side.
     ensures class_above { IsDefaultPick 10 10 mixed_boxes (box 0 0 40 40) }
     ensures all_large { IsPick mixed_boxes large_options (sides 10 10) (box 100 0 110 300) }
 {}
@@ -144,7 +154,7 @@ pub fn examples_of_refits()
     ensures three { Shows (sides 10 10) three_boxes
         (grant 0 (box 0 0 10 3) ∷ grant 3 (box 0 3 5 10) ∷ grant 2 (box 5 3 10 10) ∷ []) [] 4 }
     ensures order { IsRefitOrder (live (sides 10 10) three_boxes) three_in_order }
-    // areas count up to 2147483647, so these are equally large; and of ids the low 24 bits count
+    // Areas count up to 2147483647, so these are equally large; and of ids the low 24 bits count.
     ensures capped_order { IsRanked (grant 1 (box 0 40000 100000 70000) ∷ grant 0 (box 0 0 100000 40000) ∷ []) }
     ensures order_by_slot { IsRanked (grant 16777219 (box 0 3 5 10) ∷ grant 50331650 (box 5 3 10 10) ∷ []) }
     ensures moved { Shows (sides 10 10) moved_tree (grant 3 (box 0 0 5 7) ∷ grant 6 (box 5 0 10 7) ∷ [])
@@ -184,7 +194,8 @@ pub fn picks_exist()
     ensures { PicksExist }
 {}
 
-/// A granted box lies inside a free box of before, with sides barely above those asked for, and is added to what is live.
+/// A granted box lies inside a free box of before, with sides barely above those asked for,
+/// and is added to what is live.
 pub fn grants_lie_inside()
     ensures { GrantsLieInside }
 {}
@@ -238,7 +249,7 @@ pub fn renaming()
 /// refused for memory, and are one but for their ids after it.
 pub fn answers_without_ids()
     ensures alike { AnswersWithoutIds }
-    // the names of ids that aren't live don't count
+    // The names of ids that aren't live don't count.
     ensures live_names { LiveNamesCount }
 {}
 

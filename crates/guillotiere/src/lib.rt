@@ -1,42 +1,24 @@
 //! A dynamic allocator of rectangles inside one large texture: a port of the Rust crate `guillotiere` 0.7.0.
 //!
-//! Two limits, which the Rust crate has too. Free boxes are joined within one container of the tree of cuts, and not across
-//! containers. And grids of equal cells are served better by other packers.
+//! Two limits, which the Rust crate has too. Free boxes are joined within one container of the tree of cuts, and not
+//! across containers. And grids of equal cells are served better by other packers.
 #![tactic(auto)]
 
 mod allocation;
 mod atlas;
-mod bands;
-mod batch;
-mod best;
-mod boxes;
 mod change;
 mod choice;
 mod cut;
 mod error;
-mod extend;
-mod extending;
 mod geometry;
-mod growth;
 pub mod laws;
-mod lists;
-mod marks;
-mod masks;
 mod options;
-mod pick;
-mod placing;
-mod refit;
-mod requests;
 mod search;
 pub mod session;
 mod simple;
 mod slots;
-mod start;
 mod store;
-mod table;
 mod tree;
-mod turns;
-mod walks;
 
 pub use allocation::{AllocId, Allocation, SlotCount};
 pub use atlas::AtlasAllocator;

@@ -1,27 +1,35 @@
 //! The search for the free box that a request takes, through the lists of a table.
 ghost use Rattle.std.specs.Prelude.{◌≡◌, ◌≢◌, ◌+◌, ◌*◌, ◌<◌, ◌≤◌, ◌↔◌, ℕ, true, map, IsTrue, List, None, IfSome};
-ghost use Rattle.guillotiere.specs.Bands.{IsInWindow};
+ghost use Rattle.guillotiere.specs.Search.Bands.{IsInWindow};
 ghost use Rattle.guillotiere.specs.Boxes.{Box, Fits, IsPositive, Sides};
 ghost use Rattle.guillotiere.specs.Choice.{IsFitting, IsPick, Options, class_of};
-ghost use Rattle.guillotiere.specs.Items.{IsShowable, item_at, item_sides};
-ghost use Rattle.guillotiere.specs.Lookups.{AreFreeItems, AreListed, FitsNoneIn, HasAdded, HasSearched, HasShown, IsBestIn, IsBeyond, IsInColumn, IsInRow, IsInside, IsStanding, IsWindowOf};
-ghost use Rattle.guillotiere.specs.Masks.{IsMarked};
+ghost use Rattle.guillotiere.specs.Search.Items.{IsShowable, item_at, item_sides};
+ghost use Rattle.guillotiere.specs.Search.Lookups.{AreFreeItems, AreListed, FitsNoneIn, HasAdded, HasSearched};
+ghost use Rattle.guillotiere.specs.Search.Lookups.{HasShown, IsBestIn, IsBeyond, IsInColumn, IsInRow, IsInsideWindow};
+ghost use Rattle.guillotiere.specs.Search.Lookups.{IsStanding, IsWindowOf};
+ghost use Rattle.guillotiere.specs.Search.Masks.{IsMarked};
 ghost use Rattle.guillotiere.specs.Pixels.{box_of, options_of, sides_of};
-ghost use Rattle.guillotiere.specs.Tables.{is_used_at};
+ghost use Rattle.guillotiere.specs.Search.Tables.{is_used_at};
 
-use crate::bands::{BANDS, Place, Window, place_for, window_for};
-use crate::best::{Best, Found};
+pub mod bands;
+pub mod best;
+pub mod marks;
+pub mod masks;
+pub mod table;
+
 use crate::choice::class;
 use crate::geometry::{Rectangle, Size};
-use crate::masks::Mask;
 use crate::options::AllocatorOptions;
+use crate::search::bands::{BANDS, Place, Window, place_for, window_for};
+use crate::search::best::{Best, Found};
+use crate::search::masks::Mask;
+use crate::search::table::Table;
 use crate::slots::{Link, NO_SLOT};
-use crate::table::Table;
 use std::alloc::Allocator;
 
 /// What a search reads of an entry of a list of free boxes.
 pub trait Entry {
-    ghost use Rattle.guillotiere.specs.Items.{Item};
+    ghost use Rattle.guillotiere.specs.Search.Items.{Item};
 
     ghost item: { Self → Item };
 
@@ -64,7 +72,10 @@ fn search_list<A: Allocator, E: Entry>(
     requires row { place.row < BANDS }
     requires column { place.column < BANDS }
     requires listed { (o : Options) × AreListed o table.now (map E.item entries.now) }
-    ensures { (o : Options) (class : ℕ) (r : Sides) → AreListed o table.now (map E.item entries.now) → class < 3 → IsInWindow o class place.row place.column → HasAdded o table.now (map E.item entries.now) class r (λ i j. (i ≡ place.row) × (j ≡ place.column)) best.old best.new }
+    ensures { (o : Options) (class : ℕ) (r : Sides) → AreListed o table.now (map E.item entries.now) → class < 3
+        → IsInWindow o class place.row place.column
+        → HasAdded o table.now (map E.item entries.now) class r (λ i j. (i ≡ place.row) × (j ≡ place.column)) best.old
+        best.new }
 {
     if !best.settles(table.low(place)) {
         show_list(entries, table.head(place), place, best);
@@ -82,7 +93,9 @@ fn search_row<A: Allocator, E: Entry>(
     requires row { row < BANDS }
     requires columns { (j : ℕ) → IsMarked columns j → j < BANDS }
     requires listed { (o : Options) × AreListed o table.now (map E.item entries.now) }
-    ensures { (o : Options) (class : ℕ) (r : Sides) → AreListed o table.now (map E.item entries.now) → class < 3 → ((j : ℕ) → IsMarked columns j → IsInWindow o class row j) → HasAdded o table.now (map E.item entries.now) class r (IsInRow row columns) best.old best.new }
+    ensures { (o : Options) (class : ℕ) (r : Sides) → AreListed o table.now (map E.item entries.now) → class < 3
+        → ((j : ℕ) → IsMarked columns j → IsInWindow o class row j)
+        → HasAdded o table.now (map E.item entries.now) class r (IsInRow row columns) best.old best.new }
 {
     let mut left = columns;
     while let Some(column) = left.take_first() {
@@ -101,7 +114,9 @@ fn search_column<A: Allocator, E: Entry>(
     requires column { column < BANDS }
     requires rows { (i : ℕ) → IsMarked rows i → i < BANDS }
     requires listed { (o : Options) × AreListed o table.now (map E.item entries.now) }
-    ensures { (o : Options) (class : ℕ) (r : Sides) → AreListed o table.now (map E.item entries.now) → class < 3 → ((i : ℕ) → IsMarked rows i → IsInWindow o class i column) → HasAdded o table.now (map E.item entries.now) class r (IsInColumn column rows) best.old best.new }
+    ensures { (o : Options) (class : ℕ) (r : Sides) → AreListed o table.now (map E.item entries.now) → class < 3
+        → ((i : ℕ) → IsMarked rows i → IsInWindow o class i column)
+        → HasAdded o table.now (map E.item entries.now) class r (IsInColumn column rows) best.old best.new }
 {
     let mut left = rows;
     while let Some(row) = left.take_first() {
@@ -115,8 +130,9 @@ fn columns_in<A: Allocator>(table: &Table<A>, window: Window, row: usize, first:
     requires first { first ≤ BANDS }
     requires begin { window.first < BANDS }
     requires end { window.end ≤ BANDS }
-    ensures only { (j : ℕ) → IsMarked result j → (first ≤ j) × IsInside window row j }
-    ensures each { (j : ℕ) → first ≤ j → IsInside window row j → is_used_at table.now (52 * row + j) ≡ true → IsMarked result j }
+    ensures only { (j : ℕ) → IsMarked result j → (first ≤ j) × IsInsideWindow window row j }
+    ensures each { (j : ℕ) → first ≤ j → IsInsideWindow window row j → is_used_at table.now (52 * row + j) ≡ true
+        → IsMarked result j }
 {
     let from = if row < window.first {
         first.max(window.first)
@@ -132,8 +148,9 @@ fn rows_in<A: Allocator>(table: &Table<A>, window: Window, column: usize, first:
     requires first { first ≤ BANDS }
     requires begin { window.first < BANDS }
     requires end { window.end ≤ BANDS }
-    ensures only { (i : ℕ) → IsMarked result i → (first ≤ i) × IsInside window i column }
-    ensures each { (i : ℕ) → first ≤ i → IsInside window i column → is_used_at table.now (52 * i + column) ≡ true → IsMarked result i }
+    ensures only { (i : ℕ) → IsMarked result i → (first ≤ i) × IsInsideWindow window i column }
+    ensures each { (i : ℕ) → first ≤ i → IsInsideWindow window i column → is_used_at table.now (52 * i + column) ≡ true
+        → IsMarked result i }
 {
     let from = if column < window.first {
         first.max(window.first)
@@ -157,7 +174,9 @@ fn search_rows<A: Allocator, E: Entry>(
     requires begin { window.first < BANDS }
     requires end { window.end ≤ BANDS }
     requires listed { (o : Options) × AreListed o table.now (map E.item entries.now) }
-    ensures { (o : Options) (class : ℕ) (r : Sides) → AreListed o table.now (map E.item entries.now) → class < 3 → IsWindowOf o class window → HasAdded o table.now (map E.item entries.now) class r (IsBeyond rows first) best.old best.new }
+    ensures { (o : Options) (class : ℕ) (r : Sides) → AreListed o table.now (map E.item entries.now) → class < 3
+        → IsWindowOf o class window
+        → HasAdded o table.now (map E.item entries.now) class r (IsBeyond rows first) best.old best.new }
 {
     let mut left = rows;
     while let Some(row) = left.take_first() {
@@ -171,7 +190,7 @@ fn are_empty<A: Allocator>(table: &Table<A>, window: Window, own: Place) -> bool
     requires row { own.row < BANDS }
     requires column { own.column < BANDS }
     requires end { window.end ≤ BANDS }
-    ensures { result ≡ true → (i j : ℕ) → own.row ≤ i → own.column ≤ j → IsInside window i j
+    ensures { result ≡ true → (i j : ℕ) → own.row ≤ i → own.column ≤ j → IsInsideWindow window i j
         → is_used_at table.now (52 * i + j) ≡ true → ⊥ }
 {
     let right = table.row(own.row).from(own.column);
@@ -223,7 +242,8 @@ fn best_of_class<A: Allocator, E: Entry>(
     requires from { class_of (options_of options.now) (sides_of size) ≤ number }
     requires listed { AreListed (options_of options.now) table.now (map E.item entries.now) }
     ensures none { result ≡ None → FitsNoneIn (options_of options.now) (map E.item entries.now) number (sides_of size) }
-    ensures some { IfSome result (IsBestIn (options_of options.now) table.now (map E.item entries.now) number (sides_of size)) }
+    ensures some { IfSome result
+        (IsBestIn (options_of options.now) table.now (map E.item entries.now) number (sides_of size)) }
 {
     if are_empty(table, window_for(number, options), place_for(size, options)) {
         return None;
@@ -240,9 +260,13 @@ pub fn pick<A: Allocator, E: Entry>(
 ) -> Option<Found>
     requires positive { IsPositive (sides_of size) }
     requires listed { AreListed (options_of options.now) table.now (map E.item entries.now) }
-    ensures none { result ≡ None → (i : ℕ) → (item_at (map E.item entries.now) i).is_free ≡ true → Fits (sides_of size) (item_sides (item_at (map E.item entries.now) i)) → ⊥ }
-    ensures no_room { result ≡ None → (free : List Box) → AreFreeItems (map E.item entries.now) free → (b : Box) → IsFitting free (sides_of size) b → ⊥ }
-    ensures picked { IfSome result (λ found. (free : List Box) → AreFreeItems (map E.item entries.now) free → IsPick free (options_of options.now) (sides_of size) (box_of found.rectangle)) }
+    ensures none { result ≡ None → (i : ℕ) → (item_at (map E.item entries.now) i).is_free ≡ true
+        → Fits (sides_of size) (item_sides (item_at (map E.item entries.now) i)) → ⊥ }
+    ensures no_room { result ≡ None → (free : List Box) → AreFreeItems (map E.item entries.now) free → (b : Box)
+        → IsFitting free (sides_of size) b → ⊥ }
+    ensures picked { IfSome result
+        (λ found. (free : List Box) → AreFreeItems (map E.item entries.now) free
+        → IsPick free (options_of options.now) (sides_of size) (box_of found.rectangle)) }
     ensures standing { IfSome result (IsStanding (options_of options.now) table.now (map E.item entries.now)) }
 {
     for number in class(size, options)..3 {

@@ -3,7 +3,7 @@ ghost use Rattle.std.specs.Prelude.{◌≡◌, ◌↔◌, true, All, take, drop,
 ghost use Rattle.guillotiere.specs.Boxes.{Fits, IsPositive};
 ghost use Rattle.guillotiere.specs.Pixels.{sides_of, options_of};
 ghost use Rattle.guillotiere.specs.Steps.{Step};
-ghost use Rattle.guillotiere.specs.StepLaws.{is_refusal};
+ghost use Rattle.guillotiere.specs.Laws.StepLaws.{is_refusal};
 ghost use Rattle.guillotiere.specs.Stored.{state_of};
 ghost use Rattle.guillotiere.specs.Steps.AtlasCall.{Allocate, Deallocate, Grow, Reset, ResizeAndRearrange};
 ghost use Rattle.guillotiere.specs.Replies.{done_reply};
@@ -28,15 +28,15 @@ pub enum Call {
     Allocate(Size),
     /// `deallocate`
     Deallocate(AllocId),
-    /// `grow`, to a size of which no side is below that of the atlas
+    /// `grow`, to a size of which no side is below that of the atlas.
     Grow(Size),
     /// `clear`
     Clear,
-    /// `reset`, to a size that isn't empty, with valid options
+    /// `reset`, to a size that isn't empty, with valid options.
     Reset(Size, AllocatorOptions),
     /// `rearrange`
     Rearrange,
-    /// `resize_and_rearrange`, to a size that isn't empty
+    /// `resize_and_rearrange`, to a size that isn't empty.
     ResizeAndRearrange(Size),
 }
 
@@ -179,7 +179,7 @@ pub fn run<A: Allocator + Copy>(
     ensures no_reply { OnErr result (replies.new.items ≡ replies.old.items) }
 {
     replies.reserve(calls.len())?;
-    // its contract says that the atlas is sound
+    // Its contract says that the atlas is sound.
     let _size = atlas.size();
     for call in calls {
         replies.push_reserved(step(atlas, call));

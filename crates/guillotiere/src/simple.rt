@@ -1,28 +1,31 @@
 //! An allocator that hands out boxes and never takes one back.
-ghost use Rattle.std.specs.Prelude.{◌≡◌, ◌↔◌, Any, Contains, IsTrue, true, ℕ, ◌+◌, ◌<◌, ◌≤◌, ◌++◌, [], ◌∷◌, List, map, vec_len, vec_capacity, OnOk, OnErr, IfOk, IfSome, IsOkUnless};
+ghost use Rattle.std.specs.Prelude.{◌≡◌, ◌↔◌, Any, Contains, IsTrue, true, ℕ, ◌+◌, ◌<◌, ◌≤◌, ◌++◌, [], ◌∷◌, List, map};
+ghost use Rattle.std.specs.Prelude.{vec_len, vec_capacity, OnOk, OnErr, IfOk, IfSome, IsOkUnless};
 ghost use Rattle.guillotiere.specs.Boxes.{AreSameBoxes, Box, Fits, IsNonempty, IsPositive, Sides, box_sides};
 ghost use Rattle.guillotiere.specs.Choice.{AreValid, Options};
-ghost use Rattle.guillotiere.specs.BoxShelves.{AreKept, box_shelf, free_boxes, item_of};
-ghost use Rattle.guillotiere.specs.FreeLists.{kept_of, state_of};
-ghost use Rattle.guillotiere.specs.Items.{item_at};
-ghost use Rattle.guillotiere.specs.Links.{IsExact};
-ghost use Rattle.guillotiere.specs.Lookups.{IsStanding};
+ghost use Rattle.guillotiere.specs.Simple.BoxShelves.{AreKept, box_shelf, free_item_boxes, stored_item};
+ghost use Rattle.guillotiere.specs.Simple.FreeLists.{kept_of, simple_state_of};
+ghost use Rattle.guillotiere.specs.Search.Items.{item_at};
+ghost use Rattle.guillotiere.specs.Slots.Links.{IsSolid};
+ghost use Rattle.guillotiere.specs.Search.Lookups.{IsStanding};
 ghost use Rattle.guillotiere.specs.Pixels.{box_of, options_of, rectangle_of, sides_of, size_of};
 ghost use Rattle.guillotiere.specs.Rectangles.{IsUnsigned};
-ghost use Rattle.guillotiere.specs.Simple.{IsGuarded, IsSimple, SimpleStep, is_kept, kept_rest, simple_answer, simple_start};
+ghost use Rattle.guillotiere.specs.Simple.{IsGuarded, IsSimple, SimpleStep, is_kept, kept_rest, simple_answer};
+ghost use Rattle.guillotiere.specs.Simple.{simple_start};
 ghost use Rattle.guillotiere.specs.Slots.{no_slot};
 ghost use Rattle.guillotiere.specs.Simple.SimpleAtlasCall.{Allocate};
 
+pub mod boxes;
 mod changes;
 
-use crate::best::Found;
-use crate::boxes::{FreeBox, FreeBoxes};
 use crate::choice::rounded;
 use crate::cut::{granted, guillotine};
 use crate::error::AtlasError;
 use crate::geometry::{Rectangle, Size};
 use crate::options::{AllocatorOptions, DEFAULT_OPTIONS};
+use crate::search::best::Found;
 use crate::search::pick;
+use crate::simple::boxes::{FreeBox, FreeBoxes};
 use std::alloc::{Allocator, Global};
 use std::marker::Model;
 
@@ -42,14 +45,14 @@ pub struct SimpleAtlasAllocator<A: Allocator + Copy = Global> {
 }
 
 impl<A: Allocator + Copy> Model for SimpleAtlasAllocator<A> {
-    ghost use Rattle.guillotiere.specs.BoxShelves.{box_shelf};
-    ghost use Rattle.guillotiere.specs.FreeLists.{IsStoredState, state_of};
+    ghost use Rattle.guillotiere.specs.Simple.BoxShelves.{box_shelf};
+    ghost use Rattle.guillotiere.specs.Simple.FreeLists.{IsStoredState, simple_state_of};
     ghost use Rattle.guillotiere.specs.Pixels.{sides_of};
     ghost use Rattle.guillotiere.specs.Simple.{SimpleState};
 
     ghost Value = { SimpleState };
 
-    ghost view = { λ a. state_of (box_shelf a.boxes).entries (sides_of a.size) a.options };
+    ghost view = { λ a. simple_state_of (box_shelf a.boxes).entries (sides_of a.size) a.options };
 
     ghost invariant = { λ a. IsStoredState (box_shelf a.boxes) a.size a.options };
 }
@@ -89,15 +92,17 @@ impl<A: Allocator + Copy> SimpleAtlasAllocator<A> {
     }
 
     /// Grants a request: the box of the rounded size at the `min` of the free box that is picked. None if the size is
-    /// empty, if a rounded side passes 2147483647, or if the rounded size fits no free box; then no memory is asked for.
-    /// The only error is `Memory`, and after it everything is as before.
+    /// empty, if a rounded side passes 2147483647, or if the rounded size fits no free box; then no memory is asked
+    /// for. The only error is `Memory`, and after it everything is as before.
     pub fn allocate(&mut self, requested_size: Size) -> Result<Option<Rectangle>, AtlasError>
         ensures unless { IsOkUnless result AtlasError.Memory }
         ensures step { SimpleStep self.old (Allocate (sides_of requested_size)) (simple_answer result) self.new }
-        ensures exact { IfOk result (λ granted. IfSome granted (λ rectangle. rectangle ≡ rectangle_of (box_of rectangle))) }
+        ensures exact { IfOk result
+            (λ granted. IfSome granted (λ rectangle. rectangle ≡ rectangle_of (box_of rectangle))) }
 
         // Boxes that are held stay apart from each other, from the granted box and from the free boxes.
-        ensures guarded { (held : List Box) → IsGuarded self.old held → IfOk result (λ granted. IfSome granted (λ rectangle. IsGuarded self.new (box_of rectangle ∷ held))) }
+        ensures guarded { (held : List Box) → IsGuarded self.old held
+            → IfOk result (λ granted. IfSome granted (λ rectangle. IsGuarded self.new (box_of rectangle ∷ held))) }
         ensures simple { IsSimple self.new }
     {
         grant(&mut self.boxes, requested_size, &self.options)
@@ -146,10 +151,12 @@ fn keep<A: Allocator>(boxes: &mut FreeBoxes<A>, part: Rectangle, options: &Alloc
     requires valid { AreValid (options_of options.now) }
     requires unsigned { IsUnsigned part }
     requires kept { AreKept (options_of options.now) (box_shelf boxes.old) }
-    requires room { is_kept (options_of options.now) (box_of part) ≡ true → vec_len boxes.old.entries < vec_capacity boxes.old.entries }
+    requires room { is_kept (options_of options.now) (box_of part) ≡ true
+        → vec_len boxes.old.entries < vec_capacity boxes.old.entries }
     requires short { is_kept (options_of options.now) (box_of part) ≡ true → vec_len boxes.old.entries < no_slot }
     ensures kept { AreKept (options_of options.now) (box_shelf boxes.new) }
-    ensures boxes { AreSameBoxes (free_boxes (box_shelf boxes.new).entries) (kept_of (options_of options.now) (box_of part) ++ free_boxes (box_shelf boxes.old).entries) }
+    ensures boxes { AreSameBoxes (free_item_boxes (box_shelf boxes.new).entries)
+        (kept_of (options_of options.now) (box_of part) ++ free_item_boxes (box_shelf boxes.old).entries) }
     ensures length { vec_len boxes.new.entries ≤ vec_len boxes.old.entries + 1 }
     ensures capacity { vec_capacity boxes.new.entries ≡ vec_capacity boxes.old.entries }
 {
@@ -169,10 +176,14 @@ fn cut_picked<A: Allocator>(
     requires positive { IsPositive (sides_of size) }
     requires fits { Fits (sides_of size) (box_sides (box_of found.rectangle)) }
     requires kept { AreKept (options_of options.now) (box_shelf boxes.old) }
-    requires standing { IsStanding (options_of options.now) (box_shelf boxes.old).heads (box_shelf boxes.old).entries found }
+    requires standing { IsStanding (options_of options.now) (box_shelf boxes.old).heads (box_shelf boxes.old).entries
+        found }
     ensures unless { IsOkUnless result AtlasError.Memory }
     ensures kept { AreKept (options_of options.now) (box_shelf boxes.new) }
-    ensures ok { OnOk result (AreSameBoxes (box_of found.rectangle ∷ free_boxes (box_shelf boxes.new).entries) (kept_rest (options_of options.now) (box_of found.rectangle) (sides_of size) ++ free_boxes (box_shelf boxes.old).entries)) }
+    ensures ok { OnOk result
+        (AreSameBoxes (box_of found.rectangle ∷ free_item_boxes (box_shelf boxes.new).entries)
+        (kept_rest (options_of options.now) (box_of found.rectangle) (sides_of size)
+        ++ free_item_boxes (box_shelf boxes.old).entries)) }
     ensures err { OnErr result (box_shelf boxes.new ≡ box_shelf boxes.old) }
 {
     let rest = guillotine(found.rectangle, size);
@@ -196,7 +207,11 @@ fn grant<A: Allocator>(
     ensures unsigned { IfOk result (λ granted. IfSome granted IsUnsigned) }
 
     // The boxes are those of an atlas of any size that an `i32` can hold.
-    ensures step { (size : Sides) → size.width ≤ 2147483647 → size.height ≤ 2147483647 → IsSimple (state_of (box_shelf boxes.old).entries size options.now) → SimpleStep (state_of (box_shelf boxes.old).entries size options.now) (Allocate (sides_of requested_size)) (simple_answer result) (state_of (box_shelf boxes.new).entries size options.now) }
+    ensures step { (size : Sides) → size.width ≤ 2147483647 → size.height ≤ 2147483647
+        → IsSimple (simple_state_of (box_shelf boxes.old).entries size options.now)
+        → SimpleStep (simple_state_of (box_shelf boxes.old).entries size options.now)
+        (Allocate (sides_of requested_size)) (simple_answer result)
+        (simple_state_of (box_shelf boxes.new).entries size options.now) }
 {
     let Some(size) = rounded(requested_size, options) else {
         return Ok(None);

@@ -1,9 +1,16 @@
 //! The slots of an atlas: the tree's part and the lists' part of each, and the calls that read and write them.
 ghost use Rattle.std.specs.Prelude.{◌≡◌, ◌<◌, length, slice_set};
 ghost use Rattle.guillotiere.specs.Slots.{nodes, rings, node_at, ring_at};
-ghost use Rattle.guillotiere.specs.SlotCalls.{IsChildLifted, IsFreePair, IsLeafFreed, IsLoneLeaf, IsNextJoined};
-ghost use Rattle.guillotiere.specs.Standing.{IsTree, IsWhole, IsSlot, with_previous};
+ghost use Rattle.guillotiere.specs.Slots.SlotCalls.{IsChildLifted, IsFreePair, IsLeafFreed, IsLoneLeaf, IsNextJoined};
+ghost use Rattle.guillotiere.specs.Slots.Standing.{IsTree, IsWhole, IsSlot, with_previous};
 ghost use Rattle.guillotiere.specs.declared.slots.NodeKind.TheVariants.{Alloc};
+
+pub mod batch;
+pub mod extending;
+pub mod lists;
+pub mod pick;
+pub mod placing;
+pub mod walks;
 
 use crate::cut::Orientation;
 use crate::geometry::Rectangle;

@@ -3,19 +3,23 @@ ghost use Rattle.std.specs.Prelude.{◌≡◌, ◌≢◌, ◌<◌, ◌≤◌, �
 ghost use Rattle.guillotiere.specs.declared.slots.NodeKind.TheVariants.{Alloc, Free};
 ghost use Rattle.guillotiere.specs.Trees.{most_slots};
 ghost use Rattle.guillotiere.specs.Pixels.{natural};
-ghost use Rattle.guillotiere.specs.Bands.{number_of};
+ghost use Rattle.guillotiere.specs.Search.Bands.{number_of};
 ghost use Rattle.guillotiere.specs.Slots.{no_slot};
-ghost use Rattle.guillotiere.specs.Standing.{IsSlot};
-ghost use Rattle.guillotiere.specs.Reading.{extent_of};
+ghost use Rattle.guillotiere.specs.Slots.Standing.{IsSlot};
+ghost use Rattle.guillotiere.specs.Slots.Reading.{extent_of};
 ghost use Rattle.guillotiere.specs.Stored.{Holding, Holds, HoldsWith};
 
-use crate::bands::Place;
-use crate::lists::{enlist, give_back, take_slot, unlist};
+pub mod extend;
+pub mod start;
+pub mod turns;
+
 use crate::options::AllocatorOptions;
-use crate::placing::{grant_leaf, split_leaf, wrap_leaf};
+use crate::search::bands::Place;
+use crate::search::table::Table;
+use crate::slots::lists::{enlist, give_back, take_slot, unlist};
+use crate::slots::placing::{grant_leaf, split_leaf, wrap_leaf};
 use crate::slots::{Link, NO_SLOT, Node, NodeKind, Slot, join_next, lift, mark_free, read_node};
-use crate::table::Table;
-use crate::turns::Turns;
+use crate::store::turns::Turns;
 use std::alloc::{AllocError, Allocator};
 
 /// The slots, the lists that run through them, and the options by which free slots are listed. `turns` counts the
@@ -30,10 +34,11 @@ pub struct Store<A: Allocator> {
 }
 
 impl<A: Allocator> Store<A> {
-    ghost use Rattle.guillotiere.specs.Holdings.{shelf_of, node_in, across_of, HasSlotsFor, IsHeld, IsLooseLeaf};
-    ghost use Rattle.guillotiere.specs.StoreCalls.{HasInHand, IsGranted, IsJoined, IsLifted, IsListed, IsLoose};
-    ghost use Rattle.guillotiere.specs.StoreCalls.{IsMarkedFree, IsReadyFor, IsSharpened, IsSlotTaken, IsSplit};
-    ghost use Rattle.guillotiere.specs.StoreCalls.{IsSplitWith, IsUnlisted, IsWrapped, IsWrappedTwo, IsWrappedWith};
+    ghost use Rattle.guillotiere.specs.Store.Holdings.{shelf_of, node_in, across_of, HasSlotsFor, IsHeld, IsLooseLeaf};
+    ghost use Rattle.guillotiere.specs.Store.StoreCalls.{HasInHand, IsGranted, IsJoined, IsLifted, IsListed, IsLoose};
+    ghost use Rattle.guillotiere.specs.Store.StoreCalls.{IsMarkedFree, IsReadyFor, IsSharpened, IsSlotTaken, IsSplit};
+    ghost use Rattle.guillotiere.specs.Store.StoreCalls.{IsSplitWith, IsUnlisted, IsWrapped, IsWrappedTwo};
+    ghost use Rattle.guillotiere.specs.Store.StoreCalls.{IsWrappedWith};
 
     /// A copy: the same slots and lists, in new memory of the same allocator. No turn was taken in it yet.
     pub fn copy(&self) -> Result<Store<A>, AllocError>

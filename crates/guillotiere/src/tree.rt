@@ -6,15 +6,18 @@ ghost use Rattle.guillotiere.specs.Cuts.{cut, cut_axis};
 ghost use Rattle.guillotiere.specs.Cuts.Cut.{Whole, Strip, Corner};
 ghost use Rattle.guillotiere.specs.Slots.{axis_of};
 ghost use Rattle.guillotiere.specs.Pixels.{box_of, rectangle_of, sides_of, natural};
-ghost use Rattle.guillotiere.specs.Reading.{extent_of};
+ghost use Rattle.guillotiere.specs.Slots.Reading.{extent_of};
 ghost use Rattle.guillotiere.specs.Stored.{Holding};
-ghost use Rattle.guillotiere.specs.Holdings.{shelf_of, across_of, KeepsRoom};
-ghost use Rattle.guillotiere.specs.Freeing.{IsSettlingAt, IsTurnTo, IsSettled, IsFreeable, IsFreed};
-ghost use Rattle.guillotiere.specs.Planning.{slots_of, IsPlanFor, IsFeasible, IsPlaceable, IsPlaced};
+ghost use Rattle.guillotiere.specs.Store.Holdings.{shelf_of, across_of, KeepsRoom};
+ghost use Rattle.guillotiere.specs.Store.Freeing.{IsSettlingAt, IsTurnTo, IsSettled, IsFreeable, IsFreed};
+ghost use Rattle.guillotiere.specs.Store.Planning.{slots_of, IsPlanFor, IsFeasible, IsPlaceable, IsPlaced};
+
+pub mod growth;
+pub mod requests;
 
 use crate::cut::{Orientation, orientation_of};
 use crate::geometry::Size;
-use crate::lists::exact_size;
+use crate::slots::lists::exact_size;
 use crate::slots::{Link, NO_SLOT, Node};
 use crate::store::Store;
 use std::alloc::Allocator;

@@ -17,12 +17,12 @@ use Rattle.guillotiere.specs.Rearranging.{transfer_of}
 use Rattle.guillotiere.specs.Renaming.{renamed_grant}
 use Rattle.guillotiere.specs.Steps as atlas
 use Rattle.guillotiere.specs.Steps.{AtlasCall}
-use Rattle.guillotiere.specs.StepLaws.{live_count, IsGrantStep, IsFreeingStep}
-use Rattle.guillotiere.proofs.Counting.{count_by-cons, count_by-append, count_some}
-use Rattle.guillotiere.proofs.Existence.{starts_are_sound}
-use Rattle.guillotiere.proofs.StepEffects.{grants_lie_inside, freeings_remove_one, growths_keep_boxes, rearrangings_lose_nothing}
-use Rattle.guillotiere.proofs.TreeBasics.{one_if}
-use Rattle.guillotiere.proofs.TreeIds.{Contains-none}
+use Rattle.guillotiere.specs.Laws.StepLaws.{live_count, IsGrantStep, IsFreeingStep}
+use Rattle.guillotiere.proofs.ListLemmas.Counting.{count_by-cons, count_by-append, count_some}
+use Rattle.guillotiere.proofs.StepLemmas.Existence.{starts_are_sound}
+use Rattle.guillotiere.proofs.StepLemmas.StepEffects.{grants_lie_inside, freeings_remove_one, growths_keep_boxes, rearrangings_lose_nothing}
+use Rattle.guillotiere.proofs.TreeLemmas.TreeBasics.{one_if}
+use Rattle.guillotiere.proofs.TreeLemmas.TreeIds.{Contains-none}
 use Rattle.guillotiere_recording.specs.Events.{EventValue, ListValue}
 use Rattle.guillotiere_recording.specs.Events.EventValue.{Allocate, Deallocate, Grow, Rearrange, ResizeAndRearrange}
 use Rattle.guillotiere_recording.specs.Sessions.{Named, IsNamed, KeepsNames, named_boxes, renamed_transfer, GrantsUnder, FreesUnder, RearrangesUnder, Leads, LeadOn, fresh_session}
@@ -31,18 +31,18 @@ use Rattle.guillotiere_recording.proofs.Counts.{count_map, count_filter, count_p
 use Rattle.guillotiere_recording.proofs.Entries.{live_is_counted, counted_is_live}
 use Rattle.guillotiere_recording.proofs.Naming.{events_keep_names, grant_counts, freeing_less}
 
--- what is listed as live is live
+-- What is listed as live is live.
 pub listed_is_live : (s : State) (g : Grant) → Contains (live_in s) g → IsLive s g.id
 listed_is_live s g at = counted_is_live s g.id (count_some (λ k. k.id == g.id) (live_in s) g at (eq-eqb g.id g.id refl))
 
--- what is live before and after has the same boxes under the same names
+-- What is live before and after has the same boxes under the same names.
 same_boxes : (old new : Named) (gs : List Grant) → KeepsNames old new
     → ((g : Grant) → Contains gs g → IsLive old.state g.id) → ((g : Grant) → Contains gs g → IsLive new.state g.id)
     → map (renamed_grant new.name) gs ≡ map (renamed_grant old.name) gs
 same_boxes old new gs kept before after =
     map_alike (renamed_grant new.name) (renamed_grant old.name) gs (λ g at. ap (λ n. grant n g.box) (kept g.id (before g at) (after g at)))
 
--- nothing changed but perhaps the order and the names of what isn't live
+-- Nothing changed but perhaps the order and the names of what isn't live.
 still : (old new : Named) → live_in new.state ≡ live_in old.state → KeepsNames old new → named_boxes new ≡ named_boxes old
 still old new same kept =
     ap (map (renamed_grant new.name)) same
@@ -125,7 +125,7 @@ moved_book old new asked list good h p =
     let d = count_map (renamed_transfer old.name) (λ (t : Transfer). p t.new) h.answer.changes in
     a ∙ sym b ∙ c ∙ d ∙ sym names ∙ sym mapped ∙ after ∙ sym all
 
--- one event keeps the book true
+-- One event keeps the book true.
 step_booked : (held : List Grant) (old new : Named) (event : EventValue) → IsNamed old → AreSameGrants held (named_boxes old)
     → Leads old event new → AreSameGrants (booked held event) (named_boxes new)
 step_booked held old new (Allocate size None) good same (step, kept) p = same p ∙ sym (ap (count_by p) (still old new (ap live_in step.1) kept))
@@ -149,7 +149,7 @@ lead_named [] old new good h = subst IsNamed (sym h) good
 lead_named (event ∷ events) old new good (mid, first, rest) =
     lead_named events mid new (events_keep_names old mid event good first) rest
 
--- a new atlas has no live name
+-- A new atlas has no live name.
 fresh_named : (size : Sides) (options : Options) (name : ℕ → ℕ) → IsPositive size → AreValid options → IsNamed (fresh_session size options name)
 fresh_named size options name nonempty valid = record {
   sound = starts_are_sound size options 16777216 nonempty valid (omega arith);

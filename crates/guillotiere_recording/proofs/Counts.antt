@@ -2,9 +2,9 @@
 use Rattle.std.proofs.Common.{◌≡◌, ◌+◌, Bool, true, false, cond, ◌&&◌, List, [], ◌∷◌, map, filter, zero-add, refl, ap, ap₂, sym, ◌∙◌, Contains, IsPermutation}
 use Rattle.std.specs.List.{count_by}
 use Rattle.std.proofs.lemmas.List.Sorted.{sum_by-IsPermutation}
-use Rattle.guillotiere.proofs.Counting.{count_by-cons}
-use Rattle.guillotiere.proofs.TreeBasics.{one_if}
-use Rattle.guillotiere.proofs.TreeIds.{Contains-first, Contains-later}
+use Rattle.guillotiere.proofs.ListLemmas.Counting.{count_by-cons}
+use Rattle.guillotiere.proofs.TreeLemmas.TreeBasics.{one_if}
+use Rattle.guillotiere.proofs.TreeLemmas.TreeIds.{Contains-first, Contains-later}
 
 pub count_map : {X Y : Type 0} (f : X → Y) (p : Y → Bool) (xs : List X) → count_by p (map f xs) ≡ count_by (λ x. p (f x)) xs
 count_map f p [] = refl
@@ -27,7 +27,7 @@ count_filter q p (x ∷ xs) = by_test (q x) refl (count_filter q p xs) ∙ sym (
 pub count_permuted : {X : Type 0} (p : X → Bool) (xs ys : List X) → IsPermutation xs ys → count_by p ys ≡ count_by p xs
 count_permuted p xs ys h = sum_by-IsPermutation (λ x. one_if (p x)) xs ys h
 
--- tests that agree on a list's elements count alike
+-- Tests that agree on a list's elements count alike.
 pub count_alike : {X : Type 0} (p q : X → Bool) (xs : List X) → ((x : X) → Contains xs x → p x ≡ q x) → count_by p xs ≡ count_by q xs
 count_alike p q [] h = refl
 count_alike p q (x ∷ xs) h =

@@ -7,15 +7,15 @@ use Rattle.std.proofs.lemmas.List.Sums.{sum_by-remove}
 use Rattle.guillotiere.specs.Changes.{only}
 use Rattle.guillotiere.specs.Trees.{ids}
 use Rattle.guillotiere.specs.States.{State, IsLive}
-use Rattle.guillotiere.specs.StepLaws.{live_count}
-use Rattle.guillotiere.proofs.BoxLists.{count_live}
-use Rattle.guillotiere.proofs.Counting.{count_by-cons, count_by-append, count_some, counted_once, split_at}
-use Rattle.guillotiere.proofs.TreeBasics.{one_if}
-use Rattle.guillotiere.proofs.TreeIds.{Contains-first, Contains-later}
+use Rattle.guillotiere.specs.Laws.StepLaws.{live_count}
+use Rattle.guillotiere.proofs.TreeLemmas.BoxLists.{count_live}
+use Rattle.guillotiere.proofs.ListLemmas.Counting.{count_by-cons, count_by-append, count_some, counted_once, split_at}
+use Rattle.guillotiere.proofs.TreeLemmas.TreeBasics.{one_if}
+use Rattle.guillotiere.proofs.TreeLemmas.TreeIds.{Contains-first, Contains-later}
 use Rattle.guillotiere_recording.specs.declared.names.LiveName.{LiveName as Entry}
 use Rattle.guillotiere_recording.specs.Names.{entries_of, name_among}
 
--- live ids are those that are counted
+-- Live ids are those that are counted.
 
 pub live_is_counted : (s : State) (id : ℕ) → IsLive s id → 1 ≤ live_count id s
 live_is_counted s id at =
@@ -32,7 +32,7 @@ counted_is_live s id some =
     let P : List ℕ → ℕ → Type 0 = λ xs x. Contains xs x in
     subst (P (ids s.tree.members)) (eqb-true at.here id at.passes) (subst (λ xs. P xs at.here) (sym at.is) there)
 
--- an id that has entries: one of them gives its name
+-- An id that has entries: one of them gives its name.
 pub entry_of : (id : ℕ) (ns : List Entry) → 1 ≤ entries_of id ns → (n : Entry) × Contains ns n × (n.id ≡ id) × (name_among ns id ≡ n.name)
 entry_of id [] some = absurd (omega arith)
 entry_of id (n ∷ ns) some = by_test (eqb n.id id) refl (count_by-cons (λ (m : Entry). m.id == id) n ns) (entry_of id ns)
@@ -45,7 +45,7 @@ entry_of id (n ∷ ns) some = by_test (eqb n.id id) refl (count_by-cons (λ (m :
         let r = later (omega arith) in
         (r.0, Contains-later n ns r.0 r.1, r.2, ap (λ b. cond b n.name (name_among ns id)) is ∙ r.3)
 
--- an id that has one entry has its name
+-- An id that has one entry has its name.
 pub name_of : (id : ℕ) (ns : List Entry) (n : Entry) → entries_of id ns ≤ 1 → Contains ns n → n.id ≡ id → name_among ns id ≡ n.name
 name_of id ns n few at is =
     let test : n.id == id ≡ true = eq-eqb n.id id is in
@@ -53,7 +53,7 @@ name_of id ns n few at is =
     let same : n ≡ r.0 = counted_once (λ (m : Entry). m.id == id) ns n r.0 few at r.1 test (eq-eqb r.0.id id r.2) in
     r.3 ∙ sym (ap (λ (m : Entry). m.name) same)
 
--- an entry more
+-- An entry more.
 
 pub entries_pushed : (id : ℕ) (ns : List Entry) (n : Entry) → entries_of id (ns ++ n ∷ []) ≡ entries_of id ns + one_if (n.id == id)
 entries_pushed id ns n =
@@ -77,7 +77,7 @@ names_pushed ns n id some few =
     let r = entry_of id ns some in
     name_of id (ns ++ n ∷ []) r.0 few (Contains-append_left ns (n ∷ []) r.0 r.1) r.2 ∙ sym r.3
 
--- an entry less
+-- An entry less.
 
 pub All-removed : (P : Entry → Type 0) (ns : List Entry) (at : ℕ) → All P ns → All P (remove ns at)
 All-removed P ns at h = All-append P (take at ns) (drop (suc at) ns) (All-take P at ns h) (All-drop P (suc at) ns h)

@@ -10,25 +10,25 @@ use Rattle.std.proofs.lemmas.List.Elements.{All-contains, All-map, Contains-push
 use Rattle.guillotiere.specs.declared.geometry.Size.{Size}
 use Rattle.guillotiere.specs.declared.options.AllocatorOptions.{AllocatorOptions}
 use Rattle.guillotiere.specs.States.{State, IsLive, IsSound}
-use Rattle.guillotiere.specs.StepLaws.{live_count}
+use Rattle.guillotiere.specs.Laws.StepLaws.{live_count}
 use Rattle.guillotiere.specs.Stored.{AtlasValue}
-use Rattle.guillotiere.proofs.Counting.{count_by-cons}
+use Rattle.guillotiere.proofs.ListLemmas.Counting.{count_by-cons}
 use Rattle.guillotiere_recording.specs.declared.names.LiveName.{LiveName as Entry}
 use Rattle.guillotiere_recording.specs.Logs.{RecordingValue}
-use Rattle.guillotiere_recording.specs.Names.{AreRising, entries_of, name_among}
-use Rattle.guillotiere_recording.specs.Kept.{IsKept, entry_in, entries_in, HasEntries}
+use Rattle.guillotiere_recording.specs.Names.{AreRisingNames, entries_of, name_among}
+use Rattle.guillotiere_recording.specs.Kept.{IsSessionKept, entry_in, entries_in, HasEntries}
 use Rattle.guillotiere_recording.specs.Recordings.{SessionValue}
 use Rattle.guillotiere_recording.specs.Sessions.{Named}
-use Rattle.guillotiere_recording.specs.Standing.{Names, Shows}
+use Rattle.guillotiere_recording.specs.Standing.{Names, ShowsNamed}
 use Rattle.guillotiere_recording.proofs.Counts.{count_map, count_alike}
 use Rattle.guillotiere_recording.proofs.Entries.{live_is_counted, counted_is_live, entry_of}
 use Rattle.guillotiere_recording.proofs.Naming.{live_at_most_once}
 use Rattle.guillotiere_recording.proofs.Replaying.{at_other, one_id}
 use Rattle.guillotiere_recording.proofs.ReplayEnds.{IsFound, keys_counted, how_many}
 
--- one entry more in a map
+-- One entry more in a map.
 
-pub has_more : (es : List Entry) (i : ℕ) (n : Entry) (names left : Names) → AreRising es → i < length es → n ≡ get_or es i n
+pub has_more : (es : List Entry) (i : ℕ) (n : Entry) (names left : Names) → AreRisingNames es → i < length es → n ≡ get_or es i n
     → HasEntries (take i es) names → Updates nat_cmp names left n.name (Some n.id) → HasEntries (take (i + 1) es) left
 has_more es i n names left rising low is has updates name id = (
   λ found. subst (λ xs. Contains xs (entry_in (name, id))) (sym next) (by_name (cases_eq name n.name) found),
@@ -73,7 +73,7 @@ has_none names empty es name id = (
   λ (k, below, its). absurd (omega arith),
 )
 
--- the entries of names that a map keeps
+-- The entries of names that a map keeps.
 
 abbrev pub no_recording : RecordingValue
 no_recording =
@@ -84,7 +84,7 @@ no_recording =
 abbrev pub value_of : AtlasValue → Names → SessionValue
 value_of a names = record { atlas = a; names = entries_in names; given = 0; recording = no_recording }
 
-module _ (a : AtlasValue) (names : Names) (s : Named) (h : Shows a names s) (ordered : IsOrdered nat_cmp names)
+module _ (a : AtlasValue) (names : Names) (s : Named) (h : ShowsNamed a names s) (ordered : IsOrdered nat_cmp names)
     (all : All (IsFound names) names.entries)
   where
     entry_found : (n : Entry) → Contains (entries_in names) n → get nat_cmp names n.name ≡ Some n.id
@@ -145,7 +145,7 @@ module _ (a : AtlasValue) (names : Names) (s : Named) (h : Shows a names s) (ord
         by_count (inl some) = live_counted id (omega (arith, some))
         by_count (inr none) = dead_counted id none
 
-    -- the entries name live ids as the state does
+    -- The entries name live ids as the state does.
     pub named_alike : (id : ℕ) → IsLive s.state id → name_among (entries_in names) id ≡ s.name id
     named_alike id live =
         let some : 1 ≤ live_count id s.state = live_is_counted s.state id live in
@@ -153,7 +153,7 @@ module _ (a : AtlasValue) (names : Names) (s : Named) (h : Shows a names s) (ord
         let named : s.name r.0.id ≡ r.0.name = ((h.finds r.0.name r.0.id).0 (entry_found r.0 r.1)).1 in
         r.3 ∙ sym named ∙ ap s.name r.2
 
-    pub names_kept : IsKept (value_of a names)
+    pub names_kept : IsSessionKept (value_of a names)
     names_kept = record {
       ids = λ id. ids_counted id ∙ ap (live_count id) h.state;
       named = record {

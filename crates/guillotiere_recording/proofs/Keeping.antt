@@ -14,13 +14,13 @@ use Rattle.guillotiere.specs.Pixels.{sides_of, options_of}
 use Rattle.guillotiere.specs.States.{State, IsLive, started}
 use Rattle.guillotiere.specs.Steps as atlas
 use Rattle.guillotiere.specs.Steps.{Step}
-use Rattle.guillotiere.specs.StepLaws.{live_count, IsGrantStep, IsFreeingStep}
+use Rattle.guillotiere.specs.Laws.StepLaws.{live_count, IsGrantStep, IsFreeingStep}
 use Rattle.guillotiere.specs.Replies.{grant_of, IsExact}
 use Rattle.guillotiere.specs.Stored.{AtlasValue, state_of}
-use Rattle.guillotiere.proofs.Counting.{count_some}
-use Rattle.guillotiere.proofs.StepKeeping.{steps_keep}
-use Rattle.guillotiere.proofs.StepEffects.{grants_lie_inside, freeings_remove_one, growths_keep_boxes}
-use Rattle.guillotiere.proofs.TreeBasics.{one_if}
+use Rattle.guillotiere.proofs.ListLemmas.Counting.{count_some}
+use Rattle.guillotiere.proofs.StepLemmas.StepKeeping.{steps_keep}
+use Rattle.guillotiere.proofs.StepLemmas.StepEffects.{grants_lie_inside, freeings_remove_one, growths_keep_boxes}
+use Rattle.guillotiere.proofs.TreeLemmas.TreeBasics.{one_if}
 use Rattle.guillotiere_recording.specs.declared.names.LiveName.{LiveName as Entry}
 use Rattle.guillotiere_recording.specs.Events.{EventValue, given_names}
 use Rattle.guillotiere_recording.specs.Events.EventValue.{Allocate, Deallocate, Grow, Rearrange, ResizeAndRearrange}
@@ -32,7 +32,7 @@ use Rattle.guillotiere_recording.proofs.Entries.{live_is_counted, counted_is_liv
 use Rattle.guillotiere_recording.proofs.Naming.{live_at_most_once, grant_counts, growth_counts, freed_is_gone, others_stay}
 use Rattle.guillotiere_recording.proofs.Booking.{sessions_are_named}
 
--- one event more
+-- One event more.
 
 lead_more : (events : List EventValue) (event : EventValue) (old mid new : Named) → LeadOn old events mid → Leads mid event new
     → LeadOn old (events ++ event ∷ []) new
@@ -49,7 +49,7 @@ recorded_more r event mid new h more =
       leads = lead_more r.events event (fresh_session (sides_of r.size) (options_of r.options) h.name) mid new h.leads more;
     }
 
--- which names an event gives
+-- Which names an event gives.
 abbrev pub names_in : EventValue → List ℕ
 names_in event = given_names (event ∷ [])
 
@@ -66,7 +66,7 @@ pub session_named : (v : SessionValue) → IsSession v → IsNamed (session_of v
 session_named v h =
     sessions_are_named (sides_of v.recording.size) (options_of v.recording.options) v.recording.events (session_of v) h.faithful.leads
 
--- a new one
+-- A new one.
 
 pub new_session : (a : AtlasValue) (ns : List Entry) (r : RecordingValue) (size : Size) (options : AllocatorOptions)
     → IsPositive (sides_of size) → AreValid (options_of options) → state_of a ≡ started (sides_of size) (options_of options) 16777216
@@ -93,7 +93,7 @@ new_session a ns r size options nonempty valid state none empty =
       most = omega arith;
     }
 
--- the same names after an event that gives none
+-- The same names after an event that gives none.
 
 pub same_session : (v : SessionValue) (a : AtlasValue) (ns : List Entry) (r : RecordingValue) (event : EventValue) → IsSession v
     → ns ≡ v.names → r ≡ with_event event v.recording → names_in event ≡ []
@@ -132,7 +132,7 @@ grown_session v a ns r size h names more step =
     (growth_counts (state_of v.atlas) (state_of a)
     (growths_keep_boxes (state_of v.atlas) (state_of a) (sides_of size) (session_named v h).sound step))
 
--- a grant
+-- A grant.
 
 abbrev pub named_entry : (name : ℕ) → Allocation → Entry
 named_entry name g = record { name = name; id = g.id }
@@ -140,7 +140,7 @@ named_entry name g = record { name = name; id = g.id }
 abbrev pub under : (name : ℕ) → Allocation → Allocation
 under name g = record { id = name; rectangle = g.rectangle }
 
--- a name that is live is below those that are given next
+-- A name that is live is below those that are given next.
 live_below : (v : SessionValue) (name : ℕ) → IsSession v → IsLiveName (session_of v) name → name < v.given
 live_below v name h (id, live, is) =
     let some : 1 ≤ live_count id (state_of v.atlas) = live_is_counted (state_of v.atlas) id live in
@@ -221,7 +221,7 @@ granted_session v a ns r size g h room step exact names more =
       most = omega (arith, room);
     }
 
--- a freeing
+-- A freeing.
 
 freed_counts : (v : SessionValue) (a : AtlasValue) (at : ℕ) (d : Entry) → IsSession v → at < length v.names
     → Step (state_of v.atlas) (atlas.Deallocate (get_or v.names at d).id) atlas.Done (state_of a)
@@ -294,7 +294,7 @@ freed_session v a ns r at d name h below is step names more =
       most = h.most;
     }
 
--- live names are those of the entries
+-- Live names are those of the entries.
 
 pub entry_is_live : (v : SessionValue) (n : Entry) → IsSession v → Contains v.names n → IsLiveName (session_of v) n.name
 entry_is_live v n h at =
@@ -311,7 +311,7 @@ live_has_entry v name h (id, live, is) =
     let r = entry_of id v.names (subst (λ n. 1 ≤ n) (sym (h.ids id)) some) in
     (r.0, r.1, sym r.3 ∙ is)
 
--- the same where the entry's name and id are at hand
+-- The same where the entry's name and id are at hand.
 
 abbrev pub entry : (name id : ℕ) → Entry
 entry name id = record { name = name; id = id }
@@ -350,7 +350,7 @@ missing_is_not_live v name h none live =
     let r = live_has_entry v name h live in
     All-contains (λ (n : Entry). n.name ≡ name → ⊥) v.names r.0 none r.1 r.2
 
--- the same of a value that is known by its fields, and of names that are known to be these
+-- The same of a value that is known by its fields, and of names that are known to be these.
 
 pub led_by_freeing : (v w : SessionValue) (a : AtlasValue) (ns : List Entry) (at name called id : ℕ) → v ≡ w → name ≡ called
     → ns ≡ remove v.names at → IsSession v → at < length v.names → get_or v.names at (entry name id) ≡ entry name id

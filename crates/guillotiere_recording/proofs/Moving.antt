@@ -20,7 +20,7 @@ names_permuted ns ms h id once some =
     let few = entries_permuted ns ms h id in
     name_of id ms r.0 (omega (arith, few, once)) (Contains-permutation ns ms r.0 h r.1) r.2 ∙ sym r.3
 
--- entries that are copied, sorted and read
+-- Entries that are copied, sorted and read.
 pub read_back : (ns xs ms read : List Entry) → xs ≡ ns → IsPermutation xs ms → read ≡ ms → IsPermutation ns read
 read_back ns xs ms read copied sorted is =
     subst (λ zs. IsPermutation zs read) copied (subst (λ zs. IsPermutation xs zs) (sym is) sorted)

@@ -13,12 +13,12 @@ use Rattle.guillotiere.specs.Visits.{CalledAtGrant}
 use Rattle.guillotiere_recording.specs.declared.names.LiveName.{LiveName as Entry}
 use Rattle.guillotiere_recording.specs.Names.{shown, box_or_none}
 
--- the rectangle of a live id is that of its box
+-- The rectangle of a live id is that of its box.
 pub area_of : (o : Option Box) (area : Rectangle) → option_map rectangle_of o ≡ Some area → area ≡ rectangle_of (box_or_none o)
 area_of None area is = cc
 area_of (Some b) area is = cc
 
--- the call at one entry more
+-- The call at one entry more.
 pub visits-name : {F : Type 0} (g : Mut F (ℕ × (Bor Rectangle × Unit {0})) (Unit {0})) (f at last : F) (s : State) (xs : List Entry) (i : ℕ) (d : Entry)
     (name : ℕ) (area : Bor Rectangle) → i < length xs → name ≡ (get_or xs i d).name
     → option_map rectangle_of (live_box s (get_or xs i d).id) ≡ Some area.now → Called g f (name, (area, tt)) tt at

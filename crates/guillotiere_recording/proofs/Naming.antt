@@ -9,15 +9,15 @@ use Rattle.guillotiere.specs.Trees.{Grant, grant, ids, slot_count}
 use Rattle.guillotiere.specs.States.{State, IsLive, IsSound, live_in}
 use Rattle.guillotiere.specs.Steps as atlas
 use Rattle.guillotiere.specs.Steps.{AtlasCall, Step}
-use Rattle.guillotiere.specs.StepLaws.{live_count, IsGrantStep, IsFreeingStep, IsGrowthStep, IsRearrangingStep}
+use Rattle.guillotiere.specs.Laws.StepLaws.{live_count, IsGrantStep, IsFreeingStep, IsGrowthStep, IsRearrangingStep}
 use Rattle.guillotiere.specs.Refits.{Transfer}
 use Rattle.guillotiere.specs.Renaming.{IsOneToOne}
-use Rattle.guillotiere.proofs.BoxLists.{live_few}
-use Rattle.guillotiere.proofs.Counting.{count_by-cons, count_by-append, count_by-weaker, count_some, counted_once, split_at}
-use Rattle.guillotiere.proofs.StepEffects.{grants_lie_inside, freeings_remove_one, growths_keep_boxes, rearrangings_lose_nothing}
-use Rattle.guillotiere.proofs.StepKeeping.{steps_keep}
-use Rattle.guillotiere.proofs.TreeBasics.{one_if}
-use Rattle.guillotiere.proofs.TreeIds.{Contains-first}
+use Rattle.guillotiere.proofs.TreeLemmas.BoxLists.{live_few}
+use Rattle.guillotiere.proofs.ListLemmas.Counting.{count_by-cons, count_by-append, count_by-weaker, count_some, counted_once, split_at}
+use Rattle.guillotiere.proofs.StepLemmas.StepEffects.{grants_lie_inside, freeings_remove_one, growths_keep_boxes, rearrangings_lose_nothing}
+use Rattle.guillotiere.proofs.StepLemmas.StepKeeping.{steps_keep}
+use Rattle.guillotiere.proofs.TreeLemmas.TreeBasics.{one_if}
+use Rattle.guillotiere.proofs.TreeLemmas.TreeIds.{Contains-first}
 use Rattle.guillotiere_recording.specs.Events.{ListValue}
 use Rattle.guillotiere_recording.specs.Events.EventValue.{Allocate, Deallocate, Grow, Rearrange, ResizeAndRearrange}
 use Rattle.guillotiere_recording.specs.Sessions.{Named, IsLiveName, IsNamed, KeepsNames, RearrangesUnder}
@@ -25,14 +25,14 @@ use Rattle.guillotiere_recording.specs.Books.{EventsKeepNames}
 use Rattle.guillotiere_recording.proofs.Counts.{count_map, count_filter, count_permuted, count_alike}
 use Rattle.guillotiere_recording.proofs.Entries.{live_is_counted, counted_is_live}
 
--- a live id is counted once
+-- A live id is counted once.
 pub live_at_most_once : (s : State) (id : ℕ) → IsSound s → live_count id s ≤ 1
 live_at_most_once s id sound =
     let few : live_count id s ≤ slot_count id (ids s.tree.members) = live_few id s.size s.tree in
     let one : slot_count id (ids s.tree.members) ≤ 1 = sound.well_formed.apart id in
     omega arith
 
--- where nothing new is live, names stay one to one
+-- Where nothing new is live, names stay one to one.
 fewer : (old new : Named) → IsOneToOne old.name (ids old.state.tree.members)
     → ((id : ℕ) → live_count id new.state ≤ live_count id old.state) → KeepsNames old new
     → IsOneToOne new.name (ids new.state.tree.members)
@@ -47,7 +47,7 @@ fewer old new one less kept a b live_a live_b same =
         let h : live_count id new.state ≤ live_count id old.state = less id in
         counted_is_live old.state id (omega arith)
 
--- what a grant counts
+-- What a grant counts.
 pub grant_counts : (old new : State) (r : Sides) (g : Grant) → IsGrantStep old r g new → (id : ℕ)
     → live_count id new ≡ one_if (g.id == id) + live_count id old
 grant_counts old new r g h id =
@@ -76,7 +76,7 @@ granted_names old new r g name one step unused named kept a b live_a live_b same
     by_age (inr old_a) (inl new_b) = absurd (clash a b live_a old_a new_b (sym same))
     by_age (inr old_a) (inr old_b) = one a b old_a old_b (sym (kept a old_a live_a) ∙ same ∙ kept b old_b live_b)
 
--- what a freeing and a growth count
+-- What a freeing and a growth count.
 
 pub freeing_counts : (old new : State) (freed : ℕ) → IsFreeingStep old freed new → (id : ℕ)
     → live_count id new ≡ count_by (λ g. not (g.id == freed) && g.id == id) (live_in old)
@@ -94,7 +94,7 @@ freeing_less old new freed h id =
     second true y is = is
     second false y is = cc
 
--- a freed id is live no more, and every other one as it was
+-- A freed id is live no more, and every other one as it was.
 
 pub freed_is_gone : (old new : State) (freed : ℕ) → IsFreeingStep old freed new → live_count freed new ≡ 0
 freed_is_gone old new freed h =
@@ -127,9 +127,9 @@ others_stay old new freed h id other =
 pub growth_counts : (old new : State) → IsGrowthStep old new → (id : ℕ) → live_count id new ≡ live_count id old
 growth_counts old new h id = ap (count_by (λ g. g.id == id)) h.live
 
--- a rearranging
+-- A rearranging.
 
--- one of the changes has an id as its new id
+-- One of the changes has an id as its new id.
 moved_to : (old new : State) (asked : AtlasCall) (list : _) → IsRearrangingStep old list new → (id : ℕ) → IsLive new id
     → (t : Transfer) × Contains list.changes t × (t.new.id ≡ id)
 moved_to old new asked list h id live =
@@ -143,7 +143,7 @@ moved_to old new asked list h id live =
     Contains-append_right at.before (at.here ∷ at.after) at.here (Contains-first at.here at.after) in
     (at.here, subst (λ ts. Contains ts at.here) (sym at.is) there, eqb-true at.here.new.id id at.passes)
 
--- among the changes an old id stands at most as often as it was live
+-- Among the changes an old id stands at most as often as it was live.
 pub moved_from : (old new : State) (list : _) → IsRearrangingStep old list new → (id : ℕ)
     → count_by (λ t. t.old.id == id) list.changes ≤ live_count id old
 moved_from old new list h id =
@@ -182,7 +182,7 @@ rearranged_names old new asked list good h a b live_a live_b same =
         let few = moved_from old.state new.state h.answer step t.old.id in
         counted_is_live old.state t.old.id (omega (arith, some, few))
 
--- the limit stays
+-- The limit stays.
 rearranged_limit : (old new : Named) (asked : AtlasCall) (list : ListValue) → (n : Sides)
     → (h : RearrangesUnder old asked list new) → atlas.Rearranges old.state n (atlas.Changed h.answer) new.state → new.state.limit ≡ old.state.limit
 rearranged_limit old new asked list n h step = ap (λ (s : State). s.limit) step.5

@@ -13,36 +13,36 @@ use Rattle.guillotiere.specs.Trees.{Grant}
 use Rattle.guillotiere.specs.States.{State, IsLive, live_in}
 use Rattle.guillotiere.specs.Steps as atlas
 use Rattle.guillotiere.specs.Steps.{AtlasCall, Step}
-use Rattle.guillotiere.specs.StepLaws.{live_count, IsRearrangingStep}
+use Rattle.guillotiere.specs.Laws.StepLaws.{live_count, IsRearrangingStep}
 use Rattle.guillotiere.specs.Refits.{Transfer}
 use Rattle.guillotiere.specs.Renaming.{renamed_grant}
 use Rattle.guillotiere.specs.Replies.{grant_of, IsExact}
 use Rattle.guillotiere.specs.Rearranging.{transfer_of, rearrangement_of, IsExactChange, AreExactChanges}
 use Rattle.guillotiere.specs.Stored.{AtlasValue, state_of}
-use Rattle.guillotiere.proofs.Counting.{count_by-cons, count_by-append, count_some, split_at}
-use Rattle.guillotiere.proofs.StepKeeping.{steps_keep}
-use Rattle.guillotiere.proofs.StepEffects.{rearrangings_lose_nothing}
-use Rattle.guillotiere.proofs.TreeBasics.{one_if}
-use Rattle.guillotiere.proofs.TreeIds.{Contains-first, Contains-later}
+use Rattle.guillotiere.proofs.ListLemmas.Counting.{count_by-cons, count_by-append, count_some, split_at}
+use Rattle.guillotiere.proofs.StepLemmas.StepKeeping.{steps_keep}
+use Rattle.guillotiere.proofs.StepLemmas.StepEffects.{rearrangings_lose_nothing}
+use Rattle.guillotiere.proofs.TreeLemmas.TreeBasics.{one_if}
+use Rattle.guillotiere.proofs.TreeLemmas.TreeIds.{Contains-first, Contains-later}
 use Rattle.guillotiere_recording.specs.declared.names.LiveName.{LiveName as Entry}
 use Rattle.guillotiere_recording.specs.declared.moves.Moved.{Moved}
-use Rattle.guillotiere_recording.specs.Events.{EventValue, list_of, given_names}
+use Rattle.guillotiere_recording.specs.Events.{EventValue, list_value_of, given_names}
 use Rattle.guillotiere_recording.specs.Logs.{RecordingValue, with_event}
 use Rattle.guillotiere_recording.specs.Sessions.{renamed_transfer, RearrangesUnder, Leads}
-use Rattle.guillotiere_recording.specs.Names.{AreRising, entries_of, name_among}
+use Rattle.guillotiere_recording.specs.Names.{AreRisingNames, entries_of, name_among}
 use Rattle.guillotiere_recording.specs.Moves.{change_under, failure_under, entry_under, AreEntered, IsMoved}
 use Rattle.guillotiere_recording.specs.Recordings.{SessionValue, session_of, IsSession}
-use Rattle.guillotiere_recording.specs.Kept.{IsKept}
+use Rattle.guillotiere_recording.specs.Kept.{IsSessionKept}
 use Rattle.guillotiere_recording.proofs.Counts.{count_map, count_permuted}
 use Rattle.guillotiere_recording.proofs.Entries.{entry_of, name_of, counted_is_live}
 use Rattle.guillotiere_recording.proofs.Naming.{live_at_most_once, moved_from}
 use Rattle.guillotiere_recording.proofs.Keeping.{session_named, recorded_more, given_more, names_in}
 
--- what each session keeps
-pub kept_of : (v : SessionValue) → IsSession v → IsKept v
+-- What each session keeps.
+pub kept_of : (v : SessionValue) → IsSession v → IsSessionKept v
 kept_of v h = record { ids = h.ids; named = session_named v h }
 
--- lists
+-- Lists
 
 pub map_twice : {X Y Z : Type 0} (f : Y → Z) (g : X → Y) (xs : List X) → map f (map g xs) ≡ map (λ x. f (g x)) xs
 map_twice f g [] = refl
@@ -81,7 +81,7 @@ count_two p (x ∷ xs) (suc i) (suc j) d less below pi pj =
     omega (arith, a, two)
 
 pub strictly : (ns : List Entry) → IsNonDecreasingBy (λ (n : Entry). n.name) ns
-    → ((name : ℕ) → count_by (λ (n : Entry). n.name == name) ns ≤ 1) → AreRising ns
+    → ((name : ℕ) → count_by (λ (n : Entry). n.name == name) ns ≤ 1) → AreRisingNames ns
 strictly ns order once i j d less below = by_place (cases_lt (get_or ns i d).name (get_or ns j d).name)
   where
     by_place : ((get_or ns i d).name < (get_or ns j d).name) ⊎ ((get_or ns j d).name ≤ (get_or ns i d).name)
@@ -94,9 +94,9 @@ strictly ns order once i j d less below = by_place (cases_lt (get_or ns i d).nam
         let one = once (get_or ns j d).name in
         absurd (omega (arith, two, one))
 
--- what was live has entries
+-- What was live has entries.
 
-pub all_entered : {A : Type 0} (v : SessionValue) (new : State) (answer : ChangeList A) (asked : AtlasCall) → IsKept v
+pub all_entered : {A : Type 0} (v : SessionValue) (new : State) (answer : ChangeList A) (asked : AtlasCall) → IsSessionKept v
     → Step (state_of v.atlas) asked (atlas.Changed (rearrangement_of answer)) new
     → AreEntered v.names answer.changes.items answer.failures.items
 all_entered v new answer asked h step = record {
@@ -130,8 +130,8 @@ all_entered v new answer asked h step = record {
         (k, below, get_or_default answer.failures.items k x d below) (eq-eqb _ _ refl) in
         omega (arith, i, a, b, c, some)
 
--- the new entries are those of what is live now
-pub entered_anew : {A : Type 0} (v : SessionValue) (new : State) (answer : ChangeList A) (m : Moved A) (asked : AtlasCall) → IsKept v
+-- The new entries are those of what is live now.
+pub entered_anew : {A : Type 0} (v : SessionValue) (new : State) (answer : ChangeList A) (m : Moved A) (asked : AtlasCall) → IsSessionKept v
     → Step (state_of v.atlas) asked (atlas.Changed (rearrangement_of answer)) new → IsMoved v.names answer m
     → (id : ℕ) → entries_of id m.names.items ≡ live_count id new
 entered_anew v new answer m asked h step moved id =
@@ -145,10 +145,10 @@ entered_anew v new answer m asked h step moved id =
     let e = count_map transfer_of (λ (t : Transfer). t.new.id == id) answer.changes.items in
     omega (arith, a, b, c, d, e)
 
-pub rearranges_under : {A : Type 0} (v : SessionValue) (a : AtlasValue) (answer : ChangeList A) (m : Moved A) (asked : AtlasCall) → IsKept v
+pub rearranges_under : {A : Type 0} (v : SessionValue) (a : AtlasValue) (answer : ChangeList A) (m : Moved A) (asked : AtlasCall) → IsSessionKept v
     → Step (state_of v.atlas) asked (atlas.Changed (rearrangement_of answer)) (state_of a) → AreExactChanges answer
     → IsMoved v.names answer m → ((id : ℕ) → live_count id (state_of a) ≤ 1)
-    → RearrangesUnder (session_of v) asked (list_of m.list) (record { state = state_of a; name = name_among m.names.items })
+    → RearrangesUnder (session_of v) asked (list_value_of m.list) (record { state = state_of a; name = name_among m.names.items })
 rearranges_under v a answer m asked h step exact moved few =
     let f = name_among v.names in
     record {
@@ -174,15 +174,15 @@ rearranges_under v a answer m asked h step exact moved few =
         let one = few c.new.id in
         name_of c.new.id m.names.items (entry_under (name_among v.names) c) (omega (arith, e, one)) there refl
 
--- what is live after a rearranging is live once
-pub once_after : {A : Type 0} (v : SessionValue) (new : State) (answer : ChangeList A) (asked : AtlasCall) → IsKept v
+-- What is live after a rearranging is live once.
+pub once_after : {A : Type 0} (v : SessionValue) (new : State) (answer : ChangeList A) (asked : AtlasCall) → IsSessionKept v
     → Step (state_of v.atlas) asked (atlas.Changed (rearrangement_of answer)) new → (id : ℕ) → live_count id new ≤ 1
 once_after v new answer asked h step id =
     live_at_most_once new id
     (steps_keep (state_of v.atlas) new asked (atlas.Changed (rearrangement_of answer)) h.named.sound step)
 
--- names stay apart
-pub names_apart : {A : Type 0} (v : SessionValue) (new : State) (answer : ChangeList A) (m : Moved A) (asked : AtlasCall) → IsKept v
+-- Names stay apart.
+pub names_apart : {A : Type 0} (v : SessionValue) (new : State) (answer : ChangeList A) (m : Moved A) (asked : AtlasCall) → IsSessionKept v
     → Step (state_of v.atlas) asked (atlas.Changed (rearrangement_of answer)) new → IsMoved v.names answer m
     → (name : ℕ) → count_by (λ (n : Entry). n.name == name) m.names.items ≤ 1
 names_apart v new answer m asked h step moved name =

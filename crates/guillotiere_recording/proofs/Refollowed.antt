@@ -19,15 +19,15 @@ use Rattle.guillotiere.specs.Replies.{grant_of, IsExact}
 use Rattle.guillotiere.specs.Rearranging.{rearrangement_of, transfer_of, IsExactChange, AreExactChanges}
 use Rattle.guillotiere.specs.Steps as atlas
 use Rattle.guillotiere.specs.Steps.{AtlasCall, Step}
-use Rattle.guillotiere.specs.StepLaws.{live_count, IsRearrangingStep}
+use Rattle.guillotiere.specs.Laws.StepLaws.{live_count, IsRearrangingStep}
 use Rattle.guillotiere.specs.Stored.{AtlasValue, state_of}
-use Rattle.guillotiere.proofs.Counting.{count_by-append, count_some}
-use Rattle.guillotiere.proofs.StepEffects.{rearrangings_lose_nothing}
+use Rattle.guillotiere.proofs.ListLemmas.Counting.{count_by-append, count_some}
+use Rattle.guillotiere.proofs.StepLemmas.StepEffects.{rearrangings_lose_nothing}
 use Rattle.guillotiere_recording.specs.declared.moves.Moved.{Moved}
 use Rattle.guillotiere_recording.specs.declared.steps.EventFault.{EventFault}
 use Rattle.guillotiere_recording.specs.declared.steps.EventFault.TheVariants as stop
 use Rattle.guillotiere_recording.specs.declared.names.LiveName.{LiveName as Entry}
-use Rattle.guillotiere_recording.specs.Events.{EventValue, ListValue, list_of}
+use Rattle.guillotiere_recording.specs.Events.{EventValue, ListValue, list_value_of}
 use Rattle.guillotiere_recording.specs.Events.EventValue.{Rearrange, ResizeAndRearrange}
 use Rattle.guillotiere_recording.specs.Kept.{entry_in, entries_in, IsFollowed, IsOther, IsUnlike}
 use Rattle.guillotiere_recording.specs.Moves.{change_under, failure_under, IsMoved}
@@ -35,7 +35,7 @@ use Rattle.guillotiere_recording.specs.Names.{entries_of, name_among}
 use Rattle.guillotiere_recording.specs.Recordings.{session_of}
 use Rattle.guillotiere_recording.specs.Replays.{AnswersOtherwise, shown_grant, shown_change, shown_list}
 use Rattle.guillotiere_recording.specs.Sessions.{Named, renamed_transfer, RearrangesUnder, Leads}
-use Rattle.guillotiere_recording.specs.Standing.{Names, Shows, Finds, IsStopped}
+use Rattle.guillotiere_recording.specs.Standing.{Names, ShowsNamed, Finds, IsStopped}
 use Rattle.guillotiere_recording.proofs.Counts.{count_permuted, map_alike}
 use Rattle.guillotiere_recording.proofs.Entries.{live_is_counted, counted_is_live, entry_of, name_of}
 use Rattle.guillotiere_recording.proofs.Naming.{moved_from, events_keep_names}
@@ -43,7 +43,7 @@ use Rattle.guillotiere_recording.proofs.Rearranged.{map_twice, entered_anew, rea
 use Rattle.guillotiere_recording.proofs.ReplayEnds.{IsFound}
 use Rattle.guillotiere_recording.proofs.Following.{value_of, named_alike, names_kept}
 
--- what was moved or found no room was live
+-- What was moved or found no room was live.
 
 live_old : (old new : State) (answer : Rearrangement) → IsRearrangingStep old answer new → (t : Transfer) → Contains answer.changes t
     → IsLive old t.old.id
@@ -67,7 +67,7 @@ contains_mapped f xs x (k, below, is) =
 
 module _ {A : Type 0} (a b : AtlasValue) (names : Names) (asked : AtlasCall) (list : ChangeList A)
     (stepped : Step (state_of a) asked (atlas.Changed (rearrangement_of list)) (state_of b)) (exact : AreExactChanges list)
-    (ordered : IsOrdered nat_cmp names) (all : All (IsFound names) names.entries) (s : Named) (h : Shows a names s)
+    (ordered : IsOrdered nat_cmp names) (all : All (IsFound names) names.entries) (s : Named) (h : ShowsNamed a names s)
   where
     step : Step s.state asked (atlas.Changed (rearrangement_of list)) (state_of b)
     step = subst (λ t. Step t asked (atlas.Changed (rearrangement_of list)) (state_of b)) (sym h.state) stepped
@@ -92,8 +92,8 @@ module _ {A : Type 0} (a b : AtlasValue) (names : Names) (asked : AtlasCall) (li
         let its = All-contains (λ (y : Allocation). IsExact y.rectangle) list.failures.items x exact.failures at in
         λ i. record { id = named i; rectangle = its i }
 
-    -- the list under names is the one that is shown
-    said_list : (m : Moved A) → IsMoved (entries_in names) list m → list_of m.list ≡ shown_list s.name (rearrangement_of list)
+    -- The list under names is the one that is shown.
+    said_list : (m : Moved A) → IsMoved (entries_in names) list m → list_value_of m.list ≡ shown_list s.name (rearrangement_of list)
     said_list m is =
         let changes : m.list.changes.items ≡ map (shown_change s.name) (rearrangement_of list).changes =
         is.changes
@@ -105,7 +105,7 @@ module _ {A : Type 0} (a b : AtlasValue) (names : Names) (asked : AtlasCall) (li
         ∙ sym (map_twice (shown_grant s.name) grant_of list.failures.items) in
         λ i. record { changes = changes i; failures = failures i }
 
-    -- the names after it
+    -- The names after it.
     module _ (said : ListValue) (left : Names) (followed : IsFollowed (entries_in names) list said left) where
       counts : (id : ℕ) → entries_of id followed.moved.names.items ≡ live_count id (state_of b)
       counts = entered_anew (value_of a names) (state_of b) list followed.moved asked (names_kept a names s h ordered all) stepped followed.is
@@ -113,7 +113,7 @@ module _ {A : Type 0} (a b : AtlasValue) (names : Names) (asked : AtlasCall) (li
       once : (id : ℕ) → live_count id (state_of b) ≤ 1
       once = once_after (value_of a names) (state_of b) list asked (names_kept a names s h ordered all) stepped
 
-      under : RearrangesUnder (session_of (value_of a names)) asked (list_of followed.moved.list)
+      under : RearrangesUnder (session_of (value_of a names)) asked (list_value_of followed.moved.list)
           (record { state = state_of b; name = name_among followed.moved.names.items })
       under = rearranges_under (value_of a names) b list followed.moved asked (names_kept a names s h ordered all) stepped exact followed.is once
 
@@ -167,7 +167,7 @@ module _ {A : Type 0} (a b : AtlasValue) (names : Names) (asked : AtlasCall) (li
       )
 
       pub rearranged_on : (event : EventValue) → ((t : Named) → RearrangesUnder s asked said t → Leads s event t)
-          → (t : Named) × Leads s event t × Shows b left t
+          → (t : Named) × Leads s event t × ShowsNamed b left t
       rearranged_on event leads =
           let led = leads (record { state = state_of b; name = name_among followed.moved.names.items }) rearranged_under in (
             record { state = state_of b; name = name_among followed.moved.names.items },
@@ -179,7 +179,7 @@ module _ {A : Type 0} (a b : AtlasValue) (names : Names) (asked : AtlasCall) (li
             },
           )
 
-    -- a list that isn't the recorded one
+    -- A list that isn't the recorded one.
 
     pub other_rearranging : (said : ListValue) → IsOther (entries_in names) list said → asked ≡ atlas.Rearrange
         → AnswersOtherwise s (Rearrange said)
@@ -211,9 +211,9 @@ module _ {A : Type 0} (a b : AtlasValue) (names : Names) (asked : AtlasCall) (li
           o.other (said_list o.moved o.is ∙ ap (shown_list s.name) one ∙ sym same);
     }
 
--- why a list that isn't followed stops a replay
+-- Why a list that isn't followed stops a replay.
 pub unlike_stops : {A : Type 0} (a : AtlasValue) (names : Names) (list : ChangeList A) (said : ListValue) (event : EventValue) (e : EventFault)
-    → ((s : Named) → Shows a names s → IsOther (entries_in names) list said → AnswersOtherwise s event)
+    → ((s : Named) → ShowsNamed a names s → IsOther (entries_in names) list said → AnswersOtherwise s event)
     → IsUnlike (entries_in names) list said e → IsStopped a names event e
 unlike_stops a names list said event stop.Memory other unlike = tt
 unlike_stops a names list said event stop.Differs other unlike = λ s h. other s h unlike

@@ -11,7 +11,7 @@ use Rattle.guillotiere_recording.specs.declared.error.RecordingError.{RecordingE
 use Rattle.guillotiere_recording.specs.declared.error.RecordingError.TheVariants as refusal
 use Rattle.guillotiere_recording.specs.Errors.{recording_error}
 
--- a freeing of a live id is not refused
+-- A freeing of a live id is not refused.
 pub freeing_succeeds : (s t : State) (id : ℕ) (e : AtlasError) → Step s (atlas.Deallocate id) (atlas.Refused e) t → IsLive s id → ⊥
 freeing_succeeds s t id Memory step live = step
 freeing_succeeds s t id Slots step live = step
@@ -22,7 +22,7 @@ slots_only Memory h = cc
 slots_only Slots h = cc
 slots_only NotLive h = cc
 
--- `Slots` is the atlas's
+-- `Slots` is the atlas's.
 pub slots_step : {X : Type 0} (r : Result X RecordingError) (e : AtlasError) (s t : State) (call : AtlasCall)
     → IsErrAnd r (λ k. k ≡ recording_error e) → Step s call (atlas.Refused e) t → t ≡ s → r ≡ Err refusal.Slots
     → Step s call (atlas.Refused Slots) s
@@ -32,13 +32,13 @@ slots_step (Err k) e s t call from step same is =
     let its : e ≡ Slots = slots_only e (sym from ∙ slots) in
     subst (λ u. Step s call (atlas.Refused Slots) u) same (subst (λ x. Step s call (atlas.Refused x) t) its step)
 
--- want of memory is no other refusal
+-- Want of memory is no other refusal.
 pub memory_only : {X : Type 0} (r : Result X RecordingError) (e : RecordingError) → e ≡ refusal.Memory → IsErrAnd r (λ k. k ≡ e)
     → r ≡ Err refusal.NotLive → ⊥
 memory_only (Ok x) e memory from is = cc
 memory_only (Err k) e memory from is = cc
 
--- names are left where not all were given
+-- Names are left where not all were given.
 pub names_left : (n : ℕ) → n ≤ 2 ^ 32 → (n ≡ 4294967296 → ⊥) → n < 2 ^ 32
 names_left n most other = by_order (cases_order n 4294967296)
   where

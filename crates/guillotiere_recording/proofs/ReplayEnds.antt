@@ -21,12 +21,12 @@ use Rattle.guillotiere.specs.Trees.{Grant, grant}
 use Rattle.guillotiere.specs.States.{State, IsLive, live_in, started}
 use Rattle.guillotiere.specs.Renaming.{renamed_grant}
 use Rattle.guillotiere.specs.Replies.{live_box, grant_of, IsExact}
-use Rattle.guillotiere.specs.StepLaws.{live_count}
+use Rattle.guillotiere.specs.Laws.StepLaws.{live_count}
 use Rattle.guillotiere.specs.Stored.{AtlasValue, state_of}
-use Rattle.guillotiere.proofs.CallerLemmas.{find-counted}
-use Rattle.guillotiere.proofs.Counting.{count_by-cons}
-use Rattle.guillotiere.proofs.TreeBasics.{one_if}
-use Rattle.guillotiere.proofs.TreeIds.{Contains-none}
+use Rattle.guillotiere.proofs.ListLemmas.CallerLemmas.{find-counted}
+use Rattle.guillotiere.proofs.ListLemmas.Counting.{count_by-cons}
+use Rattle.guillotiere.proofs.TreeLemmas.TreeBasics.{one_if}
+use Rattle.guillotiere.proofs.TreeLemmas.TreeIds.{Contains-none}
 use Rattle.guillotiere_recording.specs.declared.steps.EventFault.{EventFault}
 use Rattle.guillotiere_recording.specs.declared.steps.EventFault.TheVariants as stop
 use Rattle.guillotiere_recording.specs.declared.event.Event.{Event}
@@ -37,7 +37,7 @@ use Rattle.guillotiere_recording.specs.Names.{box_or_none}
 use Rattle.guillotiere_recording.specs.Books.{AreSameGrants, book}
 use Rattle.guillotiere_recording.specs.Recordings.{LeadsTo, AreBooked}
 use Rattle.guillotiere_recording.specs.Replays.{first_events, IsFaultOf, IsRecorded}
-use Rattle.guillotiere_recording.specs.Standing.{Names, Shows, CarriesOut, IsStopped, fault_of, shown_entry}
+use Rattle.guillotiere_recording.specs.Standing.{Names, ShowsNamed, CarriesOut, IsStopped, fault_of, shown_entry}
 use Rattle.guillotiere_recording.proofs.Booking.{sessions_are_named, books_are_true, listed_is_live}
 use Rattle.guillotiere_recording.proofs.Counts.{count_map, count_alike}
 use Rattle.guillotiere_recording.proofs.Entries.{live_is_counted}
@@ -50,7 +50,7 @@ use Rattle.guillotiere_recording.proofs.NameSteps.{area_of}
 abbrev pub Entries : Type 0
 Entries = List (ℕ × ℕ)
 
--- the map has the entry
+-- The map has the entry.
 abbrev pub IsFound : Names → ℕ × ℕ → Type 0
 IsFound names e = get nat_cmp names e.0 ≡ Some e.1
 
@@ -61,9 +61,9 @@ shown_by s said name id area same is =
     ap (λ n. let a : Allocation = record { id = n; rectangle = area } in a) same
     ∙ ap (λ r. let a : Allocation = record { id = name; rectangle = r } in a) shown
 
--- atlas and names show a state to which the first events lead
+-- Atlas and names show a state to which the first events lead.
 abbrev pub StandsAt : RecordingValue → (i : ℕ) → AtlasValue → Names → Type 0
-StandsAt r i a names = (s : Named) × LeadsTo (first_events i r) s × Shows a names s
+StandsAt r i a names = (s : Named) × LeadsTo (first_events i r) s × ShowsNamed a names s
 
 nothing_found : (names : Names) (name id : ℕ) → names.entries ≡ [] → get nat_cmp names name ≡ Some id → ⊥
 nothing_found names name id empty is =
@@ -107,8 +107,8 @@ stops r i event stop.Differs a names here stopped (s, led, shows) =
 stops r i event stop.Bad a names here stopped (s, led, shows) =
     record { event = event; here = here; at = s; before = led; stops = stopped s shows }
 
--- what is shown has a box
-pub found_has_box : (a : AtlasValue) (names : Names) (s : Named) (name id : ℕ) → Shows a names s → get nat_cmp names name ≡ Some id
+-- What is shown has a box.
+pub found_has_box : (a : AtlasValue) (names : Names) (s : Named) (name id : ℕ) → ShowsNamed a names s → get nat_cmp names name ≡ Some id
     → IsSome (live_box (state_of a) id)
 found_has_box a names s name id h is =
     let live : IsLive s.state id = ((h.finds name id).0 is).0 in
@@ -117,7 +117,7 @@ found_has_box a names s name id h is =
     subst (λ (t : State). IsSome (live_box t id)) h.state
     (subst (λ (o : Option Grant). IsSome (option_map (λ (g : Grant). g.box) o)) (sym it.1) refl)
 
--- how often a key stands among entries by rising key
+-- How often a key stands among entries by rising key.
 
 none_later : (k : ℕ) (ks : List ℕ) → AllByRecursion (λ y. nat_cmp k y ≡ Less) ks → count_by (λ x. x == k) ks ≡ 0
 none_later k [] h = refl
@@ -157,8 +157,8 @@ keys_counted (e ∷ es) sorted k =
         omega (arith, count, none) in
         rest ∙ later ∙ sym (ap (λ b. how_many (cond b (Some e.1) (lookup (is_at (nat_cmp k)) es))) (at_other k e.0 other))
 
--- names are counted alike among the entries and among what is live
-names_counted : (a : AtlasValue) (names : Names) (s : Named) → Shows a names s → (k : ℕ) (o : Option ℕ) → get nat_cmp names k ≡ o
+-- Names are counted alike among the entries and among what is live.
+names_counted : (a : AtlasValue) (names : Names) (s : Named) → ShowsNamed a names s → (k : ℕ) (o : Option ℕ) → get nat_cmp names k ≡ o
     → count_by (λ x. x == k) (map (λ (g : Grant). s.name g.id) (live_in s.state)) ≡ how_many o
 names_counted a names s h k (Some id) is =
     let has = (h.finds k id).0 is in
@@ -197,9 +197,9 @@ abbrev boxed : State → Option ℕ → Option Box
 boxed s None = None
 boxed s (Some id) = live_box s id
 
--- what is gathered at the end is the book
+-- What is gathered at the end is the book.
 pub gathered_book : (r : RecordingValue) (a : AtlasValue) (names : Names) (s : Named) (found : List Allocation) → LeadsTo r s
-    → Shows a names s → IsOrdered nat_cmp names → All (IsFound names) names.entries
+    → ShowsNamed a names s → IsOrdered nat_cmp names → All (IsFound names) names.entries
     → found ≡ map (shown_entry (state_of a)) names.entries → AreBooked r.events found
 gathered_book r a names s found led h ordered all is =
     subst (AreBooked r.events) (sym (is ∙ ap (λ t. map (shown_entry t) names.entries) (sym h.state))) it
@@ -242,7 +242,7 @@ gathered_book r a names s found led h ordered all is =
       exact = All-map (λ (x : Allocation). IsExact x.rectangle) (shown_entry s.state) names.entries (λ k d below. refl);
     }
 
--- the end
+-- The end.
 pub ends : (r : RecordingValue) (i : ℕ) (a : AtlasValue) (names : Names) (found : List Allocation) → length r.events ≤ i
     → StandsAt r i a names → IsOrdered nat_cmp names → All (IsFound names) names.entries
     → found ≡ map (shown_entry (state_of a)) names.entries → IsRecorded r × AreBooked r.events found
@@ -250,7 +250,7 @@ ends r i a names found whole (s, led, shows) ordered all is =
     let all_led : LeadsTo r s = subst (λ es. LeadsTo (record r { events = es }) s) (take_all i r.events whole) led in
     ((s, all_led), gathered_book r a names s found all_led shows ordered all is)
 
--- an event less
+-- An event less.
 
 map_append : {X Y : Type 0} (f : X → Y) (xs ys : List X) → map f (xs ++ ys) ≡ map f xs ++ map f ys
 map_append f [] ys = refl

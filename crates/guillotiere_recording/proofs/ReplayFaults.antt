@@ -13,8 +13,8 @@ use Rattle.guillotiere.specs.States.{State, live_in}
 use Rattle.guillotiere.specs.Steps.{AtlasCall, AtlasReply, Step}
 use Rattle.guillotiere.specs.Steps.AtlasReply.{Allocated, NoRoom, Done, Changed, Refused, BadCall}
 use Rattle.guillotiere.specs.Renaming.{renamed_grant, is_out_of_memory}
-use Rattle.guillotiere.proofs.Counting.{count_by-weaker, split_at}
-use Rattle.guillotiere.proofs.TreeIds.{Contains-first}
+use Rattle.guillotiere.proofs.ListLemmas.Counting.{count_by-weaker, split_at}
+use Rattle.guillotiere.proofs.TreeLemmas.TreeIds.{Contains-first}
 use Rattle.guillotiere_recording.specs.declared.replay.ReplayFault.{ReplayFault}
 use Rattle.guillotiere_recording.specs.declared.replay.ReplayFault.TheVariants as fault
 use Rattle.guillotiere_recording.specs.Events.{EventValue}
@@ -23,13 +23,13 @@ use Rattle.guillotiere_recording.specs.Logs.{RecordingValue}
 use Rattle.guillotiere_recording.specs.Sessions.{Named, named_boxes, IsLiveName, Leads, LeadOn, Recorded, fresh_session}
 use Rattle.guillotiere_recording.specs.Recordings.{LeadsTo}
 use Rattle.guillotiere_recording.specs.Replays.{IsRecorded, IsBad, IsCall, IsAnswer, is_refused, AnswersOtherwise, LacksSlots, IsFaultOf, HasRearranging, MayFail, first_events}
-use Rattle.guillotiere_recording.specs.Twins.{is_plain, Asks, Says}
+use Rattle.guillotiere_recording.specs.Twins.{is_plain_event, Asks, Says}
 use Rattle.guillotiere_recording.proofs.Booking.{sessions_are_named, books_are_true, listed_is_live}
 use Rattle.guillotiere_recording.proofs.Counts.{count_map}
 use Rattle.guillotiere_recording.proofs.Entries.{live_is_counted}
 use Rattle.guillotiere_recording.proofs.Twins.{twins_answer_alike, new_sessions_are_twins, events_keep_twins}
 
--- where an event stands among events that lead on, the session can be parted
+-- Where an event stands among events that lead on, the session can be parted.
 
 abbrev PartsAt : (old : Named) (before : List EventValue) (event : EventValue) → Type 0
 PartsAt old before event = (mid : Named) × LeadOn old before mid × ((next : Named) × Leads mid event next)
@@ -44,7 +44,7 @@ lead_split (e ∷ events) (suc i) event old new here (next, first, rest) =
     let parts = lead_split events i event next new here rest in
     (parts.0, (next, first, parts.1), parts.2)
 
--- the size of an atlas after an event
+-- The size of an atlas after an event.
 
 size_after : Sides → EventValue → Sides
 size_after n (Grow size) = sides_of size
@@ -69,7 +69,7 @@ same_sizes (event ∷ events) s s' t t' same (mid, h, rest) (mid', k, rest') =
     same_sizes events mid s' mid' t'
     (step_size t mid' event k ∙ ap (λ n. size_after n event) same ∙ sym (step_size s mid event h)) rest rest'
 
--- live names are those that the book counts
+-- Live names are those that the book counts.
 
 abbrev has_name : ℕ → Grant → Bool
 has_name name g = g.id == name
@@ -101,7 +101,7 @@ same_names r s t name led led' live =
     let some = name_counted s name live in
     counted_name t name (omega (arith, a, b, some))
 
--- an event of the session isn't bad in a replay
+-- An event of the session isn't bad in a replay.
 
 never_bad : (r : RecordingValue) (s s' t : Named) (event : EventValue) → LeadsTo r s → LeadsTo r t → Leads s event s' → IsBad t event → ⊥
 never_bad r s s' t (Allocate size None) led led' h bad = bad
@@ -115,19 +115,19 @@ never_bad r s s' t (Grow size) led led' h bad =
 never_bad r s s' t (Rearrange list) led led' h bad = bad
 never_bad r s s' t (ResizeAndRearrange size list) led led' h bad = let step = h.step in bad step.0
 
--- plain events
+-- Plain events.
 
-plain_or_not : (events : List EventValue) → All (λ e. is_plain e ≡ true) events ⊎ HasRearranging events
+plain_or_not : (events : List EventValue) → All (λ e. is_plain_event e ≡ true) events ⊎ HasRearranging events
 plain_or_not [] = inl (λ k d below. absurd (omega arith))
-plain_or_not (e ∷ events) = by_test (is_plain e) refl (plain_or_not events)
+plain_or_not (e ∷ events) = by_test (is_plain_event e) refl (plain_or_not events)
   where
-    by_test : (b : Bool) → is_plain e ≡ b → All (λ e. is_plain e ≡ true) events ⊎ HasRearranging events
-        → All (λ e. is_plain e ≡ true) (e ∷ events) ⊎ HasRearranging (e ∷ events)
+    by_test : (b : Bool) → is_plain_event e ≡ b → All (λ e. is_plain_event e ≡ true) events ⊎ HasRearranging events
+        → All (λ e. is_plain_event e ≡ true) (e ∷ events) ⊎ HasRearranging (e ∷ events)
     by_test false is rest = inr (0, e, omega arith, refl, is)
-    by_test true is (inl all) = inl (All-cons (λ e. is_plain e ≡ true) e events is all)
+    by_test true is (inl all) = inl (All-cons (λ e. is_plain_event e ≡ true) e events is all)
     by_test true is (inr (k, x, below, at, other)) = inr (k + 1, x, omega arith, rw add-one at, other)
 
-asks : (t : Named) (event : EventValue) (call : AtlasCall) → is_plain event ≡ true → IsCall t event call → Asks t event call
+asks : (t : Named) (event : EventValue) (call : AtlasCall) → is_plain_event event ≡ true → IsCall t event call → Asks t event call
 asks t (Allocate size answer) call plain is = is
 asks t (Deallocate name) call plain is = is
 asks t (Grow size) call plain is = is
@@ -158,7 +158,7 @@ met_memory Done met = refl
 met_memory (Changed list) met = refl
 met_memory BadCall met = refl
 
--- where all events so far are plain, the replay answers as the session did
+-- Where all events so far are plain, the replay answers as the session did.
 module _ (r : RecordingValue) (i : ℕ) (event : EventValue) (t : Named) (led' : LeadsTo (first_events i r) t) (last : Named) (led : LeadsTo r last)
     (here : slice_get r.events i ≡ Some event)
   where
@@ -171,7 +171,7 @@ module _ (r : RecordingValue) (i : ℕ) (event : EventValue) (t : Named) (led' :
     pub good_here : IsBad t event → ⊥
     good_here = never_bad (first_events i r) parts.0 parts.2.0 t event led_here led' parts.2.1
 
-    says_so : All (λ e. is_plain e ≡ true) (take i r.events) → is_plain event ≡ true → (call : AtlasCall) (reply : AtlasReply) (new : State)
+    says_so : All (λ e. is_plain_event e ≡ true) (take i r.events) → is_plain_event event ≡ true → (call : AtlasCall) (reply : AtlasReply) (new : State)
         → IsCall t event call → Step t.state call reply new → is_out_of_memory reply ≡ false → Says event reply
     says_so all plain call reply new asked step met =
         let size = sides_of r.size in
@@ -189,31 +189,31 @@ module _ (r : RecordingValue) (i : ℕ) (event : EventValue) (t : Named) (led' :
         (twins_answer_alike parts.0 parts.2.0 t (record { state = new; name = t.name }) event call reply good good' twins plain parts.2.1
         (asks t event call plain asked) step met).0
 
-    answers_so : All (λ e. is_plain e ≡ true) (take i r.events) → is_plain event ≡ true → AnswersOtherwise t event → ⊥
+    answers_so : All (λ e. is_plain_event e ≡ true) (take i r.events) → is_plain_event event ≡ true → AnswersOtherwise t event → ⊥
     answers_so all plain o =
         o.other (said_is_answer parts.0 parts.2.0 t event o.reply parts.2.1
         (says_so all plain o.call o.reply o.new o.asked o.step (met_memory o.reply o.met)))
 
-    has_slots : All (λ e. is_plain e ≡ true) (take i r.events) → is_plain event ≡ true → LacksSlots t event → ⊥
+    has_slots : All (λ e. is_plain_event e ≡ true) (take i r.events) → is_plain_event event ≡ true → LacksSlots t event → ⊥
     has_slots all plain o =
         not_said event (says_so all plain o.call (Refused refusal.Slots) t.state o.asked o.step refl)
 
-    plain_here : All (λ e. is_plain e ≡ true) r.events → is_plain event ≡ true
+    plain_here : All (λ e. is_plain_event e ≡ true) r.events → is_plain_event event ≡ true
     plain_here all =
         let its = get_or_from_slice_get r.events i event event here in
-        subst (λ e. is_plain e ≡ true) its (all i event (slice_get_within r.events i event here))
+        subst (λ e. is_plain_event e ≡ true) its (all i event (slice_get_within r.events i event here))
 
     pub slots_fault : LacksSlots t event → HasRearranging r.events
     slots_fault o = by_kind (plain_or_not r.events)
       where
-        by_kind : All (λ e. is_plain e ≡ true) r.events ⊎ HasRearranging r.events → HasRearranging r.events
-        by_kind (inl all) = absurd (has_slots (All-take (λ e. is_plain e ≡ true) i r.events all) (plain_here all) o)
+        by_kind : All (λ e. is_plain_event e ≡ true) r.events ⊎ HasRearranging r.events → HasRearranging r.events
+        by_kind (inl all) = absurd (has_slots (All-take (λ e. is_plain_event e ≡ true) i r.events all) (plain_here all) o)
         by_kind (inr some) = some
 
     pub differs_fault : AnswersOtherwise t event → HasRearranging (take (suc i) r.events)
     differs_fault o = by_kind (plain_or_not (take (suc i) r.events))
       where
-        by_kind : All (λ e. is_plain e ≡ true) (take (suc i) r.events) ⊎ HasRearranging (take (suc i) r.events)
+        by_kind : All (λ e. is_plain_event e ≡ true) (take (suc i) r.events) ⊎ HasRearranging (take (suc i) r.events)
             → HasRearranging (take (suc i) r.events)
         by_kind (inr some) = some
         by_kind (inl all) =
@@ -221,12 +221,12 @@ module _ (r : RecordingValue) (i : ℕ) (event : EventValue) (t : Named) (led' :
             let its = get_or_from_slice_get r.events i event event here in
             let next : take (suc i) r.events ≡ take i r.events ++ event ∷ [] =
             sym (ap (λ n. take n r.events) (add-one i)) ∙ take_more r.events i event low ∙ ap (λ e. take i r.events ++ e ∷ []) its in
-            let both = subst (λ es. All (λ e. is_plain e ≡ true) es) next all in
-            let first : All (λ e. is_plain e ≡ true) (take i r.events) = λ k d below.
+            let both = subst (λ es. All (λ e. is_plain_event e ≡ true) es) next all in
+            let first : All (λ e. is_plain_event e ≡ true) (take i r.events) = λ k d below.
             let more : k < length (take i r.events ++ event ∷ []) = omega (arith, below, length-append (take i r.events) (event ∷ [])) in
-            subst (λ e. is_plain e ≡ true) (get_or_append_left (take i r.events) (event ∷ []) d k below) (both k d more) in
+            subst (λ e. is_plain_event e ≡ true) (get_or_append_left (take i r.events) (event ∷ []) d k below) (both k d more) in
             let at = Contains-push (take i r.events) event in
-            let plain : is_plain event ≡ true = All-contains (λ e. is_plain e ≡ true) (take i r.events ++ event ∷ []) event both at in
+            let plain : is_plain_event event ≡ true = All-contains (λ e. is_plain_event e ≡ true) (take i r.events ++ event ∷ []) event both at in
             absurd (answers_so first plain o)
 
 pub recorded_faults : (r : RecordingValue) (f : ReplayFault) → IsRecorded r → IsFaultOf r f → MayFail r f

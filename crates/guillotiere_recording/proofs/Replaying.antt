@@ -19,16 +19,16 @@ use Rattle.guillotiere.specs.Renaming.{with_name}
 use Rattle.guillotiere.specs.Replies.{grant_of, IsExact}
 use Rattle.guillotiere.specs.Steps as atlas
 use Rattle.guillotiere.specs.Steps.{AtlasReply, Step}
-use Rattle.guillotiere.specs.StepLaws.{live_count, IsGrantStep, IsFreeingStep}
+use Rattle.guillotiere.specs.Laws.StepLaws.{live_count, IsGrantStep, IsFreeingStep}
 use Rattle.guillotiere.specs.Stored.{AtlasValue, state_of}
-use Rattle.guillotiere.proofs.Renaming.{with_name-itself, with_name-other}
-use Rattle.guillotiere.proofs.StepEffects.{grants_lie_inside, freeings_remove_one, growths_keep_boxes}
-use Rattle.guillotiere.proofs.TreeBasics.{one_if}
+use Rattle.guillotiere.proofs.TreeLemmas.Renaming.{with_name-itself, with_name-other}
+use Rattle.guillotiere.proofs.StepLemmas.StepEffects.{grants_lie_inside, freeings_remove_one, growths_keep_boxes}
+use Rattle.guillotiere.proofs.TreeLemmas.TreeBasics.{one_if}
 use Rattle.guillotiere_recording.specs.declared.steps.EventFault.{EventFault}
 use Rattle.guillotiere_recording.specs.Events.EventValue.{Allocate, Deallocate, Grow}
 use Rattle.guillotiere_recording.specs.Sessions.{Named, IsLiveName, GrantsUnder, FreesUnder, Leads}
 use Rattle.guillotiere_recording.specs.Replays.{IsBad, AnswersOtherwise}
-use Rattle.guillotiere_recording.specs.Standing.{Names, Finds, Shows, CarriesOut, IsStopped, event_fault}
+use Rattle.guillotiere_recording.specs.Standing.{Names, Finds, ShowsNamed, CarriesOut, IsStopped, event_fault}
 use Rattle.guillotiere_recording.proofs.Entries.{live_is_counted, counted_is_live}
 use Rattle.guillotiere_recording.proofs.Naming.{grant_counts, growth_counts, freeing_less, freed_is_gone, others_stay, events_keep_names}
 
@@ -55,31 +55,31 @@ not_missing o id missing is = false≢true (sym missing ∙ ap is_some is)
 pub one_id : (o : Option ℕ) (a b : ℕ) → o ≡ Some a → o ≡ Some b → a ≡ b
 one_id o a b is its = let same : Some a ≡ Some b = sym is ∙ its in cc
 
-pub live_where_found : (a : AtlasValue) (names : Names) (s : Named) (name : ℕ) → Shows a names s
+pub live_where_found : (a : AtlasValue) (names : Names) (s : Named) (name : ℕ) → ShowsNamed a names s
     → is_some (get nat_cmp names name) ≡ true → IsLiveName s name
 live_where_found a names s name h is =
     let it = found (get nat_cmp names name) is in
     let live = (h.finds name it.0).0 it.1 in
     (it.0, live.0, live.1)
 
-pub dead_where_missing : (a : AtlasValue) (names : Names) (s : Named) (name : ℕ) → Shows a names s
+pub dead_where_missing : (a : AtlasValue) (names : Names) (s : Named) (name : ℕ) → ShowsNamed a names s
     → is_some (get nat_cmp names name) ≡ false → IsLiveName s name → ⊥
 dead_where_missing a names s name h missing (id, live, is) =
     not_missing (get nat_cmp names name) id missing ((h.finds name id).1 (live, is))
 
--- steps of a state that is shown
+-- Steps of a state that is shown.
 
 pub step_of : (a : AtlasValue) (names : Names) (s : Named) (call : atlas.AtlasCall) (reply : AtlasReply) (new : State)
-    → Shows a names s → Step (state_of a) call reply new → Step s.state call reply new
+    → ShowsNamed a names s → Step (state_of a) call reply new → Step s.state call reply new
 step_of a names s call reply new h step = subst (λ t. Step t call reply new) (sym h.state) step
 
--- a grant
+-- A grant.
 
 module _ (a b : AtlasValue) (names left : Names) (size : Size) (recorded granted : Allocation)
     (missing : is_some (get nat_cmp names recorded.id) ≡ false)
     (stepped : Step (state_of a) (atlas.Allocate (sides_of size)) (atlas.Allocated (grant_of granted)) (state_of b))
     (exact : IsExact granted.rectangle) (same : granted.rectangle ≡ recorded.rectangle)
-    (updates : Updates nat_cmp names left recorded.id (Some granted.id)) (s : Named) (h : Shows a names s)
+    (updates : Updates nat_cmp names left recorded.id (Some granted.id)) (s : Named) (h : ShowsNamed a names s)
   where
     after_grant : Named
     after_grant = record { state = state_of b; name = with_name s.name granted.id recorded.id }
@@ -151,7 +151,7 @@ module _ (a b : AtlasValue) (names left : Names) (size : Size) (recorded granted
             updates.2 name (at_other recorded.id name (λ its. dead_where_missing a names s recorded.id h missing (id, was, named ∙ its)))
             ∙ (h.finds name id).1 (was, named)
 
-    pub granted_on : (t : Named) × Leads s (Allocate size (Some recorded)) t × Shows b left t
+    pub granted_on : (t : Named) × Leads s (Allocate size (Some recorded)) t × ShowsNamed b left t
     granted_on = (
       record { state = state_of b; name = with_name s.name granted.id recorded.id },
       granted_leads,
@@ -163,13 +163,13 @@ module _ (a b : AtlasValue) (names left : Names) (size : Size) (recorded granted
       },
     )
 
--- a grant that differs
+-- A grant that differs.
 
 pub other_grant : (a b : AtlasValue) (names : Names) (size : Size) (recorded granted : Allocation)
     → is_some (get nat_cmp names recorded.id) ≡ false
     → Step (state_of a) (atlas.Allocate (sides_of size)) (atlas.Allocated (grant_of granted)) (state_of b)
     → IsExact granted.rectangle → (granted.rectangle ≡ recorded.rectangle → ⊥)
-    → (s : Named) → Shows a names s → AnswersOtherwise s (Allocate size (Some recorded))
+    → (s : Named) → ShowsNamed a names s → AnswersOtherwise s (Allocate size (Some recorded))
 other_grant a b names size recorded granted missing stepped exact unlike s h = record {
   good = dead_where_missing a names s recorded.id h missing;
   call = atlas.Allocate (sides_of size);
@@ -186,7 +186,7 @@ other_grant a b names size recorded granted missing stepped exact unlike s h = r
 pub no_grant : (a b : AtlasValue) (names : Names) (size : Size) (recorded : Allocation)
     → is_some (get nat_cmp names recorded.id) ≡ false
     → Step (state_of a) (atlas.Allocate (sides_of size)) atlas.NoRoom (state_of b)
-    → (s : Named) → Shows a names s → AnswersOtherwise s (Allocate size (Some recorded))
+    → (s : Named) → ShowsNamed a names s → AnswersOtherwise s (Allocate size (Some recorded))
 no_grant a b names size recorded missing stepped s h = record {
   good = dead_where_missing a names s recorded.id h missing;
   call = atlas.Allocate (sides_of size);
@@ -200,7 +200,7 @@ no_grant a b names size recorded missing stepped s h = record {
 
 pub a_grant : (a b : AtlasValue) (names : Names) (size : Size) (granted : Allocation)
     → Step (state_of a) (atlas.Allocate (sides_of size)) (atlas.Allocated (grant_of granted)) (state_of b)
-    → (s : Named) → Shows a names s → AnswersOtherwise s (Allocate size None)
+    → (s : Named) → ShowsNamed a names s → AnswersOtherwise s (Allocate size None)
 a_grant a b names size granted stepped s h = record {
   good = λ bad. bad;
   call = atlas.Allocate (sides_of size);
@@ -225,7 +225,7 @@ denied_on a b names size stepped same s h = (
   record { state = h.state ∙ sym (ap state_of same); finds = h.finds; named = h.named },
 )
 
--- a freeing
+-- A freeing.
 
 pub freed_on : (a b : AtlasValue) (names left : Names) (name id : ℕ) → get nat_cmp names name ≡ Some id
     → Step (state_of a) (atlas.Deallocate id) atlas.Done (state_of b) → Updates nat_cmp names left name None
@@ -281,7 +281,7 @@ freed_on a b names left name id its stepped updates s h = (
             let none : live_count k (state_of b) ≡ 0 = ap (λ i. live_count i (state_of b)) one ∙ gone in
             omega (arith, some, none))) ∙ had
 
--- a growth
+-- A growth.
 
 pub grown_on : (a b : AtlasValue) (names : Names) (size : Size)
     → Step (state_of a) (atlas.Grow (sides_of size)) atlas.Done (state_of b) → CarriesOut a names (Grow size) b names
@@ -314,10 +314,10 @@ grown_on a b names size stepped s h = (
           (h.finds n k).1 (counted_is_live s.state k (omega (arith, some, same)), is),
     )
 
--- refusals
+-- Refusals
 
 pub refused_grant : (a b : AtlasValue) (names : Names) (size : Size) (answer : Option Allocation) (e : AtlasError)
-    → ((s : Named) → Shows a names s → IsBad s (Allocate size answer) → ⊥)
+    → ((s : Named) → ShowsNamed a names s → IsBad s (Allocate size answer) → ⊥)
     → Step (state_of a) (atlas.Allocate (sides_of size)) (atlas.Refused e) (state_of b) → b ≡ a
     → IsStopped a names (Allocate size answer) (event_fault e)
 refused_grant a b names size answer refusal.Memory good stepped same = tt
@@ -350,7 +350,7 @@ refused_growth a b names size refusal.Slots fits stepped same = λ s h. record {
       (subst (λ t. Step (state_of a) (atlas.Grow (sides_of size)) (atlas.Refused refusal.Slots) t) (ap state_of same ∙ sym h.state) stepped);
 }
 
--- a freeing of an id that was found isn't refused
+-- A freeing of an id that was found isn't refused.
 pub refused_freeing : (a b : AtlasValue) (names : Names) (name id : ℕ) (e : AtlasError) → get nat_cmp names name ≡ Some id
     → Step (state_of a) (atlas.Deallocate id) (atlas.Refused e) (state_of b) → IsStopped a names (Deallocate name) (event_fault e)
 refused_freeing a b names name id refusal.Memory its stepped = tt
@@ -358,7 +358,7 @@ refused_freeing a b names name id refusal.Slots its stepped = λ s h. absurd ste
 refused_freeing a b names name id refusal.NotLive its stepped = λ s h live.
     stepped.0 (subst (λ t. IsLive t id) h.state ((h.finds name id).0 its).0)
 
--- what a fault says that is another one's
+-- What a fault says that is another one's.
 
 pub stopped_as : {X : Type 0} (P : EventFault → Type 0) (r : Result X EventFault) (fault : EventFault) → IsErrAnd r (λ k. k ≡ fault)
     → P fault → IfErr r P

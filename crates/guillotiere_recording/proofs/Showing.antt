@@ -11,9 +11,9 @@ use Rattle.guillotiere.specs.States.{State, IsSound, live_in}
 use Rattle.guillotiere.specs.Renaming.{renamed_grant}
 use Rattle.guillotiere.specs.Replies.{grant_of, IsExact, live_box}
 use Rattle.guillotiere.specs.Stored.{state_of}
-use Rattle.guillotiere.proofs.CallerLemmas.{find-counted, find-counted_once}
-use Rattle.guillotiere.proofs.Counting.{count_by-cons, count_by-append, count_some, split_at, IsSplitAt}
-use Rattle.guillotiere.proofs.TreeBasics.{one_if}
+use Rattle.guillotiere.proofs.ListLemmas.CallerLemmas.{find-counted, find-counted_once}
+use Rattle.guillotiere.proofs.ListLemmas.Counting.{count_by-cons, count_by-append, count_some, split_at, IsSplitAt}
+use Rattle.guillotiere.proofs.TreeLemmas.TreeBasics.{one_if}
 use Rattle.guillotiere_recording.specs.declared.names.LiveName.{LiveName as Entry}
 use Rattle.guillotiere_recording.specs.Books.{AreSameGrants, book}
 use Rattle.guillotiere_recording.specs.Names.{entries_of, name_among, box_or_none, shown}
@@ -32,7 +32,7 @@ count_split q before x after =
     let c = count_by-append q before after in
     omega (arith, a, b, c)
 
--- lists that count each number alike count each test alike
+-- Lists that count each number alike count each test alike.
 pub each_counts : (xs ys : List ℕ) → ((k : ℕ) → count_by (λ x. x == k) xs ≡ count_by (λ x. x == k) ys) → (q : ℕ → Bool)
     → count_by q xs ≡ count_by q ys
 each_counts [] [] h q = refl
@@ -62,14 +62,14 @@ each_counts (x ∷ xs) ys h q = found (split_at (λ z. z == x) ys some) (λ zs m
         count_by-cons q x xs ∙ ap (λ n. one_if (q x) + n) (later (s.before ++ s.after) rest)
         ∙ sym (count_split q s.before x s.after) ∙ ap (count_by q) (sym is)
 
--- the live box of a listed grant
+-- The live box of a listed grant.
 pub box_of_live : (s : State) (g : Grant) → IsSound s → Contains (live_in s) g → box_or_none (live_box s g.id) ≡ g.box
 box_of_live s g sound at =
     let it : find (λ (k : Grant). k.id == g.id) (live_in s) ≡ Some g =
     find-counted_once (λ k. k.id == g.id) (live_in s) g (live_at_most_once s g.id sound) at (eq-eqb g.id g.id refl) in
     ap (λ (o : Option Grant). box_or_none (option_map (λ (k : Grant). k.box) o)) it
 
--- each entry's id has a box
+-- Each entry's id has a box.
 pub entries_have_boxes : (v : SessionValue) → IsSession v → All (λ (n : Entry). IsSome (live_box (state_of v.atlas) n.id)) v.names
 entries_have_boxes v h k d below =
     let n : Entry = get_or v.names k d in

@@ -13,19 +13,19 @@ use Rattle.guillotiere.specs.Steps as atlas
 use Rattle.guillotiere.specs.Steps.{AtlasCall, AtlasReply, Step}
 use Rattle.guillotiere.specs.Steps.AtlasReply.{Allocated, NoRoom, Done, Changed, Refused, BadCall}
 use Rattle.guillotiere.specs.Renaming.{renamed_tree, with_name, IsNewName, AreNamedAlike, AreAlike, AnswerAlike, is_out_of_memory}
-use Rattle.guillotiere.proofs.Alike.{named_at, ids_placed, ids_released, answers_without_ids, live_names_count}
-use Rattle.guillotiere.proofs.Renaming.{ids-renamed, with_name-itself, with_name-other}
-use Rattle.guillotiere.proofs.TreeIds.{Contains-first, Contains-later, Contains-none, Contains-cons_cases}
-use Rattle.guillotiere.proofs.TreeKept.{ids-grown}
+use Rattle.guillotiere.proofs.StepLemmas.Alike.{named_at, ids_placed, ids_released, answers_without_ids, live_names_count}
+use Rattle.guillotiere.proofs.TreeLemmas.Renaming.{ids-renamed, with_name-itself, with_name-other}
+use Rattle.guillotiere.proofs.TreeLemmas.TreeIds.{Contains-first, Contains-later, Contains-none, Contains-cons_cases}
+use Rattle.guillotiere.proofs.TreeLemmas.TreeKept.{ids-grown}
 use Rattle.guillotiere_recording.specs.Events.{EventValue}
 use Rattle.guillotiere_recording.specs.Events.EventValue.{Allocate, Deallocate, Grow, Rearrange, ResizeAndRearrange}
 use Rattle.guillotiere_recording.specs.Sessions.{Named, IsLiveName, IsNamed, KeepsNames, GrantsUnder, FreesUnder, Leads}
-use Rattle.guillotiere_recording.specs.Twins.{AreTwins, is_plain, Says, NamesGrant, TwinsAnswerAlike, TwinsShareNames, NewSessionsAreTwins, EventsKeepTwins}
+use Rattle.guillotiere_recording.specs.Twins.{AreTwins, is_plain_event, Says, NamesGrant, TwinsAnswerAlike, TwinsShareNames, NewSessionsAreTwins, EventsKeepTwins}
 use Rattle.guillotiere_recording.proofs.Naming.{events_keep_names}
 
--- names
+-- Names
 
--- what stands in a mapped list comes from an element
+-- What stands in a mapped list comes from an element.
 came_from : (f : ℕ → ℕ) (xs : List ℕ) (y : ℕ) → Contains (map f xs) y → (x : ℕ) × Contains xs x × (f x ≡ y)
 came_from f [] y at = absurd (Contains-none y at)
 came_from f (x ∷ xs) y at =
@@ -66,12 +66,12 @@ new_sessions_are_twins size options f g = record {
   twins = λ a b at_a at_b same. absurd (Contains-none a at_a);
 }
 
--- the names after a step that makes nothing live
+-- The names after a step that makes nothing live.
 names_kept : (old new : Named) → ((id : ℕ) → IsLive new.state id → IsLive old.state id) → KeepsNames old new
     → AreNamedAlike old.name new.name (ids new.state.tree.members)
 names_kept old new was kept id live = kept id (was id live) live
 
--- and after a grant
+-- And after a grant.
 names_granted : (old new : Named) (b : Box) (r : Sides) (g : Grant) (name : ℕ) → new.state.tree ≡ place old.state.size b r g.id old.state.tree
     → new.name g.id ≡ name → KeepsNames old new
     → AreNamedAlike (with_name old.name g.id name) new.name (ids new.state.tree.members)
@@ -95,7 +95,7 @@ still_grown old new r step id live =
 still_freed : (old new : State) (freed : ℕ) → Step old (atlas.Deallocate freed) Done new → (id : ℕ) → IsLive new id → IsLive old id
 still_freed old new freed step id live = ids_released (only freed) old.tree id (subst (λ s. IsLive s id) step.1 live)
 
--- what a reply is that is the answer to a grant
+-- What a reply is that is the answer to a grant.
 
 granted_too : (f g : ℕ → ℕ) (s s' t' : State) (x : Grant) (reply : AtlasReply) → AnswerAlike f g s s' t' (Allocated x) reply
     → (b : Grant) × (reply ≡ Allocated b) × AnswerAlike f g s s' t' (Allocated x) (Allocated b)
@@ -106,7 +106,7 @@ granted_too f g s s' t' x (Changed list) h = let e : Changed list ≡ Allocated 
 granted_too f g s s' t' x (Refused error) h = let e : Refused error ≡ Allocated x = h.0 in absurd (cc)
 granted_too f g s s' t' x BadCall h = let e : BadCall ≡ Allocated x = h.0 in absurd (cc)
 
--- what one event makes of twins: it says so, and with names kept it leads the other on too
+-- What one event makes of twins: it says so, and with names kept it leads the other on too.
 abbrev Agree : (s' t t' : Named) → EventValue → AtlasReply → Type 0
 Agree s' t t' event reply =
     Says event reply × (KeepsNames t t' → NamesGrant event reply t' → Leads t event t' × AreTwins s' t')
@@ -222,9 +222,9 @@ twins_answer_alike s s' t t' (Grow size) call reply good good_t twins plain h as
 twins_answer_alike s s' t t' (Rearrange list) call reply good good_t twins plain h asks step met = absurd asks
 twins_answer_alike s s' t t' (ResizeAndRearrange size list) call reply good good_t twins plain h asks step met = absurd asks
 
--- an event that leads twins on keeps them so
+-- An event that leads twins on keeps them so.
 pub event_keeps_twins : (s s' t t' : Named) (event : EventValue) → IsNamed s → IsNamed t → AreTwins s t
-    → is_plain event ≡ true → Leads s event s' → Leads t event t' → AreTwins s' t'
+    → is_plain_event event ≡ true → Leads s event s' → Leads t event t' → AreTwins s' t'
 event_keeps_twins s s' t t' (Allocate size None) good good_t twins plain h k =
     ((twins_answer_alike s s' t t' (Allocate size None) (atlas.Allocate (sides_of size)) NoRoom good good_t twins plain h refl
     k.0 refl).1 k.1 tt).1
@@ -243,5 +243,5 @@ pub events_keep_twins : EventsKeepTwins
 events_keep_twins s s' t t' [] good good_t twins plain h k = subst₂ AreTwins (sym h) (sym k) twins
 events_keep_twins s s' t t' (event ∷ events) good good_t twins plain (mid, h, rest) (mid', k, rest') =
     events_keep_twins mid s' mid' t' events (events_keep_names s mid event good h) (events_keep_names t mid' event good_t k)
-    (event_keeps_twins s mid t mid' event good good_t twins (All-head (λ e. is_plain e ≡ true) event events plain) h k)
-    (All-tail (λ e. is_plain e ≡ true) event events plain) rest rest'
+    (event_keeps_twins s mid t mid' event good good_t twins (All-head (λ e. is_plain_event e ≡ true) event events plain) h k)
+    (All-tail (λ e. is_plain_event e ≡ true) event events plain) rest rest'

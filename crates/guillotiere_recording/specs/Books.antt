@@ -8,11 +8,11 @@ use Rattle.guillotiere_recording.specs.Events.{EventValue, ListValue}
 use Rattle.guillotiere_recording.specs.Events.EventValue.{Allocate, Deallocate, Grow, Rearrange, ResizeAndRearrange}
 use Rattle.guillotiere_recording.specs.Sessions.{Named, named_boxes, IsNamed, Leads, Recorded}
 
--- the new boxes of a list
+-- The new boxes of a list.
 abbrev pub moved_boxes : ListValue → List Grant
 moved_boxes list = map (λ c. grant_of c.new) list.changes
 
--- a grant adds, a freeing removes, a change list replaces all by its new boxes
+-- A grant adds, a freeing removes, a change list replaces all by its new boxes.
 abbrev pub booked : List Grant → EventValue → List Grant
 booked held (Allocate size None) = held
 booked held (Allocate size (Some a)) = held ++ grant_of a ∷ []
@@ -25,25 +25,25 @@ abbrev pub book_from : List Grant → List EventValue → List Grant
 book_from held [] = held
 book_from held (event ∷ events) = book_from (booked held event) events
 
--- the live names with their boxes, by the events alone
+-- The live names with their boxes, by the events alone.
 abbrev pub book : List EventValue → List Grant
 book events = book_from [] events
 
--- the same grants, each as often, in whatever order
+-- The same grants, each as often, in whatever order.
 abbrev pub AreSameGrants : List Grant → List Grant → Type 0
 AreSameGrants gs hs = (p : Grant → Bool) → count_by p gs ≡ count_by p hs
 
--- an event from a named state leads to a named state
+-- An event from a named state leads to a named state.
 abbrev pub EventsKeepNames : Type 0
 EventsKeepNames = (old new : Named) (event : EventValue) → IsNamed old → Leads old event new → IsNamed new
 
--- every state that recorded events lead to is a named one
+-- Every state that recorded events lead to is a named one.
 abbrev pub SessionsAreNamed : Type 0
 SessionsAreNamed =
     (size : Sides) (options : Options) (events : List EventValue) (last : Named) → Recorded size options events last
     → IsNamed last
 
--- the book of recorded events lists the live names with their boxes, each once, in every state that they lead to
+-- The book of recorded events lists the live names with their boxes, each once, in every state that they lead to.
 abbrev pub BooksAreTrue : Type 0
 BooksAreTrue =
     (size : Sides) (options : Options) (events : List EventValue) (last : Named) → Recorded size options events last

@@ -13,53 +13,53 @@ use Rattle.guillotiere_recording.specs.declared.moves.Moved.{Moved}
 use Rattle.guillotiere_recording.specs.declared.names.LiveName.{LiveName}
 use Rattle.guillotiere_recording.specs.declared.steps.EventFault.{EventFault}
 use Rattle.guillotiere_recording.specs.declared.steps.EventFault.TheVariants as stop
-use Rattle.guillotiere_recording.specs.Events.{ListValue, list_of}
+use Rattle.guillotiere_recording.specs.Events.{ListValue, list_value_of}
 use Rattle.guillotiere_recording.specs.Moves.{IsMoved}
 use Rattle.guillotiere_recording.specs.Names.{AreLiveIds}
 use Rattle.guillotiere_recording.specs.Recordings.{SessionValue, session_of}
 use Rattle.guillotiere_recording.specs.Sessions.{IsNamed}
 use Rattle.guillotiere_recording.specs.Standing.{Names}
 
--- each live id has one entry, and no two have one name
-pub record IsKept (v : SessionValue) : Type 0 where
+-- Each live id has one entry, and no two have one name.
+pub record IsSessionKept (v : SessionValue) : Type 0 where
   pub ids : AreLiveIds (state_of v.atlas) v.names
   pub named : IsNamed (session_of v)
 
 abbrev pub entry_in : ℕ × ℕ → LiveName
 entry_in e = record { name = e.0; id = e.1 }
 
--- the entries of a map, by rising name
+-- The entries of a map, by rising name.
 abbrev pub entries_in : Names → List LiveName
 entries_in names = map entry_in names.entries
 
--- the map has these entries, and no other
+-- The map has these entries, and no other.
 abbrev pub HasEntries : List LiveName → Names → Type 0
 HasEntries entries names = (name id : ℕ) → (get nat_cmp names name ≡ Some id) ↔ Contains entries (entry_in (name, id))
 
--- the list is the answer to a rearranging of an atlas whose live ids have these entries
+-- The list is the answer to a rearranging of an atlas whose live ids have these entries.
 pub record IsRearranged {A : Type 0} (entries : List LiveName) (list : ChangeList A) : Type 0 where
   pub before : SessionValue
-  pub kept : IsKept before
+  pub kept : IsSessionKept before
   pub names : before.names ≡ entries
   pub new : State
   pub asked : AtlasCall
   pub step : Step (state_of before.atlas) asked (atlas.Changed (rearrangement_of list)) new
 
--- the list under names is the said one, and the map has the entries of what was moved
+-- The list under names is the said one, and the map has the entries of what was moved.
 pub record IsFollowed {A : Type 0} (entries : List LiveName) (list : ChangeList A) (said : ListValue) (names : Names)
     : Type 0 where
   pub moved : Moved A
   pub is : IsMoved entries list moved
-  pub same : list_of moved.list ≡ said
+  pub same : list_value_of moved.list ≡ said
   pub has : HasEntries moved.names.items names
 
--- the list under names is another than the said one
+-- The list under names is another than the said one.
 pub record IsOther {A : Type 0} (entries : List LiveName) (list : ChangeList A) (said : ListValue) : Type 0 where
   pub moved : Moved A
   pub is : IsMoved entries list moved
-  pub other : list_of moved.list ≡ said → ⊥
+  pub other : list_value_of moved.list ≡ said → ⊥
 
--- why a list isn't followed
+-- Why a list isn't followed.
 abbrev pub IsUnlike : {A : Type 0} → List LiveName → ChangeList A → ListValue → EventFault → Type 0
 IsUnlike entries list said stop.Memory = Unit {0}
 IsUnlike entries list said stop.Differs = IsOther entries list said

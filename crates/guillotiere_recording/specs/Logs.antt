@@ -5,7 +5,7 @@ use Rattle.guillotiere.specs.declared.options.AllocatorOptions.{AllocatorOptions
 use Rattle.guillotiere_recording.specs.declared.log.Log.{Log}
 use Rattle.guillotiere_recording.specs.Events.{EventValue, event_of}
 
--- the size and the options of the recorded atlas when it was new, and what happened since
+-- The size and the options of the recorded atlas when it was new, and what happened since.
 pub record RecordingValue : Type 0 where
   pub size : Size
   pub options : AllocatorOptions
@@ -14,6 +14,6 @@ pub record RecordingValue : Type 0 where
 abbrev pub recording_of : {A : Type 0} → Log A → RecordingValue
 recording_of log = record { size = log.size; options = log.options; events = map event_of log.events.items }
 
--- one event more, at the end
+-- One event more, at the end.
 abbrev pub with_event : EventValue → RecordingValue → RecordingValue
 with_event event r = record r { events = r.events ++ event ∷ [] }

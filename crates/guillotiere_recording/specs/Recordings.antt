@@ -12,25 +12,25 @@ use Rattle.guillotiere_recording.specs.Events.{EventValue, given_names}
 use Rattle.guillotiere_recording.specs.Logs.{RecordingValue}
 use Rattle.guillotiere_recording.specs.Sessions.{Named, Recorded}
 use Rattle.guillotiere_recording.specs.Books.{AreSameGrants, book}
-use Rattle.guillotiere_recording.specs.Names.{AreRising, AreLiveIds, name_among}
+use Rattle.guillotiere_recording.specs.Names.{AreRisingNames, AreLiveIds, name_among}
 
--- the atlas, the names of its live ids, how many names were given, and what was recorded
+-- The atlas, the names of its live ids, how many names were given, and what was recorded.
 pub record SessionValue : Type 0 where
   pub atlas : AtlasValue
   pub names : List LiveName
   pub given : ℕ
   pub recording : RecordingValue
 
--- the state of the atlas, and the names of its live ids
+-- The state of the atlas, and the names of its live ids.
 abbrev pub session_of : SessionValue → Named
 session_of v = record { state = state_of v.atlas; name = name_among v.names }
 
--- the names 0, 1, 2, .. up to a number
+-- The names 0, 1, 2, .. up to a number.
 abbrev pub first_names : ℕ → List ℕ
 first_names zero = []
 first_names (suc n) = first_names n ++ n ∷ []
 
--- the recorded events lead to this state
+-- The recorded events lead to this state.
 abbrev pub LeadsTo : RecordingValue → Named → Type 0
 LeadsTo r last = Recorded (sides_of r.size) (options_of r.options) r.events last
 
@@ -39,22 +39,22 @@ pub record IsFaithful (v : SessionValue) : Type 0 where
   pub leads : LeadsTo v.recording (session_of v)
   pub given : given_names v.recording.events ≡ first_names v.given
 
--- a session that is new: an atlas of this size with these options, and nothing recorded
+-- A session that is new: an atlas of this size with these options, and nothing recorded.
 pub record IsNew (size : Size) (options : AllocatorOptions) (v : SessionValue) : Type 0 where
   pub state : state_of v.atlas ≡ started (sides_of size) (options_of options) 16777216
   pub recording : v.recording ≡ record { size = size; options = options; events = [] }
   pub given : v.given ≡ 0
 
--- the live names with their boxes by rising name, as exact rectangles: the book of the events
+-- The live names with their boxes by rising name, as exact rectangles: the book of the events.
 pub record AreBooked (events : List EventValue) (found : List Allocation) : Type 0 where
   pub list : AreSameGrants (map grant_of found) (book events)
   pub rising : AllPairs (λ (a b : Allocation). a.id < b.id) found
   pub exact : All (λ (a : Allocation). IsExact a.rectangle) found
 
--- what each recording allocator keeps
+-- What each recording allocator keeps.
 pub record IsSession (v : SessionValue) : Type 0 where
   pub faithful : IsFaithful v
   pub ids : AreLiveIds (state_of v.atlas) v.names
-  pub rising : AreRising v.names
+  pub rising : AreRisingNames v.names
   pub below : All (λ (n : LiveName). n.name < v.given) v.names
   pub most : v.given ≤ 2 ^ 32

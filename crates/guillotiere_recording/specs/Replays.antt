@@ -19,24 +19,24 @@ use Rattle.guillotiere_recording.specs.Events.EventValue.{Allocate, Deallocate, 
 use Rattle.guillotiere_recording.specs.Logs.{RecordingValue}
 use Rattle.guillotiere_recording.specs.Sessions.{Named, IsLiveName}
 use Rattle.guillotiere_recording.specs.Recordings.{LeadsTo, AreBooked}
-use Rattle.guillotiere_recording.specs.Twins.{is_plain}
+use Rattle.guillotiere_recording.specs.Twins.{is_plain_event}
 
--- events that are counted
+-- Events that are counted.
 
-abbrev pub is_grant : EventValue → Bool
-is_grant (Allocate size (Some a)) = true
-is_grant _ = false
+abbrev pub is_granted_event : EventValue → Bool
+is_granted_event (Allocate size (Some a)) = true
+is_granted_event _ = false
 
 abbrev pub is_freeing : EventValue → Bool
 is_freeing (Deallocate name) = true
 is_freeing _ = false
 
--- a request that had no room
+-- A request that had no room.
 abbrev pub is_failed_request : EventValue → Bool
 is_failed_request (Allocate size None) = true
 is_failed_request _ = false
 
--- the events are those of a session
+-- The events are those of a session.
 abbrev pub IsRecorded : RecordingValue → Type 0
 IsRecorded r = (last : Named) × LeadsTo r last
 
@@ -45,7 +45,7 @@ IsRecorded r = (last : Named) × LeadsTo r last
 pub record IsReplayed {A : Type 0} (r : RecordingValue) (stats : ReplayStats A) : Type 0 where
   pub recorded : IsRecorded r
   pub live : AreBooked r.events stats.live.items
-  pub allocations : stats.allocations ≡ count_by is_grant r.events
+  pub allocations : stats.allocations ≡ count_by is_granted_event r.events
   pub deallocations : stats.deallocations ≡ count_by is_freeing r.events
   pub failed : stats.failed_allocations ≡ count_by is_failed_request r.events
 
@@ -59,7 +59,7 @@ IsBad s (Grow size) = Fits s.state.size (sides_of size) → ⊥
 IsBad s (Rearrange list) = ⊥
 IsBad s (ResizeAndRearrange size list) = IsPositive (sides_of size) → ⊥
 
--- the call that an event asks for
+-- The call that an event asks for.
 abbrev pub IsCall : Named → EventValue → AtlasCall → Type 0
 IsCall s (Allocate size answer) call = call ≡ atlas.Allocate (sides_of size)
 IsCall s (Deallocate name) call = (id : ℕ) × IsLive s.state id × (s.name id ≡ name) × (call ≡ atlas.Deallocate id)
@@ -67,7 +67,7 @@ IsCall s (Grow size) call = call ≡ atlas.Grow (sides_of size)
 IsCall s (Rearrange list) call = call ≡ atlas.Rearrange
 IsCall s (ResizeAndRearrange size list) call = call ≡ atlas.ResizeAndRearrange (sides_of size)
 
--- a list as it is shown under names: a change has the name of the old id twice
+-- A list as it is shown under names: a change has the name of the old id twice.
 
 abbrev pub shown_grant : (ℕ → ℕ) → Grant → Allocation
 shown_grant name g = record { id = name g.id; rectangle = rectangle_of g.box }
@@ -83,7 +83,7 @@ abbrev pub shown_list : (ℕ → ℕ) → Rearrangement → ListValue
 shown_list name answer =
     record { changes = map (shown_change name) answer.changes; failures = map (shown_grant name) answer.failures }
 
--- the reply is what the event says, but for the id of a grant
+-- The reply is what the event says, but for the id of a grant.
 abbrev pub IsAnswer : Named → EventValue → AtlasReply → Type 0
 IsAnswer s (Allocate size None) reply = reply ≡ NoRoom
 IsAnswer s (Allocate size (Some a)) reply = (g : Grant) × (reply ≡ Allocated g) × (a.rectangle ≡ rectangle_of g.box)
@@ -116,7 +116,7 @@ pub record LacksSlots (s : Named) (event : EventValue) : Type 0 where
   pub asked : IsCall s event call
   pub step : Step s.state call (Refused error.Slots) s.state
 
--- the first events of a recording
+-- The first events of a recording.
 abbrev pub first_events : ℕ → RecordingValue → RecordingValue
 first_events i r = record r { events = take i r.events }
 
@@ -128,7 +128,7 @@ pub record StopsAt (r : RecordingValue) (i : ℕ) (Stops : Named → EventValue 
   pub before : LeadsTo (first_events i r) at
   pub stops : Stops at event
 
--- why a replay ends with a fault
+-- Why a replay ends with a fault.
 abbrev pub IsFaultOf : RecordingValue → ReplayFault → Type 0
 IsFaultOf r fault.Memory = Unit {0}
 IsFaultOf r fault.Slots = (i : ℕ) × StopsAt r i LacksSlots
@@ -136,9 +136,9 @@ IsFaultOf r (fault.Differs i) = StopsAt r i AnswersOtherwise
 IsFaultOf r (fault.BadEvent i) = StopsAt r i IsBad
 
 abbrev pub HasRearranging : List EventValue → Type 0
-HasRearranging events = Any (λ e. is_plain e ≡ false) events
+HasRearranging events = Any (λ e. is_plain_event e ≡ false) events
 
--- the faults of a recording of a session: one of its events is a rearranging, for `Differs` the i-th or one before it
+-- The faults of a recording of a session: one of its events is a rearranging, for `Differs` the i-th or one before it.
 abbrev pub MayFail : RecordingValue → ReplayFault → Type 0
 MayFail r fault.Memory = Unit {0}
 MayFail r fault.Slots = HasRearranging r.events

@@ -17,33 +17,33 @@ use Rattle.guillotiere.specs.Steps.AtlasReply.{Allocated, NoRoom, Done, Changed}
 use Rattle.guillotiere_recording.specs.Events.{EventValue, ListValue}
 use Rattle.guillotiere_recording.specs.Events.EventValue.{Allocate, Deallocate, Grow, Rearrange, ResizeAndRearrange}
 
--- a state of an atlas, and the name of each live id
+-- A state of an atlas, and the name of each live id.
 pub record Named : Type 0 where
   pub state : State
   pub name : ℕ → ℕ
 
--- both grants under the name of the old id
+-- Both grants under the name of the old id.
 abbrev pub renamed_transfer : (ℕ → ℕ) → Transfer → Transfer
 renamed_transfer name t = record { old = grant (name t.old.id) t.old.box; new = grant (name t.old.id) t.new.box }
 
--- the live names with their boxes
+-- The live names with their boxes.
 abbrev pub named_boxes : Named → List Grant
 named_boxes s = map (renamed_grant s.name) (live_in s.state)
 
 abbrev pub IsLiveName : Named → (name : ℕ) → Type 0
 IsLiveName s name = (id : ℕ) × IsLive s.state id × (s.name id ≡ name)
 
--- what each session keeps: the state is sound, and names and live ids go together one to one
+-- What each session keeps: the state is sound, and names and live ids go together one to one.
 pub record IsNamed (s : Named) : Type 0 where
   pub sound : IsSound s.state
   pub limit : s.state.limit ≡ 16777216
   pub names : IsOneToOne s.name (ids s.state.tree.members)
 
--- what is live before and after keeps its name
+-- What is live before and after keeps its name.
 abbrev pub KeepsNames : Named → Named → Type 0
 KeepsNames old new = (id : ℕ) → IsLive old.state id → IsLive new.state id → new.name id ≡ old.name id
 
--- a request is granted under a name that isn't live
+-- A request is granted under a name that isn't live.
 pub record GrantsUnder (old : Named) (request : Size) (a : Allocation) (new : Named) : Type 0 where
   pub id : ℕ
   pub step : Step old.state (atlas.Allocate (sides_of request)) (Allocated (grant id (box_of a.rectangle))) new.state
@@ -52,7 +52,7 @@ pub record GrantsUnder (old : Named) (request : Size) (a : Allocation) (new : Na
   pub named : new.name id ≡ a.id
   pub kept : KeepsNames old new
 
--- the box of a live name is freed
+-- The box of a live name is freed.
 pub record FreesUnder (old : Named) (name : ℕ) (new : Named) : Type 0 where
   pub id : ℕ
   pub live : IsLive old.state id
@@ -80,16 +80,16 @@ Leads old (Grow size) new = Step old.state (atlas.Grow (sides_of size)) Done new
 Leads old (Rearrange list) new = RearrangesUnder old atlas.Rearrange list new
 Leads old (ResizeAndRearrange size list) new = RearrangesUnder old (atlas.ResizeAndRearrange (sides_of size)) list new
 
--- the events lead on, one after the other
+-- The events lead on, one after the other.
 abbrev pub LeadOn : Named → List EventValue → Named → Type 0
 LeadOn old [] new = new ≡ old
 LeadOn old (event ∷ events) new = (mid : Named) × Leads old event mid × LeadOn mid events new
 
--- an atlas of this size in which nothing is live; its names are of no matter
+-- An atlas of this size in which nothing is live; its names are of no matter.
 abbrev pub fresh_session : Sides → Options → (name : ℕ → ℕ) → Named
 fresh_session size options name = record { state = started size options 16777216; name = name }
 
--- the events lead on from a new atlas of this size with these options
+-- The events lead on from a new atlas of this size with these options.
 pub record Recorded (size : Sides) (options : Options) (events : List EventValue) (last : Named) : Type 0 where
   pub nonempty : IsPositive size
   pub valid : AreValid options

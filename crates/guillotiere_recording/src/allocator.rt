@@ -1,5 +1,6 @@
 //! The recording allocator: an atlas that hands out names in place of ids, and records its calls.
-ghost use Rattle.std.specs.Prelude.{◌≡◌, ◌+◌, ◌<◌, ◌^◌, ◌↔◌, ◌⊎◌, [], OnErr, OnOk, IfErr, IfOk, IfSome, IsSome, OnSome, IsOkUnless, List, if◌then◌else◌, None, Some, Ok, Err};
+ghost use Rattle.std.specs.Prelude.{◌≡◌, ◌+◌, ◌<◌, ◌^◌, ◌↔◌, ◌⊎◌, [], OnErr, OnOk, IfErr, IfOk, IfSome, IsSome, OnSome};
+ghost use Rattle.std.specs.Prelude.{IsOkUnless, List, if◌then◌else◌, None, Some, Ok, Err};
 ghost use Rattle.std.specs.List.{FoldsTo};
 ghost use Rattle.std.specs.Fn.{CalledAt};
 ghost use Rattle.guillotiere.specs.declared.geometry.Rectangle.{Rectangle as Area};
@@ -13,8 +14,9 @@ ghost use Rattle.guillotiere.specs.Visits.{AreFreeAreas, CalledAtGrant};
 ghost use Rattle.guillotiere.specs.States.{IsSound};
 ghost use Rattle.guillotiere.specs.Steps as atlas;
 ghost use Rattle.guillotiere.specs.Steps.{Step};
-ghost use Rattle.guillotiere_recording.specs.Events.EventValue.{Allocate, Deallocate, Grow, Rearrange, ResizeAndRearrange};
-ghost use Rattle.guillotiere_recording.specs.Events.{list_of};
+ghost use Rattle.guillotiere_recording.specs.Events.EventValue.{Allocate, Deallocate, Grow, Rearrange};
+ghost use Rattle.guillotiere_recording.specs.Events.EventValue.{ResizeAndRearrange};
+ghost use Rattle.guillotiere_recording.specs.Events.{list_value_of};
 ghost use Rattle.guillotiere_recording.specs.Sessions.{IsLiveName, Leads};
 ghost use Rattle.guillotiere_recording.specs.Logs.{with_event};
 
@@ -52,9 +54,11 @@ impl<A: Allocator + Copy> Model for RecordingAllocator<A> {
 
     ghost Value = { SessionValue };
 
-    ghost view = { λ a. record { atlas = a.atlas; names = a.names.items; given = a.given; recording = recording_of a.log } };
+    ghost view = { λ a.
+        record { atlas = a.atlas; names = a.names.items; given = a.given; recording = recording_of a.log } };
 
-    ghost invariant = { λ a. IsSession (record { atlas = a.atlas; names = a.names.items; given = a.given; recording = recording_of a.log }) };
+    ghost invariant = { λ a. IsSession
+        (record { atlas = a.atlas; names = a.names.items; given = a.given; recording = recording_of a.log }) };
 }
 
 impl<A: Allocator + Copy> RecordingAllocator<A> {
@@ -102,12 +106,13 @@ impl<A: Allocator + Copy> RecordingAllocator<A> {
     }
 
     /// Grants a request as the atlas does, under a new name. `Names` for every request once all 4294967296 names were
-    /// given; None as the atlas's, and recorded; `Memory` if memory for the event, for the name or for slots is refused,
-    /// also where the answer would be `Slots` or None; `Slots` as the atlas's.
+    /// given; None as the atlas's, and recorded; `Memory` if memory for the event, for the name or for slots is
+    /// refused, also where the answer would be `Slots` or None; `Slots` as the atlas's.
     pub fn allocate(&mut self, requested_size: Size) -> Result<Option<Allocation>, RecordingError>
         ensures recorded { IfOk result (λ answer. self.new.recording
             ≡ with_event (Allocate requested_size answer) self.old.recording) }
-        ensures led { IfOk result (λ answer. Leads (session_of self.old) (Allocate requested_size answer) (session_of self.new)) }
+        ensures led { IfOk result
+            (λ answer. Leads (session_of self.old) (Allocate requested_size answer) (session_of self.new)) }
         ensures given { IfOk result (λ answer. IfSome answer (λ granted. granted.id ≡ self.old.given)) }
         ensures names { (result ≡ Err RecordingError.Names) ↔ (self.old.given ≡ 2 ^ 32) }
         ensures slots { result ≡ Err RecordingError.Slots
@@ -162,8 +167,8 @@ impl<A: Allocator + Copy> RecordingAllocator<A> {
         Ok(())
     }
 
-    /// Makes the atlas larger, as its `grow` does. Asks that neither side shrinks. `Memory` if memory for the event or for
-    /// slots is refused; `Slots` as the atlas's.
+    /// Makes the atlas larger, as its `grow` does. Asks that neither side shrinks. `Memory` if memory for the event or
+    /// for slots is refused; `Slots` as the atlas's.
     pub fn grow(&mut self, new_size: Size) -> Result<(), RecordingError>
         requires { Fits (state_of self.old.atlas).size (sides_of new_size) }
         ensures recorded { OnOk result (self.new.recording ≡ with_event (Grow new_size) self.old.recording) }
@@ -180,12 +185,13 @@ impl<A: Allocator + Copy> RecordingAllocator<A> {
         Ok(())
     }
 
-    /// Places what is allocated anew, as the atlas's `rearrange` does. Each change has one name in `old` and `new`; the name
-    /// of a failure is live no more. `Memory` if memory is refused; `Slots` as the atlas's.
+    /// Places what is allocated anew, as the atlas's `rearrange` does. Each change has one name in `old` and `new`; the
+    /// name of a failure is live no more. `Memory` if memory is refused; `Slots` as the atlas's.
     pub fn rearrange(&mut self) -> Result<ChangeList<A>, RecordingError>
         ensures recorded { IfOk result (λ list. self.new.recording
-            ≡ with_event (Rearrange (list_of list)) self.old.recording) }
-        ensures led { IfOk result (λ list. Leads (session_of self.old) (Rearrange (list_of list)) (session_of self.new)) }
+            ≡ with_event (Rearrange (list_value_of list)) self.old.recording) }
+        ensures led { IfOk result
+            (λ list. Leads (session_of self.old) (Rearrange (list_value_of list)) (session_of self.new)) }
         ensures slots { result ≡ Err RecordingError.Slots
             → Step (state_of self.old.atlas) atlas.Rearrange
             (atlas.Refused AtlasError.Slots) (state_of self.old.atlas) }
@@ -203,14 +209,16 @@ impl<A: Allocator + Copy> RecordingAllocator<A> {
         Ok(list)
     }
 
-    /// Places what is allocated anew in an empty atlas of this size, in pixels, as the atlas's `resize_and_rearrange` does.
-    /// Asks a size that isn't empty. Each change has one name in `old` and `new`; the name of a failure is live no more.
-    /// `Memory` if memory is refused; `Slots` as the atlas's.
+    /// Places what is allocated anew in an empty atlas of this size, in pixels, as the atlas's `resize_and_rearrange`
+    /// does. Asks a size that isn't empty. Each change has one name in `old` and `new`; the name of a failure is live
+    /// no more. `Memory` if memory is refused; `Slots` as the atlas's.
     pub fn resize_and_rearrange(&mut self, new_size: Size) -> Result<ChangeList<A>, RecordingError>
         requires { IsPositive (sides_of new_size) }
         ensures recorded { IfOk result (λ list. self.new.recording
-            ≡ with_event (ResizeAndRearrange new_size (list_of list)) self.old.recording) }
-        ensures led { IfOk result (λ list. Leads (session_of self.old) (ResizeAndRearrange new_size (list_of list)) (session_of self.new)) }
+            ≡ with_event (ResizeAndRearrange new_size (list_value_of list)) self.old.recording) }
+        ensures led { IfOk result
+            (λ list. Leads (session_of self.old) (ResizeAndRearrange new_size (list_value_of list))
+            (session_of self.new)) }
         ensures slots { result ≡ Err RecordingError.Slots
             → Step (state_of self.old.atlas) (atlas.ResizeAndRearrange (sides_of new_size))
             (atlas.Refused AtlasError.Slots) (state_of self.old.atlas) }
@@ -228,8 +236,8 @@ impl<A: Allocator + Copy> RecordingAllocator<A> {
         Ok(list)
     }
 
-    /// Calls `visit` on each free rectangle once, in an order that is left open. Asks that `visit` may be called. Takes no
-    /// memory.
+    /// Calls `visit` on each free rectangle once, in an order that is left open. Asks that `visit` may be called. Takes
+    /// no memory.
     pub fn for_each_free_rectangle<F: FnMut(&Rectangle)>(&self, visit: F)
         requires { F.IsAlwaysCallable visit }
         ensures { (areas : List Area) × AreFreeAreas (state_of self.now.atlas) areas × ((last : F)
@@ -238,8 +246,8 @@ impl<A: Allocator + Copy> RecordingAllocator<A> {
         self.atlas.for_each_free_rectangle(visit);
     }
 
-    /// Calls `visit` on each live name and its rectangle once, by rising name. Asks that `visit` may be called. Takes no
-    /// memory.
+    /// Calls `visit` on each live name and its rectangle once, by rising name. Asks that `visit` may be called. Takes
+    /// no memory.
     pub fn for_each_allocated_rectangle<F: FnMut(AllocId, &Rectangle)>(&self, visit: F)
         requires { F.IsAlwaysCallable visit }
         ensures { (grants : List Grant) × AreBooked self.now.recording.events grants × ((last : F)

@@ -2,8 +2,8 @@
 ghost use Rattle.std.specs.Prelude.{◌≡◌, ◌↔◌, IsTrue, IfOk, IfErr, OnOk, All, Some};
 ghost use Rattle.std.specs.Ordering.{nat_cmp};
 ghost use Rattle.std.specs.BTreeMap.{get, IsOrdered};
-ghost use Rattle.guillotiere_recording.specs.Events.{list_of};
-ghost use Rattle.guillotiere_recording.specs.Names.{AreRising};
+ghost use Rattle.guillotiere_recording.specs.Events.{list_value_of};
+ghost use Rattle.guillotiere_recording.specs.Names.{AreRisingNames};
 ghost use Rattle.guillotiere_recording.specs.Kept.{entries_in, HasEntries, IsRearranged, IsFollowed, IsUnlike};
 
 use crate::moves::under_names;
@@ -37,7 +37,7 @@ pub fn map_names<A: Allocator + Copy>(
     alloc: A,
     entries: &[LiveName],
 ) -> Result<BTreeMap<u32, AllocId, A>, AllocError>
-    requires { AreRising entries.now }
+    requires { AreRisingNames entries.now }
     ensures { IfOk result (HasEntries entries.now) }
 {
     let mut names = BTreeMap::new(alloc);
@@ -49,7 +49,7 @@ pub fn map_names<A: Allocator + Copy>(
 
 // Whether two change lists have the same changes and failures.
 fn are_equal<A: Allocator + Copy>(one: &ChangeList<A>, other: &ChangeList<A>) -> bool
-    ensures { IsTrue result ↔ (list_of one.now ≡ list_of other.now) }
+    ensures { IsTrue result ↔ (list_value_of one.now ≡ list_value_of other.now) }
 {
     one == other
 }
@@ -63,8 +63,8 @@ pub fn follow<A: Allocator + Copy>(
     recorded: &ChangeList<A>,
 ) -> Result<BTreeMap<u32, AllocId, A>, EventFault>
     requires { IsRearranged entries.now list.now }
-    ensures ok { IfOk result (IsFollowed entries.now list.now (list_of recorded.now)) }
-    ensures fault { IfErr result (IsUnlike entries.now list.now (list_of recorded.now)) }
+    ensures ok { IfOk result (IsFollowed entries.now list.now (list_value_of recorded.now)) }
+    ensures fault { IfErr result (IsUnlike entries.now list.now (list_value_of recorded.now)) }
 {
     let Ok(moved) = under_names(alloc, entries, list) else {
         return Err(EventFault::Memory);

@@ -1,6 +1,7 @@
 //! Laws over the definitions of recordings, each the contract of a function that does nothing.
 ghost use Rattle.guillotiere_recording.specs.Books.{EventsKeepNames, SessionsAreNamed, BooksAreTrue};
-ghost use Rattle.guillotiere_recording.specs.Twins.{TwinsAnswerAlike, TwinsShareNames, NewSessionsAreTwins, EventsKeepTwins};
+ghost use Rattle.guillotiere_recording.specs.Twins.{TwinsAnswerAlike, TwinsShareNames, NewSessionsAreTwins};
+ghost use Rattle.guillotiere_recording.specs.Twins.{EventsKeepTwins};
 
 /// An event leads from a sound state whose names go one to one with its live ids to another such state.
 pub fn events_keep_names()

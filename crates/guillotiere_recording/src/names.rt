@@ -1,7 +1,7 @@
 //! The names of live ids, by rising name.
 ghost use Rattle.std.specs.Prelude.{◌≡◌, ◌++◌, ◌∷◌, [], ◌<◌, length, vec_capacity, vec_len, IfSome, IfNone, All};
 ghost use Rattle.std.specs.List.{HoldsAt};
-ghost use Rattle.guillotiere_recording.specs.Names.{AreRising};
+ghost use Rattle.guillotiere_recording.specs.Names.{AreRisingNames};
 ghost use Rattle.guillotiere_recording.specs.declared.names.LiveName.{LiveName as Entry};
 
 use guillotiere::{AllocId, Allocation};
@@ -16,7 +16,7 @@ pub struct LiveName {
 
 /// Where a name stands among names that rise.
 pub fn place_of(names: &[LiveName], name: u32) -> Option<usize>
-    requires { AreRising names.now }
+    requires { AreRisingNames names.now }
     ensures inside { IfSome result (λ at. at < length names.now) }
     ensures found { IfSome result (λ at. HoldsAt (λ (n : Entry). n.name ≡ name) names.now at) }
     ensures none { IfNone result (All (λ (n : Entry). n.name ≡ name → ⊥) names.now) }
@@ -38,7 +38,7 @@ pub struct Found {
 
 /// The live id that a name stands for, among names that rise.
 pub fn find<A: Allocator>(names: &Vec<LiveName, A>, name: u32) -> Option<Found>
-    requires { AreRising names.now.items }
+    requires { AreRisingNames names.now.items }
     ensures inside { IfSome result (λ found. found.at < length names.now.items) }
     ensures found { IfSome result (λ found. HoldsAt (λ (n : Entry). n
         ≡ record { name = name; id = found.id }) names.now.items found.at) }

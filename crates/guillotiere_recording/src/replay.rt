@@ -72,11 +72,11 @@ impl<A: Allocator + Copy> ReplayStats<A> {
 
 impl<A: Allocator + Copy> Event<A> {
     ghost use Rattle.guillotiere_recording.specs.Events.{event_of};
-    ghost use Rattle.guillotiere_recording.specs.Replays.{is_grant, is_freeing, is_failed_request};
+    ghost use Rattle.guillotiere_recording.specs.Replays.{is_granted_event, is_freeing, is_failed_request};
 
     // Whether a request was granted.
     fn is_a_grant(&self) -> bool
-        ensures { result ≡ is_grant (event_of self.now) }
+        ensures { result ≡ is_granted_event (event_of self.now) }
     {
         match self {
             Event::Allocate(_, Some(_)) => true,
@@ -109,11 +109,11 @@ impl<A: Allocator + Copy> Log<A> {
     ghost use Rattle.guillotiere_recording.specs.Events.{event_of};
     ghost use Rattle.guillotiere_recording.specs.Logs.{recording_of};
     ghost use Rattle.guillotiere_recording.specs.Replays.{IsReplayed, IsFaultOf};
-    ghost use Rattle.guillotiere_recording.specs.Replays.{is_grant, is_freeing, is_failed_request};
+    ghost use Rattle.guillotiere_recording.specs.Replays.{is_granted_event, is_freeing, is_failed_request};
 
     // How many requests were granted.
     fn grants(&self) -> u64
-        ensures { result ≡ count_by (λ event. is_grant (event_of event)) self.now.events.items }
+        ensures { result ≡ count_by (λ event. is_granted_event (event_of event)) self.now.events.items }
     {
         self.events
             .iter()

@@ -4,11 +4,11 @@ ghost use Rattle.std.specs.Ordering.{nat_cmp};
 ghost use Rattle.std.specs.BTreeMap.{get, IsOrdered};
 ghost use Rattle.guillotiere.specs.Stored.{state_of};
 ghost use Rattle.guillotiere.specs.Replies.{live_box};
-ghost use Rattle.guillotiere_recording.specs.Events.{event_of, list_of};
+ghost use Rattle.guillotiere_recording.specs.Events.{event_of, list_value_of};
 ghost use Rattle.guillotiere_recording.specs.Sessions.{Named};
 ghost use Rattle.guillotiere_recording.specs.Events.EventValue.{Allocate, Deallocate, Grow};
 ghost use Rattle.guillotiere_recording.specs.Events.EventValue.{Rearrange, ResizeAndRearrange};
-ghost use Rattle.guillotiere_recording.specs.Standing.{Shows, CarriesOut, IsStopped, event_fault, shown_entry};
+ghost use Rattle.guillotiere_recording.specs.Standing.{ShowsNamed, CarriesOut, IsStopped, event_fault, shown_entry};
 ghost use Rattle.guillotiere_recording.specs.declared.steps.EventFault.TheVariants.{Memory};
 
 use crate::event::Event;
@@ -64,7 +64,7 @@ pub fn carry_out<A: Allocator + Copy>(
     names: &mut BTreeMap<u32, AllocId, A>,
     event: &Event<A>,
 ) -> Result<(), EventFault>
-    requires { (s : Named) × Shows atlas.old names.old s }
+    requires { (s : Named) × ShowsNamed atlas.old names.old s }
     ensures ok { OnOk result (CarriesOut atlas.old names.old (event_of event.now) atlas.new names.new) }
     ensures fault { IfErr result (IsStopped atlas.old names.old (event_of event.now)) }
 {
@@ -182,9 +182,10 @@ fn rearrange_again<A: Allocator + Copy>(
     names: &mut BTreeMap<u32, AllocId, A>,
     recorded: &ChangeList<A>,
 ) -> Result<(), EventFault>
-    requires { (s : Named) × Shows atlas.old names.old s }
-    ensures ok { OnOk result (CarriesOut atlas.old names.old (Rearrange (list_of recorded.now)) atlas.new names.new) }
-    ensures fault { IfErr result (IsStopped atlas.old names.old (Rearrange (list_of recorded.now))) }
+    requires { (s : Named) × ShowsNamed atlas.old names.old s }
+    ensures ok { OnOk result
+        (CarriesOut atlas.old names.old (Rearrange (list_value_of recorded.now)) atlas.new names.new) }
+    ensures fault { IfErr result (IsStopped atlas.old names.old (Rearrange (list_value_of recorded.now))) }
 {
     let alloc = *recorded.changes.allocator();
     let entries = list_names(alloc, names)?;
@@ -200,10 +201,11 @@ fn resize_again<A: Allocator + Copy>(
     size: Size,
     recorded: &ChangeList<A>,
 ) -> Result<(), EventFault>
-    requires { (s : Named) × Shows atlas.old names.old s }
-    ensures ok { OnOk result (CarriesOut atlas.old names.old (ResizeAndRearrange size (list_of recorded.now))
+    requires { (s : Named) × ShowsNamed atlas.old names.old s }
+    ensures ok { OnOk result (CarriesOut atlas.old names.old (ResizeAndRearrange size (list_value_of recorded.now))
         atlas.new names.new) }
-    ensures fault { IfErr result (IsStopped atlas.old names.old (ResizeAndRearrange size (list_of recorded.now))) }
+    ensures fault { IfErr result
+        (IsStopped atlas.old names.old (ResizeAndRearrange size (list_value_of recorded.now))) }
 {
     if size.is_empty() {
         return Err(EventFault::Bad);

@@ -61,7 +61,7 @@ fn many_boxes_are_freed_at_once_in_any_order(rt: HostRuntime) -> Result<(), Fail
     let mut atlas = strip(&rt, rt.alloc())?;
     let mut ids = Vec::new(rt.alloc());
     for step in 0..BOXES {
-        // 123457 has no factor in common with the number of boxes, so each box comes once
+        // 123457 has no factor in common with the number of boxes, so each box comes once.
         let number = (u64::from(step) * 123457) % u64::from(BOXES);
         ids.push(AllocId::deserialize(number as u32))?;
     }

@@ -97,7 +97,7 @@ fn the_allocated_walk_goes_by_rising_slot(rt: HostRuntime) -> Result<(), Fail> {
     }
     let mut seen = Vec::with_capacity(rt.alloc(), 4)?;
     atlas.for_each_allocated_rectangle(|id: AllocId, area: &Rectangle| {
-        // the walk has four calls, and no room is missing
+        // The walk has four calls, and no room is missing.
         let _ = seen.push((id.serialize(), *area));
     });
     let want = [

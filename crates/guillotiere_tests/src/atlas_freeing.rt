@@ -106,7 +106,7 @@ const ROWS: [Row; 20] = [
             Slots(2, 5),
         ],
     },
-    // free boxes of two containers are not joined
+    // Free boxes of two containers are not joined.
     Row {
         size: (100, 100),
         options: DEFAULT_OPTIONS,
@@ -140,7 +140,7 @@ const ROWS: [Row; 20] = [
         start: &SHELVES,
         calls: &[Allocate((300, 400), Some((4, (0, 0, 300, 400))))],
     },
-    // every size is large
+    // Every size is large.
     Row {
         size: (1000, 1000),
         options: EVERY_SIZE_LARGE,
@@ -165,7 +165,7 @@ const ROWS: [Row; 20] = [
             Live(&[(0, (0, 0, 100, 100)), (2, (0, 200, 100, 300))]),
         ],
     },
-    // an id of an earlier generation
+    // An id of an earlier generation.
     Row {
         size: (100, 100),
         options: DEFAULT_OPTIONS,
@@ -301,7 +301,7 @@ const ROWS: [Row; 20] = [
 
 // Rows that play, in part, with every request for memory refused.
 const ROWS_WITHOUT_MEMORY: [Row; 2] = [
-    // no memory where there were as many slots before
+    // No memory where there were as many slots before.
     Row {
         size: (100, 100),
         options: DEFAULT_OPTIONS,

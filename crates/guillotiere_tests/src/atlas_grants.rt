@@ -67,7 +67,7 @@ const ROWS: [Row; 16] = [
             Free(&[(16, 0, 64, 8), (0, 8, 64, 64)]),
         ],
     },
-    // both areas count as 2147483647
+    // Both areas count as 2147483647.
     Row {
         size: (200000, 200000),
         options: DEFAULT_OPTIONS,
@@ -116,7 +116,7 @@ const ROWS: [Row; 16] = [
             ]),
         ],
     },
-    // both free boxes have the least margin 10
+    // Both free boxes have the least margin 10.
     Row {
         size: (100, 100),
         options: DEFAULT_OPTIONS,
@@ -128,7 +128,7 @@ const ROWS: [Row; 16] = [
             Free(&[(90, 0, 100, 40), (50, 40, 100, 50), (0, 50, 100, 100)]),
         ],
     },
-    // a large request takes the greater margin
+    // A large request takes the greater margin.
     Row {
         size: (600, 600),
         options: DEFAULT_OPTIONS,
@@ -139,7 +139,7 @@ const ROWS: [Row; 16] = [
             Allocate((290, 280), Some((6, (0, 300, 290, 580)))),
         ],
     },
-    // and of equal margins the box that comes first
+    // And of equal margins the box that comes first.
     Row {
         size: (600, 600),
         options: DEFAULT_OPTIONS,

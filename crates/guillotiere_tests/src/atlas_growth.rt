@@ -31,7 +31,7 @@ const ROWS: [Row; 11] = [
             IsEmpty(true),
         ],
     },
-    // first to the right, then below both
+    // First to the right, then below both.
     Row {
         size: (100, 100),
         options: DEFAULT_OPTIONS,
@@ -47,7 +47,7 @@ const ROWS: [Row; 11] = [
             Slots(1, 5),
         ],
     },
-    // a free last member is enlarged
+    // A free last member is enlarged.
     Row {
         size: (100, 100),
         options: DEFAULT_OPTIONS,
@@ -65,7 +65,7 @@ const ROWS: [Row; 11] = [
             Free(&[(0, 0, 120, 150)]),
         ],
     },
-    // one free box
+    // One free box.
     Row {
         size: (100, 100),
         options: DEFAULT_OPTIONS,
@@ -79,7 +79,7 @@ const ROWS: [Row; 11] = [
             Allocate((150, 60), Some((0, (0, 0, 150, 60)))),
         ],
     },
-    // a small free box becomes a large one
+    // A small free box becomes a large one.
     Row {
         size: (20, 20),
         options: DEFAULT_OPTIONS,
@@ -118,7 +118,7 @@ const ROWS: [Row; 11] = [
             Live(&[(0, (0, 0, 100, 100))]),
         ],
     },
-    // to the size that it has
+    // To the size that it has.
     Row {
         size: (100, 100),
         options: DEFAULT_OPTIONS,
@@ -143,7 +143,7 @@ const ROWS: [Row; 11] = [
             Free(&[(0, 1, 1, 2147483647), (1, 0, 2147483647, 2147483647)]),
         ],
     },
-    // the last member holds others; once they are free it joins the appended strip
+    // The last member holds others; once they are free it joins the appended strip.
     Row {
         size: (100, 100),
         options: DEFAULT_OPTIONS,

@@ -93,7 +93,7 @@ const ROWS: [Row; 6] = [
             DeallocateDead(0),
         ],
     },
-    // both areas count as 2147483647, and the greater slot comes first
+    // Both areas count as 2147483647, and the greater slot comes first.
     Row {
         size: (100000, 100000),
         options: DEFAULT_OPTIONS,

@@ -47,7 +47,7 @@ fn a_callback_may_wrap_a_sum(rt: HostRuntime) -> Result<(), Fail> {
             .wrapping_add(low)
             .wrapping_add(id.serialize().to_le_bytes()[0]);
     });
-    // 300 + 200 + 100 and the ids 0, 2 and 3, modulo 256
+    // 300 + 200 + 100 and the ids 0, 2 and 3, modulo 256.
     assert_eq!(rt; sum, 93);
     Ok(())
 }

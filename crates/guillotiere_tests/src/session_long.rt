@@ -165,7 +165,7 @@ fn a_list_is_answered_as_its_calls_one_by_one(rt: HostRuntime) -> Result<(), Fai
     let mut atlas = AtlasAllocator::with_options(rt.alloc(), size2(200, 200), &DEFAULT_OPTIONS)?;
     let mut copy = atlas.clone()?;
     let mut count = 0usize;
-    // each list has a call or more
+    // Each list has a call or more.
     for _ in 0..20000u32 {
         if count >= 20000 {
             break;

@@ -28,7 +28,7 @@ enum Answer {
     Allocated(u32, Corners),
     NoRoom,
     Done,
-    // a rearranging of nothing
+    // A rearranging of nothing.
     ChangedNothing,
     NotLive,
     Slots,
@@ -39,7 +39,7 @@ struct Row {
     size: Sides,
     limit: u32,
     lines: &'static [(Line, Answer)],
-    // what is allocated after the last call
+    // What is allocated after the last call.
     live: &'static [(u32, Corners)],
 }
 
@@ -90,7 +90,7 @@ const ROWS: [Row; 3] = [
         ],
         live: &[(0, (0, 0, 120, 300))],
     },
-    // the whole atlas, which must not grow on both sides with three slots, and is freed
+    // The whole atlas, which must not grow on both sides with three slots, and is freed.
     Row {
         size: (100, 100),
         limit: 3,

@@ -11,7 +11,7 @@ struct Row {
     size: Sides,
     options: AllocatorOptions,
     requests: &'static [(Sides, Option<Corners>)],
-    // what `is_empty` answers after the requests
+    // What `is_empty` answers after the requests.
     empty: bool,
 }
 

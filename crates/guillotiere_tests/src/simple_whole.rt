@@ -21,13 +21,13 @@ enum Step {
     Clear,
     Reset(Sides, AllocatorOptions),
     Start,
-    // its answer is `BadCall`
+    // Its answer is `BadCall`.
     Shrink(Sides),
-    // its answer is `BadCall`
+    // Its answer is `BadCall`.
     BadReset(Sides, AllocatorOptions),
-    // not a call: what `size` answers
+    // Not a call: what `size` answers.
     SizeIs(Sides),
-    // not a call: what `is_empty` answers
+    // Not a call: what `is_empty` answers.
     EmptyIs(bool),
 }
 
@@ -149,7 +149,7 @@ const ROWS: [Row; 9] = [
             Step::Grant((100, 300), (0, 0, 100, 300)),
         ],
     },
-    // parts beside a request and beside a growth, with an alignment
+    // Parts beside a request and beside a growth, with an alignment.
     Row {
         size: (1, 1),
         source: NO_SOURCE,
@@ -158,14 +158,14 @@ const ROWS: [Row; 9] = [
             Step::EmptyIs(true),
             Step::Grant((9, 1), (0, 0, 16, 8)),
             Step::EmptyIs(false),
-            // both parts of the new size are just as wide or as high as the alignment
+            // Both parts of the new size are just as wide or as high as the alignment.
             Step::Grow((28, 28)),
             Step::Grant((24, 8), (0, 20, 24, 28)),
             Step::Grant((8, 16), (20, 0, 28, 16)),
             Step::Clear,
             Step::SizeIs((28, 28)),
             Step::EmptyIs(true),
-            // both parts of the new size are lower or narrower than the alignment
+            // Both parts of the new size are lower or narrower than the alignment.
             Step::Grow((35, 35)),
             Step::EmptyIs(false),
             Step::NoRoom((25, 1)),
@@ -173,7 +173,7 @@ const ROWS: [Row; 9] = [
             Step::NoRoom((1, 1)),
         ],
     },
-    // at an equal size nothing changes; an empty size is a bad reset
+    // At an equal size nothing changes; an empty size is a bad reset.
     Row {
         size: (10, 10),
         source: NO_SOURCE,
@@ -189,7 +189,7 @@ const ROWS: [Row; 9] = [
             Step::NoRoom((-2147483648, -2147483648)),
         ],
     },
-    // the greatest size
+    // The greatest size.
     Row {
         size: (1, 1),
         source: NO_SOURCE,
@@ -376,7 +376,7 @@ fn rows_as_lists_of_calls(rt: HostRuntime) -> Result<(), Fail> {
         let (atlas, mut simple) = both_of(&rt, &heap, row)?;
         let mut calls = Vec::new(rt.alloc());
         let mut want = Vec::new(rt.alloc());
-        // a reply that was there before stays
+        // A reply that was there before stays.
         let mut replies = Vec::new(&heap);
         replies.push(SimpleReply::NoRoom)?;
         want.push(SimpleReply::NoRoom)?;

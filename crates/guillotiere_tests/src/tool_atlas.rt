@@ -41,8 +41,8 @@ const ROWS: [(&[u8], &[u8], ToolEnd); 6] = [
 
 const GROWTH: &[u8] = b"atlas 100 100\nalloc 100 100\ngrow 150 150\nsize\n";
 
-// Which request for memory is refused, and what these lines are answered then: a new atlas makes two, and the fourth one
-// isn't made.
+// Which request for memory is refused, and what these lines are answered then: a new atlas makes two, and the fourth
+// one isn't made.
 const GROWTH_REFUSED: [(u32, &[u8]); 4] = [
     (1, b"refused memory\nno atlas\nno atlas\nno atlas\n"),
     (2, b"refused memory\nno atlas\nno atlas\nno atlas\n"),

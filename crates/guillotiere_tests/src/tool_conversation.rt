@@ -110,15 +110,15 @@ const TALK: [(&[u8], &[u8]); 12] = [
     (b"\n", b""),
     (b"alloc 20 60\n", b"id 3 at 0 0 20 60\n"),
     (b"live\n", b"box 3 0 0 20 60\nlive 1\n"),
-    // a line in two pieces
+    // A line in two pieces.
     (b"ho", b""),
     (b"les\n", b"hole 20 0 100 100\nhole 0 60 20 100\nholes 2\n"),
-    // two lines and a beginning of the third
+    // Two lines and a beginning of the third.
     (b"size\nempty\nfre", b"size 100 100\nfalse\n"),
     (b"e 3\n", b"ok\n"),
     (b"empty\n", b"true\n"),
     (b"clear\n", b"ok\n"),
-    // no end of line comes
+    // No end of line comes.
     (b"empty", b"true\n"),
 ];
 
@@ -149,7 +149,7 @@ fn the_last_line_needs_no_end(rt: HostRuntime) -> Result<(), Fail> {
     let mut output = Told::new(Vec::new(rt.alloc()), &written);
     let end = run_lines(rt.alloc(), &mut input, &mut output);
     assert_eq!(rt; end, Ok(ToolEnd::Done));
-    // only the read that finds the end comes before the last reply
+    // Only the read that finds the end comes before the last reply.
     assert_eq!(rt; input.misses, 1);
     assert_eq!(rt; written.get(), input.owed);
     Ok(())

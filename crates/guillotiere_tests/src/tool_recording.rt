@@ -23,13 +23,13 @@ const REARRANGED: Row = (
 const ROWS: [Row; 4] = [
     NAMED,
     REARRANGED,
-    // an atlas stays where a session isn't begun; a session takes its place, and then another session
+    // An atlas stays where a session isn't begun; a session takes its place, and then another session.
     (
         b"atlas 7 7\nrecord 0 1\nsize\nrecord 100 100\nalloc 20 60\nholes\nresize 0 5\ngrow 99 100\nalloc 101 1\nrecord 5 5\nlive\nsize\nreply\nsize\n",
         b"ok\nbad call\nsize 7 7\nok\nid 0 at 0 0 20 60\nhole 20 0 100 100\nhole 0 60 20 100\nholes 2\nbad call\nbad call\nnone\nok\nlive 0\nsize 5 5\nbad line 13\n",
         ToolEnd::BadLine(13),
     ),
-    // a simple allocator beside a session
+    // A simple allocator beside a session.
     (
         b"record 10 10\nsimple 5 5\nfrom-atlas\ngrow 20 10\nsize\natlas 0 1\nsize\ntake 5 5\nrecord 3 3\ntake 1 1\n",
         b"ok\nok\nno atlas\nok\nsize 20 10\nbad call\nsize 20 10\nat 0 0 5 5\nok\nnone\n",

@@ -17,7 +17,7 @@ const ROWS: [Row; 3] = [
             b"no atlas\n",
         ],
     ),
-    // boxes are granted, freed, refused and placed anew
+    // Boxes are granted, freed, refused and placed anew.
     (
         b"record 100 300\nalloc 100 100\nalloc 100 100\nalloc 100 100\nalloc 1 1\nfree 1\nrearrange\nreplay\nreplay\n",
         [
@@ -26,7 +26,7 @@ const ROWS: [Row; 3] = [
             b"no recording\n",
         ],
     ),
-    // an atlas and a simple allocator stay; a session without events
+    // An atlas and a simple allocator stay; a session without events.
     (
         b"atlas 7 7\nsimple 5 5\nreplay\nsize\ntake 5 5\nrecord 10 10\nreplay\ntake 1 1\nlive\natlas 0 1\nsize\n",
         [

@@ -28,13 +28,13 @@ const ROWS: [(&[u8], &[u8], ToolEnd); 13] = [
         b"ok\nnone\nbad line 4\n",
         ToolEnd::BadLine(4),
     ),
-    // a line of 120 bytes
+    // A line of 120 bytes.
     (
         b"simple 10 10\ntake 00000000000000000000000000000000000000000000000000000000000000000000000000000000000000000000000000000000000000004 4\n",
         b"ok\nat 0 0 4 4\n",
         ToolEnd::Done,
     ),
-    // a line of 121 bytes
+    // A line of 121 bytes.
     (
         b"simple 10 10\ntake 000000000000000000000000000000000000000000000000000000000000000000000000000000000000000000000000000000000000000004 4\n",
         b"ok\nbad line 2\n",
@@ -50,7 +50,7 @@ const ROWS: [(&[u8], &[u8], ToolEnd); 13] = [
         b"ok\nat 0 0 4 4\n",
         ToolEnd::Done,
     ),
-    // an unsuccessful `simple` leaves the allocator as it was, a successful one replaces it
+    // An unsuccessful `simple` leaves the allocator as it was, a successful one replaces it.
     (
         b"simple 10 10\nsimple 5 -1\ntake 10 10\nsimple 5 5\ntake 6 5\ntake 5 5\n",
         b"ok\nbad call\nat 0 0 10 10\nok\nnone\nat 0 0 5 5\n",

@@ -28,7 +28,7 @@ const ROWS: [Row; 9] = [
         b"no atlas\nok\nid 3 at 0 0 20 60\nno simple\nok\nok\nat 20 0 100 100\nat 0 60 20 100\nnone\n",
         ToolEnd::Done,
     ),
-    // a simple allocator alone
+    // A simple allocator alone.
     (
         b"simple 5 5\nfrom-atlas\ntake 5 5\n",
         b"ok\nno atlas\nat 0 0 5 5\n",
@@ -49,13 +49,13 @@ const ROWS: [Row; 9] = [
         b"ok\nid 0 at 0 0 100 100\nid 1 at 0 100 100 200\nid 2 at 0 200 100 300\nok\nmoved 2 0 200 100 300 to 0 0 0 100 100\nlost 0 0 0 100 100\nchanges 1 failures 1\nbad call\nsize 100 150\nok\ntrue\nhole 0 0 100 150\nholes 1\n",
         ToolEnd::Done,
     ),
-    // without an atlas
+    // Without an atlas.
     (
         b"clear\nrearrange\nresize 5 5\nresize 0 0\nsimple 9 9\ntake 9 9\n",
         b"no atlas\nno atlas\nno atlas\nno atlas\nok\nat 0 0 9 9\n",
         ToolEnd::Done,
     ),
-    // with nothing live, and with a side below 0
+    // With nothing live, and with a side below 0.
     (
         b"atlas 8 9\nrearrange\nresize -1 9\nresize 9 -2147483648\nresize 9 8\nsize\nclear\nempty\n",
         b"ok\nchanges 0 failures 0\nbad call\nbad call\nchanges 0 failures 0\nsize 9 8\nok\ntrue\n",

@@ -1,5 +1,5 @@
-//! Random sessions of the Rust crate `guillotiere` 0.7.0, recorded once, and the tests that play them through `atlas_lines`
-//! and the two allocators. No answer in them is one of the code under test.
+//! Random sessions of the Rust crate `guillotiere` 0.7.0, recorded once, and the tests that play them through
+//! `atlas_lines` and the two allocators. No answer in them is one of the code under test.
 #![tactic(auto)]
 
 #[cfg(test)]

@@ -1,5 +1,5 @@
-//! Plays recorded sessions in which a simple allocator takes over from an atlas, grows and is cleared: two calls that the
-//! tool has no line for.
+//! Plays recorded sessions in which a simple allocator takes over from an atlas, grows and is cleared: two calls that
+//! the tool has no line for.
 
 use atlas_lines::{Command, parse_line};
 use guillotiere::session::{Call, Reply, SimpleCall, SimpleReply, run_simple, step};

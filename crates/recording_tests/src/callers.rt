@@ -1,6 +1,6 @@
 //! First callers of replays: each is proved from the contracts alone.
 ghost use Rattle.std.specs.Prelude.{◌≡◌, IfSome, IfOk, true, count_by};
-ghost use Rattle.guillotiere_recording.specs.Replays.{IsRecorded, is_grant};
+ghost use Rattle.guillotiere_recording.specs.Replays.{IsRecorded, is_granted_event};
 
 use guillotiere_recording::{Recording, ReplayFault};
 
@@ -23,7 +23,7 @@ pub fn bad_event(recording: &Recording) -> Option<usize>
 
 /// How many requests of a recording were granted.
 pub fn grants(recording: &Recording) -> Result<u64, ReplayFault>
-    ensures { IfOk result (λ count. count ≡ count_by is_grant recording.now.events) }
+    ensures { IfOk result (λ count. count ≡ count_by is_granted_event recording.now.events) }
 {
     Ok(recording.replay()?.allocations)
 }

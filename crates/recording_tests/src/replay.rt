@@ -139,7 +139,7 @@ fn cut_recordings(rt: HostRuntime) -> Result<(), Fail> {
         Err(ReplayFault::BadEvent(0))
     );
 
-    // without the third grant the last request has room; without the freeing another list is the answer
+    // Without the third grant the last request has room; without the freeing another list is the answer.
     let mut recording = column(alloc)?;
     remove(&rt, &mut recording, 2);
     assert_eq!(rt;

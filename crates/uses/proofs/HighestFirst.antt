@@ -11,7 +11,7 @@ use Rattle.std.proofs.lemmas.List.Sorted.{IsPermutation-map}
 use Rattle.guillotiere.specs.declared.geometry.Size.{Size}
 use Rattle.uses.specs.Sheets.{AreHighestFirst}
 
--- the key by which numbered sprites are sorted
+-- The key by which numbered sprites are sorted.
 abbrev pub height_key : ℕ × Size → Reverse ℤ
 height_key s = record { 0 = s.1.height }
 

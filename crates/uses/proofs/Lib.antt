@@ -1,5 +1,5 @@
 pub mod Caching
-pub mod Freeing
+pub mod Holding
 pub mod HighestFirst
 pub mod Keyed
 pub mod Numbering

@@ -10,9 +10,9 @@ use Rattle.guillotiere.specs.declared.geometry.Size.{Size}
 use Rattle.guillotiere.specs.declared.geometry.Rectangle.{Rectangle}
 use Rattle.guillotiere.specs.Boxes.{covers}
 use Rattle.guillotiere.specs.Pixels.{box_of}
-use Rattle.guillotiere.proofs.TreeBasics.{one_if}
-use Rattle.guillotiere.proofs.Counting.{count_by-cons}
-use Rattle.guillotiere.proofs.CallerLemmas.{count_by-permutation}
+use Rattle.guillotiere.proofs.TreeLemmas.TreeBasics.{one_if}
+use Rattle.guillotiere.proofs.ListLemmas.Counting.{count_by-cons}
+use Rattle.guillotiere.proofs.ListLemmas.CallerLemmas.{count_by-permutation}
 use Rattle.uses.specs.Sheets.{IsPlaceFor, ArePlaces, ArePlaced, AreNumberedOnce, nowhere, place_in}
 use Rattle.uses.proofs.Placing.{boxes_of}
 
@@ -21,7 +21,7 @@ numbers_below n most [] le = All-nil (λ s. s.0 < most)
 numbers_below n most (x ∷ xs) le =
     All-cons (λ s. s.0 < most) (n, x) (enumerate_from (n + 1) xs) (omega arith) (numbers_below (n + 1) most xs (omega arith))
 
--- numbers from n on don't have a number below n
+-- Numbers from n on don't have a number below n.
 not_before : (n k : ℕ) (xs : List Size) → k < n → count_by (λ s. s.0 == k) (enumerate_from n xs) ≡ 0
 not_before n k [] less = refl
 not_before n k (x ∷ xs) less =
@@ -48,7 +48,7 @@ numbered_once n k (x ∷ xs) =
         omega arith
     by_test false e count few = omega arith
 
--- sprites each of which has its place, beside the places from n on
+-- Sprites each of which has its place, beside the places from n on.
 zipped : (side : ℕ) (places : List Rectangle) (n : ℕ) (xs : List Size) → n + length xs ≡ length places
     → All (λ s. IsPlaceFor side s.1 (place_in places s)) (enumerate_from n xs) → AllZip (IsPlaceFor side) xs (drop n places)
 zipped side places n [] long each = subst (AllZip (IsPlaceFor side) []) (sym (drop_of_length-le places (omega arith))) tt
@@ -75,7 +75,7 @@ module _ (sprites : List Size) (order : List (ℕ × Size)) (moved : IsPermutati
       let same : count_by (λ s. s.0 == k) order ≡ count_by (λ s. s.0 == k) (enumerate_from 0 sprites) = count_by-permutation (λ (s : ℕ × Size). s.0 == k) (enumerate_from 0 sprites) order moved in
       omega arith
 
-  -- sprites that were placed in any order have their places in the order of their numbers
+  -- Sprites that were placed in any order have their places in the order of their numbers.
   pub in_order : (side : ℕ) (places : List Rectangle) → length places ≡ length sprites → ArePlaced side order places
       → ArePlaces side sprites places
   in_order side places long placed = record {

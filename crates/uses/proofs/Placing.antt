@@ -15,30 +15,30 @@ use Rattle.guillotiere.specs.Choice.{Options, rounded, HasNoRoom}
 use Rattle.guillotiere.specs.Pixels.{box_of, options_of, sides_of}
 use Rattle.guillotiere.specs.Replies.{IsExact}
 use Rattle.guillotiere.specs.Simple.{SimpleState, SimplyGrants, IsGuarded}
-use Rattle.guillotiere.proofs.TreeBasics.{one_if}
-use Rattle.guillotiere.proofs.Counting.{count_by-cons, count_by-append}
-use Rattle.guillotiere.proofs.CallerLemmas.{count_by-permutation}
-use Rattle.guillotiere.proofs.Refitting.{sides_at}
-use Rattle.guillotiere.proofs.Rounding.{up_same}
-use Rattle.uses.specs.Sheets.{square, place_in, IsPlaceFor, OneFindsNoRoom, CannotTake, AreNumberedOnce, ArePlaced}
+use Rattle.guillotiere.proofs.TreeLemmas.TreeBasics.{one_if}
+use Rattle.guillotiere.proofs.ListLemmas.Counting.{count_by-cons, count_by-append}
+use Rattle.guillotiere.proofs.ListLemmas.CallerLemmas.{count_by-permutation}
+use Rattle.guillotiere.proofs.StepLemmas.Refitting.{sides_at}
+use Rattle.guillotiere.proofs.SearchLemmas.Rounding.{up_same}
+use Rattle.uses.specs.Sheets.{sheet_sides, place_in, IsPlaceFor, OneFindsNoRoom, CannotTake, AreNumberedOnce, ArePlaced}
 
--- what stands past the end of a list of sprites
+-- What stands past the end of a list of sprites.
 abbrev pub no_sprite : ℕ × Size
 no_sprite = (0, record { width = pos 0; height = pos 0 })
 
--- the boxes of placed sprites
+-- The boxes of placed sprites.
 abbrev pub boxes_of : List Rectangle → List (ℕ × Size) → List Box
 boxes_of places order = map (λ s. box_of (place_in places s)) order
 
--- the first k of the sprites have places in the sheet, and where one of the others finds no room the sheet is too small
+-- The first k of the sprites have places in the sheet, and where one of the others finds no room the sheet is too small.
 pub record IsUnderWay (side : ℕ) (order : List (ℕ × Size)) (k : ℕ) (packer : SimpleState) (places : List Rectangle) : Type 0 where
-  pub size : packer.size ≡ square side
+  pub size : packer.size ≡ sheet_sides side
   pub options : packer.options ≡ options_of DEFAULT_OPTIONS
   pub each : All (λ s. IsPlaceFor side s.1 (place_in places s)) (take k order)
   pub guarded : IsGuarded packer (reverse (boxes_of places (take k order)))
   pub rest : OneFindsNoRoom packer (map (λ s. s.1) (drop k order)) → CannotTake side (map (λ s. s.1) order)
 
--- a request is given its own sides, since the default alignment is 1
+-- A request is given its own sides, since the default alignment is 1.
 rounds_to_itself : (o : Options) (s : Sides) → o ≡ options_of DEFAULT_OPTIONS → rounded o s ≡ s
 rounds_to_itself o s is =
     let one : (n : ℕ) → n % 1 ≡ 0 = mod-one in
@@ -48,12 +48,12 @@ rounds_to_itself o s is =
       height = up_same s.height 1 (omega arith) (one s.height) i;
     })
 
--- a write at a number that sprites don't have leaves their places
+-- A write at a number that sprites don't have leaves their places.
 elsewhere : (places : List Rectangle) (n : ℕ) (area : Rectangle) (s : ℕ × Size) → s.0 ≢ n
     → place_in (set places n area) s ≡ place_in places s
 elsewhere places n area s other = get_or-set_other places n s.0 area _ other
 
--- of sprites none of which has the number
+-- Of sprites none of which has the number.
 others : (n : ℕ) (xs : List (ℕ × Size)) → count_by (λ s. s.0 == n) xs ≡ 0 → All (λ s. s.0 ≢ n) xs
 others n [] none = All-nil (λ s. s.0 ≢ n)
 others n (s ∷ xs) none =
@@ -79,7 +79,7 @@ boxes_elsewhere places n area (s ∷ xs) other =
     let later : boxes_of (set places n area) xs ≡ boxes_of places xs = boxes_elsewhere places n area xs (All-tail (λ s. s.0 ≢ n) s xs other) in
     λ i. box_of (here i) ∷ later i
 
--- the number of a sprite isn't that of one before it
+-- The number of a sprite isn't that of one before it.
 unused : (order : List (ℕ × Size)) (k : ℕ) (s : ℕ × Size) → AreNumberedOnce order → drop k order ≡ s ∷ drop (suc k) order
     → All (λ t. t.0 ≢ s.0) (take k order)
 unused order k s once split =
@@ -105,13 +105,13 @@ module _ (side : ℕ) (order : List (ℕ × Size)) (k : ℕ) (packer next : Simp
   here : place_in (set places s.0 area) s ≡ area
   here = get_or-set_same places s.0 area _ room
 
-  size_kept : next.size ≡ square side
+  size_kept : next.size ≡ sheet_sides side
   size_kept = step.size ∙ before.size
 
   more_guarded : IsGuarded next (box_of area ∷ reverse (boxes_of places (take k order)))
   more_guarded = joins (reverse (boxes_of places (take k order))) before.guarded
 
-  -- the place that was granted
+  -- The place that was granted.
   granted : IsPlaceFor side s.1 area
   granted = record {
     sides = ap box_sides step.granted ∙ sides_at step.picked.min (rounded packer.options (sides_of s.1)) ∙ rounds_to_itself packer.options (sides_of s.1) before.options;
@@ -137,7 +137,7 @@ module _ (side : ℕ) (order : List (ℕ × Size)) (k : ℕ) (packer next : Simp
     rest = λ denied. before.rest (subst (λ xs. OneFindsNoRoom packer (map (λ t. t.1) xs)) (sym split) (inr (box_of area, next, step, denied)));
   }
 
--- the sprite at k finds no room
+-- The sprite at k finds no room.
 pub denied : (side : ℕ) (order : List (ℕ × Size)) (k : ℕ) (packer : SimpleState) (places : List Rectangle) (s d : ℕ × Size)
     → k < length order → s ≡ get_or order k d → HasNoRoom packer.free packer.options (sides_of s.1)
     → IsUnderWay side order k packer places → CannotTake side (map (λ t. t.1) order)
@@ -145,7 +145,7 @@ denied side order k packer places s d inside is none before =
     let split : drop k order ≡ s ∷ drop (suc k) order = drop-cons order k d inside ∙ ap (λ t. t ∷ drop (suc k) order) (sym is) in
     before.rest (subst (λ xs. OneFindsNoRoom packer (map (λ t. t.1) xs)) (sym split) (inl none))
 
--- guarded boxes are disjoint, in whatever order
+-- Guarded boxes are disjoint, in whatever order.
 unguarded : (s : SimpleState) (bs : List Box) → IsGuarded s (reverse bs) → AreDisjoint bs
 unguarded s bs guarded x y =
     let e : count_by (covers x y) (reverse bs ++ s.free) ≡ count_by (covers x y) (reverse bs) + count_by (covers x y) s.free = count_by-append (covers x y) (reverse bs) s.free in
@@ -153,7 +153,7 @@ unguarded s bs guarded x y =
     let g : count_by (covers x y) (reverse bs ++ s.free) ≤ 1 = guarded.disjoint x y in
     omega arith
 
--- all have places
+-- All have places.
 pub all_placed : (side : ℕ) (order : List (ℕ × Size)) (k : ℕ) (packer : SimpleState) (places : List Rectangle) → length order ≤ k
     → IsUnderWay side order k packer places → ArePlaced side order places
 all_placed side order k packer places end before =

@@ -5,7 +5,7 @@ use Rattle.std.proofs.lemmas.Bool.{cases_lt}
 use Rattle.guillotiere.specs.declared.geometry.Size.{Size}
 use Rattle.uses.specs.Sheets.{CannotTake, IsSmallest}
 
--- all sides of the range below this one are too small
+-- All sides of the range below this one are too small.
 pub record IsTrying (least side : ℕ) (order : List Size) : Type 0 where
   pub doublings : ℕ
   pub is : side ≡ least * 2 ^ doublings
@@ -26,7 +26,7 @@ module _ (least side : ℕ) (order : List Size) (trying : IsTrying least side or
       let e : 2 ^ suc trying.doublings ≡ 2 ^ trying.doublings * 2 = pow-suc 2 trying.doublings in
       ap (λ k. least * k) e ∙ sym (mul_assoc least (2 ^ trying.doublings) 2) ∙ ap (λ k. k * 2) (sym trying.is)
 
-  -- this side is too small too
+  -- This side is too small too.
   pub next_try : CannotTake side order → IsTrying least (side * 2) order
   next_try denied = record {
     doublings = suc trying.doublings;
@@ -43,7 +43,7 @@ module _ (least side : ℕ) (order : List Size) (trying : IsTrying least side or
   pub found : (most : ℕ) → side ≤ most → IsSmallest least most order (Some side)
   found most le = (trying.doublings, trying.is, le, trying.small)
 
-  -- this side is beyond the range
+  -- This side is beyond the range.
   pub none_found : (most : ℕ) → most < side → IsSmallest least most order None
   none_found most past k within = elim (cases_lt k trying.doublings) [
     | inl less ↦ trying.small k less

@@ -1,38 +1,38 @@
 -- What a change list makes of what is held: each picture is moved or lost, and the moved ones are what is live.
 use Rattle.std.proofs.Common.{◌≡◌, ◌==◌, ◌+◌, ◌≤◌, ℕ, Bool, true, false, List, [], ◌∷◌, ◌++◌, map, length, take, drop, remove, get_or, suc, ◌<◌, All, Contains, IsPermutation, Option, Some, None, option_map, cond, refl, ap, sym, subst, ◌∙◌, arith}
 use Rattle.std.specs.List.{count_by, find, filter_map, cons_option}
-use Rattle.std.proofs.lemmas.Bool.{eq-eqb, eqb-true}
+use Rattle.std.proofs.lemmas.Bool.{eq-eqb}
 use Rattle.std.proofs.lemmas.List.{map-append, take-append-drop}
 use Rattle.std.proofs.Math.Seq.{drop-cons}
 use Rattle.std.proofs.lemmas.Simd.{map-map}
 use Rattle.std.proofs.lemmas.List.Elements.{All-nil, All-cons, All-head, All-tail, All-weaker, All-contains, All-contains_itself, Contains-append_left}
-use Rattle.std.proofs.lemmas.List.Sorted.{IsPermutation-refl, IsPermutation-sym, IsPermutation-trans, IsPermutation-cons, IsPermutation-middle, IsPermutation-map, IsPermutation-to_front, IsPermutation-append_comm, IsPermutation-remove, All-permutation, Contains-permutation}
+use Rattle.std.proofs.lemmas.List.Sorted.{IsPermutation-refl, IsPermutation-sym, IsPermutation-trans, IsPermutation-cons, IsPermutation-middle, IsPermutation-map, IsPermutation-append_comm, IsPermutation-remove, All-permutation, Contains-permutation}
 use Rattle.guillotiere.specs.declared.allocation.Allocation.{Allocation}
 use Rattle.guillotiere.specs.declared.change.Change.{Change}
-use Rattle.guillotiere.specs.Boxes.{Sides, box_sides, covers, IsWithin}
+use Rattle.guillotiere.specs.Boxes.{Sides, box_sides, AreDisjoint, IsWithin}
 use Rattle.guillotiere.specs.Pixels.{box_of}
 use Rattle.guillotiere.specs.Rearranging.{KeepsSides, transfer_of}
 use Rattle.guillotiere.specs.Refits.{Transfer, Rearrangement}
 use Rattle.guillotiere.specs.Replies.{grant_of}
 use Rattle.guillotiere.specs.States.{State, live_in, IsLive, IsSound}
-use Rattle.guillotiere.specs.StepLaws.{IsGrantStep, IsFreeingStep}
+use Rattle.guillotiere.specs.Laws.StepLaws.{IsGrantStep, IsFreeingStep}
 use Rattle.guillotiere.specs.Steps.{Step}
 use Rattle.guillotiere.specs.Steps.AtlasCall.{ResizeAndRearrange}
 use Rattle.guillotiere.specs.Steps.AtlasReply.{Changed}
 use Rattle.guillotiere.specs.Stored.{state_of}
 use Rattle.guillotiere.specs.Trees.{Grant}
-use Rattle.guillotiere.proofs.TreeBasics.{one_if}
-use Rattle.guillotiere.proofs.BoxLists.{same_grant, same_grant-itself, same_grant-true}
-use Rattle.guillotiere.proofs.Counting.{count_by-cons, count_by-append, count_some, counted_once, permuted_from_counts}
-use Rattle.guillotiere.proofs.CallerLemmas.{count_by-permutation, count_by-map, Contains-map, Contains-find, find-counted_once, find-uncounted, uncounted-find}
-use Rattle.guillotiere.proofs.Guarding.{live_are_guarded}
-use Rattle.guillotiere.proofs.LiveBoxes.{few_live}
-use Rattle.uses.proofs.Freeing.{first_live, others_live}
+use Rattle.guillotiere.proofs.TreeLemmas.TreeBasics.{one_if}
+use Rattle.guillotiere.proofs.TreeLemmas.BoxLists.{same_grant, same_grant-itself, same_grant-true}
+use Rattle.guillotiere.proofs.ListLemmas.Counting.{count_by-cons, count_by-append, count_some, counted_once, permuted_from_counts}
+use Rattle.guillotiere.proofs.ListLemmas.CallerLemmas.{count_by-permutation, count_by-map, Contains-map, Contains-find, find-counted_once, find-uncounted, uncounted-find}
+use Rattle.guillotiere.proofs.StepLemmas.Guarding.{live_are_guarded}
+use Rattle.guillotiere.proofs.StepLemmas.LiveBoxes.{few_live}
+use Rattle.uses.proofs.Holding.{first_live, granted_live, live_apart, others_live}
 use Rattle.uses.proofs.Keyed.{once_more, uncounted as keys_uncounted}
 use Rattle.uses.specs.declared.repack.Held.{Held}
 use Rattle.uses.specs.declared.repack.Move.{Move}
 use Rattle.uses.specs.declared.repack.Picture.{Picture}
-use Rattle.uses.specs.Pictures.{Pictures, AreKeyedOnce, IsRepacked, IsTaken, area_in, HoldsLive, shown, before_move, after_move, move_by, kept_by, loss, loss_by}
+use Rattle.uses.specs.Pictures.{Pictures, AreKeyedOnce, IsRepacked, IsTaken, picture_area, HoldsGrants, picture_of, before_move, after_move, move_by, kept_by, loss, loss_by}
 
 abbrev pub granted : Held → Grant
 granted h = grant_of h.grant
@@ -49,36 +49,36 @@ names k c = c.old.id == k
 abbrev has : ℕ → Grant → Bool
 has k g = g.id == k
 
--- each is moved or lost
+-- Each is moved or lost.
 moved_or_lost : (cs : List Change) (hs : List Held)
-    → IsPermutation (map shown hs) (map before_move (filter_map (move_by cs) hs) ++ filter_map (loss_by cs) hs)
+    → IsPermutation (map picture_of hs) (map before_move (filter_map (move_by cs) hs) ++ filter_map (loss_by cs) hs)
 moved_or_lost cs [] = IsPermutation-refl []
 moved_or_lost cs (h ∷ hs) = by_found (find (names h.grant.id) cs) (moved_or_lost cs hs)
   where
     by_found : (o : Option Change)
-        → IsPermutation (map shown hs) (map before_move (filter_map (move_by cs) hs) ++ filter_map (loss_by cs) hs)
-        → IsPermutation (shown h ∷ map shown hs)
+        → IsPermutation (map picture_of hs) (map before_move (filter_map (move_by cs) hs) ++ filter_map (loss_by cs) hs)
+        → IsPermutation (picture_of h ∷ map picture_of hs)
         (map before_move (cons_option (option_map (λ (c : Change). record { key = h.key; from = h.grant.rectangle; to = c.new.rectangle }) o) (filter_map (move_by cs) hs)) ++ cons_option (loss o h) (filter_map (loss_by cs) hs))
-    by_found (Some c) rest = IsPermutation-cons (shown h) _ _ rest
+    by_found (Some c) rest = IsPermutation-cons (picture_of h) _ _ rest
     by_found None rest =
         let moves = map before_move (filter_map (move_by cs) hs) in
         let lost = filter_map (loss_by cs) hs in
-        IsPermutation-trans (shown h ∷ map shown hs) (shown h ∷ (moves ++ lost)) (moves ++ shown h ∷ lost)
-        (IsPermutation-cons (shown h) (map shown hs) (moves ++ lost) rest)
-        (IsPermutation-sym (moves ++ shown h ∷ lost) (shown h ∷ (moves ++ lost)) (IsPermutation-middle moves (shown h) lost))
+        IsPermutation-trans (picture_of h ∷ map picture_of hs) (picture_of h ∷ (moves ++ lost)) (moves ++ picture_of h ∷ lost)
+        (IsPermutation-cons (picture_of h) (map picture_of hs) (moves ++ lost) rest)
+        (IsPermutation-sym (moves ++ picture_of h ∷ lost) (picture_of h ∷ (moves ++ lost)) (IsPermutation-middle moves (picture_of h) lost))
 
--- what is kept is shown where it was moved to
-kept_shown : (cs : List Change) (hs : List Held) → map shown (filter_map (kept_by cs) hs) ≡ map after_move (filter_map (move_by cs) hs)
+-- What is kept is picture_of where it was moved to.
+kept_shown : (cs : List Change) (hs : List Held) → map picture_of (filter_map (kept_by cs) hs) ≡ map after_move (filter_map (move_by cs) hs)
 kept_shown cs [] = refl
 kept_shown cs (h ∷ hs) = by_found (find (names h.grant.id) cs) (kept_shown cs hs)
   where
-    by_found : (o : Option Change) → map shown (filter_map (kept_by cs) hs) ≡ map after_move (filter_map (move_by cs) hs)
-        → map shown (cons_option (option_map (λ (c : Change). record { key = h.key; grant = c.new }) o) (filter_map (kept_by cs) hs))
+    by_found : (o : Option Change) → map picture_of (filter_map (kept_by cs) hs) ≡ map after_move (filter_map (move_by cs) hs)
+        → map picture_of (cons_option (option_map (λ (c : Change). record { key = h.key; grant = c.new }) o) (filter_map (kept_by cs) hs))
         ≡ map after_move (cons_option (option_map (λ (c : Change). record { key = h.key; from = h.grant.rectangle; to = c.new.rectangle }) o) (filter_map (move_by cs) hs))
     by_found (Some c) rest = ap (λ ps. record { key = h.key; area = c.new.rectangle } ∷ ps) rest
     by_found None rest = rest
 
--- the boxes of what is kept are those that pictures were moved to
+-- The boxes of what is kept are those that pictures were moved to.
 kept_boxes : (cs : List Change) (hs : List Held)
     → map (λ (g : Grant). g.box) (map granted (filter_map (kept_by cs) hs)) ≡ map (λ (m : Move). box_of m.to) (filter_map (move_by cs) hs)
 kept_boxes cs [] = refl
@@ -91,7 +91,7 @@ kept_boxes cs (h ∷ hs) = by_found (find (names h.grant.id) cs) (kept_boxes cs 
     by_found (Some c) rest = ap (λ bs. box_of c.new.rectangle ∷ bs) rest
     by_found None rest = rest
 
--- a test of the new grant of the change that names an id
+-- A test of the new grant of the change that names an id.
 abbrev passes : (Grant → Bool) → Option Change → Bool
 passes p None = false
 passes p (Some c) = p (is_now c)
@@ -135,7 +135,7 @@ lost_counts cs p (f ∷ fs) each =
     at_none : (o : Option Change) → o ≡ None → one_if (passes p o) ≡ 0
     at_none o e = rw e refl
 
--- grants of which no two have one id, some of them changed and the others lost
+-- Grants of which no two have one id, some of them changed and the others lost.
 module _ (cs : List Change) (fs : List Allocation) (once : (k : ℕ) → count_by (has k) (map was cs ++ map grant_of fs) ≤ 1) where
   parts : (k : ℕ) → count_by (has k) (map was cs ++ map grant_of fs) ≡ count_by (names k) cs + count_by (has k) (map grant_of fs)
   parts k = count_by-append (has k) (map was cs) (map grant_of fs) ∙ ap (λ n. n + count_by (has k) (map grant_of fs)) (count_by-map was (has k) cs)
@@ -158,7 +158,7 @@ module _ (cs : List Change) (fs : List Allocation) (once : (k : ℕ) → count_b
       fs (All-contains_itself fs)
 
   module _ (hs : List Held) (held : IsPermutation (map granted hs) (map was cs ++ map grant_of fs)) where
-    -- what is kept is what the changes lead to
+    -- What is kept is what the changes lead to.
     kept_permuted : IsPermutation (map is_now cs) (map granted (filter_map (kept_by cs) hs))
     kept_permuted =
         permuted_from_counts same_grant same_grant-itself same_grant-true (map is_now cs) (map granted (filter_map (kept_by cs) hs))
@@ -172,7 +172,7 @@ module _ (cs : List Change) (fs : List Allocation) (once : (k : ℕ) → count_b
         let lost : count_by (tested cs p) (map grant_of fs) ≡ 0 = lost_counts cs p fs lost_not_found in
         omega arith)
 
-    -- the change that names the id of what is held is of that grant
+    -- The change that names the id of what is held is of that grant.
     same_as_held : (h : Held) (c : Change) → Contains (map was cs ++ map grant_of fs) (granted h) → find (names h.grant.id) cs ≡ Some c
         → was c ≡ granted h
     same_as_held h c at found =
@@ -198,13 +198,13 @@ module _ (cs : List Change) (fs : List Allocation) (once : (k : ℕ) → count_b
             (All-contains KeepsSides cs c keep (Contains-find (names h.grant.id) cs c e).0 ∙ ap (λ (g : Grant). box_sides g.box) (same_as_held h c at e)) rest
         by_found None e rest = rest
 
--- the key of a picture
+-- The key of a picture.
 abbrev has_key : ℕ → Picture → Bool
 has_key k p = p.key == k
 
 -- Of an atlas whose live grants are held: what is kept of it, and what a repacking does.
 module _ (old new : State) (hs : List Held) (cs : List Change) (fs : List Allocation) (sound_old : IsSound old) (sound_new : IsSound new)
-    (holds : HoldsLive old hs)
+    (holds : HoldsGrants old hs)
     (before : IsPermutation (live_in old) (map (λ t. t.old) (map transfer_of cs) ++ map grant_of fs))
     (after : IsPermutation (live_in new) (map (λ t. t.new) (map transfer_of cs))) where
   abbrev kept : List Held
@@ -239,21 +239,21 @@ module _ (old new : State) (hs : List Held) (cs : List Change) (fs : List Alloca
       IsPermutation-trans (live_in new) (map is_now cs) (map granted kept) (subst (IsPermutation (live_in new)) news after)
       (kept_permuted cs fs ids_once hs held_were)
 
-  keys_once : AreKeyedOnce (map shown kept)
+  keys_once : AreKeyedOnce (map picture_of kept)
   keys_once k =
-      let shows : count_by (has_key k) (map shown kept) ≡ count_by (has_key k) (map after_move moves) = ap (count_by (has_key k)) (kept_shown cs hs) in
+      let shows : count_by (has_key k) (map picture_of kept) ≡ count_by (has_key k) (map after_move moves) = ap (count_by (has_key k)) (kept_shown cs hs) in
       let to : count_by (has_key k) (map after_move moves) ≡ count_by (λ (m : Move). m.key == k) moves = count_by-map after_move (has_key k) moves in
       let from : count_by (has_key k) (map before_move moves) ≡ count_by (λ (m : Move). m.key == k) moves = count_by-map before_move (has_key k) moves in
-      let all : count_by (has_key k) (map before_move moves ++ filter_map (loss_by cs) hs) ≡ count_by (has_key k) (map shown hs) =
-      count_by-permutation (has_key k) (map shown hs) (map before_move moves ++ filter_map (loss_by cs) hs) (moved_or_lost cs hs) in
+      let all : count_by (has_key k) (map before_move moves ++ filter_map (loss_by cs) hs) ≡ count_by (has_key k) (map picture_of hs) =
+      count_by-permutation (has_key k) (map picture_of hs) (map before_move moves ++ filter_map (loss_by cs) hs) (moved_or_lost cs hs) in
       let both = count_by-append (has_key k) (map before_move moves) (filter_map (loss_by cs) hs) in
-      let few : count_by (has_key k) (map shown hs) ≤ 1 = holds.once k in
+      let few : count_by (has_key k) (map picture_of hs) ≤ 1 = holds.once k in
       omega arith
 
-  pub kept_holds : HoldsLive new kept
+  pub kept_holds : HoldsGrants new kept
   kept_holds = record { live = kept_live; once = keys_once }
 
-  -- the boxes that pictures were moved to are those of what is live
+  -- The boxes that pictures were moved to are those of what is live.
   boxes_live : IsPermutation (map (λ (g : Grant). g.box) (live_in new)) (map (λ (m : Move). box_of m.to) moves)
   boxes_live =
       subst (IsPermutation (map (λ (g : Grant). g.box) (live_in new))) (kept_boxes cs hs)
@@ -265,7 +265,7 @@ module _ (old new : State) (hs : List Held) (cs : List Change) (fs : List Alloca
       All-cons (λ m. IsWithin new.size (box_of m.to)) m ms (All-head (IsWithin new.size) (box_of m.to) (map (λ (m : Move). box_of m.to) ms) all)
       (within_moves ms (All-tail (IsWithin new.size) (box_of m.to) (map (λ (m : Move). box_of m.to) ms) all))
 
-  moves_repacked : (size : Sides) (v w : Pictures) → v.held ≡ map shown hs → w.held ≡ map shown kept → state_of w.atlas ≡ new
+  moves_repacked : (size : Sides) (v w : Pictures) → v.held ≡ map picture_of hs → w.held ≡ map picture_of kept → state_of w.atlas ≡ new
       → new.size ≡ size → All KeepsSides cs → IsRepacked size v moves (filter_map (loss_by cs) hs) w
   moves_repacked size v w v_is w_is now resized keep =
       let guarded = (live_are_guarded new sound_new).1 in
@@ -279,7 +279,7 @@ module _ (old new : State) (hs : List Held) (cs : List Change) (fs : List Alloca
         resized = ap (λ s. s.size) now ∙ resized;
         within = subst (λ z. All (λ m. IsWithin z (box_of m.to)) moves) resized
             (within_moves moves (All-permutation (IsWithin new.size) boxes to boxes_live guarded.within));
-        apart = λ x y. omega (arith, guarded.apart x y, count_by-permutation (covers x y) boxes to boxes_live);
+        apart = subst AreDisjoint (kept_boxes cs hs) (live_apart new (map granted kept) sound_new kept_live);
       }
     where
       held_contained : (xs : List Held) → IsPermutation (map granted xs) (map was cs ++ map grant_of fs)
@@ -289,57 +289,55 @@ module _ (old new : State) (hs : List Held) (cs : List Change) (fs : List Alloca
           (λ h at. Contains-permutation (map granted xs) (map was cs ++ map grant_of fs) (granted h) moved (Contains-map granted xs h at))
           xs (All-contains_itself xs)
 
-  pub repacked : (size : Sides) (v w : Pictures) (ms : List Move) (ls : List Picture) → v.held ≡ map shown hs → w.held ≡ map shown kept
+  pub repacked : (size : Sides) (v w : Pictures) (ms : List Move) (ls : List Picture) → v.held ≡ map picture_of hs → w.held ≡ map picture_of kept
       → state_of w.atlas ≡ new → new.size ≡ size → All KeepsSides cs → ms ≡ moves → ls ≡ filter_map (loss_by cs) hs
       → IsRepacked size v ms ls w
   repacked size v w ms ls v_is w_is now resized keep moved lost =
       subst (λ k. IsRepacked size v k ls w) (sym moved)
       (subst (λ k. IsRepacked size v moves k w) (sym lost) (moves_repacked size v w v_is w_is now resized keep))
 
--- the size after a rearranging
+-- The size after a rearranging.
 pub rearranged_size : (old new : State) (n : Sides) (list : Rearrangement) → Step old (ResizeAndRearrange n) (Changed list) new → new.size ≡ n
 rearranged_size old new n list (positive, order, t, ordered, refits, is) = ap (λ s. s.size) is
 
--- a look-up among what is shown
-pub area_found : (key : ℕ) (hs : List Held) → area_in (map shown hs) key ≡ option_map (λ (h : Held). h.grant.rectangle) (find (λ h. h.key == key) hs)
+-- A look-up among what is picture_of.
+pub area_found : (key : ℕ) (hs : List Held) → picture_area (map picture_of hs) key ≡ option_map (λ (h : Held). h.grant.rectangle) (find (λ h. h.key == key) hs)
 area_found key [] = refl
 area_found key (h ∷ hs) = by_test (h.key == key) (area_found key hs)
   where
-    by_test : (b : Bool) → area_in (map shown hs) key ≡ option_map (λ (h : Held). h.grant.rectangle) (find (λ h. h.key == key) hs)
-        → option_map (λ (p : Picture). p.area) (cond b (Some (shown h)) (find (λ p. p.key == key) (map shown hs)))
+    by_test : (b : Bool) → picture_area (map picture_of hs) key ≡ option_map (λ (h : Held). h.grant.rectangle) (find (λ h. h.key == key) hs)
+        → option_map (λ (p : Picture). p.area) (cond b (Some (picture_of h)) (find (λ p. p.key == key) (map picture_of hs)))
         ≡ option_map (λ (h : Held). h.grant.rectangle) (cond b (Some h) (find (λ h. h.key == key) hs))
     by_test true rest = refl
     by_test false rest = rest
 
--- a new picture is held
-module _ (old new : State) (r : Sides) (hs : List Held) (h : Held) (step : IsGrantStep old r (granted h) new) (holds : HoldsLive old hs)
-    (absent : area_in (map shown hs) h.key ≡ None) where
-  uncounted : count_by (has_key h.key) (map shown hs) ≡ 0
-  uncounted = uncounted-find (has_key h.key) (map shown hs) (none_inside (find (has_key h.key) (map shown hs)) absent)
+-- A new picture is held.
+module _ (old new : State) (r : Sides) (hs : List Held) (h : Held) (step : IsGrantStep old r (granted h) new) (holds : HoldsGrants old hs)
+    (absent : picture_area (map picture_of hs) h.key ≡ None) where
+  uncounted : count_by (has_key h.key) (map picture_of hs) ≡ 0
+  uncounted = uncounted-find (has_key h.key) (map picture_of hs) (none_inside (find (has_key h.key) (map picture_of hs)) absent)
     where
       none_inside : (o : Option Picture) → option_map (λ (p : Picture). p.area) o ≡ None → o ≡ None
       none_inside None e = refl
       none_inside (Some p) e = absurd (cc)
 
-  pub put_holds : HoldsLive new (hs ++ h ∷ [])
+  pub put_holds : HoldsGrants new (hs ++ h ∷ [])
   put_holds = record {
     live = subst (IsPermutation (live_in new)) (sym (map-append granted hs (h ∷ [])))
-        (IsPermutation-trans (live_in new) (granted h ∷ live_in old) (map granted hs ++ granted h ∷ [])
-        (IsPermutation-sym (granted h ∷ live_in old) (live_in new) step.live)
-        (IsPermutation-trans (granted h ∷ live_in old) (granted h ∷ map granted hs) (map granted hs ++ granted h ∷ [])
-        (IsPermutation-cons (granted h) (live_in old) (map granted hs) holds.live)
-        (IsPermutation-sym (map granted hs ++ granted h ∷ []) (granted h ∷ map granted hs) (IsPermutation-to_front (map granted hs) (granted h)))));
+        (IsPermutation-trans (live_in new) (granted h ∷ map granted hs) (map granted hs ++ granted h ∷ [])
+        (granted_live old new r (granted h) (map granted hs) step holds.live)
+        (IsPermutation-append_comm (granted h ∷ []) (map granted hs)));
     once = λ k.
         omega (
           arith,
-          once_more (λ p. p.key) (shown h) (map shown hs) uncounted holds.once k,
-          count_by-permutation (has_key k) (shown h ∷ map shown hs) (map shown (hs ++ h ∷ []))
-              (IsPermutation-map shown (h ∷ hs) (hs ++ h ∷ []) (IsPermutation-append_comm (h ∷ []) hs)),
+          once_more (λ p. p.key) (picture_of h) (map picture_of hs) uncounted holds.once k,
+          count_by-permutation (has_key k) (picture_of h ∷ map picture_of hs) (map picture_of (hs ++ h ∷ []))
+              (IsPermutation-map picture_of (h ∷ hs) (hs ++ h ∷ []) (IsPermutation-append_comm (h ∷ []) hs)),
         );
   }
 
--- a picture is taken out
-module _ (old : State) (hs : List Held) (at : ℕ) (h : Held) (holds : HoldsLive old hs) (below : at < length hs) (is : h ≡ get_or hs at h) where
+-- A picture is taken out.
+module _ (old : State) (hs : List Held) (at : ℕ) (h : Held) (holds : HoldsGrants old hs) (below : at < length hs) (is : h ≡ get_or hs at h) where
   abbrev rest : List Held
   rest = remove hs at
 
@@ -353,26 +351,26 @@ module _ (old : State) (hs : List Held) (at : ℕ) (h : Held) (holds : HoldsLive
   pub taken_live : IsLive old h.grant.id
   taken_live = first_live old (granted h) (map granted rest) front
 
-  counted : (k : ℕ) → one_if (h.key == k) + count_by (has_key k) (map shown rest) ≤ 1
+  counted : (k : ℕ) → one_if (h.key == k) + count_by (has_key k) (map picture_of rest) ≤ 1
   counted k =
-      let counts = count_by-cons (has_key k) (shown h) (map shown rest) in
-      let same = count_by-permutation (has_key k) (map shown hs) (shown h ∷ map shown rest) (IsPermutation-map shown hs (h ∷ rest) order) in
+      let counts = count_by-cons (has_key k) (picture_of h) (map picture_of rest) in
+      let same = count_by-permutation (has_key k) (map picture_of hs) (picture_of h ∷ map picture_of rest) (IsPermutation-map picture_of hs (h ∷ rest) order) in
       omega (arith, holds.once k, counts, same)
 
-  pub taken_holds : (new : State) → IsFreeingStep old h.grant.id new → HoldsLive new rest
+  pub taken_holds : (new : State) → IsFreeingStep old h.grant.id new → HoldsGrants new rest
   taken_holds new does = record {
     live = others_live old (granted h) (map granted rest) front new does;
     once = λ k. omega (arith, counted k);
   }
 
   module _ (key : ℕ) (named : (get_or hs at h).key ≡ key) where
-    pub taken : IsTaken (map shown hs) key (map shown rest)
+    pub taken : IsTaken (map picture_of hs) key (map picture_of rest)
     taken = record {
-      before = map shown (take at hs);
-      picture = shown h;
-      after = map shown (drop (suc at) hs);
-      was = ap (map shown) all ∙ map-append shown (take at hs) (h ∷ drop (suc at) hs);
-      is = map-append shown (take at hs) (drop (suc at) hs);
+      before = map picture_of (take at hs);
+      picture = picture_of h;
+      after = map picture_of (drop (suc at) hs);
+      was = ap (map picture_of) all ∙ map-append picture_of (take at hs) (h ∷ drop (suc at) hs);
+      is = map-append picture_of (take at hs) (drop (suc at) hs);
       named = ap (λ k. k.key) is ∙ named;
     }
       where
@@ -380,13 +378,13 @@ module _ (old : State) (hs : List Held) (at : ℕ) (h : Held) (holds : HoldsLive
         all = sym (take-append-drop at hs)
             ∙ ap (λ l. take at hs ++ l) (drop-cons hs at h below ∙ ap (λ k. k ∷ drop (suc at) hs) (sym is))
 
-    pub taken_gone : area_in (map shown rest) key ≡ None
+    pub taken_gone : picture_area (map picture_of rest) key ≡ None
     taken_gone =
         let one = ap one_if (eq-eqb h.key key (ap (λ k. k.key) is ∙ named)) in
-        ap (option_map (λ (p : Picture). p.area)) (find-uncounted (has_key key) (map shown rest) (omega (arith, counted key, one)))
+        ap (option_map (λ (p : Picture). p.area)) (find-uncounted (has_key key) (map picture_of rest) (omega (arith, counted key, one)))
 
--- a key that nothing has
-pub absent_area : (key : ℕ) (hs : List Held) → All (λ h. h.key ≡ key → ⊥) hs → area_in (map shown hs) key ≡ None
+-- A key that nothing has.
+pub absent_area : (key : ℕ) (hs : List Held) → All (λ h. h.key ≡ key → ⊥) hs → picture_area (map picture_of hs) key ≡ None
 absent_area key hs none =
     area_found key hs
     ∙ ap (option_map (λ (h : Held). h.grant.rectangle)) (find-uncounted (λ (h : Held). h.key == key) hs (keys_uncounted (λ h. h.key) key hs none))

@@ -11,7 +11,7 @@ filter_map-more f xs k x d o inside is gives =
     ∙ filter_map-append f (take k xs) (x ∷ [])
     ∙ ap (λ z. filter_map f (take k xs) ++ cons_option z []) gives
 
--- an element for which it gives nothing
+-- An element for which it gives nothing.
 pub filter_map-same : {X Y : Type 0} (f : X → Option Y) (xs : List X) (k : ℕ) (x d : X) → k < length xs
     → get_or xs k d ≡ x → f x ≡ None → filter_map f (take (suc k) xs) ≡ filter_map f (take k xs)
 filter_map-same f xs k x d inside is gives =

@@ -4,12 +4,12 @@ use Rattle.guillotiere.specs.declared.allocation.Allocation.{Allocation}
 use Rattle.guillotiere.specs.Replies.{grant_of}
 use Rattle.guillotiere_recording.specs.Books.{AreSameGrants}
 use Rattle.guillotiere_recording.specs.Events.{EventValue}
-use Rattle.guillotiere_recording.specs.Twins.{is_plain}
+use Rattle.guillotiere_recording.specs.Twins.{is_plain_event}
 
--- the same names with the same boxes, each as often
+-- The same names with the same boxes, each as often.
 abbrev pub AreSame : List Allocation → List Allocation → Type 0
 AreSame found held = AreSameGrants (map grant_of found) (map grant_of held)
 
--- each event is a request, a freeing or a growth
+-- Each event is a request, a freeing or a growth.
 abbrev pub ArePlain : List EventValue → Type 0
-ArePlain events = All (λ e. is_plain e ≡ true) events
+ArePlain events = All (λ e. is_plain_event e ≡ true) events

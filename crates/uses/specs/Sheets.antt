@@ -1,5 +1,6 @@
 -- Sheets of sprites: what the places on a sheet keep to, and which sheets are tried.
-use Rattle.std.specs.Prelude.{◌≡◌, ◌==◌, ℕ, pos, ◌*◌, ◌^◌, ◌<◌, ◌≤◌, ◌≤ℤ◌, ◌⊎◌, List, [], ◌∷◌, map, length, count_by, slice_index_or, All, IsPermutation, Option, Some, None}
+use Rattle.std.specs.Prelude.{◌≡◌, ◌==◌, ℕ, pos, ◌*◌, ◌^◌, ◌<◌, ◌≤◌, ◌≤ℤ◌, ◌⊎◌, List, [], ◌∷◌, map, length, count_by}
+use Rattle.std.specs.Prelude.{slice_index_or, All, IsPermutation, Option, Some, None}
 use Rattle.std.specs.List.{AllZip, AllAdjacentBelow}
 use Rattle.guillotiere.specs.declared.geometry.Size.{Size}
 use Rattle.guillotiere.specs.declared.geometry.Rectangle.{Rectangle}
@@ -10,36 +11,36 @@ use Rattle.guillotiere.specs.Pixels.{box_of, options_of, sides_of}
 use Rattle.guillotiere.specs.Replies.{IsExact}
 use Rattle.guillotiere.specs.Simple.{SimpleState, SimplyGrants, simple_start}
 
--- the sides of a square
-abbrev pub square : ℕ → Sides
-square side = record { width = side; height = side }
+-- The sides of a sheet_sides.
+abbrev pub sheet_sides : ℕ → Sides
+sheet_sides side = record { width = side; height = side }
 
--- a place in a square sheet: it has its sprite's sides, and doesn't pass the sheet
+-- A place in a sheet_sides sheet: it has its sprite's sides, and doesn't pass the sheet.
 pub record IsPlaceFor (side : ℕ) (sprite : Size) (place : Rectangle) : Type 0 where
   pub sides : box_sides (box_of place) ≡ sides_of sprite
-  pub within : IsWithin (square side) (box_of place)
+  pub within : IsWithin (sheet_sides side) (box_of place)
   pub exact : IsExact place
 
--- one place a sprite, in the order of the sprites; no unit square lies in two of them
+-- One place a sprite, in the order of the sprites; no unit sheet_sides lies in two of them.
 pub record ArePlaces (side : ℕ) (sprites : List Size) (places : List Rectangle) : Type 0 where
   pub each : AllZip (IsPlaceFor side) sprites places
   pub apart : AreDisjoint (map box_of places)
 
--- the same sprites, none lower than one after it
+-- The same sprites, none lower than one after it.
 pub record AreHighestFirst (sprites order : List Size) : Type 0 where
   pub permuted : IsPermutation sprites order
   pub falling : AllAdjacentBelow (λ s t. t.height ≤ℤ s.height) order (length order)
 
--- where sprites are granted one after another, one of them finds no room
+-- Where sprites are granted one after another, one of them finds no room.
 abbrev pub OneFindsNoRoom : SimpleState → List Size → Type 0
 OneFindsNoRoom s [] = ⊥
 OneFindsNoRoom s (sprite ∷ rest) =
     HasNoRoom s.free s.options (sides_of sprite)
     ⊎ ((box : Box) × (next : SimpleState) × SimplyGrants s (sides_of sprite) box next × OneFindsNoRoom next rest)
 
--- one of the sprites finds no room in a new sheet of this side
+-- One of the sprites finds no room in a new sheet of this side.
 abbrev pub CannotTake : (side : ℕ) → List Size → Type 0
-CannotTake side sprites = OneFindsNoRoom (simple_start (square side) (options_of DEFAULT_OPTIONS)) sprites
+CannotTake side sprites = OneFindsNoRoom (simple_start (sheet_sides side) (options_of DEFAULT_OPTIONS)) sprites
 
 -- Of the sides `least`, 2 * `least`, 4 * `least` and so on up to `most`, the side that is found is the first that isn't
 -- too small; none is found if all are.
@@ -48,24 +49,24 @@ IsSmallest least most sprites (Some side) =
     (n : ℕ) × (side ≡ least * 2 ^ n) × (side ≤ most) × ((k : ℕ) → k < n → CannotTake (least * 2 ^ k) sprites)
 IsSmallest least most sprites None = (k : ℕ) → least * 2 ^ k ≤ most → CannotTake (least * 2 ^ k) sprites
 
--- the same of sprites that are placed the highest first
+-- The same of sprites that are placed the highest first.
 abbrev pub IsSmallestFor : (least most : ℕ) → (sprites : List Size) → (found : Option ℕ) → Type 0
 IsSmallestFor least most sprites found =
     (order : List Size) × AreHighestFirst sprites order × IsSmallest least most order found
 
--- the empty rectangle at the origin
+-- The empty rectangle at the origin.
 abbrev pub nowhere : Rectangle
 nowhere = record { min = record { x = pos 0; y = pos 0 }; max = record { x = pos 0; y = pos 0 } }
 
--- the place of a numbered sprite
+-- The place of a numbered sprite.
 abbrev pub place_in : List Rectangle → ℕ × Size → Rectangle
 place_in places sprite = slice_index_or places sprite.0 nowhere
 
--- what holds of numbered sprites that were placed in a sheet
+-- What holds of numbered sprites that were placed in a sheet.
 pub record ArePlaced (side : ℕ) (order : List (ℕ × Size)) (places : List Rectangle) : Type 0 where
   pub each : All (λ s. IsPlaceFor side s.1 (place_in places s)) order
   pub apart : AreDisjoint (map (λ s. box_of (place_in places s)) order)
 
--- no two sprites have one number
+-- No two sprites have one number.
 abbrev pub AreNumberedOnce : List (ℕ × Size) → Type 0
 AreNumberedOnce order = (k : ℕ) → count_by (λ s. s.0 == k) order ≤ 1

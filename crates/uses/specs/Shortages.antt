@@ -3,6 +3,6 @@ use Rattle.std.specs.Prelude.{◌≡◌, ◌⊎◌}
 use Rattle.guillotiere.specs.declared.error.AtlasError.{AtlasError}
 use Rattle.guillotiere.specs.declared.error.AtlasError.TheVariants.{Memory, Slots}
 
--- memory was refused, or the slots of the atlas don't suffice
+-- Memory was refused, or the slots of the atlas don't suffice.
 abbrev pub IsShortage : AtlasError → Type 0
 IsShortage error = (error ≡ Memory) ⊎ (error ≡ Slots)

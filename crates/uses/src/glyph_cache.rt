@@ -1,5 +1,7 @@
 //! A cache of glyphs in an atlas: the least recently used glyph is the first to go.
-ghost use Rattle.std.specs.Prelude.{◌≡◌, ℕ, ◌<◌, ◌≤◌, ◌+◌, ◌-◌, ◌*◌, ◌↔◌, [], count_by, drop, length, false, None, Some, Ok, option_map, IsTrue, IfErr, IfOk, IfSome, IfNone, OnSome, OnErr, OnOk, IsOkUnless, All, ◌+ℤ◌, ◌-ℤ◌, pos, FitsSigned};
+ghost use Rattle.std.specs.Prelude.{◌≡◌, ℕ, ◌<◌, ◌≤◌, ◌+◌, ◌-◌, ◌*◌, ◌↔◌, [], count_by, drop, length, false, None};
+ghost use Rattle.std.specs.Prelude.{Some, Ok, option_map, IsTrue, IfErr, IfOk, IfSome, IfNone, OnSome, OnErr, OnOk};
+ghost use Rattle.std.specs.Prelude.{IsOkUnless, All, ◌+ℤ◌, ◌-ℤ◌, pos, FitsSigned};
 ghost use Rattle.std.specs.Int.{w32};
 ghost use Rattle.std.specs.List.{HoldsAt};
 ghost use Rattle.guillotiere.specs.Boxes.{box_sides, Fits, IsPositive};
@@ -7,7 +9,8 @@ ghost use Rattle.guillotiere.specs.Choice.{HasNoRoom};
 ghost use Rattle.guillotiere.specs.Pixels.{box_of, sides_of, size_of};
 ghost use Rattle.guillotiere.specs.States.{free_in, live_in};
 ghost use Rattle.uses.specs.declared.glyph_cache.Glyph.{Glyph as Entry};
-ghost use Rattle.uses.specs.Glyphs.{Cache, area_in, has_number, inset, square, padded, AddsLast, HasBorder, HasPlace, IsEvicted, IsKept, IsLast, IsPlaced, NeverOverlap};
+ghost use Rattle.uses.specs.Glyphs.{Cache, area_in, has_number, inset, square, padded, AddsLast, HasBorder, HasPlace};
+ghost use Rattle.uses.specs.Glyphs.{IsEvicted, IsKept, IsLast, IsGlyphPlaced, NeverOverlap};
 ghost use Rattle.uses.specs.Shortages.{IsShortage};
 
 use guillotiere::{AllocId, AtlasAllocator, AtlasError, Rectangle, Size, point2, size2};
@@ -22,8 +25,8 @@ pub struct Glyph {
     pub area: Rectangle,
 }
 
-/// Glyphs by number, each with a box of its own in an atlas, which doubles where there is no room, up to a greatest size.
-/// At that size the least recently used glyph goes.
+/// Glyphs by number, each with a box of its own in an atlas, which doubles where there is no room, up to a greatest
+/// size. At that size the least recently used glyph goes.
 #[derive(Drop)]
 pub struct GlyphCache<A: Allocator + Copy = Global> {
     atlas: AtlasAllocator<A>,
@@ -42,9 +45,11 @@ impl<A: Allocator + Copy> Model for GlyphCache<A> {
 
     ghost coded = { cache_code };
 
-    ghost view = { λ a. record { atlas = state_of a.atlas; glyphs = a.glyphs.items; most = a.most; padding = a.padding } };
+    ghost view = { λ a.
+        record { atlas = state_of a.atlas; glyphs = a.glyphs.items; most = a.most; padding = a.padding } };
 
-    ghost invariant = { λ a. IsKept (record { atlas = state_of a.atlas; glyphs = a.glyphs.items; most = a.most; padding = a.padding }) };
+    ghost invariant = { λ a. IsKept
+        (record { atlas = state_of a.atlas; glyphs = a.glyphs.items; most = a.most; padding = a.padding }) };
 }
 
 // Where a glyph stands in a list.
@@ -98,8 +103,8 @@ fn fits(size: Size, most: u16) -> bool
 }
 
 impl<A: Allocator + Copy> GlyphCache<A> {
-    /// An empty cache over an atlas of `side` by `side` pixels, which may grow up to `most` by `most`. Each glyph is given
-    /// a border of `padding` pixels on every side. `Memory` is the only error.
+    /// An empty cache over an atlas of `side` by `side` pixels, which may grow up to `most` by `most`. Each glyph is
+    /// given a border of `padding` pixels on every side. `Memory` is the only error.
     pub fn new(alloc: A, side: u16, most: u16, padding: u8) -> Result<Self, AtlasError>
         requires nonempty { 0 < side }
         requires most { side ≤ most }
@@ -134,11 +139,12 @@ impl<A: Allocator + Copy> GlyphCache<A> {
         Some(glyph.area)
     }
 
-    /// Says what each cache keeps, and does nothing: no two glyphs overlap; what is live in the atlas is what the glyphs
-    /// hold, each once.
+    /// Says what each cache keeps, and does nothing: no two glyphs overlap; what is live in the atlas is what the
+    /// glyphs hold, each once; none is held exactly if nothing is live.
     pub fn prove_kept(&self)
         ensures kept { IsKept self.now }
         ensures apart { NeverOverlap self.now }
+        ensures empty { (self.now.glyphs ≡ []) ↔ (live_in self.now.atlas ≡ []) }
     {
         let _atlas = &self.atlas;
     }
@@ -155,6 +161,7 @@ impl<A: Allocator + Copy> GlyphCache<A> {
         ensures glyphs { IsTrue result ↔ (self.now.glyphs ≡ []) }
         ensures atlas { IsTrue result ↔ (live_in self.now.atlas ≡ []) }
     {
+        self.prove_kept();
         self.atlas.is_empty()
     }
 
@@ -166,10 +173,10 @@ impl<A: Allocator + Copy> GlyphCache<A> {
         Some(without_border(area, self.padding))
     }
 
-    /// The box of a glyph of `width` by `height` pixels: the one that it has, or a new one, for which the atlas doubles and
-    /// then glyphs go, the least recently used first. The glyph is then the most recently used. None exactly if it isn't
-    /// held, and with its padding it is empty or larger than the greatest atlas. After an error, `Memory` or `Slots`, the
-    /// atlas may have doubled, and glyphs, the least recently used, may have gone.
+    /// The box of a glyph of `width` by `height` pixels: the one that it has, or a new one, for which the atlas doubles
+    /// and then glyphs go, the least recently used first. The glyph is then the most recently used. None exactly if it
+    /// isn't held, and with its padding it is empty or larger than the greatest atlas. After an error, `Memory` or
+    /// `Slots`, the atlas may have doubled, and glyphs, the least recently used, may have gone.
     pub fn insert(
         &mut self,
         number: u32,
@@ -221,12 +228,13 @@ impl<A: Allocator + Copy> GlyphCache<A> {
 
     // Makes a held glyph the most recently used.
     fn touch(&mut self, number: u32) -> Option<Rectangle>
-        ensures area { result ≡ area_in self.old number }
+        ensures area { IfSome result (λ area. (area_in self.old number ≡ Some area)
+            × (area_in self.new number ≡ Some area)) }
         ensures used { OnSome result (IsLast self.old.glyphs number self.new.glyphs) }
-        ensures here { IfSome result (λ area. area_in self.new number ≡ Some area) }
         ensures rest { self.new ≡ record self.old { glyphs = self.new.glyphs } }
         ensures none { IfNone result (self.new ≡ self.old) }
-        ensures absent { IfNone result (count_by (has_number number) self.old.glyphs ≡ 0) }
+        ensures absent { IfNone result ((area_in self.old number ≡ None)
+            × (count_by (has_number number) self.old.glyphs ≡ 0)) }
     {
         let at = place_of(&self.glyphs, number)?;
         let glyph = self.glyphs.remove(at);
@@ -241,7 +249,8 @@ impl<A: Allocator + Copy> GlyphCache<A> {
         requires wide { 2 * self.old.padding ≤ (sides_of size).width }
         requires high { 2 * self.old.padding ≤ (sides_of size).height }
         ensures placed { IfOk result (λ placed. IfSome placed (λ area.
-            IsPlaced self.old number (sides_of size) area self.new)) }
+            IsGlyphPlaced self.old number (sides_of size) area self.new)) }
+        ensures here { IfOk result (λ placed. IfSome placed (λ area. area_in self.new number ≡ Some area)) }
         ensures none { IfOk result (λ placed. placed ≡ None → (self.new ≡ self.old)
             × HasNoRoom (free_in self.old.atlas) self.old.atlas.options (sides_of size)) }
         ensures refused { OnErr result (self.new ≡ self.old) }
@@ -293,20 +302,18 @@ impl<A: Allocator + Copy> GlyphCache<A> {
         ensures padding { self.new.padding ≡ self.old.padding }
     {
         let oldest = self.glyphs.remove(0);
-        let freed = self.atlas.deallocate(oldest.id);
-        prove!(freed.is_ok());
+        // Always Ok, since the glyph is live.
+        let _freed = self.atlas.deallocate(oldest.id);
     }
 
-    // Doubles the atlas, or at its greatest size lets the least recently used glyph go. What fits an empty atlas of that
-    // size has no room, so there is a glyph.
+    // Doubles the atlas, or at its greatest size lets the least recently used glyph go. What fits an empty atlas of
+    // that size has no room, so there is a glyph.
     fn make_room(&mut self, size: Size) -> Result<(), AtlasError>
         requires full { HasNoRoom (free_in self.old.atlas) self.old.atlas.options (sides_of size) }
         requires positive { IsPositive (sides_of size) }
         requires fits { Fits (sides_of size) (square self.old.most) }
         ensures evicted { OnOk result ((first : Cache) → IsEvicted first self.old self.old.glyphs
             → IsEvicted first self.new self.new.glyphs) }
-        ensures fewer { OnOk result ((number : ℕ) → count_by (has_number number) self.new.glyphs
-            ≤ count_by (has_number number) self.old.glyphs) }
         ensures less { OnOk result ((self.new.most - self.new.atlas.size.width) + length self.new.glyphs
             < (self.old.most - self.old.atlas.size.width) + length self.old.glyphs) }
         ensures most { self.new.most ≡ self.old.most }
@@ -347,7 +354,7 @@ mod tests {
         assert_eq!(rt; cache.size(), size2(32, 32));
         assert_eq!(rt; cache.insert(9, 14, 14)?, Some(area(16, 0, 32, 16)));
         assert_eq!(rt; cache.insert(10, 14, 14)?, Some(area(16, 16, 32, 32)));
-        // finding the first glyph makes the second the least recently used
+        // Finding the first glyph makes the second the least recently used.
         assert_eq!(rt; cache.insert(7, 14, 14)?, Some(first));
         assert_eq!(rt; cache.insert(11, 14, 14)?, Some(second));
         assert_eq!(rt; cache.get(8), None);

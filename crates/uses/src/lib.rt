@@ -1,5 +1,5 @@
-//! Programs over the atlas as their users would write them: a cache of glyphs, a sheet of sprites, a cache that repacks,
-//! and a recorded session.
+//! Programs over the atlas as their users would write them: a cache of glyphs, a sheet of sprites, a cache that
+//! repacks, and a recorded session.
 #![tactic(auto)]
 
 pub mod glyph_cache;

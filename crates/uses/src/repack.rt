@@ -1,5 +1,6 @@
 //! A cache of pictures in an atlas, which packs them anew and says which pixels to copy where.
-ghost use Rattle.std.specs.Prelude.{◌≡◌, ◌==◌, ◌<◌, ◌≤◌, ◌++◌, ◌∷◌, [], find, length, vec_capacity, false, All, None, Ok, IfErr, IfNone, IfOk, IfSome, IsOkUnless, IsTrue, OnErr};
+ghost use Rattle.std.specs.Prelude.{◌≡◌, ◌==◌, ◌<◌, ◌≤◌, ◌++◌, ◌∷◌, [], find, length, vec_capacity, false, All, None};
+ghost use Rattle.std.specs.Prelude.{Ok, IfErr, IfNone, IfOk, IfSome, IsOkUnless, IsTrue, OnErr};
 ghost use Rattle.std.specs.List.{filter_map, HoldsAt};
 ghost use Rattle.guillotiere.specs.Boxes.{IsPositive, box_sides};
 ghost use Rattle.guillotiere.specs.Choice.{HasNoRoom, rounded};
@@ -8,7 +9,7 @@ ghost use Rattle.guillotiere.specs.States.{free_in};
 ghost use Rattle.guillotiere.specs.Stored.{state_of};
 ghost use Rattle.guillotiere.specs.declared.error.AtlasError.TheVariants as error;
 ghost use Rattle.uses.specs.declared.repack.Held.{Held as Kept};
-ghost use Rattle.uses.specs.Pictures.{IsRepacked, IsTaken, area_in, kept_by, loss_by, move_by};
+ghost use Rattle.uses.specs.Pictures.{IsRepacked, IsTaken, picture_area, kept_by, loss_by, move_by};
 ghost use Rattle.uses.specs.Shortages.{IsShortage};
 
 use guillotiere::{AllocId, Allocation, AtlasAllocator, AtlasError, Change, Rectangle, Size};
@@ -22,8 +23,8 @@ pub struct Picture {
     pub area: Rectangle,
 }
 
-/// A picture whose pixels are to be copied, from a rectangle of the old texture to one of the new texture, in pixels. Both
-/// have the same sides. In one texture a copy could overwrite what a later one reads.
+/// A picture whose pixels are to be copied, from a rectangle of the old texture to one of the new texture, in pixels.
+/// Both have the same sides. In one texture a copy could overwrite what a later one reads.
 #[derive(Clone, Copy, Debug, PartialEq)]
 pub struct Move {
     pub key: u32,
@@ -54,13 +55,13 @@ pub struct PictureCache {
 impl Model for PictureCache {
     ghost use Rattle.std.specs.Prelude.{map};
     ghost use Rattle.guillotiere.specs.Stored.{state_of};
-    ghost use Rattle.uses.specs.Pictures.{HoldsLive, Pictures, shown};
+    ghost use Rattle.uses.specs.Pictures.{HoldsGrants, Pictures, picture_of};
 
     ghost Value = { Pictures };
 
-    ghost view = { λ a. record { atlas = a.atlas; held = map shown a.held.items } };
+    ghost view = { λ a. record { atlas = a.atlas; held = map picture_of a.held.items } };
 
-    ghost invariant = { λ a. HoldsLive (state_of a.atlas) a.held.items };
+    ghost invariant = { λ a. HoldsGrants (state_of a.atlas) a.held.items };
 }
 
 impl PictureCache {
@@ -79,17 +80,17 @@ impl PictureCache {
 
     /// The rectangle of a picture, in pixels; None if the cache doesn't hold it.
     pub fn get(&self, key: u32) -> Option<Rectangle>
-        ensures { result ≡ area_in self.now.held key }
+        ensures { result ≡ picture_area self.now.held key }
     {
         let held = held_for(&self.held, key)?;
         Some(held.grant.rectangle)
     }
 
-    /// Gives a new picture of this size a rectangle of its sides, rounded up to the alignment. None if the size is empty
-    /// or has no room; then nothing changes. Asks that the cache doesn't hold the picture: `get` is the test. After an
-    /// error, `Memory` or `Slots`, everything is as before.
+    /// Gives a new picture of this size a rectangle of its sides, rounded up to the alignment. None if the size is
+    /// empty or has no room; then nothing changes. Asks that the cache doesn't hold the picture: `get` is the test.
+    /// After an error, `Memory` or `Slots`, everything is as before.
     pub fn put(&mut self, key: u32, size: Size) -> Result<Option<Rectangle>, AtlasError>
-        requires { area_in self.old.held key ≡ None }
+        requires { picture_area self.old.held key ≡ None }
         ensures put { IfOk result (λ put. IfSome put (λ area.
             self.new.held ≡ self.old.held ++ record { key = key; area = area } ∷ [])) }
         ensures sides { IfOk result (λ put. IfSome put (λ area.
@@ -116,7 +117,7 @@ impl PictureCache {
     pub fn remove(&mut self, key: u32) -> bool
         ensures taken { IsTrue result → IsTaken self.old.held key self.new.held }
         ensures none { result ≡ false → self.new ≡ self.old }
-        ensures gone { area_in self.new.held key ≡ None }
+        ensures gone { picture_area self.new.held key ≡ None }
     {
         let PictureCache { atlas, held } = self;
         atlas.prove_sound();
@@ -129,8 +130,8 @@ impl PictureCache {
         true
     }
 
-    /// Packs the pictures anew, the largest first. Each is moved or lost. After an error, `Memory` or `Slots`, everything
-    /// is as before.
+    /// Packs the pictures anew, the largest first. Each is moved or lost. After an error, `Memory` or `Slots`,
+    /// everything is as before.
     pub fn repack(&mut self) -> Result<Repacking, AtlasError>
         ensures repacked { IfOk result (λ done.
             IsRepacked (state_of self.old.atlas).size self.old done.moves.items done.lost.items self.new) }

@@ -19,7 +19,8 @@ pub struct Session<A: Allocator + Copy = Global> {
 }
 
 #[tactic(auto, using(crate::proofs::Recordings::plain_more))]
-// Asks for a box of this size; where there is no room, the box with the oldest name goes. The answer is the oldest name then.
+// Asks for a box of this size; where there is no room, the box with the oldest name goes.
+// The answer is the oldest name then.
 fn ask<A: Allocator + Copy>(
     atlas: &mut RecordingAllocator<A>,
     glyph: Size,
@@ -35,7 +36,7 @@ fn ask<A: Allocator + Copy>(
             atlas.allocate(glyph)?;
             Ok(oldest.wrapping_add(1))
         }
-        // nothing is held
+        // Nothing is held.
         Err(RecordingError::NotLive) => Ok(oldest),
         Err(error) => Err(error),
     }
@@ -54,7 +55,7 @@ pub fn record<A: Allocator + Copy>(
     ensures plain { IfOk result (λ session. ArePlain session.recording.events) }
 {
     let mut atlas = RecordingAllocator::new(alloc, size)?;
-    // names are given in order, so the oldest live one is known by its number
+    // Names are given in order, so the oldest live one is known by its number.
     let mut oldest = 0;
     for glyph in glyphs {
         oldest = ask(&mut atlas, *glyph, oldest)?;
@@ -86,7 +87,8 @@ mod tests {
     use guillotiere::{AllocId, Allocation, Rectangle, point2, size2};
     use guillotiere_recording::RecordingError;
 
-    // Three of 16 by 16 one below the other in 16 by 48: the fourth takes the place of the first, the fifth that of the second.
+    // Three of 16 by 16 one below the other in 16 by 48: the fourth takes the place of the first,
+    // the fifth that of the second.
     #[test]
     fn a_replay_holds_the_same(rt: HostRuntime) -> Result<(), RecordingError> {
         let glyph = size2(16, 16);

@@ -4,7 +4,8 @@ ghost use Rattle.guillotiere.specs.Boxes.{Fits};
 ghost use Rattle.guillotiere.specs.Pixels.{sides_of, options_of};
 ghost use Rattle.guillotiere.specs.Simple.{SimpleStep, simple_answer, simple_done};
 ghost use Rattle.guillotiere.specs.Simple.SimpleAtlasCall.{Allocate, Grow, Reset};
-ghost use Rattle.guillotiere.specs.SimpleSessions.{simple_call_of, simple_answer_of, GrantsExact, IsSimpleSession};
+ghost use Rattle.guillotiere.specs.Simple.SimpleSessions.{simple_call_of, simple_answer_of, GrantsExact};
+ghost use Rattle.guillotiere.specs.Simple.SimpleSessions.{IsSimpleSession};
 ghost use Rattle.guillotiere.specs.Stored.{state_of};
 
 use super::is_positive;
@@ -20,13 +21,13 @@ use std::alloc::Allocator;
 pub enum SimpleCall {
     /// `allocate`
     Allocate(Size),
-    /// `grow`, to a size of which no side is below that of the allocator
+    /// `grow`, to a size of which no side is below that of the allocator.
     Grow(Size),
     /// `clear`
     Clear,
-    /// `reset`, to a size that isn't empty, with valid options
+    /// `reset`, to a size that isn't empty, with valid options.
     Reset(Size, AllocatorOptions),
-    /// `init_from_allocator`, from the atlas that is handed in beside the calls
+    /// `init_from_allocator`, from the atlas that is handed in beside the calls.
     Start,
 }
 
@@ -139,7 +140,7 @@ pub fn run_simple<A: Allocator + Copy>(
     ensures no_reply { OnErr result (replies.new.items ≡ replies.old.items) }
 {
     replies.reserve(calls.len())?;
-    // its contract says what each simple allocator keeps
+    // Its contract says what each simple allocator keeps.
     let _size = simple.size();
     for call in calls {
         replies.push_reserved(make(simple, source, call));

@@ -2,8 +2,8 @@
 ghost use Rattle.std.specs.Prelude.{◌≡◌, ◌≢◌, ◌<◌, ◌++◌, ℕ, [], ◌∷◌, List, All, map, Ok, OnOk, OnErr, IsOkUnless};
 ghost use Rattle.guillotiere.specs.Boxes.{AreSameBoxes, Box, Fits, IsNonempty, IsPositive};
 ghost use Rattle.guillotiere.specs.Choice.{AreValid};
-ghost use Rattle.guillotiere.specs.BoxShelves.{AreKept, box_shelf, free_boxes};
-ghost use Rattle.guillotiere.specs.FreeLists.{kept_beyond};
+ghost use Rattle.guillotiere.specs.Simple.BoxShelves.{AreKept, box_shelf, free_item_boxes};
+ghost use Rattle.guillotiere.specs.Simple.FreeLists.{kept_beyond};
 ghost use Rattle.guillotiere.specs.Pixels.{box_of, options_of, sides_of};
 ghost use Rattle.guillotiere.specs.Rectangles.{IsUnsigned};
 ghost use Rattle.guillotiere.specs.Simple.{IsGuarded, IsSimple, SimpleStep, live_boxes, simple_done};
@@ -14,11 +14,11 @@ ghost use Rattle.guillotiere.specs.Visits.{free_areas};
 
 use super::{SimpleAtlasAllocator, is_kept, keep};
 use crate::atlas::AtlasAllocator;
-use crate::boxes::FreeBoxes;
 use crate::cut::guillotine;
 use crate::error::AtlasError;
 use crate::geometry::{Rectangle, Size};
 use crate::options::AllocatorOptions;
+use crate::simple::boxes::FreeBoxes;
 use crate::slots::{NodeKind, Slot};
 use std::alloc::Allocator;
 
@@ -106,7 +106,8 @@ fn add_rest<A: Allocator>(
     ensures unless { IsOkUnless result AtlasError.Memory }
     ensures kept { AreKept (options_of options.now) (box_shelf boxes.new) }
     ensures ok { OnOk result
-        (AreSameBoxes (free_boxes (box_shelf boxes.new).entries) (kept_beyond options.now size new_size ++ free_boxes (box_shelf boxes.old).entries)) }
+        (AreSameBoxes (free_item_boxes (box_shelf boxes.new).entries)
+        (kept_beyond options.now size new_size ++ free_item_boxes (box_shelf boxes.old).entries)) }
     ensures err { OnErr result (box_shelf boxes.new ≡ box_shelf boxes.old) }
     ensures needed { OnErr result (kept_beyond options.now size new_size ≢ []) }
 {
@@ -130,7 +131,8 @@ fn file_free<A: Allocator>(
     ensures unless { IsOkUnless result AtlasError.Memory }
     ensures kept { OnOk result (AreKept (options_of options.now) (box_shelf boxes.new)) }
     ensures boxes { OnOk result
-        (AreSameBoxes (free_boxes (box_shelf boxes.new).entries) (map box_of (free_areas (nodes slots.now)) ++ free_boxes (box_shelf boxes.old).entries)) }
+        (AreSameBoxes (free_item_boxes (box_shelf boxes.new).entries)
+        (map box_of (free_areas (nodes slots.now)) ++ free_item_boxes (box_shelf boxes.old).entries)) }
 {
     for slot in slots {
         if slot.node.kind == NodeKind::Free {

@@ -1,7 +1,7 @@
 use Rattle.std.proofs.Common.{◌≡◌, ◌≢◌, [], ◌∷◌, ◌++◌, length, append-nil, append_assoc, rules, ap, sym, subst, ◌∙◌, List}
 use Rattle.std.proofs.lemmas.List.{nil_from_length}
 use Rattle.atlas_bench.specs.declared.workload.Job.{Job}
-use Rattle.atlas_bench.specs.Grammar.{SpellsAll}
+use Rattle.atlas_bench.specs.Grammar.{SpellsJobs}
 use Rattle.atlas_lines.proofs.FirstLines.{rest_shorter}
 use Rattle.atlas_bench.proofs.Lines.{next_spelled}
 use Rattle.atlas_bench.proofs.jobs.jobs.Goals as goal
@@ -33,7 +33,7 @@ loop-rest-preserved c =
       found = λ more spells.
           let whole = c.loop-rest.invariant.found (c.in-Some.job ∷ more) (_, _, c.first_line.ensures, c.in-Some.ensures.found, spells) in
           let same = ap (λ (js : List Job). js ++ more) pushed ∙ append_assoc c.loop-rest.jobs.items (c.in-Some.job ∷ []) more in
-          subst (λ (js : List Job). SpellsAll js c.args.text.now) (sym same) whole;
+          subst (λ (js : List Job). SpellsJobs js c.args.text.now) (sym same) whole;
       only = λ all spells.
           let more = c.loop-rest.invariant.only all spells in
           let next = next_spelled more.0 _ _ _ more.1 some c.first_line.ensures in

@@ -2,7 +2,7 @@ use Rattle.std.proofs.Common.{◌≡◌, ◌++◌, List, ℕ, false, length}
 use Rattle.std.specs.Io.KnownBytes.{Appends}
 use Rattle.atlas_lines.proofs.devices.write_all.Given as goal
 
--- the first bytes went, and the rest is what is left
+-- The first bytes went, and the rest is what is left.
 abbrev pub invariant-loop-rest : goal.invariant-loop-rest
 invariant-loop-rest g l =
     (g.W.ToolOutput.has_failed l.output ≡ false)

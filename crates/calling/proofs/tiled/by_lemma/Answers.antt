@@ -1,5 +1,5 @@
 use Rattle.guillotiere.specs.Stored.{state_of}
-use Rattle.guillotiere.proofs.LiveBoxes.{sound_is_tiled}
+use Rattle.guillotiere.proofs.StepLemmas.LiveBoxes.{sound_is_tiled}
 use Rattle.calling.proofs.tiled.by_lemma.Goals as goal
 
 pub returns : goal.returns

@@ -1,6 +1,6 @@
 use Rattle.std.proofs.Common.{◌-ℤ◌, FitsSigned, w32, rules, arith}
 use Rattle.std.proofs.lemmas.Int.{to_z-of_z, ints}
-use Rattle.guillotiere.proofs.Choosing.{spare_fits, spare_value}
+use Rattle.guillotiere.proofs.SearchLemmas.Choosing.{spare_fits, spare_value}
 use Rattle.guillotiere.proofs.choice.spare.Goals as goal
 
 pub returns : goal.returns

@@ -1,4 +1,4 @@
-use Rattle.guillotiere.proofs.Alike.{answers_without_ids, live_names_count}
+use Rattle.guillotiere.proofs.StepLemmas.Alike.{answers_without_ids, live_names_count}
 use Rattle.guillotiere.proofs.laws.answers_without_ids.Goals as goal
 
 pub returns : goal.returns

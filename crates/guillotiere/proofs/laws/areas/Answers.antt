@@ -1,4 +1,4 @@
-use Rattle.guillotiere.proofs.TreeTiling.{areas_add_up}
+use Rattle.guillotiere.proofs.TreeLemmas.TreeTiling.{areas_add_up}
 use Rattle.guillotiere.proofs.laws.areas.Goals as goal
 
 pub returns : goal.returns

@@ -1,4 +1,4 @@
-use Rattle.guillotiere.proofs.TreeCounts.{place_nodes, place_most, grow_nodes, grow_most, release_nodes}
+use Rattle.guillotiere.proofs.TreeLemmas.TreeCounts.{place_nodes, place_most, grow_nodes, grow_most, release_nodes}
 use Rattle.guillotiere.proofs.laws.counts.Goals as goal
 
 pub returns : goal.returns

@@ -1,4 +1,4 @@
-use Rattle.guillotiere.proofs.WorkedPicks.{tie, equal_side, large, medium, class_above, all_large}
+use Rattle.guillotiere.proofs.SearchLemmas.WorkedPicks.{tie, equal_side, large, medium, class_above, all_large}
 use Rattle.guillotiere.proofs.laws.examples_of_picks.Goals as goal
 
 pub returns : goal.returns

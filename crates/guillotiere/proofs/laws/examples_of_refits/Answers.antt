@@ -1,5 +1,5 @@
 use Rattle.std.proofs.Common.{refl}
-use Rattle.guillotiere.proofs.WorkedRefits.{three_ordered, capped_order, order_by_slot, refit_of_three, passes_four, passes_five, passes_six, three_step, three_refused}
+use Rattle.guillotiere.proofs.StepLemmas.WorkedRefits.{three_ordered, capped_order, order_by_slot, refit_of_three, passes_four, passes_five, passes_six, three_step, three_refused}
 use Rattle.guillotiere.proofs.laws.examples_of_refits.Goals as goal
 
 pub returns : goal.returns

@@ -1,4 +1,4 @@
-use Rattle.guillotiere.proofs.StepEffects.{freeings_remove_one}
+use Rattle.guillotiere.proofs.StepLemmas.StepEffects.{freeings_remove_one}
 use Rattle.guillotiere.proofs.laws.freeings_remove_one.Goals as goal
 
 pub returns : goal.returns

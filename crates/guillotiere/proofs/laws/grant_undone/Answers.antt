@@ -1,4 +1,4 @@
-use Rattle.guillotiere.proofs.TreeUndone.{grant_undone}
+use Rattle.guillotiere.proofs.TreeLemmas.TreeUndone.{grant_undone}
 use Rattle.guillotiere.proofs.laws.grant_undone.Goals as goal
 
 pub returns : goal.returns

@@ -1,4 +1,4 @@
-use Rattle.guillotiere.proofs.StepEffects.{grants_lie_inside}
+use Rattle.guillotiere.proofs.StepLemmas.StepEffects.{grants_lie_inside}
 use Rattle.guillotiere.proofs.laws.grants_lie_inside.Goals as goal
 
 pub returns : goal.returns

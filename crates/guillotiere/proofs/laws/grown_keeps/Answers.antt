@@ -1,4 +1,4 @@
-use Rattle.guillotiere.proofs.TreeRoom.{grown_keeps}
+use Rattle.guillotiere.proofs.TreeLemmas.TreeRoom.{grown_keeps}
 use Rattle.guillotiere.proofs.laws.grown_keeps.Goals as goal
 
 pub returns : goal.returns

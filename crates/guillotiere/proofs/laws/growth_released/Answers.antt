@@ -1,4 +1,4 @@
-use Rattle.guillotiere.proofs.TreeGrowth.{growth_released, growth_released_free, one_free_box}
+use Rattle.guillotiere.proofs.TreeLemmas.TreeGrowth.{growth_released, growth_released_free, one_free_box}
 use Rattle.guillotiere.proofs.laws.growth_released.Goals as goal
 
 pub returns : goal.returns

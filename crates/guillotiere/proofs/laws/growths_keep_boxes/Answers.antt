@@ -1,4 +1,4 @@
-use Rattle.guillotiere.proofs.StepEffects.{growths_keep_boxes}
+use Rattle.guillotiere.proofs.StepLemmas.StepEffects.{growths_keep_boxes}
 use Rattle.guillotiere.proofs.laws.growths_keep_boxes.Goals as goal
 
 pub returns : goal.returns

@@ -1,4 +1,4 @@
-use Rattle.guillotiere.proofs.SimpleRunning.{guarded_are_disjoint}
+use Rattle.guillotiere.proofs.SimpleLemmas.SimpleRunning.{guarded_are_disjoint}
 use Rattle.guillotiere.proofs.laws.guarded_are_disjoint.Goals as goal
 
 pub returns : goal.returns

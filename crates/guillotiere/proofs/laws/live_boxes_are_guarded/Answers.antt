@@ -1,4 +1,4 @@
-use Rattle.guillotiere.proofs.Guarding.{live_are_guarded}
+use Rattle.guillotiere.proofs.StepLemmas.Guarding.{live_are_guarded}
 use Rattle.guillotiere.proofs.laws.live_boxes_are_guarded.Goals as goal
 
 pub returns : goal.returns

@@ -1,4 +1,4 @@
-use Rattle.guillotiere.proofs.LyingApart.{live_share_nothing}
+use Rattle.guillotiere.proofs.StepLemmas.LyingApart.{live_share_nothing}
 use Rattle.guillotiere.proofs.laws.live_boxes_lie_apart.Goals as goal
 
 pub returns : goal.returns

@@ -1,4 +1,4 @@
-use Rattle.guillotiere.proofs.LyingApart.{live_lie_within}
+use Rattle.guillotiere.proofs.StepLemmas.LyingApart.{live_lie_within}
 use Rattle.guillotiere.proofs.laws.live_boxes_lie_within.Goals as goal
 
 pub returns : goal.returns

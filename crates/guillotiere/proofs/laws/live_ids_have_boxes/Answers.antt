@@ -1,4 +1,4 @@
-use Rattle.guillotiere.proofs.LiveBoxes.{live_have_boxes}
+use Rattle.guillotiere.proofs.StepLemmas.LiveBoxes.{live_have_boxes}
 use Rattle.guillotiere.proofs.laws.live_ids_have_boxes.Goals as goal
 
 pub returns : goal.returns

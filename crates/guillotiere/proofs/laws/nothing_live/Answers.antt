@@ -1,4 +1,4 @@
-use Rattle.guillotiere.proofs.TreeIdle.{nothing_live}
+use Rattle.guillotiere.proofs.TreeLemmas.TreeIdle.{nothing_live}
 use Rattle.guillotiere.proofs.laws.nothing_live.Goals as goal
 
 pub returns : goal.returns

@@ -1,4 +1,4 @@
-use Rattle.guillotiere.proofs.StepEffects.{picks_are_one}
+use Rattle.guillotiere.proofs.StepLemmas.StepEffects.{picks_are_one}
 use Rattle.guillotiere.proofs.laws.picks_are_one.Goals as goal
 
 pub returns : goal.returns

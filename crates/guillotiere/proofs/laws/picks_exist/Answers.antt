@@ -1,4 +1,4 @@
-use Rattle.guillotiere.proofs.PickExistence.{picks_exist}
+use Rattle.guillotiere.proofs.SearchLemmas.PickExistence.{picks_exist}
 use Rattle.guillotiere.proofs.laws.picks_exist.Goals as goal
 
 pub returns : goal.returns

@@ -1,5 +1,5 @@
-use Rattle.guillotiere.proofs.TreePlacing.{place_well_formed, place_normal, request_inside}
-use Rattle.guillotiere.proofs.Refitting.{place_permuted}
+use Rattle.guillotiere.proofs.TreeLemmas.TreePlacing.{place_well_formed, place_normal, request_inside}
+use Rattle.guillotiere.proofs.StepLemmas.Refitting.{place_permuted}
 use Rattle.guillotiere.proofs.laws.placed.Goals as goal
 
 pub returns : goal.returns

@@ -1,4 +1,4 @@
-use Rattle.guillotiere.proofs.StepEffects.{rearrangings_lose_nothing}
+use Rattle.guillotiere.proofs.StepLemmas.StepEffects.{rearrangings_lose_nothing}
 use Rattle.guillotiere.proofs.laws.rearrangings_lose_nothing.Goals as goal
 
 pub returns : goal.returns

@@ -1,4 +1,4 @@
-use Rattle.guillotiere.proofs.StepEffects.{refusals_change_nothing}
+use Rattle.guillotiere.proofs.StepLemmas.StepEffects.{refusals_change_nothing}
 use Rattle.guillotiere.proofs.laws.refusals_change_nothing.Goals as goal
 
 pub returns : goal.returns

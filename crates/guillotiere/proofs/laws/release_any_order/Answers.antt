@@ -1,5 +1,5 @@
-use Rattle.guillotiere.proofs.TreeNormal.{nf_mark_nf, release-release}
-use Rattle.guillotiere.proofs.TreeReleases.{release_one_by_one, release_in_normal, release_any_order}
+use Rattle.guillotiere.proofs.TreeLemmas.TreeNormal.{nf_mark_nf, release-release}
+use Rattle.guillotiere.proofs.TreeLemmas.TreeReleases.{release_one_by_one, release_in_normal, release_any_order}
 use Rattle.guillotiere.proofs.laws.release_any_order.Goals as goal
 
 pub returns : goal.returns

@@ -1,4 +1,4 @@
-use Rattle.guillotiere.proofs.TreeKept.{release_keeps}
+use Rattle.guillotiere.proofs.TreeLemmas.TreeKept.{release_keeps}
 use Rattle.guillotiere.proofs.laws.released.Goals as goal
 
 pub returns : goal.returns

@@ -1,4 +1,4 @@
-use Rattle.guillotiere.proofs.Existence.{rounding_is_least}
+use Rattle.guillotiere.proofs.StepLemmas.Existence.{rounding_is_least}
 use Rattle.guillotiere.proofs.laws.rounding.Goals as goal
 
 pub returns : goal.returns

@@ -1,4 +1,4 @@
-use Rattle.guillotiere.proofs.RunKeeping.{runs_keep_order}
+use Rattle.guillotiere.proofs.StepLemmas.RunKeeping.{runs_keep_order}
 use Rattle.guillotiere.proofs.laws.runs_keep_order.Goals as goal
 
 pub returns : goal.returns

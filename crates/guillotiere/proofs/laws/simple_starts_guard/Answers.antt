@@ -1,4 +1,4 @@
-use Rattle.guillotiere.proofs.SimpleRunning.{simple_starts_guard}
+use Rattle.guillotiere.proofs.SimpleLemmas.SimpleRunning.{simple_starts_guard}
 use Rattle.guillotiere.proofs.laws.simple_starts_guard.Goals as goal
 
 pub returns : goal.returns

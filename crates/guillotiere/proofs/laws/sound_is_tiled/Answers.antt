@@ -1,4 +1,4 @@
-use Rattle.guillotiere.proofs.LiveBoxes.{sound_is_tiled}
+use Rattle.guillotiere.proofs.StepLemmas.LiveBoxes.{sound_is_tiled}
 use Rattle.guillotiere.proofs.laws.sound_is_tiled.Goals as goal
 
 pub returns : goal.returns

@@ -1,4 +1,4 @@
-use Rattle.guillotiere.proofs.Existence.{starts_are_sound}
+use Rattle.guillotiere.proofs.StepLemmas.Existence.{starts_are_sound}
 use Rattle.guillotiere.proofs.laws.starts_are_sound.Goals as goal
 
 pub returns : goal.returns

@@ -1,4 +1,4 @@
-use Rattle.guillotiere.proofs.Existence.{steps_exist}
+use Rattle.guillotiere.proofs.StepLemmas.Existence.{steps_exist}
 use Rattle.guillotiere.proofs.laws.steps_exist.Goals as goal
 
 pub returns : goal.returns

@@ -1,4 +1,4 @@
-use Rattle.guillotiere.proofs.StepKeeping.{steps_keep}
+use Rattle.guillotiere.proofs.StepLemmas.StepKeeping.{steps_keep}
 use Rattle.guillotiere.proofs.laws.steps_keep.Goals as goal
 
 pub returns : goal.returns

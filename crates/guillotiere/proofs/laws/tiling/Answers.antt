@@ -1,4 +1,4 @@
-use Rattle.guillotiere.proofs.TreeTiling.{squares_once, boxes_within}
+use Rattle.guillotiere.proofs.TreeLemmas.TreeTiling.{squares_once, boxes_within}
 use Rattle.guillotiere.proofs.laws.tiling.Goals as goal
 
 pub returns : goal.returns

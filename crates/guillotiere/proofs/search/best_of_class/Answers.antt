@@ -1,8 +1,8 @@
 use Rattle.std.proofs.Common.{map}
-use Rattle.guillotiere.specs.Lookups.{IsWindowOf}
+use Rattle.guillotiere.specs.Search.Lookups.{IsWindowOf}
 use Rattle.guillotiere.specs.Pixels.{options_of, sides_of}
-use Rattle.guillotiere.proofs.ClassSearching.{none-fits}
-use Rattle.guillotiere.proofs.ItemPicks.{none-found, some-found}
+use Rattle.guillotiere.proofs.SearchLemmas.ClassSearching.{none-fits}
+use Rattle.guillotiere.proofs.SearchLemmas.ItemPicks.{none-found, some-found}
 use Rattle.guillotiere.proofs.search.best_of_class.Goals as goal
 
 pub returns-then-are_empty-clause-none : goal.returns-then-are_empty-clause-none

@@ -1,7 +1,7 @@
 use Rattle.std.proofs.Common.{map, ℕ, subst, sym, refl}
-use Rattle.guillotiere.specs.Lookups.{FitsItemsFrom}
+use Rattle.guillotiere.specs.Search.Lookups.{FitsItemsFrom}
 use Rattle.guillotiere.specs.Pixels.{options_of, sides_of}
-use Rattle.guillotiere.proofs.ItemPicks.{from-own, from-next, none-from, no_room-of_items, pick-of_items}
+use Rattle.guillotiere.proofs.SearchLemmas.ItemPicks.{from-own, from-next, none-from, no_room-of_items, pick-of_items}
 use Rattle.guillotiere.proofs.search.pick.Goals as goal
 
 pub loop-number-init : goal.loop-number-init

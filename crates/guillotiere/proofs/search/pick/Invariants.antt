@@ -1,5 +1,5 @@
 use Rattle.std.proofs.Common.{map}
-use Rattle.guillotiere.specs.Lookups.{FitsItemsFrom}
+use Rattle.guillotiere.specs.Search.Lookups.{FitsItemsFrom}
 use Rattle.guillotiere.specs.Pixels.{options_of, sides_of}
 use Rattle.guillotiere.proofs.search.pick.Given as goal
 

@@ -1,9 +1,9 @@
 use Rattle.std.proofs.Common.{map, ◌<◌, ℕ, ap, sym, subst}
 use Rattle.std.specs.Prelude.{◌==◌}
-use Rattle.guillotiere.specs.Lookups.{IsWindowOf}
+use Rattle.guillotiere.specs.Search.Lookups.{IsWindowOf}
 use Rattle.guillotiere.specs.Pixels.{options_of, sides_of}
-use Rattle.guillotiere.proofs.AddingLines.{inside-window}
-use Rattle.guillotiere.proofs.ClassSearching.{own-ends, added-apart, added-beyond, added-all, searched}
+use Rattle.guillotiere.proofs.SearchLemmas.AddingLines.{inside-window}
+use Rattle.guillotiere.proofs.SearchLemmas.ClassSearching.{own-ends, added-apart, added-beyond, added-all, searched}
 use Rattle.guillotiere.proofs.search.search_class.Goals as goal
 
 pub columns_in-columns-requires-clause-row : goal.columns_in-columns-requires-clause-row

@@ -1,6 +1,6 @@
 use Rattle.std.proofs.Common.{map, refl}
-use Rattle.guillotiere.proofs.Adding.{added-of}
-use Rattle.guillotiere.proofs.AddingLines.{column-begins, column-goes_on, rest-marked}
+use Rattle.guillotiere.proofs.SearchLemmas.Adding.{added-of}
+use Rattle.guillotiere.proofs.SearchLemmas.AddingLines.{column-begins, column-goes_on, rest-marked}
 use Rattle.guillotiere.proofs.search.search_column.Goals as goal
 
 pub loop-row-init : goal.loop-row-init

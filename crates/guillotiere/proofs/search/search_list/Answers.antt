@@ -1,9 +1,9 @@
 use Rattle.std.proofs.Common.{map, subst, ◌<◌, ℕ}
 use Rattle.guillotiere.specs.declared.slots.Link.{Link}
-use Rattle.guillotiere.specs.Bands.{strip_of}
-use Rattle.guillotiere.specs.Lookups.{HasShown}
+use Rattle.guillotiere.specs.Search.Bands.{strip_of}
+use Rattle.guillotiere.specs.Search.Lookups.{HasShown}
 use Rattle.guillotiere.specs.Pixels.{natural}
-use Rattle.guillotiere.proofs.Adding.{added-list, added-over}
+use Rattle.guillotiere.proofs.SearchLemmas.Adding.{added-list, added-over}
 use Rattle.guillotiere.proofs.search.search_list.Goals as goal
 
 pub returns-then-not-settles : goal.returns-then-not-settles

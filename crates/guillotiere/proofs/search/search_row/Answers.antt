@@ -1,6 +1,6 @@
 use Rattle.std.proofs.Common.{map, refl}
-use Rattle.guillotiere.proofs.Adding.{added-of}
-use Rattle.guillotiere.proofs.AddingLines.{row-begins, row-goes_on, rest-marked}
+use Rattle.guillotiere.proofs.SearchLemmas.Adding.{added-of}
+use Rattle.guillotiere.proofs.SearchLemmas.AddingLines.{row-begins, row-goes_on, rest-marked}
 use Rattle.guillotiere.proofs.search.search_row.Goals as goal
 
 pub loop-column-init : goal.loop-column-init

@@ -1,9 +1,9 @@
 use Rattle.std.proofs.Common.{map, ◌≡◌, ◌<◌, ℕ, false}
-use Rattle.guillotiere.specs.Bands.{IsInWindow}
+use Rattle.guillotiere.specs.Search.Bands.{IsInWindow}
 use Rattle.guillotiere.specs.Boxes.{Sides}
 use Rattle.guillotiere.specs.Choice.{Options}
-use Rattle.guillotiere.specs.Lookups.{AreListed, HasAdded, IsInRow}
-use Rattle.guillotiere.specs.Masks.{has, IsMarked}
+use Rattle.guillotiere.specs.Search.Lookups.{AreListed, HasAdded, IsInRow}
+use Rattle.guillotiere.specs.Search.Masks.{has, IsMarked}
 use Rattle.guillotiere.proofs.search.search_row.Given as goal
 
 abbrev pub invariant-loop-column : goal.invariant-loop-column

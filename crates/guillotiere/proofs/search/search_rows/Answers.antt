@@ -1,6 +1,6 @@
 use Rattle.std.proofs.Common.{map, refl}
-use Rattle.guillotiere.proofs.Adding.{added-of}
-use Rattle.guillotiere.proofs.AddingLines.{rows-begin, rows-go_on, rest-marked, inside-window}
+use Rattle.guillotiere.proofs.SearchLemmas.Adding.{added-of}
+use Rattle.guillotiere.proofs.SearchLemmas.AddingLines.{rows-begin, rows-go_on, rest-marked, inside-window}
 use Rattle.guillotiere.proofs.search.search_rows.Goals as goal
 
 pub loop-row-init : goal.loop-row-init

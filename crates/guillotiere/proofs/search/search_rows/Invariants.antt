@@ -1,8 +1,8 @@
 use Rattle.std.proofs.Common.{map, ◌≡◌, ◌<◌, ℕ, false}
 use Rattle.guillotiere.specs.Boxes.{Sides}
 use Rattle.guillotiere.specs.Choice.{Options}
-use Rattle.guillotiere.specs.Lookups.{AreListed, HasAdded, IsBeyond, IsWindowOf}
-use Rattle.guillotiere.specs.Masks.{has, IsMarked}
+use Rattle.guillotiere.specs.Search.Lookups.{AreListed, HasAdded, IsBeyond, IsWindowOf}
+use Rattle.guillotiere.specs.Search.Masks.{has, IsMarked}
 use Rattle.guillotiere.proofs.search.search_rows.Given as goal
 
 abbrev pub invariant-loop-row : goal.invariant-loop-row

@@ -5,8 +5,8 @@ use Rattle.guillotiere.specs.Boxes.{IsNonempty}
 use Rattle.guillotiere.specs.Pixels.{box_of}
 use Rattle.guillotiere.specs.Rectangles.{IsUnsigned}
 use Rattle.guillotiere.specs.Slots.{no_slot}
-use Rattle.guillotiere.specs.Items.{Item}
-use Rattle.guillotiere.proofs.Showing.{item-read, along-begins, along-inside, along-exact, along-goes_on, along-ends}
+use Rattle.guillotiere.specs.Search.Items.{Item}
+use Rattle.guillotiere.proofs.SearchLemmas.Showing.{item-read, along-begins, along-inside, along-exact, along-goes_on, along-ends}
 use Rattle.guillotiere.proofs.search.show_list.Goals as goal
 use Rattle.guillotiere.proofs.search.show_list.Goals.{else-loop-step-test, then-loop-step-test+then-at}
 

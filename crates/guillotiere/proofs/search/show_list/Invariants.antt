@@ -1,5 +1,5 @@
 use Rattle.std.proofs.Common.{map}
-use Rattle.guillotiere.proofs.Showing.{IsAlong}
+use Rattle.guillotiere.proofs.SearchLemmas.Showing.{IsAlong}
 use Rattle.guillotiere.proofs.search.show_list.Given as goal
 
 abbrev pub invariant-loop-step : goal.invariant-loop-step

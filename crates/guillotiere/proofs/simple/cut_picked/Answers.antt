@@ -1,18 +1,18 @@
 use Rattle.std.proofs.Common.{List, ◌∷◌, map, subst, ap}
 use Rattle.guillotiere.specs.Boxes.{Box, AreSameBoxes}
-use Rattle.guillotiere.specs.BoxShelves.{BoxShelf, free_boxes, item_of}
+use Rattle.guillotiere.specs.Simple.BoxShelves.{BoxShelf, free_item_boxes, stored_item}
 use Rattle.guillotiere.specs.Pixels.{box_of, options_of, sides_of}
-use Rattle.guillotiere.proofs.CuttingBoxes.{picked-exact, cut-same}
+use Rattle.guillotiere.proofs.SimpleLemmas.CuttingBoxes.{picked-exact, cut-same}
 use Rattle.guillotiere.proofs.simple.cut_picked.Goals as goal
 
 pub returns-clause-ok : goal.returns-clause-ok
 returns-clause-ok g c =
     let o = options_of c.args.options.now in
     let r = c.args.found.rectangle in
-    let es = map item_of c.args.boxes.now.entries.items in
+    let es = map stored_item c.args.boxes.now.entries.items in
     let exact = picked-exact o c.args.boxes.now.table es c.args.found c.requires.kept.listed c.requires.standing in
-    let took = subst (λ (bs : List Box). AreSameBoxes (box_of r ∷ free_boxes (map item_of c.remove.new.self.entries.items)) bs)
-    (ap (λ (v : BoxShelf). free_boxes v.entries) c.in_ok-make_room.ensures.same) c.remove.ensures.boxes in
-    cut-same o r (sides_of c.args.size) c.guillotine-rest.result (free_boxes es) (free_boxes (map item_of c.remove.new.self.entries.items))
-    (free_boxes (map item_of c.keep.new.boxes.entries.items)) (free_boxes (map item_of c.keep-2.new.boxes.entries.items))
+    let took = subst (λ (bs : List Box). AreSameBoxes (box_of r ∷ free_item_boxes (map stored_item c.remove.new.self.entries.items)) bs)
+    (ap (λ (v : BoxShelf). free_item_boxes v.entries) c.in_ok-make_room.ensures.same) c.remove.ensures.boxes in
+    cut-same o r (sides_of c.args.size) c.guillotine-rest.result (free_item_boxes es) (free_item_boxes (map stored_item c.remove.new.self.entries.items))
+    (free_item_boxes (map stored_item c.keep.new.boxes.entries.items)) (free_item_boxes (map stored_item c.keep-2.new.boxes.entries.items))
     (c.guillotine-rest.ensures.boxes (box_of r) exact.unsigned) took c.keep.ensures.boxes c.keep-2.ensures.boxes

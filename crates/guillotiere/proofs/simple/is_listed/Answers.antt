@@ -4,7 +4,7 @@ use Rattle.std.specs.Bool.{Decides}
 use Rattle.std.proofs.lemmas.Bool.Decides.{Decides-int_eq}
 use Rattle.std.proofs.lemmas.Bool.{cases_lt, and_from, both_ways}
 use Rattle.std.proofs.lemmas.List.{get_or_default}
-use Rattle.guillotiere.specs.declared.boxes.FreeBox.{FreeBox}
+use Rattle.guillotiere.specs.declared.simple.boxes.FreeBox.{FreeBox}
 use Rattle.guillotiere.specs.declared.geometry.Rectangle.{Rectangle}
 use Rattle.guillotiere.proofs.simple.is_listed.Goals as goal
 

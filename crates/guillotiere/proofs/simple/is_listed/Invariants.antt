@@ -1,5 +1,5 @@
 use Rattle.std.proofs.Common.{◌≡◌, ℕ, ◌<◌, get_or}
-use Rattle.guillotiere.specs.declared.boxes.FreeBox.{FreeBox}
+use Rattle.guillotiere.specs.declared.simple.boxes.FreeBox.{FreeBox}
 use Rattle.guillotiere.proofs.simple.is_listed.Given as goal
 
 abbrev pub invariant-loop-entry : goal.invariant-loop-entry

@@ -2,10 +2,10 @@ use Rattle.std.proofs.Common.{◌<◌, ◌≡◌, ℕ, length, sym, ap, ◌∙�
 use Rattle.std.proofs.lemmas.List.{length-map}
 use Rattle.guillotiere.specs.declared.slots.Node.{Node}
 use Rattle.guillotiere.specs.Slots.{no_slot, nodes, node_at}
-use Rattle.guillotiere.specs.SlotCalls.{IsNextJoined}
-use Rattle.guillotiere.proofs.Joining.{Stands-joined, joined-use}
-use Rattle.guillotiere.proofs.JoiningWrites.{join_next_is, IsSlot-after}
-use Rattle.guillotiere.proofs.Calm.{calm-joined}
+use Rattle.guillotiere.specs.Slots.SlotCalls.{IsNextJoined}
+use Rattle.guillotiere.proofs.SlotLemmas.Joining.{Stands-joined, joined-use}
+use Rattle.guillotiere.proofs.SlotLemmas.JoiningWrites.{join_next_is, IsSlot-after}
+use Rattle.guillotiere.proofs.SlotLemmas.Calm.{calm-joined}
 use Rattle.guillotiere.proofs.slots.join_next.Goals as goal
 
 pub set_previous-requires-clause-inside : goal.set_previous-requires-clause-inside

@@ -1,7 +1,7 @@
 use Rattle.std.proofs.Common.{◌∙◌}
 use Rattle.std.proofs.lemmas.List.{length-map}
 use Rattle.guillotiere.specs.Slots.{nodes}
-use Rattle.guillotiere.proofs.LiftingWrites.{child-lifted, container-inside}
+use Rattle.guillotiere.proofs.SlotLemmas.LiftingWrites.{child-lifted, container-inside}
 use Rattle.guillotiere.proofs.slots.lift.Goals as goal
 
 pub read_node-outer-requires : goal.read_node-outer-requires

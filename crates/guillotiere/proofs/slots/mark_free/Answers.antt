@@ -3,9 +3,9 @@ use Rattle.std.proofs.lemmas.List.{length-map}
 use Rattle.guillotiere.specs.declared.slots.NodeKind.TheVariants.{Free}
 use Rattle.guillotiere.specs.declared.slots.Node.{Node}
 use Rattle.guillotiere.specs.Slots.{nodes}
-use Rattle.guillotiere.proofs.Releasing.{calm-marked}
-use Rattle.guillotiere.proofs.Marking.{Stands-marked}
-use Rattle.guillotiere.proofs.Frames.{IsWritten-by, keeps-same}
+use Rattle.guillotiere.proofs.SlotLemmas.Releasing.{calm-marked}
+use Rattle.guillotiere.proofs.SlotLemmas.Marking.{Stands-marked}
+use Rattle.guillotiere.proofs.SlotLemmas.Frames.{IsWritten-by, keeps-same}
 use Rattle.guillotiere.proofs.slots.mark_free.Goals as goal
 
 pub returns : goal.returns

@@ -1,6 +1,6 @@
 use Rattle.std.proofs.Common.{◌∙◌, w32}
 use Rattle.std.proofs.lemmas.Int.{to_z-of_z}
-use Rattle.guillotiere.proofs.PlacingChains.{corner_across-wrap, corner_across-split, corner_across-less, corner_across-grant, corner_across-list, corner_across-list_last, corner_across-planned}
+use Rattle.guillotiere.proofs.StoreLemmas.PlacingChains.{corner_across-wrap, corner_across-split, corner_across-less, corner_across-grant, corner_across-list, corner_across-list_last, corner_across-planned}
 use Rattle.guillotiere.proofs.tree.corner_across.Goals as goal
 
 pub wrap-granted-requires : goal.wrap-granted-requires

@@ -1,6 +1,6 @@
 use Rattle.std.proofs.Common.{◌∙◌, w32}
 use Rattle.std.proofs.lemmas.Int.{to_z-of_z}
-use Rattle.guillotiere.proofs.PlacingChains.{corner_along-wrap, corner_along-split, corner_along-less, corner_along-grant, corner_along-list, corner_along-list_last, corner_along-planned}
+use Rattle.guillotiere.proofs.StoreLemmas.PlacingChains.{corner_along-wrap, corner_along-split, corner_along-less, corner_along-grant, corner_along-list, corner_along-list_last, corner_along-planned}
 use Rattle.guillotiere.proofs.tree.corner_along.Goals as goal
 
 pub wrap-granted-requires : goal.wrap-granted-requires

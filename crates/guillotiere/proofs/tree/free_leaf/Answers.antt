@@ -1,7 +1,7 @@
 use Rattle.std.proofs.Common.{◌∙◌, arith, ap, ◌<◌, length}
-use Rattle.guillotiere.specs.declared.turns.Turns.{Turns}
-use Rattle.guillotiere.specs.Holdings.{shelf_of, node_in}
-use Rattle.guillotiere.proofs.Turning.{freeing-marked, freeing-turned, freeing-short, freed-listed, loose-same, keeps-room}
+use Rattle.guillotiere.specs.declared.store.turns.Turns.{Turns}
+use Rattle.guillotiere.specs.Store.Holdings.{shelf_of, node_in}
+use Rattle.guillotiere.proofs.StoreLemmas.Turning.{freeing-marked, freeing-turned, freeing-short, freed-listed, loose-same, keeps-room}
 use Rattle.guillotiere.proofs.tree.free_leaf.Goals as goal
 
 pub loop-next-init : goal.loop-next-init

@@ -1,6 +1,6 @@
 use Rattle.std.proofs.Common.{sym, subst}
-use Rattle.guillotiere.specs.Planning.{IsPlaced}
-use Rattle.guillotiere.proofs.PlacingChains.{whole-placed}
+use Rattle.guillotiere.specs.Store.Planning.{IsPlaced}
+use Rattle.guillotiere.proofs.StoreLemmas.PlacingChains.{whole-placed}
 use Rattle.guillotiere.proofs.tree.place.Goals as goal
 
 pub returns-in-Whole : goal.returns-in-Whole

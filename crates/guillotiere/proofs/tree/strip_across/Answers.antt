@@ -1,6 +1,6 @@
 use Rattle.std.proofs.Common.{◌∙◌, w32}
 use Rattle.std.proofs.lemmas.Int.{to_z-of_z}
-use Rattle.guillotiere.proofs.PlacingChains.{strip_across-grant, strip_across-list, strip_across-planned}
+use Rattle.guillotiere.proofs.StoreLemmas.PlacingChains.{strip_across-grant, strip_across-list, strip_across-planned}
 use Rattle.guillotiere.proofs.tree.strip_across.Goals as goal
 
 pub grant-requires : goal.grant-requires

@@ -1,6 +1,6 @@
 use Rattle.std.proofs.Common.{◌∙◌, w32}
 use Rattle.std.proofs.lemmas.Int.{to_z-of_z}
-use Rattle.guillotiere.proofs.PlacingChains.{strip_along-grant, strip_along-list, strip_along-planned}
+use Rattle.guillotiere.proofs.StoreLemmas.PlacingChains.{strip_along-grant, strip_along-list, strip_along-planned}
 use Rattle.guillotiere.proofs.tree.strip_along.Goals as goal
 
 pub grant-requires : goal.grant-requires

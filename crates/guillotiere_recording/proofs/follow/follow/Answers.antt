@@ -2,7 +2,7 @@ use Rattle.std.proofs.Common.{sym, subst, ◌∙◌}
 use Rattle.std.proofs.lemmas.Bool.{false≢true}
 use Rattle.guillotiere_recording.specs.Kept.{HasEntries}
 use Rattle.guillotiere_recording.specs.Moves.{AreEntered, IsMoved}
-use Rattle.guillotiere_recording.specs.Names.{AreRising}
+use Rattle.guillotiere_recording.specs.Names.{AreRisingNames}
 use Rattle.guillotiere_recording.proofs.Rearranged.{all_entered, strictly, names_apart}
 use Rattle.guillotiere_recording.proofs.follow.follow.Goals as goal
 
@@ -24,7 +24,7 @@ map_names-requires g c =
     let r = c.requires in
     let m = c.in-Ok.moved in
     let is = subst (λ es. IsMoved es c.args.list.now m) (sym r.names) c.in-Ok.ensures.moved in
-    subst AreRising (sym c.deref.ensures.value)
+    subst AreRisingNames (sym c.deref.ensures.value)
     (strictly m.names.items is.sorted (names_apart r.before r.new c.args.list.now m r.asked r.kept r.step is))
 
 pub returns-clause-ok : goal.returns-clause-ok

@@ -4,7 +4,7 @@ use Rattle.guillotiere_recording.specs.declared.names.LiveName.{LiveName as Entr
 use Rattle.guillotiere_recording.proofs.Placing.{placed_id, contains_there}
 use Rattle.guillotiere_recording.proofs.moves.name_at.Goals as goal
 
--- where the id stands
+-- Where the id stands.
 found : (c : goal.After-partition_point-at)
     → (c.partition_point-at.result < length c.args.by_id.now) × ((d : Entry) → (get_or c.args.by_id.now c.partition_point-at.result d).id ≡ c.args.number)
 found c =

@@ -1,7 +1,7 @@
 use Rattle.std.proofs.Common.{sym, subst, refl, ◌∙◌}
 use Rattle.guillotiere.specs.Steps as atlas
 use Rattle.guillotiere.specs.Stored.{state_of}
-use Rattle.guillotiere_recording.specs.Events.{list_of}
+use Rattle.guillotiere_recording.specs.Events.{list_value_of}
 use Rattle.guillotiere_recording.specs.Events.EventValue.{Rearrange}
 use Rattle.guillotiere_recording.specs.Kept.{IsFollowed, IsUnlike}
 use Rattle.guillotiere_recording.specs.Standing.{IsStopped}
@@ -24,7 +24,7 @@ pub returns-in_err-names-clause-fault : goal.returns-in_err-names-clause-fault
 returns-in_err-names-clause-fault g c =
     let entries = c.deref.ensures.value ∙ c.in_ok-entries.ensures.list in
     let e = c.in_err-names.field-0.0 in
-    let said = list_of c.args.recorded.now in
+    let said = list_value_of c.args.recorded.now in
     let unlike = subst (λ es. IsUnlike es c.in_ok-list.list said e) entries c.in_err-names.ensures.fault in
     stopped_as (IsStopped c.args.atlas.now c.args.names.now (Rearrange said)) c.from_residual-in_err-names.result e c.from_residual-in_err-names.ensures.1
     (unlike_stops c.args.atlas.now c.args.names.now c.in_ok-list.list said (Rearrange said) e
@@ -34,7 +34,7 @@ returns-in_err-names-clause-fault g c =
 pub returns-clause-ok : goal.returns-clause-ok
 returns-clause-ok g c = λ s h.
     let entries = c.deref.ensures.value ∙ c.in_ok-entries.ensures.list in
-    let said = list_of c.args.recorded.now in
+    let said = list_value_of c.args.recorded.now in
     let followed = subst (λ es. IsFollowed es c.in_ok-list.list said c.in_ok-names.field-0) entries c.in_ok-names.ensures.ok in
     rearranged_on c.args.atlas.now c.rearrange.new.self c.args.names.now (atlas.Rearrange) c.in_ok-list.list c.in_ok-list.ensures.step c.in_ok-list.ensures.exact
     c.in_ok-entries.ensures.ordered c.in_ok-entries.ensures.found s h said c.in_ok-names.field-0 followed (Rearrange said) (λ t led. led)

@@ -2,8 +2,8 @@ use Rattle.std.proofs.Common.{◌≤◌, subst}
 use Rattle.guillotiere.specs.States.{IsSound}
 use Rattle.guillotiere.specs.Stored.{state_of}
 use Rattle.guillotiere.specs.Visits.{AreGrants}
-use Rattle.guillotiere.proofs.ShownLists.{grants-IsAtlas, listed}
-use Rattle.guillotiere.proofs.Measuring.{sides_fit, measurable_grants}
+use Rattle.guillotiere.proofs.AtlasLemmas.ShownLists.{grants-IsAtlas, listed}
+use Rattle.guillotiere.proofs.AtlasLemmas.Measuring.{sides_fit, measurable_grants}
 use Rattle.guillotiere.proofs.atlas.AtlasAllocator.allocations.Goals as goal
 
 pub returns-clause-list : goal.returns-clause-list

@@ -2,8 +2,8 @@ use Rattle.std.proofs.Common.{◌+◌, ap, sym, subst, ◌∙◌, arith, drop, l
 use Rattle.guillotiere.specs.States.{used_in}
 use Rattle.guillotiere.specs.Stored.{state_of}
 use Rattle.guillotiere.specs.Batches.{AreLiveOnce}
-use Rattle.guillotiere.proofs.FreedLists.{after_each, each-all, once-after, head-live, each-next, each-none}
-use Rattle.guillotiere.proofs.CallerSteps.{batch_leaves}
+use Rattle.guillotiere.proofs.AtlasLemmas.FreedLists.{after_each, each-all, once-after, head-live, each-next, each-none}
+use Rattle.guillotiere.proofs.StepLemmas.CallerSteps.{batch_leaves}
 use Rattle.guillotiere.proofs.atlas.AtlasAllocator.deallocate_all.Goals as goal
 
 pub loop-id-init : goal.loop-id-init

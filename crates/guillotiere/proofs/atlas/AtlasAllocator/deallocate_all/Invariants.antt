@@ -2,7 +2,7 @@ use Rattle.std.proofs.Common.{◌≡◌, ◌+◌, drop}
 use Rattle.guillotiere.specs.States.{used_in}
 use Rattle.guillotiere.specs.Stored.{state_of}
 use Rattle.guillotiere.specs.Batches.{AreLiveOnce}
-use Rattle.guillotiere.proofs.FreedLists.{after_each}
+use Rattle.guillotiere.proofs.AtlasLemmas.FreedLists.{after_each}
 use Rattle.guillotiere.proofs.atlas.AtlasAllocator.deallocate_all.Given as goal
 
 abbrev pub invariant-loop-id : goal.invariant-loop-id

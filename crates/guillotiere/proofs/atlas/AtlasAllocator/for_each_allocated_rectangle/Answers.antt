@@ -3,8 +3,8 @@ use Rattle.guillotiere.specs.Stored.{state_of}
 use Rattle.guillotiere.specs.Visits.{AreGrants, CalledAtGrant, allocated_from}
 use Rattle.guillotiere.specs.Slots.{nodes}
 use Rattle.guillotiere.specs.Walks.{IsShownGrant, TakesAtGrant}
-use Rattle.guillotiere.proofs.AlongLists.{along-all, shown-IsAtlas}
-use Rattle.guillotiere.proofs.ShownLists.{grants-IsAtlas}
+use Rattle.guillotiere.proofs.ListLemmas.AlongLists.{along-all, shown-IsAtlas}
+use Rattle.guillotiere.proofs.AtlasLemmas.ShownLists.{grants-IsAtlas}
 use Rattle.guillotiere.proofs.atlas.AtlasAllocator.for_each_allocated_rectangle.Goals as goal
 
 pub visit_allocated-requires-clause-callable : goal.visit_allocated-requires-clause-callable

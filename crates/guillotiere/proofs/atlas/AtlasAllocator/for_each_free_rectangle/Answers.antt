@@ -4,8 +4,8 @@ use Rattle.guillotiere.specs.Slots.{nodes}
 use Rattle.guillotiere.specs.Stored.{state_of}
 use Rattle.guillotiere.specs.Visits.{AreFreeAreas, free_areas}
 use Rattle.guillotiere.specs.Walks.{IsShownArea}
-use Rattle.guillotiere.proofs.AlongLists.{along-all, shown_areas-IsAtlas}
-use Rattle.guillotiere.proofs.ShownLists.{free_areas-IsAtlas}
+use Rattle.guillotiere.proofs.ListLemmas.AlongLists.{along-all, shown_areas-IsAtlas}
+use Rattle.guillotiere.proofs.AtlasLemmas.ShownLists.{free_areas-IsAtlas}
 use Rattle.guillotiere.proofs.atlas.AtlasAllocator.for_each_free_rectangle.Goals as goal
 
 pub visit_free-requires : goal.visit_free-requires

@@ -2,8 +2,8 @@ use Rattle.std.proofs.Common.{◌-◌, ◌∙◌, subst, sym, ap}
 use Rattle.guillotiere.specs.States.{IsLive, after_freeing}
 use Rattle.guillotiere.specs.Changes.{only}
 use Rattle.guillotiere.specs.Stored.{state_of}
-use Rattle.guillotiere.specs.Holdings.{shelf_of}
-use Rattle.guillotiere.proofs.FreedAtlas.{freeable, frees-box, turns-sum}
+use Rattle.guillotiere.specs.Store.Holdings.{shelf_of}
+use Rattle.guillotiere.proofs.AtlasLemmas.FreedAtlas.{freeable, frees-box, turns-sum}
 use Rattle.guillotiere.proofs.atlas.AtlasAllocator.free.Goals as goal
 
 pub free_leaf-given-requires : goal.free_leaf-given-requires

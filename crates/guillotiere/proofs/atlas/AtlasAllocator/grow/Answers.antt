@@ -5,11 +5,11 @@ use Rattle.guillotiere.specs.Boxes.{Fits}
 use Rattle.guillotiere.specs.Pixels.{sides_of}
 use Rattle.guillotiere.specs.States.{live_in}
 use Rattle.guillotiere.specs.Stored.{state_of}
-use Rattle.guillotiere.proofs.Observing.{used-IsAtlas}
-use Rattle.guillotiere.proofs.GrownAtlas.{tree-here, some-plan, fits-from, refused-step, some-growable, grow-done}
+use Rattle.guillotiere.proofs.AtlasLemmas.Observing.{used-IsAtlas}
+use Rattle.guillotiere.proofs.AtlasLemmas.GrownAtlas.{tree-here, some-plan, fits-from, refused-step, some-growable, grow-done}
 use Rattle.guillotiere.specs.States.{IsSound}
 use Rattle.guillotiere.specs.Steps.AtlasReply.{Done}
-use Rattle.guillotiere.proofs.CallerSteps.{growth_keeps}
+use Rattle.guillotiere.proofs.StepLemmas.CallerSteps.{growth_keeps}
 use Rattle.guillotiere.proofs.atlas.AtlasAllocator.grow.Goals as goal
 
 pub growth_for-growth-requires-clause-tree : goal.growth_for-growth-requires-clause-tree

@@ -1,4 +1,4 @@
-use Rattle.guillotiere.proofs.RearrangedAtlas.{order-sorted, exact-sorted}
+use Rattle.guillotiere.proofs.AtlasLemmas.RearrangedAtlas.{order-sorted, exact-sorted}
 use Rattle.guillotiere.proofs.atlas.AtlasAllocator.refit_order.Goals as goal
 
 pub returns-clause-order : goal.returns-clause-order

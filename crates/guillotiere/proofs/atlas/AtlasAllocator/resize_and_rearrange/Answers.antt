@@ -5,8 +5,8 @@ use Rattle.guillotiere.specs.Rearranging.{rearrangement_of}
 use Rattle.guillotiere.specs.Stored.{state_of}
 use Rattle.guillotiere.specs.Steps.AtlasCall.{ResizeAndRearrange}
 use Rattle.guillotiere.specs.Steps.AtlasReply.{Changed}
-use Rattle.guillotiere.proofs.StepKeeping.{steps_keep}
-use Rattle.guillotiere.proofs.RearrangedAtlas.{atlas-rearranged, atlas-moved, atlas-sides}
+use Rattle.guillotiere.proofs.StepLemmas.StepKeeping.{steps_keep}
+use Rattle.guillotiere.proofs.AtlasLemmas.RearrangedAtlas.{atlas-rearranged, atlas-moved, atlas-sides}
 use Rattle.guillotiere.proofs.atlas.AtlasAllocator.resize_and_rearrange.Goals as goal
 
 pub returns-clause-step : goal.returns-clause-step

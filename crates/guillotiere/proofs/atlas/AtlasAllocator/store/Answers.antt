@@ -1,4 +1,4 @@
-use Rattle.guillotiere.proofs.ShownLists.{free_areas-IsAtlas}
+use Rattle.guillotiere.proofs.AtlasLemmas.ShownLists.{free_areas-IsAtlas}
 use Rattle.std.proofs.Common.{refl}
 use Rattle.guillotiere.proofs.atlas.AtlasAllocator.store.Goals as goal
 

@@ -1,7 +1,7 @@
 use Rattle.std.proofs.Common.{refl, ap, ◌∙◌}
 use Rattle.guillotiere.specs.Pixels.{sides_of, options_of}
 use Rattle.guillotiere.specs.States.{started}
-use Rattle.guillotiere.proofs.Starting.{whole_atlas, whole_state}
+use Rattle.guillotiere.proofs.StoreLemmas.Starting.{whole_atlas, whole_state}
 use Rattle.guillotiere.proofs.atlas.AtlasAllocator.with_slot_limit.Goals as goal
 
 pub invariant_of-result : goal.invariant_of-result

@@ -1,4 +1,4 @@
-use Rattle.guillotiere.proofs.NamedSlots.{named-found, named-missed, not_missed}
+use Rattle.guillotiere.proofs.AtlasLemmas.NamedSlots.{named-found, named-missed, not_missed}
 use Rattle.guillotiere.proofs.atlas.AtlasAllocatorIndexAllocId.index.Goals as goal
 
 pub unreachable-requires : goal.unreachable-requires

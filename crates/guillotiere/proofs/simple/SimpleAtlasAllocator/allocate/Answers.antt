@@ -1,9 +1,9 @@
 use Rattle.std.proofs.Common.{rules}
-use Rattle.guillotiere.specs.BoxShelves.{box_shelf}
+use Rattle.guillotiere.specs.Simple.BoxShelves.{box_shelf}
 use Rattle.guillotiere.specs.Pixels.{sides_of}
-use Rattle.guillotiere.specs.FreeLists.{state_of}
-use Rattle.guillotiere.proofs.SimpleGrants.{step-guarded}
-use Rattle.guillotiere.proofs.Storing.{natural-fits, stored-step}
+use Rattle.guillotiere.specs.Simple.FreeLists.{simple_state_of}
+use Rattle.guillotiere.proofs.SimpleLemmas.SimpleGrants.{step-guarded}
+use Rattle.guillotiere.proofs.SimpleLemmas.Storing.{natural-fits, stored-step}
 use Rattle.guillotiere.proofs.simple.SimpleAtlasAllocator.allocate.Goals as goal
 
 pub invariant_of-self : goal.invariant_of-self
@@ -21,7 +21,7 @@ returns-clause-simple g c =
 pub returns-clause-guarded : goal.returns-clause-guarded
 returns-clause-guarded g c held guarded =
     let a = c.self.inside in
-    step-guarded (state_of (box_shelf a.boxes).entries (sides_of a.size) a.options) (state_of (box_shelf c.grant.new.boxes).entries (sides_of a.size) a.options) (sides_of c.args.requested_size) c.grant.result held
+    step-guarded (simple_state_of (box_shelf a.boxes).entries (sides_of a.size) a.options) (simple_state_of (box_shelf c.grant.new.boxes).entries (sides_of a.size) a.options) (sides_of c.args.requested_size) c.grant.result held
     c.self.invariant.simple
     (c.grant.ensures.step (sides_of a.size) (natural-fits a.size.width (search rules)) (natural-fits a.size.height (search rules)) c.self.invariant.simple)
     (rw c.self.view_is guarded)

@@ -7,9 +7,9 @@ use Rattle.guillotiere.specs.Slots.{nodes}
 use Rattle.guillotiere.specs.Stored as atlas
 use Rattle.guillotiere.specs.Visits.{free_areas}
 use Rattle.guillotiere.specs.Choice.{AreValid}
-use Rattle.guillotiere.specs.BoxShelves.{box_shelf, free_boxes}
-use Rattle.guillotiere.proofs.SimpleSteps.{starts-guarded}
-use Rattle.guillotiere.proofs.SimpleStarting.{areas-filed, starts-from, started-stored}
+use Rattle.guillotiere.specs.Simple.BoxShelves.{box_shelf, free_item_boxes}
+use Rattle.guillotiere.proofs.SimpleLemmas.SimpleSteps.{starts-guarded}
+use Rattle.guillotiere.proofs.SimpleLemmas.SimpleStarting.{areas-filed, starts-from, started-stored}
 use Rattle.guillotiere.proofs.simple.SimpleAtlasAllocator.init_from_allocator.Goals as goal
 
 pub file_free-requires-clause-areas : goal.file_free-requires-clause-areas
@@ -23,25 +23,25 @@ file_free-requires-clause-kept g c =
 
 pub invariant_of-self : goal.invariant_of-self
 invariant_of-self g c =
-    let boxes = subst (λ slots. AreSameBoxes (free_boxes (box_shelf c.file_free.new.boxes).entries) (map box_of (free_areas (nodes slots)) ++ free_boxes (box_shelf c.in_ok-boxes.boxes).entries)) c.as_slice.ensures.value c.in_ok-file_free.ensures.boxes in
+    let boxes = subst (λ slots. AreSameBoxes (free_item_boxes (box_shelf c.file_free.new.boxes).entries) (map box_of (free_areas (nodes slots)) ++ free_item_boxes (box_shelf c.in_ok-boxes.boxes).entries)) c.as_slice.ensures.value c.in_ok-file_free.ensures.boxes in
     started-stored (atlas.state_of c.args.source.now) _ (box_shelf c.in_ok-boxes.boxes).entries (box_shelf c.file_free.new.boxes) c.size-size.result c.store-store.result.now.options
     c.size-size.ensures.sound c.store-store.ensures.areas c.in_ok-boxes.ensures.empty boxes c.size-size.ensures.size c.store-store.ensures.options c.in_ok-file_free.ensures.kept
 
 pub returns-clause-step : goal.returns-clause-step
 returns-clause-step g c =
-    let boxes = subst (λ slots. AreSameBoxes (free_boxes (box_shelf c.file_free.new.boxes).entries) (map box_of (free_areas (nodes slots)) ++ free_boxes (box_shelf c.in_ok-boxes.boxes).entries)) c.as_slice.ensures.value c.in_ok-file_free.ensures.boxes in
+    let boxes = subst (λ slots. AreSameBoxes (free_item_boxes (box_shelf c.file_free.new.boxes).entries) (map box_of (free_areas (nodes slots)) ++ free_item_boxes (box_shelf c.in_ok-boxes.boxes).entries)) c.as_slice.ensures.value c.in_ok-file_free.ensures.boxes in
     starts-from (atlas.state_of c.args.source.now) _ (box_shelf c.in_ok-boxes.boxes).entries (box_shelf c.file_free.new.boxes).entries c.size-size.result c.store-store.result.now.options
     c.size-size.ensures.sound c.store-store.ensures.areas c.in_ok-boxes.ensures.empty boxes c.size-size.ensures.size c.store-store.ensures.options
 
 pub returns-clause-guarded : goal.returns-clause-guarded
 returns-clause-guarded g c =
-    let boxes = subst (λ slots. AreSameBoxes (free_boxes (box_shelf c.file_free.new.boxes).entries) (map box_of (free_areas (nodes slots)) ++ free_boxes (box_shelf c.in_ok-boxes.boxes).entries)) c.as_slice.ensures.value c.in_ok-file_free.ensures.boxes in
+    let boxes = subst (λ slots. AreSameBoxes (free_item_boxes (box_shelf c.file_free.new.boxes).entries) (map box_of (free_areas (nodes slots)) ++ free_item_boxes (box_shelf c.in_ok-boxes.boxes).entries)) c.as_slice.ensures.value c.in_ok-file_free.ensures.boxes in
     starts-guarded (atlas.state_of c.args.source.now) _
     (starts-from (atlas.state_of c.args.source.now) _ (box_shelf c.in_ok-boxes.boxes).entries (box_shelf c.file_free.new.boxes).entries c.size-size.result c.store-store.result.now.options
     c.size-size.ensures.sound c.store-store.ensures.areas c.in_ok-boxes.ensures.empty boxes c.size-size.ensures.size c.store-store.ensures.options)
 
 pub returns-clause-simple : goal.returns-clause-simple
 returns-clause-simple g c =
-    let boxes = subst (λ slots. AreSameBoxes (free_boxes (box_shelf c.file_free.new.boxes).entries) (map box_of (free_areas (nodes slots)) ++ free_boxes (box_shelf c.in_ok-boxes.boxes).entries)) c.as_slice.ensures.value c.in_ok-file_free.ensures.boxes in
+    let boxes = subst (λ slots. AreSameBoxes (free_item_boxes (box_shelf c.file_free.new.boxes).entries) (map box_of (free_areas (nodes slots)) ++ free_item_boxes (box_shelf c.in_ok-boxes.boxes).entries)) c.as_slice.ensures.value c.in_ok-file_free.ensures.boxes in
     (started-stored (atlas.state_of c.args.source.now) _ (box_shelf c.in_ok-boxes.boxes).entries (box_shelf c.file_free.new.boxes) c.size-size.result c.store-store.result.now.options
     c.size-size.ensures.sound c.store-store.ensures.areas c.in_ok-boxes.ensures.empty boxes c.size-size.ensures.size c.store-store.ensures.options c.in_ok-file_free.ensures.kept).simple

@@ -1,6 +1,6 @@
-use Rattle.guillotiere.specs.BoxShelves.{box_shelf}
-use Rattle.guillotiere.proofs.SimpleSteps.{none-guarded}
-use Rattle.guillotiere.proofs.SimpleStarting.{restarted-stored}
+use Rattle.guillotiere.specs.Simple.BoxShelves.{box_shelf}
+use Rattle.guillotiere.proofs.SimpleLemmas.SimpleSteps.{none-guarded}
+use Rattle.guillotiere.proofs.SimpleLemmas.SimpleStarting.{restarted-stored}
 use Rattle.guillotiere.proofs.simple.SimpleAtlasAllocator.reset.Goals as goal
 
 pub invariant_of-self-2 : goal.invariant_of-self-2

@@ -1,10 +1,10 @@
 use Rattle.std.proofs.Common.{◌≡◌, ◌∙◌, ◌++◌, ap, subst, List}
 use Rattle.guillotiere.specs.Boxes.{Box, whole_box, AreSameBoxes}
-use Rattle.guillotiere.specs.BoxShelves.{BoxShelf, box_shelf, free_boxes}
-use Rattle.guillotiere.specs.FreeLists.{kept_of}
+use Rattle.guillotiere.specs.Simple.BoxShelves.{BoxShelf, box_shelf, free_item_boxes}
+use Rattle.guillotiere.specs.Simple.FreeLists.{kept_of}
 use Rattle.guillotiere.specs.Pixels.{box_of, options_of, sides_of}
-use Rattle.guillotiere.proofs.SimpleSteps.{whole-positive}
-use Rattle.guillotiere.proofs.SimpleLists.{rest-boxes, whole-exact}
+use Rattle.guillotiere.proofs.SimpleLemmas.SimpleSteps.{whole-positive}
+use Rattle.guillotiere.proofs.SimpleLemmas.SimpleLists.{rest-boxes, whole-exact}
 use Rattle.guillotiere.proofs.simple.changes.add_rest.Goals as goal
 use Rattle.guillotiere.proofs.simple.changes.add_rest.Goals.{then-is_kept+in_ok-make_room, else-is_kept+else-is_kept-2}
 
@@ -14,12 +14,12 @@ returns-clause-ok g c =
     let f = whole_box (sides_of c.args.new_size) in
     let is = c.guillotine-rest.ensures.boxes f
     (c.from.ensures ∙ whole-exact c.args.new_size (whole-positive (sides_of c.args.size) (sides_of c.args.new_size) c.requires.positive c.requires.larger)) in
-    let old = free_boxes (box_shelf c.args.boxes.now).entries in
-    let split = free_boxes (box_shelf c.keep.new.boxes).entries in
-    let same : free_boxes (box_shelf c.if-is_kept.boxes).entries ≡ old = elim c.if-is_kept.branch [
+    let old = free_item_boxes (box_shelf c.args.boxes.now).entries in
+    let split = free_item_boxes (box_shelf c.keep.new.boxes).entries in
+    let same : free_item_boxes (box_shelf c.if-is_kept.boxes).entries ≡ old = elim c.if-is_kept.branch [
       | then-is_kept+in_ok-make_room w ↦
-          ap (λ b. free_boxes (box_shelf b).entries) w.boxes-is ∙ ap (λ (v : BoxShelf). free_boxes v.entries) w.in_ok-make_room.ensures.same
-      | else-is_kept+else-is_kept-2 w ↦ ap (λ b. free_boxes (box_shelf b).entries) w.boxes-is
+          ap (λ b. free_item_boxes (box_shelf b).entries) w.boxes-is ∙ ap (λ (v : BoxShelf). free_item_boxes v.entries) w.in_ok-make_room.ensures.same
+      | else-is_kept+else-is_kept-2 w ↦ ap (λ b. free_item_boxes (box_shelf b).entries) w.boxes-is
     ] in
-    rest-boxes o f (sides_of c.args.size) c.guillotine-rest.result old split (free_boxes (box_shelf c.keep-2.new.boxes).entries) is
+    rest-boxes o f (sides_of c.args.size) c.guillotine-rest.result old split (free_item_boxes (box_shelf c.keep-2.new.boxes).entries) is
     (subst (λ (l : List Box). AreSameBoxes split (kept_of o (box_of c.guillotine-rest.result.split) ++ l)) same c.keep.ensures.boxes) c.keep-2.ensures.boxes

@@ -1,12 +1,12 @@
 use Rattle.std.proofs.Common.{rules, ◌++◌, map, ap, subst}
 use Rattle.std.specs.List.{All}
 use Rattle.guillotiere.specs.Boxes.{AreSameBoxes, IsNonempty}
-use Rattle.guillotiere.specs.BoxShelves.{BoxShelf, box_shelf, free_boxes}
+use Rattle.guillotiere.specs.Simple.BoxShelves.{BoxShelf, box_shelf, free_item_boxes}
 use Rattle.guillotiere.specs.Pixels.{box_of}
 use Rattle.guillotiere.specs.Rectangles.{IsUnsigned}
 use Rattle.guillotiere.specs.Slots.{nodes}
 use Rattle.guillotiere.specs.Visits.{free_areas}
-use Rattle.guillotiere.proofs.SimpleLists.{next-all, next-filed, passed-free}
+use Rattle.guillotiere.proofs.SimpleLemmas.SimpleLists.{next-all, next-filed, passed-free}
 use Rattle.guillotiere.proofs.simple.changes.file_free.Goals as goal
 use Rattle.guillotiere.proofs.simple.changes.file_free.Goals.{then-eq+in_ok-make_room, else-eq}
 
@@ -17,13 +17,13 @@ add-requires-clause-exact g c =
 
 pub loop-slot-preserved : goal.loop-slot-preserved
 loop-slot-preserved g c =
-    let all = map box_of (free_areas (nodes c.args.slots.now)) ++ free_boxes (box_shelf c.args.boxes.now).entries in
+    let all = map box_of (free_areas (nodes c.args.slots.now)) ++ free_item_boxes (box_shelf c.args.boxes.now).entries in
     elim c.if-eq.branch [
       | then-eq+in_ok-make_room w ↦
-          let new = free_boxes (box_shelf w.add.new.self).entries in
-          let same = ap (λ (v : BoxShelf). free_boxes v.entries) w.in_ok-make_room.ensures.same in
-          let next = next-filed (λ r. IsUnsigned r × IsNonempty (box_of r)) c.args.slots.now c.loop-slot.slot-index _ (free_boxes (box_shelf c.loop-slot.boxes).entries)
-          (free_boxes (box_shelf w.make_room.new.self).entries) new all same
+          let new = free_item_boxes (box_shelf w.add.new.self).entries in
+          let same = ap (λ (v : BoxShelf). free_item_boxes v.entries) w.in_ok-make_room.ensures.same in
+          let next = next-filed (λ r. IsUnsigned r × IsNonempty (box_of r)) c.args.slots.now c.loop-slot.slot-index _ (free_item_boxes (box_shelf c.loop-slot.boxes).entries)
+          (free_item_boxes (box_shelf w.make_room.new.self).entries) new all same
           c.loop-slot-test.true (search rules) c.loop-slot.invariant.1 c.loop-slot.invariant.2 w.add.ensures.boxes in
           rw w.boxes-is (w.add.ensures.kept, next.0, next.1)
       | else-eq w ↦
@@ -31,6 +31,6 @@ loop-slot-preserved g c =
           rw w.boxes-is (
             c.loop-slot.invariant.0,
             subst (All (λ r. IsUnsigned r × IsNonempty (box_of r))) e c.loop-slot.invariant.1,
-            subst (λ l. AreSameBoxes (map box_of l ++ free_boxes (box_shelf c.loop-slot.boxes).entries) all) e c.loop-slot.invariant.2,
+            subst (λ l. AreSameBoxes (map box_of l ++ free_item_boxes (box_shelf c.loop-slot.boxes).entries) all) e c.loop-slot.invariant.2,
           )
     ]

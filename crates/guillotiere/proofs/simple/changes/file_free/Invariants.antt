@@ -1,7 +1,7 @@
 use Rattle.std.proofs.Common.{◌++◌, map, drop}
 use Rattle.std.specs.List.{All}
 use Rattle.guillotiere.specs.Boxes.{AreSameBoxes, IsNonempty}
-use Rattle.guillotiere.specs.BoxShelves.{AreKept, box_shelf, free_boxes}
+use Rattle.guillotiere.specs.Simple.BoxShelves.{AreKept, box_shelf, free_item_boxes}
 use Rattle.guillotiere.specs.Pixels.{box_of, options_of}
 use Rattle.guillotiere.specs.Rectangles.{IsUnsigned}
 use Rattle.guillotiere.specs.Slots.{nodes}
@@ -12,5 +12,5 @@ abbrev pub invariant-loop-slot : goal.invariant-loop-slot
 invariant-loop-slot g l =
     AreKept (options_of l.options) (box_shelf l.boxes)
     × All (λ r. IsUnsigned r × IsNonempty (box_of r)) (free_areas (nodes (drop l.slot-index l.slots)))
-    × AreSameBoxes (map box_of (free_areas (nodes (drop l.slot-index l.slots))) ++ free_boxes (box_shelf l.boxes).entries)
-    (map box_of (free_areas (nodes l.slots)) ++ free_boxes (box_shelf l.initial.boxes).entries)
+    × AreSameBoxes (map box_of (free_areas (nodes (drop l.slot-index l.slots))) ++ free_item_boxes (box_shelf l.boxes).entries)
+    (map box_of (free_areas (nodes l.slots)) ++ free_item_boxes (box_shelf l.initial.boxes).entries)

@@ -1,11 +1,11 @@
 use Rattle.std.proofs.Common.{◌∙◌, refl, ℕ}
-use Rattle.guillotiere.specs.Links.{with_count, rest_of}
-use Rattle.guillotiere.specs.Holdings.{shelf_of, after_take}
-use Rattle.guillotiere.specs.Growing.{after_append}
+use Rattle.guillotiere.specs.Slots.Links.{with_count, tail_of}
+use Rattle.guillotiere.specs.Store.Holdings.{shelf_of, after_take}
+use Rattle.guillotiere.specs.Slots.Growing.{after_append}
 use Rattle.guillotiere.specs.Pixels.{sides_of}
-use Rattle.guillotiere.proofs.Filing.{with_count-same}
-use Rattle.guillotiere.proofs.StoreTakes.{used-taken, slots-kept, rest-length}
-use Rattle.guillotiere.proofs.ExtendingSteps.{end-taken}
+use Rattle.guillotiere.proofs.StoreLemmas.Filing.{with_count-same}
+use Rattle.guillotiere.proofs.StoreLemmas.StoreTakes.{used-taken, slots-kept, rest-length}
+use Rattle.guillotiere.proofs.StoreLemmas.ExtendingSteps.{end-taken}
 use Rattle.guillotiere.proofs.store.Store.append.Goals as goal
 
 pub append_with-requires-clause-ready : goal.append_with-requires-clause-ready
@@ -30,7 +30,7 @@ returns g c =
     let append = c.append_with.ensures in
     record {
       kept = λ d h n a slots. (
-        rest_of h.spare,
+        tail_of h.spare,
         used-taken (shelf_of c.append_with.new.self) k (λ i. 0) (after_append k d (after_take h)) refl
             (append.kept (after_take h) (with_count (λ i. 0) k 1) d (record {
               holds = take.taken h (λ i. 0) a.holds;

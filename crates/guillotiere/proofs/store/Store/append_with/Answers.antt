@@ -2,9 +2,9 @@ use Rattle.std.proofs.Common.{◌≡◌, refl, rules}
 use Rattle.guillotiere.specs.declared.slots.NodeKind.TheVariants.{Free}
 use Rattle.guillotiere.specs.Pixels.{sides_of}
 use Rattle.guillotiere.specs.Slots.{nodes, node_at}
-use Rattle.guillotiere.specs.Holdings.{shelf_of}
-use Rattle.guillotiere.proofs.StoreFacts.{are-slots, across-call, slots-room}
-use Rattle.guillotiere.proofs.ExtendingSteps.{sides-fit, end-used, end-inside, appended-holds}
+use Rattle.guillotiere.specs.Store.Holdings.{shelf_of}
+use Rattle.guillotiere.proofs.StoreLemmas.StoreFacts.{are-slots, across-call, slots-room}
+use Rattle.guillotiere.proofs.StoreLemmas.ExtendingSteps.{sides-fit, end-used, end-inside, appended-holds}
 use Rattle.guillotiere.proofs.store.Store.append_with.Goals as goal
 
 pub append_leaf-requires-clause-inside : goal.append_leaf-requires-clause-inside

@@ -5,10 +5,10 @@ use Rattle.guillotiere.specs.declared.slots.Slot.{Slot}
 use Rattle.guillotiere.specs.declared.slots.Node.{Node}
 use Rattle.guillotiere.specs.declared.slots.NodeKind.TheVariants.{Free}
 use Rattle.guillotiere.specs.Slots.{nodes, node_at}
-use Rattle.guillotiere.specs.SlotCalls.{IsChildLifted}
-use Rattle.guillotiere.specs.Calm.{IsCalmBut}
-use Rattle.guillotiere.specs.Holdings.{shelf_of}
-use Rattle.guillotiere.proofs.StoreSteps.{AreSlots, GivesBack, lifted-holds, over-shelf, long-over}
+use Rattle.guillotiere.specs.Slots.SlotCalls.{IsChildLifted}
+use Rattle.guillotiere.specs.Slots.Calm.{IsCalmBut}
+use Rattle.guillotiere.specs.Store.Holdings.{shelf_of}
+use Rattle.guillotiere.proofs.StoreLemmas.StoreSteps.{AreSlots, GivesBack, lifted-holds, over-shelf, long-over}
 use Rattle.guillotiere.proofs.store.Store.lift.Given as given
 use Rattle.guillotiere.proofs.store.Store.lift.Goals as goal
 

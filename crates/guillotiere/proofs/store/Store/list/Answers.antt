@@ -1,13 +1,13 @@
 use Rattle.std.proofs.Common.{◌≡◌, false, refl}
 use Rattle.guillotiere.specs.Pixels.{options_of}
 use Rattle.guillotiere.specs.Slots.{nodes, node_at}
-use Rattle.guillotiere.specs.Bands.{list_of}
-use Rattle.guillotiere.specs.Lists.{node_sides}
-use Rattle.guillotiere.specs.Links.{held_with, with_mark}
+use Rattle.guillotiere.specs.Search.Bands.{list_of}
+use Rattle.guillotiere.specs.Slots.Lists.{node_sides}
+use Rattle.guillotiere.specs.Slots.Links.{held_with, with_mark}
 use Rattle.guillotiere.specs.Stored.{places_of}
-use Rattle.guillotiere.specs.Holdings.{shelf_of}
-use Rattle.guillotiere.proofs.StoreFacts.{are-slots, across-call, slots-room}
-use Rattle.guillotiere.proofs.StoreSteps.{listed-holds, leaf-exact}
+use Rattle.guillotiere.specs.Store.Holdings.{shelf_of}
+use Rattle.guillotiere.proofs.StoreLemmas.StoreFacts.{are-slots, across-call, slots-room}
+use Rattle.guillotiere.proofs.StoreLemmas.StoreSteps.{listed-holds, leaf-exact}
 use Rattle.guillotiere.proofs.store.Store.list.Goals as goal
 
 pub enlist-requires-clause-exact : goal.enlist-requires-clause-exact

@@ -1,8 +1,8 @@
 use Rattle.std.proofs.Common.{refl}
-use Rattle.guillotiere.specs.SlotCalls.{IsLeafFreed}
-use Rattle.guillotiere.specs.Holdings.{shelf_of}
-use Rattle.guillotiere.proofs.StoreFacts.{are-slots, slots-room}
-use Rattle.guillotiere.proofs.StoreSteps.{marked-holds, over-shelf, long-over}
+use Rattle.guillotiere.specs.Slots.SlotCalls.{IsLeafFreed}
+use Rattle.guillotiere.specs.Store.Holdings.{shelf_of}
+use Rattle.guillotiere.proofs.StoreLemmas.StoreFacts.{are-slots, slots-room}
+use Rattle.guillotiere.proofs.StoreLemmas.StoreSteps.{marked-holds, over-shelf, long-over}
 use Rattle.guillotiere.proofs.store.Store.mark.Goals as goal
 
 pub returns : goal.returns

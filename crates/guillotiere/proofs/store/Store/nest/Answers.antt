@@ -1,13 +1,13 @@
 use Rattle.std.proofs.Common.{◌∙◌, ◌≡◌, ◌≢◌, ◌+◌, ap, ℕ, subst, sym, arith}
 use Rattle.guillotiere.specs.Pixels.{sides_of}
-use Rattle.guillotiere.specs.Links.{with_count, rest_of}
+use Rattle.guillotiere.specs.Slots.Links.{with_count, tail_of}
 use Rattle.guillotiere.specs.Stored.{Holding, HoldsWith}
-use Rattle.guillotiere.specs.Holdings.{shelf_of, HasSlotsFor, after_take}
-use Rattle.guillotiere.specs.Growing.{IsSpanning, after_wrap_top, after_nest}
-use Rattle.guillotiere.proofs.Filing.{with_count-same}
-use Rattle.guillotiere.proofs.StoreSteps.{holds-hand}
-use Rattle.guillotiere.proofs.StoreTakes.{slots-kept, rest-length, two_hands, second-hand, no-hand}
-use Rattle.guillotiere.proofs.ExtendingSteps.{spanning-taken, end-topped}
+use Rattle.guillotiere.specs.Store.Holdings.{shelf_of, HasSlotsFor, after_take}
+use Rattle.guillotiere.specs.Slots.Growing.{IsSpanning, after_wrap_top, after_nest}
+use Rattle.guillotiere.proofs.StoreLemmas.Filing.{with_count-same}
+use Rattle.guillotiere.proofs.StoreLemmas.StoreSteps.{holds-hand}
+use Rattle.guillotiere.proofs.StoreLemmas.StoreTakes.{slots-kept, rest-length, two_hands, second-hand, no-hand}
+use Rattle.guillotiere.proofs.StoreLemmas.ExtendingSteps.{spanning-taken, end-topped}
 use Rattle.guillotiere.proofs.store.Store.nest.Goals as goal
 
 pub take-container-requires : goal.take-container-requires
@@ -101,7 +101,7 @@ returns g c =
           let second = container.slots (after_take h) (with_count (λ i. 0) s 1) n one first in
           let topped =
           wrap.kept k (two_hands s w) (record { holds = two; in_hand = with_count-same (with_count (λ i. 0) s 1) w 1; spans = span }) in (
-            rest_of (rest_of h.spare),
+            tail_of (tail_of h.spare),
             holds-hand (with_count (with_count (two_hands s w) w 0) s 0) (λ i. 0) (shelf_of c.append_with.new.self) (after_nest w s d k) (no-hand s w)
                 (append.kept (after_wrap_top w k) (with_count (two_hands s w) w 0) d (record {
                   holds = topped;
@@ -111,7 +111,7 @@ returns g c =
                 })),
             slots-kept c.wrap_top_with.new.self c.append_with.new.self n k append.room
                 (slots-kept c.take-container.new.self c.wrap_top_with.new.self n k wrap.room second),
-            omega (arith, rest-length (rest_of h.spare), rest-length h.spare),
+            omega (arith, rest-length (tail_of h.spare), rest-length h.spare),
           );
       free = append.free;
       options = append.room.options ∙ wrap.room.options ∙ container.options ∙ strip.options;

@@ -1,7 +1,7 @@
 use Rattle.std.proofs.Common.{refl}
-use Rattle.guillotiere.specs.Bands.{number_of}
-use Rattle.guillotiere.specs.Holdings.{shelf_of}
-use Rattle.guillotiere.proofs.StoreSteps.{sharpened-holds}
+use Rattle.guillotiere.specs.Search.Bands.{number_of}
+use Rattle.guillotiere.specs.Store.Holdings.{shelf_of}
+use Rattle.guillotiere.proofs.StoreLemmas.StoreSteps.{sharpened-holds}
 use Rattle.guillotiere.proofs.store.Store.sharpen.Goals as goal
 
 pub returns : goal.returns

@@ -2,13 +2,13 @@ use Rattle.std.proofs.Common.{◌≡◌, ◌≢◌, ◌∙◌, ap, refl, sym, �
 use Rattle.std.proofs.lemmas.Int.{to_z-of_z}
 use Rattle.guillotiere.specs.declared.slots.Node.{Node}
 use Rattle.guillotiere.specs.Pixels.{natural}
-use Rattle.guillotiere.specs.Links.{with_count, rest_of}
-use Rattle.guillotiere.specs.Parts.{front_node}
+use Rattle.guillotiere.specs.Slots.Links.{with_count, tail_of}
+use Rattle.guillotiere.specs.Slots.Parts.{front_node}
 use Rattle.guillotiere.specs.Slots.{KeepsUse}
-use Rattle.guillotiere.specs.Holdings.{shelf_of, node_in, across_of, after_take, after_split}
-use Rattle.guillotiere.specs.StoreCalls.{IsSplitWith}
-use Rattle.guillotiere.proofs.PlacingSteps.{across-front}
-use Rattle.guillotiere.proofs.StoreTakes.{ready-taken, used-taken, slots-kept, rest-length, apart-leaf}
+use Rattle.guillotiere.specs.Store.Holdings.{shelf_of, node_in, across_of, after_take, after_split}
+use Rattle.guillotiere.specs.Store.StoreCalls.{IsSplitWith}
+use Rattle.guillotiere.proofs.StoreLemmas.PlacingSteps.{across-front}
+use Rattle.guillotiere.proofs.StoreLemmas.StoreTakes.{ready-taken, used-taken, slots-kept, rest-length, apart-leaf}
 use Rattle.guillotiere.proofs.store.Store.split.Goals as goal
 
 pub split_with-requires-clause-hand : goal.split_with-requires-clause-hand
@@ -52,7 +52,7 @@ returns g c =
     let same : node_in (shelf_of mid) at ≡ node_in (shelf_of old) at = take.others at apart in
     record {
       kept = λ h n leaf slots. (
-        rest_of h.spare,
+        tail_of h.spare,
         used-taken (shelf_of new) k (λ i. 0) (after_split at k p (after_take h)) refl
             (cut.kept (after_take h) (with_count (λ i. 0) k 1)
             (ready-taken (shelf_of mid) at k (λ i. 0) h (take.taken h (λ i. 0) leaf.holds) leaf.loose)),

@@ -1,10 +1,10 @@
 use Rattle.std.proofs.Common.{ap, refl, subst, w32, ℕ}
 use Rattle.std.proofs.lemmas.Int.{to_z-of_z}
 use Rattle.guillotiere.specs.Pixels.{natural}
-use Rattle.guillotiere.specs.SlotCalls.{IsLeafSplit}
-use Rattle.guillotiere.specs.Holdings.{shelf_of}
-use Rattle.guillotiere.proofs.StoreFacts.{are-slots, slots-room}
-use Rattle.guillotiere.proofs.StoreSteps.{split-holds, over-shelf, long-over}
+use Rattle.guillotiere.specs.Slots.SlotCalls.{IsLeafSplit}
+use Rattle.guillotiere.specs.Store.Holdings.{shelf_of}
+use Rattle.guillotiere.proofs.StoreLemmas.StoreFacts.{are-slots, slots-room}
+use Rattle.guillotiere.proofs.StoreLemmas.StoreSteps.{split-holds, over-shelf, long-over}
 use Rattle.guillotiere.proofs.store.Store.split_with.Goals as goal
 
 pub returns : goal.returns

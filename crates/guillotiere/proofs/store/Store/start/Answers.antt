@@ -1,7 +1,7 @@
 use Rattle.std.proofs.Common.{◌<◌, ◌^◌, ◌∙◌, refl, rules}
 use Rattle.guillotiere.specs.Pixels.{natural, sides_of}
-use Rattle.guillotiere.specs.Starts.{loose_holding}
-use Rattle.guillotiere.proofs.Starting.{whole_leaf}
+use Rattle.guillotiere.specs.Store.Starts.{loose_holding}
+use Rattle.guillotiere.proofs.StoreLemmas.Starting.{whole_leaf}
 use Rattle.guillotiere.proofs.store.Store.start.Goals as goal
 
 pub list-requires : goal.list-requires

@@ -1,9 +1,9 @@
 use Rattle.std.proofs.Common.{◌∙◌, ◌≡◌, ap, refl, rules}
 use Rattle.guillotiere.specs.Pixels.{sides_of}
 use Rattle.guillotiere.specs.Slots.{nodes, node_at}
-use Rattle.guillotiere.specs.Holdings.{shelf_of}
-use Rattle.guillotiere.proofs.StoreFacts.{are-slots, across-call, slots-room}
-use Rattle.guillotiere.proofs.ExtendingSteps.{sides-fit, stretched-holds}
+use Rattle.guillotiere.specs.Store.Holdings.{shelf_of}
+use Rattle.guillotiere.proofs.StoreLemmas.StoreFacts.{are-slots, across-call, slots-room}
+use Rattle.guillotiere.proofs.StoreLemmas.ExtendingSteps.{sides-fit, stretched-holds}
 use Rattle.guillotiere.proofs.store.Store.stretch.Goals as goal
 
 pub returns : goal.returns

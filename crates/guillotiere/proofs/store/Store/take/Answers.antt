@@ -1,11 +1,11 @@
 use Rattle.std.proofs.Common.{ℕ, refl, vec_capacity}
 use Rattle.guillotiere.specs.Pixels.{options_of}
-use Rattle.guillotiere.specs.Links.{IsTaken}
+use Rattle.guillotiere.specs.Slots.Links.{IsTaken}
 use Rattle.guillotiere.specs.Stored.{places_of}
-use Rattle.guillotiere.specs.Holdings.{shelf_of}
+use Rattle.guillotiere.specs.Store.Holdings.{shelf_of}
 use Rattle.guillotiere.specs.Slots.{blank_slot}
-use Rattle.guillotiere.proofs.StoreFacts.{taken-longer, taken-room}
-use Rattle.guillotiere.proofs.StoreSteps.{taken-holds, taken-short}
+use Rattle.guillotiere.proofs.StoreLemmas.StoreFacts.{taken-longer, taken-room}
+use Rattle.guillotiere.proofs.StoreLemmas.StoreSteps.{taken-holds, taken-short}
 use Rattle.guillotiere.proofs.store.Store.take.Goals as goal
 
 pub returns : goal.returns

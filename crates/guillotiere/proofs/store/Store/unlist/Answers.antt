@@ -1,10 +1,10 @@
 use Rattle.std.proofs.Common.{◌≡◌, true, refl}
-use Rattle.guillotiere.specs.Links.{held_without, with_mark}
+use Rattle.guillotiere.specs.Slots.Links.{held_without, with_mark}
 use Rattle.guillotiere.specs.Slots.{nodes}
 use Rattle.guillotiere.specs.Stored.{places_of}
-use Rattle.guillotiere.specs.Holdings.{shelf_of}
-use Rattle.guillotiere.proofs.StoreFacts.{are-slots, across-call, slots-room}
-use Rattle.guillotiere.proofs.StoreSteps.{listed-holds, leaf-exact}
+use Rattle.guillotiere.specs.Store.Holdings.{shelf_of}
+use Rattle.guillotiere.proofs.StoreLemmas.StoreFacts.{are-slots, across-call, slots-room}
+use Rattle.guillotiere.proofs.StoreLemmas.StoreSteps.{listed-holds, leaf-exact}
 use Rattle.guillotiere.proofs.store.Store.unlist.Goals as goal
 
 pub unlist-requires-clause-exact : goal.unlist-requires-clause-exact

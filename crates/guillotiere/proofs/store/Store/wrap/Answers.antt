@@ -1,12 +1,12 @@
 use Rattle.std.proofs.Common.{◌≡◌, ◌≢◌, ◌∙◌, ap, refl, sym, ℕ, subst}
 use Rattle.guillotiere.specs.declared.slots.Node.{Node}
-use Rattle.guillotiere.specs.Links.{with_count, rest_of}
-use Rattle.guillotiere.specs.Parts.{inner_node}
-use Rattle.guillotiere.specs.Reading.{extent_of}
+use Rattle.guillotiere.specs.Slots.Links.{with_count, tail_of}
+use Rattle.guillotiere.specs.Slots.Parts.{inner_node}
+use Rattle.guillotiere.specs.Slots.Reading.{extent_of}
 use Rattle.guillotiere.specs.Slots.{KeepsUse}
-use Rattle.guillotiere.specs.Holdings.{shelf_of, node_in, across_of, after_take, after_wrap}
-use Rattle.guillotiere.proofs.PlacingSteps.{across-inner, extent-inner}
-use Rattle.guillotiere.proofs.StoreTakes.{ready-taken, used-taken, slots-kept, rest-length, apart-leaf}
+use Rattle.guillotiere.specs.Store.Holdings.{shelf_of, node_in, across_of, after_take, after_wrap}
+use Rattle.guillotiere.proofs.StoreLemmas.PlacingSteps.{across-inner, extent-inner}
+use Rattle.guillotiere.proofs.StoreLemmas.StoreTakes.{ready-taken, used-taken, slots-kept, rest-length, apart-leaf}
 use Rattle.guillotiere.proofs.store.Store.wrap.Goals as goal
 
 pub wrap_with-requires : goal.wrap_with-requires
@@ -41,7 +41,7 @@ returns g c =
     wrap.inner ∙ ap (λ (n : Node). inner_node n c.args.at (node_in (shelf_of mid) k)) (take.others at apart) in
     record {
       kept = λ h n leaf slots. (
-        rest_of h.spare,
+        tail_of h.spare,
         used-taken (shelf_of new) k (λ i. 0) (after_wrap at k (after_take h)) refl
             (wrap.kept (after_take h) (with_count (λ i. 0) k 1)
             (ready-taken (shelf_of mid) at k (λ i. 0) h (take.taken h (λ i. 0) leaf.holds) leaf.loose)),

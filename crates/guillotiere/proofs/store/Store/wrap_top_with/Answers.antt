@@ -2,9 +2,9 @@ use Rattle.std.proofs.Common.{◌∙◌, ◌≡◌, ◌≢◌, ℕ, refl}
 use Rattle.guillotiere.specs.declared.slots.NodeKind.TheVariants.{Unused}
 use Rattle.guillotiere.specs.Pixels.{sides_of}
 use Rattle.guillotiere.specs.Slots.{nodes, node_at}
-use Rattle.guillotiere.specs.Holdings.{shelf_of}
-use Rattle.guillotiere.proofs.StoreFacts.{are-slots, across-call, slots-room}
-use Rattle.guillotiere.proofs.ExtendingSteps.{topped-holds}
+use Rattle.guillotiere.specs.Store.Holdings.{shelf_of}
+use Rattle.guillotiere.proofs.StoreLemmas.StoreFacts.{are-slots, across-call, slots-room}
+use Rattle.guillotiere.proofs.StoreLemmas.ExtendingSteps.{topped-holds}
 use Rattle.guillotiere.proofs.store.Store.wrap_top_with.Goals as goal
 
 pub returns : goal.returns

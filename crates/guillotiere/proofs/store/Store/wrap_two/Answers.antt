@@ -2,17 +2,17 @@ use Rattle.std.proofs.Common.{◌∙◌, ◌≡◌, ◌≢◌, ◌+◌, ap, ℕ,
 use Rattle.std.proofs.lemmas.Int.{to_z-of_z}
 use Rattle.guillotiere.specs.declared.slots.Node.{Node}
 use Rattle.guillotiere.specs.Pixels.{natural}
-use Rattle.guillotiere.specs.Parts.{inner_node}
-use Rattle.guillotiere.specs.Reading.{extent_of}
+use Rattle.guillotiere.specs.Slots.Parts.{inner_node}
+use Rattle.guillotiere.specs.Slots.Reading.{extent_of}
 use Rattle.guillotiere.specs.Slots.{KeepsUse}
-use Rattle.guillotiere.specs.Links.{with_count, rest_of}
+use Rattle.guillotiere.specs.Slots.Links.{with_count, tail_of}
 use Rattle.guillotiere.specs.Stored.{Holding}
-use Rattle.guillotiere.specs.Holdings.{shelf_of, node_in, across_of, HasSlotsFor, after_take, after_split, after_wrap}
-use Rattle.guillotiere.specs.StoreCalls.{IsSplitWith}
-use Rattle.guillotiere.proofs.Filing.{with_count-same}
-use Rattle.guillotiere.proofs.StoreSteps.{holds-hand}
-use Rattle.guillotiere.proofs.PlacingSteps.{across-front, across-inner, extent-inner}
-use Rattle.guillotiere.proofs.StoreTakes.{ready-taken, ready-wrapped, slots-kept, rest-length, apart-leaf, two_hands, no-hand}
+use Rattle.guillotiere.specs.Store.Holdings.{shelf_of, node_in, across_of, HasSlotsFor, after_take, after_split, after_wrap}
+use Rattle.guillotiere.specs.Store.StoreCalls.{IsSplitWith}
+use Rattle.guillotiere.proofs.StoreLemmas.Filing.{with_count-same}
+use Rattle.guillotiere.proofs.StoreLemmas.StoreSteps.{holds-hand}
+use Rattle.guillotiere.proofs.StoreLemmas.PlacingSteps.{across-front, across-inner, extent-inner}
+use Rattle.guillotiere.proofs.StoreLemmas.StoreTakes.{ready-taken, ready-wrapped, slots-kept, rest-length, apart-leaf, two_hands, no-hand}
 use Rattle.guillotiere.proofs.store.Store.wrap_two.Goals as goal
 
 pub take-front-requires : goal.take-front-requires
@@ -129,14 +129,14 @@ returns g c =
           wrap.kept (after_take (after_take h)) (two_hands b f)
           (ready-taken (shelf_of c.take-front.new.self) at f (with_count (λ i. 0) b 1) (after_take h)
           (front.taken (after_take h) (with_count (λ i. 0) b 1) taken) leaf.loose) in (
-            rest_of (rest_of h.spare),
+            tail_of (tail_of h.spare),
             holds-hand (with_count (with_count (two_hands b f) f 0) b 0) (λ i. 0) (shelf_of new)
                 (after_split f b p (after_wrap at f (after_take (after_take h)))) (no-hand b f)
                 (cut.kept (after_wrap at f (after_take (after_take h))) (with_count (two_hands b f) f 0)
                 (ready-wrapped (shelf_of c.wrap_with.new.self) at f b (after_take (after_take h)) f_b (λ e. at_f (sym e)) wrapped)),
             slots-kept c.wrap_with.new.self new n (after_take (after_take h)) cut.room
                 (slots-kept c.take-front.new.self c.wrap_with.new.self n (after_take (after_take h)) wrap.room second),
-            omega (arith, rest-length (rest_of h.spare), rest-length h.spare),
+            omega (arith, rest-length (tail_of h.spare), rest-length h.spare),
           );
       front = ap (λ (n : Node). n.kind) cut.front ∙ ap (λ (n : Node). n.kind) inner;
       across =

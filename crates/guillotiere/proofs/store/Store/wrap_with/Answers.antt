@@ -1,8 +1,8 @@
 use Rattle.std.proofs.Common.{refl}
-use Rattle.guillotiere.specs.SlotCalls.{IsLeafWrapped}
-use Rattle.guillotiere.specs.Holdings.{shelf_of}
-use Rattle.guillotiere.proofs.StoreFacts.{are-slots, slots-room}
-use Rattle.guillotiere.proofs.StoreSteps.{wrapped-holds, over-shelf, long-over}
+use Rattle.guillotiere.specs.Slots.SlotCalls.{IsLeafWrapped}
+use Rattle.guillotiere.specs.Store.Holdings.{shelf_of}
+use Rattle.guillotiere.proofs.StoreLemmas.StoreFacts.{are-slots, slots-room}
+use Rattle.guillotiere.proofs.StoreLemmas.StoreSteps.{wrapped-holds, over-shelf, long-over}
 use Rattle.guillotiere.proofs.store.Store.wrap_with.Goals as goal
 
 pub returns : goal.returns

@@ -7,7 +7,7 @@ use Rattle.guillotiere_recording.specs.Recordings.{SessionValue, AreBooked}
 use Rattle.guillotiere_recording.proofs.Showing.{entries_have_boxes, shown_book}
 use Rattle.guillotiere_recording.proofs.allocator.RecordingAllocator.allocations.Goals as goal
 
--- what holds of a list that is given holds of what it is
+-- What holds of a list that is given holds of what it is.
 given : {X E L : Type 0} (r : Result X E) (items : X → L) (l : L) (P : L → Type 0) → ((k : L) → k ≡ l → P k)
     → IfOk r (λ x. items x ≡ l) → IfOk r (λ x. P (items x))
 given (Ok x) items l P all is = all (items x) is

@@ -6,7 +6,7 @@ use Rattle.guillotiere.specs.States.{State}
 use Rattle.guillotiere.specs.Steps as atlas
 use Rattle.guillotiere.specs.Steps.{Step}
 use Rattle.guillotiere.specs.Stored.{Stored, state_of}
-use Rattle.guillotiere_recording.specs.Events.{list_of}
+use Rattle.guillotiere_recording.specs.Events.{list_value_of}
 use Rattle.guillotiere_recording.specs.Events.EventValue.{ResizeAndRearrange}
 use Rattle.guillotiere_recording.specs.Logs.{with_event, recording_of}
 use Rattle.guillotiere_recording.specs.Moves.{AreEntered, IsMoved}
@@ -17,7 +17,7 @@ use Rattle.guillotiere_recording.proofs.Rearranged.{kept_of, all_entered, rearra
 use Rattle.guillotiere_recording.proofs.Refusals.{slots_step}
 use Rattle.guillotiere_recording.proofs.allocator.RecordingAllocator.resize_and_rearrange.Goals as goal
 
--- the state of an atlas is what it stores
+-- The state of an atlas is what it stores.
 abbrev stands : Stored → State
 stands s = state_of (record { stored = s; turns = 0 })
 
@@ -47,10 +47,10 @@ invariant_of-self-2 g c =
     let moved = subst (λ ns. IsMoved ns c.in_ok-answer.answer m) c.deref.ensures.value c.in_ok-list.ensures.moved in
     let noted = ap₂ (λ xs ys. with_event (ResizeAndRearrange c.args.new_size (record { changes = xs; failures = ys })) (recording_of c.make_room.new.self))
     c.in_ok-clone.ensures.changes c.in_ok-clone.ensures.failures in
-    let more = c.note.ensures ∙ noted ∙ ap (with_event (ResizeAndRearrange c.args.new_size (list_of m.list))) c.in_ok-make_room.ensures.same in
+    let more = c.note.ensures ∙ noted ∙ ap (with_event (ResizeAndRearrange c.args.new_size (list_value_of m.list))) c.in_ok-make_room.ensures.same in
     let led = rearranges_under _ c.resize_and_rearrange.new.self c.in_ok-answer.answer m call (kept_of _ c.self.invariant) step c.in_ok-answer.ensures.exact moved
     (once_after _ (state_of c.resize_and_rearrange.new.self) c.in_ok-answer.answer call (kept_of _ c.self.invariant) step) in
-    rearranged_session _ c.resize_and_rearrange.new.self m.names.items (recording_of c.note.new.self) c.in_ok-answer.answer m call (ResizeAndRearrange c.args.new_size (list_of m.list))
+    rearranged_session _ c.resize_and_rearrange.new.self m.names.items (recording_of c.note.new.self) c.in_ok-answer.answer m call (ResizeAndRearrange c.args.new_size (list_value_of m.list))
     c.self.invariant step moved refl more refl led
 
 pub returns-clause-led : goal.returns-clause-led
@@ -62,5 +62,5 @@ returns-clause-led g c =
     let moved = subst (λ ns. IsMoved ns c.in_ok-answer.answer m) c.deref.ensures.value c.in_ok-list.ensures.moved in
     let led = rearranges_under _ c.resize_and_rearrange.new.self c.in_ok-answer.answer m call (kept_of _ c.self.invariant) step c.in_ok-answer.ensures.exact moved
     (once_after _ (state_of c.resize_and_rearrange.new.self) c.in_ok-answer.answer call (kept_of _ c.self.invariant) step) in
-    subst (λ (v : SessionValue). RearrangesUnder (session_of v) call (list_of m.list)
+    subst (λ (v : SessionValue). RearrangesUnder (session_of v) call (list_value_of m.list)
     (record { state = state_of c.resize_and_rearrange.new.self; name = name_among m.names.items })) c.self.view_is led

@@ -3,7 +3,7 @@ use Rattle.std.proofs.lemmas.List.{get_or-map, length-map}
 use Rattle.std.proofs.lemmas.Option.{slice_get_read}
 use Rattle.guillotiere_recording.specs.Events.{event_of}
 use Rattle.guillotiere_recording.specs.Logs.{recording_of}
-use Rattle.guillotiere_recording.specs.Replays.{IsFaultOf, is_grant, is_freeing, is_failed_request}
+use Rattle.guillotiere_recording.specs.Replays.{IsFaultOf, is_granted_event, is_freeing, is_failed_request}
 use Rattle.guillotiere_recording.proofs.Counts.{count_map}
 use Rattle.guillotiere_recording.proofs.ReplayEnds.{begins, goes_on, stops, ends, found_has_box}
 use Rattle.guillotiere_recording.proofs.log.Log.replay.Goals as goal
@@ -58,7 +58,7 @@ returns-clause-replayed g c =
     record {
       recorded = e.0;
       live = e.1;
-      allocations = c.grants.ensures ∙ sym (count_map event_of is_grant log.events.items);
+      allocations = c.grants.ensures ∙ sym (count_map event_of is_granted_event log.events.items);
       deallocations = c.freeings.ensures ∙ sym (count_map event_of is_freeing log.events.items);
       failed = c.failed_requests.ensures ∙ sym (count_map event_of is_failed_request log.events.items);
     }

@@ -1,8 +1,7 @@
-use Rattle.std.proofs.Common.{◌+◌, drop, ap, ◌∙◌, arith}
+use Rattle.std.proofs.Common.{◌+◌, ap, ◌∙◌, arith}
 use Rattle.std.proofs.lemmas.List.{drop-drop}
 use Rattle.guillotiere.specs.Pixels.{sides_of}
-use Rattle.uses.specs.Glyphs.{Cache}
-use Rattle.uses.proofs.Caching.{fewer, some_held}
+use Rattle.uses.proofs.Caching.{some_held}
 use Rattle.uses.proofs.glyph_cache.GlyphCache.make_room.Goals as goal
 
 pub returns-then-branch-clause-evicted : goal.returns-then-branch-clause-evicted
@@ -24,11 +23,6 @@ returns-clause-evicted g c =
     let gone = c.evict.ensures in
     λ first was. record {
       gone = was.gone + 1;
-      rest = gone.gone ∙ ap (λ (s : Cache). drop 1 s.glyphs) full.0 ∙ ap (drop 1) was.rest ∙ drop-drop 1 was.gone first.glyphs;
+      rest = rw (gone.gone, full.0, was.rest) (drop-drop 1 was.gone first.glyphs);
       full = λ some. cc (gone.size, full.0, full.1, gone.most);
     }
-
-pub returns-clause-fewer : goal.returns-clause-fewer
-returns-clause-fewer g c = λ n.
-    let full = c.in_ok-double.ensures.full c.if-branch.false in
-    rw (c.evict.ensures.gone, full.0) (fewer n c.args.self.now.glyphs)

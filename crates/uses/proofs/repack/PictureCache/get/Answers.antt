@@ -1,6 +1,6 @@
 use Rattle.std.proofs.Common.{◌∙◌, ap, sym, option_map}
 use Rattle.uses.specs.declared.repack.Held.{Held}
-use Rattle.uses.specs.Pictures.{Pictures, area_in}
+use Rattle.uses.specs.Pictures.{Pictures, picture_area}
 use Rattle.uses.proofs.Repacking.{area_found}
 use Rattle.uses.proofs.repack.PictureCache.get.Goals as goal
 
@@ -10,11 +10,11 @@ returns-in_err-held c =
     let is = rw c.deref.ensures.value at c.held_for.ensures in
     c.from_residual.ensures
     ∙ sym (found ∙ ap (option_map (λ (h : Held). h.grant.rectangle)) (sym is ∙ c.in_err-held.was))
-    ∙ ap (λ (v : Pictures). area_in v.held c.args.key) c.self.view_is
+    ∙ ap (λ (v : Pictures). picture_area v.held c.args.key) c.self.view_is
 
 pub returns : goal.returns
 returns c =
     let found = area_found c.args.key c.self.inside.held.items in
     let is = rw c.deref.ensures.value at c.held_for.ensures in
     sym (found ∙ ap (option_map (λ (h : Held). h.grant.rectangle)) (sym is ∙ c.in_ok-held.was))
-    ∙ ap (λ (v : Pictures). area_in v.held c.args.key) c.self.view_is
+    ∙ ap (λ (v : Pictures). picture_area v.held c.args.key) c.self.view_is

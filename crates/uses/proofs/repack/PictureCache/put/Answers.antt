@@ -1,6 +1,6 @@
 use Rattle.guillotiere.specs.Pixels.{sides_of}
 use Rattle.guillotiere.specs.Stored.{state_of}
-use Rattle.guillotiere.proofs.StepEffects.{grants_lie_inside}
+use Rattle.guillotiere.proofs.StepLemmas.StepEffects.{grants_lie_inside}
 use Rattle.uses.proofs.Repacking.{put_holds}
 use Rattle.uses.proofs.repack.PictureCache.put.Goals as goal
 

@@ -1,8 +1,7 @@
-use Rattle.std.proofs.Common.{◌≡◌, true, refl, subst, sym, ap}
+use Rattle.std.proofs.Common.{◌≡◌, true, refl}
 use Rattle.std.specs.Result.{is_ok}
 use Rattle.guillotiere.specs.Stored.{state_of}
-use Rattle.guillotiere.proofs.StepEffects.{freeings_remove_one}
-use Rattle.uses.specs.Pictures.{Pictures, IsTaken}
+use Rattle.guillotiere.proofs.StepLemmas.StepEffects.{freeings_remove_one}
 use Rattle.uses.proofs.Repacking.{absent_area, taken, taken_gone, taken_holds, taken_live}
 use Rattle.uses.proofs.repack.PictureCache.remove.Goals as goal
 

@@ -1,0 +1,165 @@
+-- Freeing the box of a live id in an atlas.
+use Rattle.std.proofs.Common.{ℕ, ◌+◌, ◌-◌, ◌/◌, ◌^◌, ◌<◌, ◌≤◌, ◌≡◌, ◌↔◌, max, Bool, true, false, List, Option, Some, None, length, refl, sym, ap, subst, ◌∙◌, arith, Contains}
+use Rattle.std.specs.Option.{IfSome, IfNone, is_some}
+use Rattle.std.proofs.lemmas.Bool.{and_parts, eqb-true, false≢true}
+use Rattle.guillotiere.specs.declared.slots.Slot.{Slot}
+use Rattle.guillotiere.specs.declared.slots.Node.{Node}
+use Rattle.guillotiere.specs.declared.slots.NodeKind.TheVariants as kind
+use Rattle.guillotiere.specs.Pixels.{options_of}
+use Rattle.guillotiere.specs.Trees.{Tree, ids, IsNormal, slot_of}
+use Rattle.guillotiere.specs.Trees as tree
+use Rattle.guillotiere.specs.Changes.{nf, mark, only, release}
+use Rattle.guillotiere.specs.States.{State, IsSound, after_freeing, used_in}
+use Rattle.guillotiere.specs.Slots.{nodes, node_at, use_count, no_slot}
+use Rattle.guillotiere.specs.Slots.Numbered.{Numbered, tally, first_slot, numbers, erase, id_of, End, Free, Alloc, Seq}
+use Rattle.guillotiere.specs.Slots.Reading.{tree_of}
+use Rattle.guillotiere.specs.Stored.{Stored, Shelf, Holding, IsAtlas, state_of}
+use Rattle.guillotiere.specs.Visits.{is_named}
+use Rattle.guillotiere.specs.Store.Freeing.{IsFreeable, IsFreed}
+use Rattle.guillotiere.proofs.SlotLemmas.Frames.{same-self}
+use Rattle.guillotiere.proofs.SlotLemmas.JoiningWrites.{none-unused, used-inside}
+use Rattle.guillotiere.proofs.SlotLemmas.Reading.{IsNonempty, tree_of-Stands}
+use Rattle.guillotiere.proofs.SlotLemmas.Normal.{numbers-erase}
+use Rattle.guillotiere.proofs.TreeLemmas.TreeCounts.{release_nodes}
+use Rattle.guillotiere.proofs.StepLemmas.StepKeeping.{freeing_sound}
+use Rattle.guillotiere.proofs.SlotLemmas.SlotIds.{id_slot, slot_id}
+use Rattle.guillotiere.proofs.AtlasLemmas.NamedSlots.{id_of-parts, is_alloc-true, named-true}
+use Rattle.guillotiere.proofs.AtlasLemmas.Observing.{nodes-short, nodes-below, members-IsAtlas, nonempty-IsAtlas, tree_of-IsAtlas}
+
+-- A tree with a first slot has members.
+nonempty-first : (n : Numbered) → (first_slot n ≡ no_slot → ⊥) → IsNonempty n
+nonempty-first End h = absurd (h refl)
+nonempty-first (Free i e rest) h = omega (arith, same-self i)
+nonempty-first (Alloc i g e rest) h = omega (arith, same-self i)
+nonempty-first (Seq i e inner rest) h = omega (arith, same-self i)
+
+-- The parts of a name.
+pub record IsNamed (ns : List Node) (id : ℕ) : Type 0 where
+  pub kind : (node_at ns (slot_of id)).kind ≡ kind.Alloc
+  pub names : id_of (slot_of id) (node_at ns (slot_of id)).generation ≡ id
+
+pub named-parts : (ns : List Node) (id : ℕ) → is_named ns id ≡ true → IsNamed ns id
+named-parts ns id h =
+    let parts = and_parts _ _ h in
+    let age : (node_at ns (slot_of id)).generation ≡ id / 2 ^ 24 = eqb-true _ _ parts.1 in
+    record { kind = is_alloc-true _ parts.0; names = ap (id_of (slot_of id)) age ∙ id_of-parts id }
+
+-- The state after a freeing, of its parts.
+pub state-freed : (new old : State) (set : ℕ → Bool) → new.tree ≡ release set old.tree → new.size ≡ old.size → new.options ≡ old.options → new.limit ≡ old.limit → new.kept ≡ old.kept
+    → IsSound old → new ≡ after_freeing old set
+state-freed new old set et es eo el ek sound =
+    let few = release_nodes set old.tree in
+    let kept : new.kept ≡ max old.kept (tree.node_count (release set old.tree).members) = omega (arith, few, sound.counted, ek) in
+    rw (← kept, ← et, ← es, ← eo, ← el) refl
+
+-- As many turns more as members fewer, and one.
+pub turns-sum : (now before n used used' : ℕ) → now ≡ before + 1 + n → used' + n ≡ used → now + used' ≡ before + 1 + used
+turns-sum now before n used used' t u = omega arith
+
+module _ (v : Stored) (a : IsAtlas v) (id : ℕ) where
+  pub live-named : Contains (ids (tree_of (nodes v.shelf.slots)).members) id → is_named (nodes v.shelf.slots) id ≡ true
+  live-named live =
+      let ns = nodes v.shelf.slots in
+      let at = id_slot ns a.holding.sequence no_slot 0 a.holding.tree id a.holds.stands.standing (subst (λ m. Contains (ids m) id) (members-IsAtlas v a) live) in
+      let used : 0 < use_count (node_at ns at.0).kind = subst (λ k. 0 < use_count k) (sym at.1.kind) (omega arith) in
+      let inside : at.0 < length ns = used-inside ns at.0 used in
+      let short = nodes-short v.shelf.slots a.holds.short in
+      (named-true ns at.0 id (omega arith) (rw at.1.kind refl) at.1.names).0
+
+  pub named-live : is_named (nodes v.shelf.slots) id ≡ true → Contains (ids (tree_of (nodes v.shelf.slots)).members) id
+  named-live h =
+      let ns = nodes v.shelf.slots in
+      let is = named-parts ns id h in
+      let member : 0 < tally (slot_of id) a.holding.tree = subst (λ k. 0 < k) (sym (a.holds.stands.numbered (slot_of id))) (subst (λ k. 0 < use_count k) (sym is.kind) (omega arith)) in
+      subst (λ m. Contains (ids m) id) (sym (members-IsAtlas v a))
+      (slot_id ns a.holding.sequence no_slot 0 a.holding.tree id (slot_of id) a.holds.stands.standing (record { member = member; kind = is.kind; names = is.names }))
+
+  -- Whether a slot was found says whether the id is live.
+  pub live-found : (slots : List Slot) (o : Option ℕ) → slots ≡ v.shelf.slots → IfSome o (λ at. is_named (nodes slots) id ≡ true) → IfNone o (is_named (nodes slots) id ≡ false)
+      → (is_some o ≡ true) ↔ Contains (ids (tree_of (nodes v.shelf.slots)).members) id
+  live-found slots None same found missed =
+      ((λ t. absurd (false≢true t)), (λ live. absurd (false≢true (sym missed ∙ ap (λ l. is_named (nodes l) id) same ∙ live-named live))))
+  live-found slots (Some at) same found missed = ((λ _. named-live (ap (λ l. is_named (nodes l) id) (sym same) ∙ found)), (λ _. refl))
+
+  -- The slot of a live id can be freed.
+  pub freeable : (at : ℕ) → at ≡ slot_of id → Contains (ids (tree_of (nodes v.shelf.slots)).members) id → IsFreeable v.shelf at a.holding
+  freeable at same live =
+      let is = named-parts (nodes v.shelf.slots) id (live-named live) in
+      record {
+        holds = a.holds;
+        only = a.at_rest;
+        normal = subst IsNormal (members-IsAtlas v a) a.sound.normal;
+        granted = ap (λ k. (node_at (nodes v.shelf.slots) k).kind) same ∙ is.kind;
+      }
+
+  -- What is left of a freeing.
+  module _ (u : Shelf) (n : ℕ) (h : Holding) (live : Contains (ids (tree_of (nodes v.shelf.slots)).members) id)
+      (freed : IsFreed v.shelf u (slot_of id) n a.holding h) (same_length : length u.slots ≡ length v.shelf.slots)
+      (same_options : u.options ≡ v.shelf.options) where
+    tree-freed : tree_of (nodes u.slots) ≡ release (only id) (tree_of (nodes v.shelf.slots))
+    tree-freed =
+        let is = named-parts (nodes v.shelf.slots) id (live-named live) in
+        let below : length (nodes u.slots) < no_slot = nodes-below u.slots freed.holds.short in
+        let none : tally no_slot a.holding.tree ≡ 0 = a.holds.stands.numbered no_slot ∙ ap use_count (none-unused (nodes v.shelf.slots) (nodes-below v.shelf.slots a.holds.short)) in
+        let some = nonempty-IsAtlas v a in
+        let first : first_slot h.tree ≡ no_slot → ⊥ = λ q. absurd (omega (arith, some, none, ap (λ k. tally k a.holding.tree) (sym freed.first ∙ q))) in
+        let with_members : tree.Members → Tree = λ m. record { axis = a.holding.sequence.axis; members = m } in
+        tree_of-Stands (nodes u.slots) h.sequence h.tree below freed.holds.top freed.holds.stands (nonempty-first h.tree first)
+        ∙ ap (λ s. record { axis = s.axis; members = erase h.tree }) freed.sequence
+        ∙ ap with_members (freed.tree ∙ ap (λ k. nf (mark (only k) (erase a.holding.tree))) is.names)
+        ∙ sym (ap (release (only id)) (tree_of-IsAtlas v a))
+
+    pub state-IsFreed : (m turns before : ℕ) → state_of (record { stored = record { shelf = u; first = v.first; used = m; size = v.size; limit = v.limit }; turns = turns })
+        ≡ after_freeing (state_of (record { stored = v; turns = before })) (only id)
+    state-IsFreed m turns before =
+        state-freed (state_of (record { stored = record { shelf = u; first = v.first; used = m; size = v.size; limit = v.limit }; turns = turns })) (state_of (record { stored = v; turns = before })) (only id) tree-freed refl (ap options_of same_options) refl same_length a.sound
+
+    pub given-few : n ≤ v.used
+    given-few = omega (arith, freed.given, a.used)
+
+    pub atlas-IsFreed : IsAtlas (record { shelf = u; first = v.first; used = v.used - n; size = v.size; limit = v.limit })
+    atlas-IsFreed = record {
+      holding = h;
+      holds = freed.holds;
+      at_rest = freed.listed;
+      start = ap (λ s. s.start) freed.sequence ∙ a.start;
+      across = rw freed.sequence a.across;
+      first = a.first ∙ sym freed.first;
+      used = omega (arith, freed.given, a.used);
+      sound = subst IsSound (sym (state-IsFreed (v.used - n) 0 0)) (freeing_sound (state_of (record { stored = v; turns = 0 })) (only id) a.sound);
+      exact = a.exact;
+      limited = a.limited;
+    }
+
+    -- As many members fewer as slots were given back.
+    pub used-IsFreed : (m turns before : ℕ) → used_in (state_of (record { stored = record { shelf = u; first = v.first; used = m; size = v.size; limit = v.limit }; turns = turns })) + n
+        ≡ used_in (state_of (record { stored = v; turns = before }))
+    used-IsFreed m turns before =
+        let now : tree.node_count (tree_of (nodes u.slots)).members ≡ tree.node_count (nf (mark (only id) (tree_of (nodes v.shelf.slots)).members)) = ap (λ t. tree.node_count t.members) tree-freed in
+        let is = named-parts (nodes v.shelf.slots) id (live-named live) in
+        let less : tree.node_count (erase h.tree) ≡ tree.node_count (nf (mark (only id) (tree_of (nodes v.shelf.slots)).members)) =
+        ap tree.node_count (freed.tree ∙ ap (λ k. nf (mark (only k) (erase a.holding.tree))) is.names ∙ ap (λ k. nf (mark (only id) k)) (sym (members-IsAtlas v a))) in
+        let old : tree.node_count (tree_of (nodes v.shelf.slots)).members ≡ numbers a.holding.tree = ap tree.node_count (members-IsAtlas v a) ∙ sym (numbers-erase a.holding.tree) in
+        omega (arith, now, less, old, numbers-erase h.tree, freed.given)
+
+-- What a call that frees the leaf of a live id leaves: n slots were given back.
+pub record FreesBox (v : Stored) (u : Shelf) (id n : ℕ) : Type 0 where
+  pub few : n ≤ v.used
+  pub atlas : IsAtlas (record { shelf = u; first = v.first; used = v.used - n; size = v.size; limit = v.limit })
+  pub state : (m turns before : ℕ) → state_of (record { stored = record { shelf = u; first = v.first; used = m; size = v.size; limit = v.limit }; turns = turns })
+      ≡ after_freeing (state_of (record { stored = v; turns = before })) (only id)
+  pub used : (m turns before : ℕ) → used_in (state_of (record { stored = record { shelf = u; first = v.first; used = m; size = v.size; limit = v.limit }; turns = turns })) + n
+      ≡ used_in (state_of (record { stored = v; turns = before }))
+
+pub frees-box : (v : Stored) (a : IsAtlas v) (u : Shelf) (id at n : ℕ) → Contains (ids (tree_of (nodes v.shelf.slots)).members) id → at ≡ slot_of id
+    → ((h : Holding) → IsFreeable v.shelf at h → (h' : Holding) × IsFreed v.shelf u at n h h')
+    → length u.slots ≡ length v.shelf.slots → u.options ≡ v.shelf.options → FreesBox v u id n
+frees-box v a u id at n live same freed same_length same_options =
+    let r = freed a.holding (freeable v a id at same live) in
+    let w : IsFreed v.shelf u (slot_of id) n a.holding r.0 = subst (λ k. IsFreed v.shelf u k n a.holding r.0) same r.1 in
+    record {
+      few = given-few v a id u n r.0 live w same_length same_options;
+      atlas = atlas-IsFreed v a id u n r.0 live w same_length same_options;
+      state = state-IsFreed v a id u n r.0 live w same_length same_options;
+      used = used-IsFreed v a id u n r.0 live w same_length same_options;
+    }

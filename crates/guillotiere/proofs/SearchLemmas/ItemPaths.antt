@@ -1,0 +1,332 @@
+-- Lists of entries after one is taken out of them, or put in front.
+use Rattle.std.proofs.Common.{◌≡◌, ◌≢◌, ℕ, ◌+◌, ◌<◌, ◌≤◌, ◌⊎◌, inl, inr, true, false, List, [], ◌∷◌, length, refl, sym, ap, ◌∙◌, subst, arith}
+use Rattle.std.specs.Prelude.{◌==◌}
+use Rattle.std.proofs.lemmas.Bool.{cases_eq, both_ways, cond-true, cond-false, eq-eqb, ne_eqb}
+use Rattle.guillotiere.specs.declared.search.table.ListHead.{ListHead}
+use Rattle.guillotiere.specs.Search.Bands.{list_of, strip_of}
+use Rattle.guillotiere.specs.Choice.{Options}
+use Rattle.guillotiere.specs.Search.Items.{Item, item_at, item_box, item_sides, IsPath}
+use Rattle.guillotiere.specs.Slots.Links.{IsSolid, held_with}
+use Rattle.guillotiere.specs.Slots.Lists.{occurs, without}
+use Rattle.guillotiere.specs.Search.Lookups.{AreListed}
+use Rattle.guillotiere.specs.Slots.Numbered.{same}
+use Rattle.guillotiere.specs.Slots.{no_slot}
+use Rattle.guillotiere.specs.Search.Tables.{head_of, low_of, is_used_at}
+use Rattle.guillotiere.proofs.ListLemmas.Occurrences.{same-self, same-ne, occurs-without, without-none, without-other}
+use Rattle.guillotiere.proofs.SearchLemmas.TableHeads.{slot-is}
+
+-- ---- paths
+
+-- A path reads only the links of its own entries.
+pub path-frame : (es es' : List Item) (from : ℕ) (xs : List ℕ) (to : ℕ) → length es ≤ length es'
+    → ((i : ℕ) → 0 < occurs i xs → (item_at es' i).after ≡ (item_at es i).after) → IsPath es from xs to → IsPath es' from xs to
+path-frame es es' from [] to l same_after p = p
+path-frame es es' from (x ∷ xs) to l same_after p = (
+  p.0,
+  omega (arith, l, p.1),
+  subst (λ n. IsPath es' n xs to) (sym (same_after x (omega (arith, same-self x))))
+      (path-frame es es' (item_at es x).after xs to l (λ i h. same_after i (omega arith)) p.2),
+)
+
+-- After each entry comes the end of the path or an entry that isn't its first.
+pub path-next : (es : List Item) (from x : ℕ) (xs : List ℕ) (to b : ℕ) → IsPath es from (x ∷ xs) to → 0 < occurs b (x ∷ xs)
+    → ((item_at es b).after ≡ to) ⊎ (0 < occurs (item_at es b).after xs)
+path-next es from x [] to b p h =
+    elim (cases_eq b x) [
+      | inl e ↦ inl (ap (λ n. (item_at es n).after) e ∙ p.2)
+      | inr ne ↦ absurd (omega (arith, same-ne b x ne))
+    ]
+path-next es from x (y ∷ ys) to b p h =
+    elim (cases_eq b x) [
+      | inl e ↦
+          let first : (item_at es b).after ≡ y = ap (λ n. (item_at es n).after) e ∙ p.2.0 in
+          inr (subst (λ n. 0 < occurs n (y ∷ ys)) (sym first) (omega (arith, same-self y)))
+      | inr ne ↦
+          elim (path-next es (item_at es x).after y ys to b p.2 (omega (arith, same-ne b x ne))) [
+            | inl e ↦ inl e
+            | inr g ↦ inr (omega (arith, g))
+          ]
+    ]
+
+-- The entry b leads past x from now on.
+pub path-bypassed : (es es' : List Item) (x b : ℕ) (from : ℕ) (xs : List ℕ) (to : ℕ) → length es ≤ length es' → to ≢ x
+    → ((i : ℕ) → occurs i xs ≤ 1) → 0 < occurs b xs → (item_at es b).after ≡ x
+    → (item_at es' b).after ≡ (item_at es x).after
+    → ((i : ℕ) → i ≢ x → i ≢ b → (item_at es' i).after ≡ (item_at es i).after)
+    → IsPath es from xs to → IsPath es' from (without x xs) to
+path-bypassed es es' x b from [] to l past once has_b next skip others p = absurd (omega (arith, has_b))
+path-bypassed es es' x b from (y ∷ ys) to l past once has_b next skip others p =
+    go (λ less has q. path-bypassed es es' x b (item_at es y).after ys to l past less has next skip others q) (cases_eq x y) (cases_eq y b)
+  where
+    Rest : Type 0
+    Rest = ((i : ℕ) → occurs i ys ≤ 1) → 0 < occurs b ys → IsPath es (item_at es y).after ys to → IsPath es' (item_at es y).after (without x ys) to
+
+    Goal : List ℕ → Type 0
+    Goal zs = IsPath es' from zs to
+
+    not_first : x ≡ y → ⊥
+    not_first e =
+        elim (path-next es from y ys to b p has_b) [
+          | inl z ↦ past (sym z ∙ next)
+          | inr g ↦ omega (arith, once x, same-self x, ap (same x) e, subst (λ n. 0 < occurs n ys) next g)
+        ]
+
+    past_b : (zs : List ℕ) → x ≢ y → y ≡ b → ys ≡ zs → IsPath es (item_at es y).after zs to → IsPath es' (item_at es' y).after (without x zs) to
+    past_b [] ne e _ q = absurd (past (sym q ∙ ap (λ n. (item_at es n).after) e ∙ next))
+    past_b (z ∷ zs) ne e is q =
+        let zx : z ≡ x = sym q.0 ∙ ap (λ n. (item_at es n).after) e ∙ next in
+        let gone : without x (z ∷ zs) ≡ zs = cond-true (x == z) zs (z ∷ without x zs) (eq-eqb x z (sym zx)) in
+        let count : (i : ℕ) → same i y + (same i z + occurs i zs) ≤ 1 = λ i. omega (arith, once i, ap (occurs i) is) in
+        let leads : (item_at es' y).after ≡ (item_at es z).after = ap (λ n. (item_at es' n).after) e ∙ skip ∙ ap (λ n. (item_at es n).after) (sym zx) in
+        let still : (i : ℕ) → 0 < occurs i zs → (item_at es' i).after ≡ (item_at es i).after =
+        λ i h. others i (λ ix. omega (arith, h, count z, same-self z, ap (λ n. occurs n zs) (ix ∙ sym zx)))
+        (λ ib. omega (arith, h, count y, same-self y, ap (λ n. occurs n zs) (ib ∙ sym e))) in
+        subst (λ w. IsPath es' (item_at es' y).after w to) (sym gone)
+        (subst (λ n. IsPath es' n zs to) (sym leads) (path-frame es es' (item_at es z).after zs to l still q.2))
+
+    rest : Rest → x ≢ y → (y ≡ b) ⊎ (y ≢ b) → IsPath es' (item_at es' y).after (without x ys) to
+    rest later ne (inl e) = past_b ys ne e refl p.2
+    rest later ne (inr other) =
+        let less : (i : ℕ) → occurs i ys ≤ 1 = λ i. omega (arith, once i) in
+        let has : 0 < occurs b ys = omega (arith, has_b, same-ne b y (λ z. other (sym z))) in
+        subst (λ n. IsPath es' n (without x ys) to) (sym (others y (λ z. ne (sym z)) other))
+        (later less has p.2)
+
+    go : Rest → (x ≡ y) ⊎ (x ≢ y) → (y ≡ b) ⊎ (y ≢ b) → IsPath es' from (without x (y ∷ ys)) to
+    go later (inl e) _ = absurd (not_first e)
+    go later (inr ne) c = subst Goal (sym (without-other x y ys ne)) (p.0, omega (arith, l, p.1), rest later ne c)
+
+-- The path that begins at x begins after it from now on.
+pub path-begun : (es es' : List Item) (x : ℕ) (xs : List ℕ) → length es ≤ length es' → ((i : ℕ) → occurs i xs ≤ 1) → 0 < occurs x xs
+    → ((i : ℕ) → i ≢ x → (item_at es' i).after ≡ (item_at es i).after)
+    → IsPath es x xs no_slot → IsPath es' (item_at es x).after (without x xs) no_slot
+path-begun es es' x [] l once has_x others p = absurd (omega (arith, has_x))
+path-begun es es' x (y ∷ ys) l once has_x others p =
+    let gone : without x (y ∷ ys) ≡ ys = cond-true (x == y) ys (y ∷ without x ys) (eq-eqb x y p.0) in
+    let still : (i : ℕ) → 0 < occurs i ys → (item_at es' i).after ≡ (item_at es i).after =
+    λ i h. others i (λ ix. omega (arith, h, once y, same-self y, ap (λ n. occurs n ys) (ix ∙ p.0))) in
+    subst (λ w. IsPath es' (item_at es x).after w no_slot) (sym gone)
+    (subst (λ n. IsPath es' (item_at es n).after ys no_slot) (sym p.0) (path-frame es es' (item_at es y).after ys no_slot l still p.2))
+
+-- ---- what stands in the lists
+
+occurs-without_other : (x i : ℕ) (xs : List ℕ) → i ≢ x → occurs i (without x xs) ≡ occurs i xs
+occurs-without_other x i xs ne =
+    elim (cases_eq (occurs x xs) 0) [
+      | inl none ↦ ap (occurs i) (without-none x xs none)
+      | inr some ↦ omega (arith, occurs-without x xs (omega arith) i, same-ne i x ne)
+    ]
+
+occurs-without_le : (x i : ℕ) (xs : List ℕ) → occurs i (without x xs) ≤ occurs i xs
+occurs-without_le x i xs =
+    elim (cases_eq (occurs x xs) 0) [
+      | inl none ↦ omega (arith, ap (occurs i) (without-none x xs none))
+      | inr some ↦ omega (arith, occurs-without x xs (omega arith) i)
+    ]
+
+occurs-without_self : (x : ℕ) (xs : List ℕ) → occurs x xs ≤ 1 → occurs x (without x xs) ≡ 0
+occurs-without_self x xs once =
+    elim (cases_eq (occurs x xs) 0) [
+      | inl none ↦ ap (occurs x) (without-none x xs none) ∙ none
+      | inr some ↦ omega (arith, occurs-without x xs (omega arith) x, same-self x)
+    ]
+
+-- The list of an entry.
+abbrev pub list_at : Options → List Item → ℕ → ℕ
+list_at o es i = list_of o (item_sides (item_at es i))
+
+-- An entry leaves its list k: the others keep their rectangles.
+module _ (o : Options) (heads heads' : List ListHead) (es es' : List Item) (listed : AreListed o heads es) (x : ℕ) (k : ℕ)
+    (free : (item_at es x).is_free ≡ true) (list : list_at o es x ≡ k)
+    (long : length es' ≡ length es) (gone : (item_at es' x).is_free ≡ false)
+    (kept : (i : ℕ) → i ≢ x → ((item_at es' i).area ≡ (item_at es i).area) × ((item_at es' i).is_free ≡ (item_at es i).is_free))
+    (here : k < 2704 → IsPath es' (head_of heads' k).number (without x (listed.held k)) no_slot)
+    (links : (j i : ℕ) → j ≢ k → j < 2704 → 0 < occurs i (listed.held j) → (item_at es' i).after ≡ (item_at es i).after)
+    (other_heads : (j : ℕ) → j ≢ k → head_of heads' j ≡ head_of heads j)
+    (low_here : (i : ℕ) → (item_at es i).is_free ≡ true → list_at o es i ≡ k → i ≢ x → low_of heads' k ≤ strip_of (item_box (item_at es i)).min.y)
+    (other_lows : (j : ℕ) → j ≢ k → low_of heads' j ≡ low_of heads j) where
+  same_list : (i : ℕ) → i ≢ x → list_at o es' i ≡ list_at o es i
+  same_list i ne = ap (λ (r : _). list_of o (item_sides (record { area = r; after = 0; is_free = true }))) (kept i ne).0
+
+  not_x : (i : ℕ) → (item_at es' i).is_free ≡ true → i ≢ x
+  not_x i f e = both_ways _ gone (ap (λ n. (item_at es' n).is_free) (sym e) ∙ f)
+
+  was_free : (i : ℕ) → i ≢ x → (item_at es' i).is_free ≡ true → (item_at es i).is_free ≡ true
+  was_free i ne f = sym (kept i ne).1 ∙ f
+
+  not_in : (j : ℕ) → j < 2704 → j ≢ k → occurs x (listed.held j) ≡ 0
+  not_in j l ne =
+      elim (cases_eq (occurs x (listed.held j)) 0) [
+        | inl none ↦ none
+        | inr some ↦ absurd (ne (sym (listed.own j x l (omega arith)).1 ∙ list))
+      ]
+
+  paths : (j : ℕ) → j < 2704 → (j ≡ k) ⊎ (j ≢ k) → IsPath es' (head_of heads' j).number (without x (listed.held j)) no_slot
+  paths j l (inl e) = subst (λ n. IsPath es' (head_of heads' n).number (without x (listed.held n)) no_slot) (sym e) (here (omega arith))
+  paths j l (inr ne) =
+      let all : without x (listed.held j) ≡ listed.held j = without-none x (listed.held j) (not_in j l ne) in
+      subst (λ xs. IsPath es' (head_of heads' j).number xs no_slot) (sym all)
+      (subst (λ h. IsPath es' h.number (listed.held j) no_slot) (sym (other_heads j ne))
+      (path-frame es es' (head_of heads j).number (listed.held j) no_slot (omega (arith, long)) (λ i h. links j i ne l h) (listed.path j l)))
+
+  owned : (j i : ℕ) → j < 2704 → 0 < occurs i (without x (listed.held j)) → (i ≡ x) ⊎ (i ≢ x)
+      → ((item_at es' i).is_free ≡ true) × (list_at o es' i ≡ j)
+  owned j i l h (inl e) =
+      absurd (omega (arith, subst (λ n. 0 < occurs n (without x (listed.held j))) e h, occurs-without_self x (listed.held j) (listed.once j x l)))
+  owned j i l h (inr ne) =
+      let old = listed.own j i l (omega (arith, h, occurs-without_other x i (listed.held j) ne)) in
+      ((kept i ne).1 ∙ old.0, same_list i ne ∙ old.1)
+
+  lows : (i : ℕ) → i ≢ x → (item_at es i).is_free ≡ true → (list_at o es i ≡ k) ⊎ (list_at o es i ≢ k)
+      → low_of heads' (list_at o es i) ≤ strip_of (item_box (item_at es i)).min.y
+  lows i ne f (inl e) = subst (λ n. low_of heads' n ≤ strip_of (item_box (item_at es i)).min.y) (sym e) (low_here i f e ne)
+  lows i ne f (inr e) = subst (λ n. n ≤ strip_of (item_box (item_at es i)).min.y) (sym (other_lows (list_at o es i) e)) (listed.low i f)
+
+  pub listed-without : AreListed o heads' es'
+  listed-without =
+      record {
+        held = λ j. without x (listed.held j);
+        valid = listed.valid;
+        short = omega (arith, long, listed.short);
+        path = λ j l. paths j l (cases_eq j k);
+        own = λ j i l h. owned j i l h (cases_eq i x);
+        each = λ i f.
+            let ne = not_x i f in
+            subst (λ n. 0 < occurs i (without x (listed.held n))) (sym (same_list i ne))
+            (omega (arith, listed.each i (was_free i ne f), occurs-without_other x i (listed.held (list_at o es i)) ne));
+        once = λ j i l. omega (arith, listed.once j i l, occurs-without_le x i (listed.held j));
+        exact = λ i f. (let ne = not_x i f in subst IsSolid (sym (kept i ne).0) (listed.exact i (was_free i ne f)));
+        low = λ i f.
+            let ne = not_x i f in
+            let old = lows i ne (was_free i ne f) (cases_eq (list_at o es i) k) in
+            subst (λ n. low_of heads' n ≤ strip_of (item_box (item_at es' i)).min.y) (sym (same_list i ne))
+            (subst (λ r. low_of heads' (list_at o es i) ≤ strip_of (item_box (record { area = r; after = 0; is_free = true })).min.y) (sym (kept i ne).0) old);
+      }
+
+-- An entry e, at x, comes first in its list k: the others stay.
+module _ (o : Options) (heads heads' : List ListHead) (es es' : List Item) (listed : AreListed o heads es) (x : ℕ) (k : ℕ) (e : Item)
+    (idle : (item_at es x).is_free ≡ false) (inside : x < length es) (long : length es' ≡ length es)
+    (this : item_at es' x ≡ e) (others : (i : ℕ) → i ≢ x → item_at es' i ≡ item_at es i)
+    (free : e.is_free ≡ true) (after : e.after ≡ (head_of heads k).number) (exact : IsSolid e.area) (list : list_of o (item_sides e) ≡ k)
+    (head : (head_of heads' k).number ≡ x) (other_heads : (j : ℕ) → j ≢ k → head_of heads' j ≡ head_of heads j)
+    (low : low_of heads' k ≤ strip_of (item_box e).min.y)
+    (lower : is_used_at heads k ≡ true → low_of heads' k ≤ low_of heads k)
+    (other_lows : (j : ℕ) → j ≢ k → low_of heads' j ≡ low_of heads j) where
+  abbrev added : ℕ → List ℕ
+  added = held_with listed.held k x
+
+  added-here : added k ≡ x ∷ listed.held k
+  added-here = cond-true (k == k) (x ∷ listed.held k) (listed.held k) (eq-eqb k k refl)
+
+  added-other : (j : ℕ) → j ≢ k → added j ≡ listed.held j
+  added-other j ne = cond-false (j == k) (x ∷ listed.held j) (listed.held j) (ne_eqb j k ne)
+
+  not_held : (j : ℕ) → j < 2704 → occurs x (listed.held j) ≡ 0
+  not_held j l =
+      elim (cases_eq (occurs x (listed.held j)) 0) [
+        | inl none ↦ none
+        | inr some ↦ absurd (both_ways _ idle (listed.own j x l (omega arith)).0)
+      ]
+
+  frame : (j : ℕ) → j < 2704 → IsPath es' (head_of heads j).number (listed.held j) no_slot
+  frame j l =
+      path-frame es es' (head_of heads j).number (listed.held j) no_slot (omega (arith, long))
+      (λ i h. ap (λ (t : Item). t.after) (others i (λ ix. omega (arith, h, not_held j l, ap (λ n. occurs n (listed.held j)) ix)))) (listed.path j l)
+
+  added-paths : (j : ℕ) → j < 2704 → (j ≡ k) ⊎ (j ≢ k) → IsPath es' (head_of heads' j).number (added j) no_slot
+  added-paths j l (inl is) =
+      let leads : (item_at es' x).after ≡ (head_of heads k).number = ap (λ (t : Item). t.after) this ∙ after in
+      subst (λ n. IsPath es' (head_of heads' n).number (added n) no_slot) (sym is)
+      (subst (λ xs. IsPath es' (head_of heads' k).number xs no_slot) (sym added-here)
+      (head, omega (arith, inside, long), subst (λ n. IsPath es' n (listed.held k) no_slot) (sym leads) (frame k (omega arith))))
+  added-paths j l (inr ne) =
+      subst (λ xs. IsPath es' (head_of heads' j).number xs no_slot) (sym (added-other j ne))
+      (subst (λ h. IsPath es' h.number (listed.held j) no_slot) (sym (other_heads j ne)) (frame j l))
+
+  x-list : list_at o es' x ≡ k
+  x-list = ap (λ (t : Item). list_of o (item_sides t)) this ∙ list
+
+  list-same : (i : ℕ) → i ≢ x → list_at o es' i ≡ list_at o es i
+  list-same i ne = ap (λ (t : Item). list_of o (item_sides t)) (others i ne)
+
+  occurs-added : (j i : ℕ) → (j ≡ k) ⊎ (j ≢ k) → occurs i (listed.held j) ≤ occurs i (added j)
+  occurs-added j i (inl is) = subst (λ n. occurs i (listed.held n) ≤ occurs i (added n)) (sym is) (omega (arith, ap (occurs i) added-here))
+  occurs-added j i (inr ne) = omega (arith, ap (occurs i) (added-other j ne))
+
+  occurs-added_back : (j i : ℕ) → i ≢ x → (j ≡ k) ⊎ (j ≢ k) → occurs i (added j) ≡ occurs i (listed.held j)
+  occurs-added_back j i ne (inl is) =
+      subst (λ n. occurs i (added n) ≡ occurs i (listed.held n)) (sym is) (omega (arith, ap (occurs i) added-here, same-ne i x ne))
+  occurs-added_back j i ne (inr apart) = ap (occurs i) (added-other j apart)
+
+  own-added : (j i : ℕ) → j < 2704 → 0 < occurs i (added j) → (i ≡ x) ⊎ (i ≢ x) → ((item_at es' i).is_free ≡ true) × (list_at o es' i ≡ j)
+  own-added j i l h (inl is) =
+      let at_k : j ≡ k =
+      elim (cases_eq j k) [
+        | inl jk ↦ jk
+        | inr ne ↦ absurd (omega (arith, subst (λ n. 0 < occurs n (added j)) is h, ap (occurs x) (added-other j ne), not_held j l))
+      ] in
+      (ap (λ n. (item_at es' n).is_free) is ∙ ap (λ (t : Item). t.is_free) this ∙ free, ap (list_at o es') is ∙ x-list ∙ sym at_k)
+  own-added j i l h (inr ne) =
+      let old = listed.own j i l (omega (arith, h, occurs-added_back j i ne (cases_eq j k))) in
+      (ap (λ (t : Item). t.is_free) (others i ne) ∙ old.0, list-same i ne ∙ old.1)
+
+  each-added : (i : ℕ) → (item_at es' i).is_free ≡ true → (i ≡ x) ⊎ (i ≢ x) → 0 < occurs i (added (list_at o es' i))
+  each-added i f (inl is) =
+      subst (λ n. 0 < occurs n (added (list_at o es' n))) (sym is)
+      (subst (λ j. 0 < occurs x (added j)) (sym x-list) (omega (arith, ap (occurs x) added-here, same-self x)))
+  each-added i f (inr ne) =
+      let old = listed.each i (ap (λ (t : Item). t.is_free) (sym (others i ne)) ∙ f) in
+      subst (λ j. 0 < occurs i (added j)) (sym (list-same i ne))
+      (omega (arith, old, occurs-added (list_at o es i) i (cases_eq (list_at o es i) k)))
+
+  once-added : (j i : ℕ) → j < 2704 → (i ≡ x) ⊎ (i ≢ x) → (j ≡ k) ⊎ (j ≢ k) → occurs i (added j) ≤ 1
+  once-added j i l (inl is) (inl jk) =
+      subst (λ n. occurs n (added j) ≤ 1) (sym is)
+      (subst (λ n. occurs x (added n) ≤ 1) (sym jk) (omega (arith, ap (occurs x) added-here, same-self x, not_held k (omega arith))))
+  once-added j i l (inl is) (inr ne) = omega (arith, listed.once j i l, ap (occurs i) (added-other j ne))
+  once-added j i l (inr apart) c = omega (arith, listed.once j i l, occurs-added_back j i apart c)
+
+  -- A list with a free entry has a head.
+  used_list : (i : ℕ) → (item_at es i).is_free ≡ true → list_at o es i ≡ k → k < 2704 → is_used_at heads k ≡ true
+  used_list i f is l = slot-is (head_of heads k) (some (listed.held k) (listed.path k l) (subst (λ n. 0 < occurs i (listed.held n)) is (listed.each i f)))
+    where
+      some : (xs : List ℕ) → IsPath es (head_of heads k).number xs no_slot → 0 < occurs i xs → (head_of heads k).number ≢ no_slot
+      some [] p h z = omega (arith, h)
+      some (y ∷ ys) p h z = omega (arith, z, p.0, p.1, listed.short)
+
+  low-added : k < 2704 → (i : ℕ) → (item_at es' i).is_free ≡ true → (i ≡ x) ⊎ (i ≢ x) → low_of heads' (list_at o es' i) ≤ strip_of (item_box (item_at es' i)).min.y
+  low-added l i f (inl is) =
+      subst (λ n. low_of heads' (list_at o es' n) ≤ strip_of (item_box (item_at es' n)).min.y) (sym is)
+      (subst (λ t. low_of heads' (list_of o (item_sides t)) ≤ strip_of (item_box t).min.y) (sym this)
+      (subst (λ j. low_of heads' j ≤ strip_of (item_box e).min.y) (sym list) low))
+  low-added l i f (inr ne) =
+      subst (λ t. low_of heads' (list_of o (item_sides t)) ≤ strip_of (item_box t).min.y) (sym (others i ne)) (old (cases_eq (list_at o es i) k))
+    where
+      was : (item_at es i).is_free ≡ true
+      was = ap (λ (t : Item). t.is_free) (sym (others i ne)) ∙ f
+
+      old : (list_at o es i ≡ k) ⊎ (list_at o es i ≢ k) → low_of heads' (list_at o es i) ≤ strip_of (item_box (item_at es i)).min.y
+      old (inl is) =
+          let less = lower (used_list i was is l) in
+          let bound = subst (λ j. low_of heads j ≤ strip_of (item_box (item_at es i)).min.y) is (listed.low i was) in
+          subst (λ j. low_of heads' j ≤ strip_of (item_box (item_at es i)).min.y) (sym is) (omega (arith, less, bound))
+      old (inr apart) = subst (λ n. n ≤ strip_of (item_box (item_at es i)).min.y) (sym (other_lows (list_at o es i) apart)) (listed.low i was)
+
+  pub listed-with : k < 2704 → AreListed o heads' es'
+  listed-with l =
+      record {
+        held = added;
+        valid = listed.valid;
+        short = omega (arith, long, listed.short);
+        path = λ j p. added-paths j p (cases_eq j k);
+        own = λ j i p h. own-added j i p h (cases_eq i x);
+        each = λ i f. each-added i f (cases_eq i x);
+        once = λ j i p. once-added j i p (cases_eq i x) (cases_eq j k);
+        exact = λ i f. exact-added i f (cases_eq i x);
+        low = λ i f. low-added l i f (cases_eq i x);
+      }
+    where
+      exact-added : (i : ℕ) → (item_at es' i).is_free ≡ true → (i ≡ x) ⊎ (i ≢ x) → IsSolid (item_at es' i).area
+      exact-added i f (inl is) = subst (λ n. IsSolid (item_at es' n).area) (sym is) (subst (λ (t : Item). IsSolid t.area) (sym this) exact)
+      exact-added i f (inr ne) =
+          subst (λ (t : Item). IsSolid t.area) (sym (others i ne)) (listed.exact i (ap (λ (t : Item). t.is_free) (sym (others i ne)) ∙ f))

@@ -1,0 +1,13 @@
+-- Lemmas of the simple allocator.
+pub mod FreeItems
+pub mod CuttingBoxes
+pub mod BoxStoring
+pub mod CuttingFromLists
+pub mod Storing
+pub mod SimpleGrants
+pub mod SimpleSteps
+pub mod SimpleRunning
+pub mod SimplePlaying
+pub mod SimpleLists
+pub mod SimpleStarting
+pub mod GrantingBoxes

@@ -1,0 +1,456 @@
+-- The free boxes of the simple allocator, after an entry is taken, filled or emptied.
+use Rattle.std.proofs.Common.{◌≡◌, ◌≢◌, ℕ, zero, suc, ◌+◌, ◌<◌, ◌≤◌, ◌⊎◌, inl, inr, Bool, true, false, List, [], ◌∷◌, ◌++◌, map, length, slice_set, get_or, cond, refl, sym, ap, ◌∙◌, subst, arith}
+use Rattle.std.specs.Prelude.{◌==◌, if◌then◌else◌}
+use Rattle.std.specs.List.{count_by}
+use Rattle.std.proofs.lemmas.Bool.{cases_eq, cases_Bool, both_ways, cond-true, cond-false, cond_both, lt-ltb, eqb-true, not-false}
+use Rattle.std.proofs.lemmas.List.{get_or-set_same, get_or-set_other, get_or-map, length-set, map-set}
+use Rattle.guillotiere.specs.declared.search.best.Found.{Found}
+use Rattle.guillotiere.specs.declared.simple.boxes.FreeBox.{FreeBox}
+use Rattle.guillotiere.specs.declared.geometry.Rectangle.{Rectangle}
+use Rattle.guillotiere.specs.declared.slots.Link.{Link}
+use Rattle.guillotiere.specs.declared.search.table.ListHead.{ListHead}
+use Rattle.guillotiere.specs.Search.Bands.{list_of, strip_of, number_of}
+use Rattle.guillotiere.specs.Boxes.{Box, AreSameBoxes, same_box}
+use Rattle.guillotiere.specs.Simple.BoxShelves.{has_width, stored_item, free_item_boxes, idle_item, with_after, AreKept, IsInHand}
+use Rattle.guillotiere.specs.Choice.{Options, AreValid}
+use Rattle.guillotiere.specs.Search.Items.{Item, no_item, item_at, item_box, item_sides, IsPath}
+use Rattle.guillotiere.specs.Slots.Links.{IsSolid}
+use Rattle.guillotiere.specs.Slots.Lists.{occurs, without}
+use Rattle.guillotiere.specs.Search.Lookups.{AreListed, IsStanding}
+use Rattle.guillotiere.specs.Slots.Numbered.{same}
+use Rattle.guillotiere.specs.Pixels.{box_of}
+use Rattle.guillotiere.specs.Slots.{no_slot}
+use Rattle.guillotiere.specs.Search.Tables.{head_of, low_of, is_used_at}
+use Rattle.guillotiere.proofs.ListLemmas.Counting.{count_by-cons}
+use Rattle.guillotiere.proofs.SearchLemmas.ItemPaths.{path-frame, path-next, path-bypassed, path-begun, list_at, listed-without, listed-with}
+use Rattle.guillotiere.proofs.ListLemmas.Occurrences.{same-self, same-ne}
+use Rattle.guillotiere.proofs.TreeLemmas.TreeBasics.{same_box-true, same_box-itself}
+use Rattle.guillotiere.proofs.SearchLemmas.Showing.{path-inside}
+
+-- ---- counts of free boxes
+
+-- What an entry adds to a count.
+unit : (Box → Bool) → Item → ℕ
+unit p t = if t.is_free then (if p (item_box t) then 1 else 0) else 0
+
+unit-idle : (p : Box → Bool) (t : Item) → t.is_free ≡ false → unit p t ≡ 0
+unfolding unit
+unit-idle p t f = cond-false t.is_free (if p (item_box t) then 1 else 0) 0 f
+
+unit-free : (p : Box → Bool) (t : Item) → t.is_free ≡ true → unit p t ≡ (if p (item_box t) then 1 else 0)
+unfolding unit
+unit-free p t f = cond-true t.is_free (if p (item_box t) then 1 else 0) 0 f
+
+count-free : (p : Box → Bool) (e : Item) (es : List Item) → count_by p (free_item_boxes (e ∷ es)) ≡ unit p e + count_by p (free_item_boxes es)
+count-free p e es =
+    cond_both e.is_free (item_box e ∷ free_item_boxes es) (free_item_boxes es) (λ bs. count_by p bs ≡ unit p e + count_by p (free_item_boxes es))
+    (λ t. omega (arith, count_by-cons p (item_box e) (free_item_boxes es), unit-free p e t))
+    (λ f. omega (arith, unit-idle p e f))
+
+count-set : (p : Box → Bool) (es : List Item) (i : ℕ) (e : Item) → i < length es
+    → count_by p (free_item_boxes (slice_set es i e)) + unit p (item_at es i) ≡ count_by p (free_item_boxes es) + unit p e
+count-set p [] i e l = absurd (omega arith)
+count-set p (t ∷ es) zero e l = omega (arith, count-free p e es, count-free p t es)
+count-set p (t ∷ es) (suc i) e l = omega (arith, count-free p t (slice_set es i e), count-free p t es, count-set p es i e (omega arith))
+
+-- A free entry in the place of an idle one.
+pub boxes-with : (es : List Item) (i : ℕ) (e : Item) → i < length es → (item_at es i).is_free ≡ false → e.is_free ≡ true
+    → AreSameBoxes (free_item_boxes (slice_set es i e)) (item_box e ∷ free_item_boxes es)
+boxes-with es i e l idle free p =
+    omega (arith, count-set p es i e l, unit-idle p (item_at es i) idle, unit-free p e free, count_by-cons p (item_box e) (free_item_boxes es))
+
+-- An idle entry in the place of a free one.
+pub boxes-without : (es : List Item) (i : ℕ) (e : Item) → i < length es → (item_at es i).is_free ≡ true → e.is_free ≡ false
+    → AreSameBoxes (item_box (item_at es i) ∷ free_item_boxes (slice_set es i e)) (free_item_boxes es)
+boxes-without es i e l free idle p =
+    omega (arith, count-set p es i e l, unit-idle p e idle, unit-free p (item_at es i) free, count_by-cons p (item_box (item_at es i)) (free_item_boxes (slice_set es i e)))
+
+-- Another link changes no box.
+pub boxes-with_after : (es : List Item) (i after : ℕ) → free_item_boxes (with_after es i after) ≡ free_item_boxes es
+boxes-with_after [] i after = refl
+boxes-with_after (t ∷ es) zero after = refl
+boxes-with_after (t ∷ es) (suc i) after =
+    ap (λ bs. if t.is_free then item_box t ∷ bs else bs) (boxes-with_after es i after)
+
+pub boxes-more : (es : List Item) → free_item_boxes (es ++ no_item ∷ []) ≡ free_item_boxes es
+boxes-more [] = refl
+boxes-more (t ∷ es) = ap (λ bs. if t.is_free then item_box t ∷ bs else bs) (boxes-more es)
+
+-- ---- reads
+
+pub item_at-same : (es : List Item) (i : ℕ) (e : Item) → i < length es → item_at (slice_set es i e) i ≡ e
+item_at-same es i e l = get_or-set_same es i e no_item l
+
+pub item_at-other : (es : List Item) (i j : ℕ) (e : Item) → j ≢ i → item_at (slice_set es i e) j ≡ item_at es j
+item_at-other es i j e ne = get_or-set_other es i j e no_item ne
+
+pub item_at-more : (es : List Item) (i : ℕ) → item_at (es ++ no_item ∷ []) i ≡ item_at es i
+item_at-more [] zero = refl
+item_at-more [] (suc i) = refl
+item_at-more (t ∷ es) zero = refl
+item_at-more (t ∷ es) (suc i) = item_at-more es i
+
+length-more : (es : List Item) → length (es ++ no_item ∷ []) ≡ length es + 1
+length-more [] = refl
+length-more (t ∷ es) = omega (arith, length-more es)
+
+pub free-inside : (es : List Item) (i : ℕ) → (item_at es i).is_free ≡ true → i < length es
+free-inside [] i f = absurd (both_ways false refl f)
+free-inside (t ∷ es) zero f = omega arith
+free-inside (t ∷ es) (suc i) f = omega (arith, free-inside es i f)
+
+pub exact-width : (r : Rectangle) → IsSolid r → has_width r ≡ true
+exact-width r e =
+    let a = r.min.x in
+    subst (λ (q : Rectangle). has_width q ≡ true) (sym e.unsigned) (lt-ltb (box_of r).min.x (box_of r).max.x e.nonempty.0)
+
+-- ---- an entry is taken
+
+listed-same : (o : Options) (heads : List ListHead) (es es' : List Item) → ((i : ℕ) → item_at es' i ≡ item_at es i) → length es ≤ length es' → length es' ≤ no_slot
+    → AreListed o heads es → AreListed o heads es'
+listed-same o heads es es' at longer short listed =
+    record {
+      held = listed.held;
+      valid = listed.valid;
+      short = short;
+      path = λ k l. path-frame es es' (head_of heads k).number (listed.held k) no_slot longer (λ i h. ap (λ (t : Item). t.after) (at i)) (listed.path k l);
+      own = λ k i l h. subst (λ t. (t.is_free ≡ true) × (list_of o (item_sides t) ≡ k)) (sym (at i)) (listed.own k i l h);
+      each = λ i f. subst (λ t. 0 < occurs i (listed.held (list_of o (item_sides t)))) (sym (at i)) (listed.each i (ap (λ (t : Item). t.is_free) (sym (at i)) ∙ f));
+      once = listed.once;
+      exact = λ i f. subst (λ (t : Item). IsSolid t.area) (sym (at i)) (listed.exact i (ap (λ (t : Item). t.is_free) (sym (at i)) ∙ f));
+      low = λ i f. subst (λ t. low_of heads (list_of o (item_sides t)) ≤ strip_of (item_box t).min.y) (sym (at i)) (listed.low i (ap (λ (t : Item). t.is_free) (sym (at i)) ∙ f));
+    }
+
+past-idle : (es : List Item) → (item_at es (length es)).is_free ≡ false
+past-idle [] = refl
+past-idle (t ∷ es) = past-idle es
+
+-- A new entry at the end.
+pub taken-new : (o : Options) (heads : List ListHead) (es : List Item) (unused : Link) → length es < no_slot
+    → AreKept o (record { entries = es; heads = heads; unused = unused })
+    → IsInHand o (record { entries = es ++ no_item ∷ []; heads = heads; unused = unused }) (length es)
+taken-new o heads es unused short kept =
+    record {
+      kept =
+          record {
+            listed = listed-same o heads es (es ++ no_item ∷ []) (item_at-more es) (omega (arith, length-more es)) (omega (arith, length-more es, short)) kept.listed;
+            spare = kept.spare;
+            chain = path-frame es (es ++ no_item ∷ []) unused.number kept.spare no_slot (omega (arith, length-more es)) (λ i h. ap (λ (t : Item). t.after) (item_at-more es i)) kept.chain;
+            idle = λ i h. ap (λ (t : Item). t.is_free) (item_at-more es i) ∙ kept.idle i h;
+            once = kept.once;
+          };
+      inside = omega (arith, length-more es);
+      idle = ap (λ (t : Item). t.is_free) (item_at-more es (length es)) ∙ past-idle es;
+      apart =
+          elim (cases_eq (occurs (length es) kept.spare) 0) [
+            | inl none ↦ none
+            | inr some ↦ absurd (omega (arith, path-inside es unused.number kept.spare no_slot kept.chain (length es) (omega arith)))
+          ];
+    }
+
+pub unused-inside : (o : Options) (heads : List ListHead) (es : List Item) (unused : Link) → unused.number ≢ no_slot
+    → AreKept o (record { entries = es; heads = heads; unused = unused }) → unused.number < length es
+unused-inside o heads es unused some kept = go kept.spare kept.chain
+  where
+    go : (xs : List ℕ) → IsPath es unused.number xs no_slot → unused.number < length es
+    go [] p = absurd (some p)
+    go (x ∷ xs) p = omega (arith, p.0, p.1)
+
+-- The first of the unused entries.
+pub taken-again : (o : Options) (heads : List ListHead) (es : List Item) (unused after : Link) → unused.number ≢ no_slot → after.number ≡ (item_at es unused.number).after
+    → AreKept o (record { entries = es; heads = heads; unused = unused })
+    → IsInHand o (record { entries = es; heads = heads; unused = after }) unused.number
+taken-again o heads es unused after some leads kept = go kept.spare kept.chain kept.idle kept.once
+  where
+    go : (xs : List ℕ) → IsPath es unused.number xs no_slot → ((i : ℕ) → 0 < occurs i xs → (item_at es i).is_free ≡ false) → ((i : ℕ) → occurs i xs ≤ 1)
+        → IsInHand o (record { entries = es; heads = heads; unused = after }) unused.number
+    go [] p idle once = absurd (some p)
+    go (x ∷ xs) p idle once =
+        record {
+          kept =
+              record {
+                listed = kept.listed;
+                spare = xs;
+                chain = subst (λ n. IsPath es n xs no_slot) (ap (λ n. (item_at es n).after) (sym p.0) ∙ sym leads) p.2;
+                idle = λ i h. idle i (omega (arith, h));
+                once = λ i. omega (arith, once i);
+              };
+          inside = omega (arith, p.0, p.1);
+          idle = idle unused.number (omega (arith, same-self x, ap (λ n. same n x) p.0));
+          apart = omega (arith, once unused.number, same-self x, ap (λ n. same n x) p.0);
+        }
+
+-- ---- a box is put into an entry
+
+pub put-kept : (o : Options) (heads heads' : List ListHead) (es : List Item) (unused : Link) (x k : ℕ) (e : Item)
+    → (hand : IsInHand o (record { entries = es; heads = heads; unused = unused }) x)
+    → e.is_free ≡ true → e.after ≡ (head_of heads k).number → IsSolid e.area → list_of o (item_sides e) ≡ k → k < 2704
+    → (head_of heads' k).number ≡ x → ((j : ℕ) → j ≢ k → head_of heads' j ≡ head_of heads j)
+    → low_of heads' k ≤ strip_of (item_box e).min.y → (is_used_at heads k ≡ true → low_of heads' k ≤ low_of heads k)
+    → ((j : ℕ) → j ≢ k → low_of heads' j ≡ low_of heads j)
+    → AreKept o (record { entries = slice_set es x e; heads = heads'; unused = unused })
+put-kept o heads heads' es unused x k e hand free after exact list few head other_heads low lower other_lows =
+    record {
+      listed =
+          listed-with o heads heads' es (slice_set es x e) hand.kept.listed x k e hand.idle hand.inside (length-set es x e) (item_at-same es x e hand.inside)
+          (λ i ne. item_at-other es x i e ne) free after exact list head other_heads low lower other_lows few;
+      spare = hand.kept.spare;
+      chain = path-frame es (slice_set es x e) unused.number hand.kept.spare no_slot (omega (arith, length-set es x e))
+          (λ i h. ap (λ (t : Item). t.after) (item_at-other es x i e (not_x i h))) hand.kept.chain;
+      idle = λ i h. ap (λ (t : Item). t.is_free) (item_at-other es x i e (not_x i h)) ∙ hand.kept.idle i h;
+      once = hand.kept.once;
+    }
+  where
+    not_x : (i : ℕ) → 0 < occurs i hand.kept.spare → i ≢ x
+    not_x i h is = omega (arith, h, hand.apart, ap (λ n. occurs n hand.kept.spare) is)
+
+-- What an index reads.
+pub read-item : (bs : List FreeBox) (i : ℕ) (b : FreeBox) → i < length bs → b ≡ get_or bs i b → stored_item b ≡ item_at (map stored_item bs) i
+read-item bs i b l read = ap stored_item read ∙ sym (get_or-map stored_item bs i b no_item l)
+
+pub written-after : (bs : List FreeBox) (i : ℕ) (b : FreeBox) (after : Link) → i < length bs → b ≡ get_or bs i b
+    → map stored_item (slice_set bs i (record b { after = after })) ≡ with_after (map stored_item bs) i after.number
+written-after bs i b after l read =
+    map-set stored_item bs i (record b { after = after })
+    ∙ ap (λ (t : Item). slice_set (map stored_item bs) i (record t { after = after.number })) (read-item bs i b l read)
+
+-- ---- a box leaves its list
+
+-- The entries keep their rectangles, and are free as before.
+pub IsSameButLinks : List Item → List Item → Type 0
+IsSameButLinks es es1 =
+    (length es1 ≡ length es) × ((i : ℕ) → ((item_at es1 i).area ≡ (item_at es i).area) × ((item_at es1 i).is_free ≡ (item_at es i).is_free))
+    × (free_item_boxes es1 ≡ free_item_boxes es)
+
+pub same-links : (es es1 : List Item) → es1 ≡ es → IsSameButLinks es es1
+unfolding IsSameButLinks
+same-links es es1 is = (ap length is, λ i. (ap (λ ts. (item_at ts i).area) is, ap (λ ts. (item_at ts i).is_free) is), ap free_item_boxes is)
+
+pub linked-after : (es es1 : List Item) (b after : ℕ) → b < length es → es1 ≡ with_after es b after → IsSameButLinks es es1
+unfolding IsSameButLinks
+linked-after es es1 b after inside is = (ap length is ∙ length-set es b _, at, ap free_item_boxes is ∙ boxes-with_after es b after)
+  where
+    at_b : item_at es1 b ≡ record (item_at es b) { after = after }
+    at_b = ap (λ ts. item_at ts b) is ∙ item_at-same es b _ inside
+
+    at : (i : ℕ) → ((item_at es1 i).area ≡ (item_at es i).area) × ((item_at es1 i).is_free ≡ (item_at es i).is_free)
+    at i =
+        elim (cases_eq i b) [
+          | inl e ↦ subst (λ n. ((item_at es1 n).area ≡ (item_at es n).area) × ((item_at es1 n).is_free ≡ (item_at es n).is_free)) (sym e)
+              (ap (λ (t : Item). t.area) at_b, ap (λ (t : Item). t.is_free) at_b)
+          | inr ne ↦
+              let same_item = ap (λ ts. item_at ts i) is ∙ item_at-other es b i _ ne in
+              (ap (λ (t : Item). t.area) same_item, ap (λ (t : Item). t.is_free) same_item)
+        ]
+
+pub boxes-left : (es es1 : List Item) (x : ℕ) (e : Item) (area : Rectangle) → IsSameButLinks es es1 → (item_at es x).is_free ≡ true → (item_at es x).area ≡ area
+    → e.is_free ≡ false → AreSameBoxes (box_of area ∷ free_item_boxes (slice_set es1 x e)) (free_item_boxes es)
+unfolding IsSameButLinks
+boxes-left es es1 x e area links free is idle =
+    let inside : x < length es1 = omega (arith, free-inside es x free, links.0) in
+    let here = boxes-without es1 x e inside ((links.1 x).1 ∙ free) idle in
+    subst (λ bs. AreSameBoxes (box_of area ∷ free_item_boxes (slice_set es1 x e)) bs) links.2
+    (subst (λ r. AreSameBoxes (box_of r ∷ free_item_boxes (slice_set es1 x e)) (free_item_boxes es1)) ((links.1 x).0 ∙ is) here)
+
+module _ (o : Options) (heads heads' : List ListHead) (es es1 : List Item) (unused : Link) (found : Found)
+    (kept : AreKept o (record { entries = es; heads = heads; unused = unused })) (standing : IsStanding o heads es found)
+    (heads_stay : (j : ℕ) → j ≢ number_of found.place → head_of heads' j ≡ head_of heads j)
+    (low_is : low_of heads' (number_of found.place) ≡ found.low)
+    (lows_stay : (j : ℕ) → j ≢ number_of found.place → low_of heads' j ≡ low_of heads j) where
+  abbrev x : ℕ
+  x = found.at.number
+
+  abbrev k : ℕ
+  k = number_of found.place
+
+  abbrev es' : List Item
+  es' = slice_set es1 x (idle_item unused.number)
+
+  few : k < 2704
+  few = omega (arith, standing.row, standing.column)
+
+  inside : x < length es
+  inside = free-inside es x standing.free
+
+  not_spare : occurs x kept.spare ≡ 0
+  not_spare =
+      elim (cases_eq (occurs x kept.spare) 0) [
+        | inl none ↦ none
+        | inr some ↦ absurd (both_ways _ (kept.idle x (omega arith)) standing.free)
+      ]
+
+  in_list : 0 < occurs x (kept.listed.held k)
+  in_list = subst (λ n. 0 < occurs x (kept.listed.held n)) standing.list (kept.listed.each x standing.free)
+
+  lows : (i : ℕ) → (item_at es i).is_free ≡ true → list_at o es i ≡ k → i ≢ x → low_of heads' k ≤ strip_of (item_box (item_at es i)).min.y
+  lows i f e ne = subst (λ n. n ≤ strip_of (item_box (item_at es i)).min.y) (sym low_is) (standing.low i f e ne)
+
+  finish : length es1 ≡ length es
+      → ((i : ℕ) → ((item_at es1 i).area ≡ (item_at es i).area) × ((item_at es1 i).is_free ≡ (item_at es i).is_free))
+      → IsPath es' (head_of heads' k).number (without x (kept.listed.held k)) no_slot
+      → ((j i : ℕ) → j ≢ k → j < 2704 → 0 < occurs i (kept.listed.held j) → (item_at es1 i).after ≡ (item_at es i).after)
+      → ((i : ℕ) → 0 < occurs i kept.spare → (item_at es1 i).after ≡ (item_at es i).after)
+      → AreKept o (record { entries = es'; heads = heads'; unused = found.at })
+  finish long same_box here links spare_links =
+      record {
+        listed =
+            listed-without o heads heads' es es' kept.listed x k standing.free standing.list (length-set es1 x _ ∙ long)
+            (ap (λ (t : Item). t.is_free) this) same_kept (λ _. here) (λ j i ne l h. still i (in_other j i ne l h) ∙ links j i ne l h) heads_stay lows lows_stay;
+        spare = x ∷ kept.spare;
+        chain = (
+          refl,
+          omega (arith, length-set es1 x (idle_item unused.number), long, inside),
+          subst (λ n. IsPath es' n kept.spare no_slot) (ap (λ (t : Item). t.after) (sym this))
+              (path-frame es es' unused.number kept.spare no_slot (omega (arith, length-set es1 x (idle_item unused.number), long))
+              (λ i h. still i (not_x_spare i h) ∙ spare_links i h) kept.chain),
+        );
+        idle = λ i h. idle_by i h (cases_eq i x);
+        once = λ i. once_by i (cases_eq i x);
+      }
+    where
+      this : item_at es' x ≡ idle_item unused.number
+      this = item_at-same es1 x (idle_item unused.number) (omega (arith, inside, long))
+
+      other : (i : ℕ) → i ≢ x → item_at es' i ≡ item_at es1 i
+      other i ne = item_at-other es1 x i (idle_item unused.number) ne
+
+      still : (i : ℕ) → i ≢ x → (item_at es' i).after ≡ (item_at es1 i).after
+      still i ne = ap (λ (t : Item). t.after) (other i ne)
+
+      same_kept : (i : ℕ) → i ≢ x → ((item_at es' i).area ≡ (item_at es i).area) × ((item_at es' i).is_free ≡ (item_at es i).is_free)
+      same_kept i ne = (ap (λ (t : Item). t.area) (other i ne) ∙ (same_box i).0, ap (λ (t : Item). t.is_free) (other i ne) ∙ (same_box i).1)
+
+      in_other : (j i : ℕ) → j ≢ k → j < 2704 → 0 < occurs i (kept.listed.held j) → i ≢ x
+      in_other j i ne l h e = ne (sym (kept.listed.own j i l h).1 ∙ ap (list_at o es) e ∙ standing.list)
+
+      not_x_spare : (i : ℕ) → 0 < occurs i kept.spare → i ≢ x
+      not_x_spare i h e = omega (arith, h, not_spare, ap (λ n. occurs n kept.spare) e)
+
+      idle_by : (i : ℕ) → 0 < occurs i (x ∷ kept.spare) → (i ≡ x) ⊎ (i ≢ x) → (item_at es' i).is_free ≡ false
+      idle_by i h (inl e) = ap (λ n. (item_at es' n).is_free) e ∙ ap (λ (t : Item). t.is_free) this
+      idle_by i h (inr ne) = (same_kept i ne).1 ∙ kept.idle i (omega (arith, h, same-ne i x ne))
+
+      once_by : (i : ℕ) → (i ≡ x) ⊎ (i ≢ x) → occurs i (x ∷ kept.spare) ≤ 1
+      once_by i (inl e) = subst (λ n. occurs n (x ∷ kept.spare) ≤ 1) (sym e) (omega (arith, same-self x, not_spare))
+      once_by i (inr ne) = omega (arith, same-ne i x ne, kept.once i)
+
+  -- The first of its list.
+  pub first-removed : (head_of heads' k).number ≡ (item_at es x).after → (head_of heads k).number ≡ x → es1 ≡ es
+      → AreKept o (record { entries = es'; heads = heads'; unused = found.at })
+  first-removed leads was_first is =
+      let begins = path-begun es es' x (kept.listed.held k) (omega (arith, length-set es1 x (idle_item unused.number), ap length is)) (λ i. kept.listed.once k i few) in_list
+      (λ i ne. ap (λ (t : Item). t.after) (item_at-other es1 x i (idle_item unused.number) ne ∙ ap (λ ts. item_at ts i) is))
+      (subst (λ n. IsPath es n (kept.listed.held k) no_slot) was_first (kept.listed.path k few)) in
+      finish (ap length is) (λ i. (ap (λ ts. (item_at ts i).area) is, ap (λ ts. (item_at ts i).is_free) is))
+      (subst (λ n. IsPath es' n (without x (kept.listed.held k)) no_slot) (sym leads) begins)
+      (λ j i _ _ _. ap (λ ts. (item_at ts i).after) is) (λ i _. ap (λ ts. (item_at ts i).after) is)
+
+  -- Any other one, after b.
+  pub next-removed : (b : ℕ) → (item_at es b).is_free ≡ true → list_at o es b ≡ k → (item_at es b).after ≡ x → head_of heads' k ≡ head_of heads k
+      → es1 ≡ with_after es b (item_at es x).after → AreKept o (record { entries = es'; heads = heads'; unused = found.at })
+  next-removed b b_free b_list b_next heads_same is =
+      finish long same_box
+      (subst (λ h. IsPath es' h.number (without x (kept.listed.held k)) no_slot) (sym heads_same)
+      (path-bypassed es es' x b (head_of heads k).number (kept.listed.held k) no_slot (omega (arith, length-set es1 x (idle_item unused.number), long)) (λ z. omega (arith, z, inside, kept.listed.short))
+      (λ i. kept.listed.once k i few) b_in b_next skip others_after (kept.listed.path k few)))
+      (λ j i ne l h. other_after i (λ e. ne (sym (kept.listed.own j i l h).1 ∙ ap (list_at o es) e ∙ b_list)))
+      (λ i h. other_after i (λ e. both_ways _ (kept.idle i h) (ap (λ n. (item_at es n).is_free) e ∙ b_free)))
+    where
+      leads_to : Item
+      leads_to = record (item_at es b) { after = (item_at es x).after }
+
+      b_inside : b < length es
+      b_inside = free-inside es b b_free
+
+      b_in : 0 < occurs b (kept.listed.held k)
+      b_in = subst (λ n. 0 < occurs b (kept.listed.held n)) b_list (kept.listed.each b b_free)
+
+      long : length es1 ≡ length es
+      long = ap length is ∙ length-set es b _
+
+      at_b : item_at es1 b ≡ record (item_at es b) { after = (item_at es x).after }
+      at_b = ap (λ ts. item_at ts b) is ∙ item_at-same es b _ b_inside
+
+      not_b : (i : ℕ) → i ≢ b → item_at es1 i ≡ item_at es i
+      not_b i ne = ap (λ ts. item_at ts i) is ∙ item_at-other es b i _ ne
+
+      other_after : (i : ℕ) → i ≢ b → (item_at es1 i).after ≡ (item_at es i).after
+      other_after i ne = ap (λ (t : Item). t.after) (not_b i ne)
+
+      same_box : (i : ℕ) → ((item_at es1 i).area ≡ (item_at es i).area) × ((item_at es1 i).is_free ≡ (item_at es i).is_free)
+      same_box i =
+          elim (cases_eq i b) [
+            | inl e ↦ subst (λ n. ((item_at es1 n).area ≡ (item_at es n).area) × ((item_at es1 n).is_free ≡ (item_at es n).is_free)) (sym e)
+                (ap (λ (t : Item). t.area) at_b, ap (λ (t : Item). t.is_free) at_b)
+            | inr ne ↦ (ap (λ (t : Item). t.area) (not_b i ne), ap (λ (t : Item). t.is_free) (not_b i ne))
+          ]
+
+      apart : b ≢ x
+      apart e = no_loop (kept.listed.held k) (head_of heads k).number (λ i. kept.listed.once k i few) b_in (kept.listed.path k few)
+        where
+          no_loop : (xs : List ℕ) (from : ℕ) → ((i : ℕ) → occurs i xs ≤ 1) → 0 < occurs b xs → IsPath es from xs no_slot → ⊥
+          no_loop [] from once h p = omega (arith, h)
+          no_loop (y ∷ ys) from once h p =
+              elim (path-next es from y ys no_slot b p h) [
+                | inl z ↦ omega (arith, sym z ∙ b_next, inside, kept.listed.short)
+                | inr g ↦
+                    let g_b : 0 < occurs b ys = subst (λ n. 0 < occurs n ys) (b_next ∙ sym e) g in
+                    no_loop ys (item_at es y).after (λ i. omega (arith, once i)) g_b p.2
+              ]
+
+      skip : (item_at es' b).after ≡ (item_at es x).after
+      skip = ap (λ (t : Item). t.after) (item_at-other es1 x b (idle_item unused.number) apart ∙ at_b)
+
+      others_after : (i : ℕ) → i ≢ x → i ≢ b → (item_at es' i).after ≡ (item_at es i).after
+      others_after i nx nb = ap (λ (t : Item). t.after) (item_at-other es1 x i (idle_item unused.number) nx ∙ not_b i nb)
+
+-- ---- no box, and one box
+
+pub empty-kept : (o : Options) (heads : List ListHead) (unused : Link) → AreValid o → ((k : ℕ) → is_used_at heads k ≡ false) → unused.number ≡ no_slot
+    → AreKept o (record { entries = []; heads = heads; unused = unused })
+empty-kept o heads unused valid none last =
+    record {
+      listed =
+          record {
+            held = λ k. [];
+            valid = valid;
+            short = omega arith;
+            path = λ k l. eqb-true (head_of heads k).number no_slot (not-false ((head_of heads k).number == no_slot) (none k));
+            own = λ k i l h. absurd (omega (arith, h));
+            each = λ i f. absurd (both_ways false refl f);
+            once = λ k i l. omega arith;
+            exact = λ i f. absurd (both_ways false refl f);
+            low = λ i f. absurd (both_ways false refl f);
+          };
+      spare = [];
+      chain = last;
+      idle = λ i h. absurd (omega (arith, h));
+      once = λ i. omega arith;
+    }
+
+-- Boxes that are the same as one box.
+pub alone : (xs : List Box) (b : Box) → AreSameBoxes xs (b ∷ []) → xs ≡ b ∷ []
+alone [] b same_boxes = absurd (omega (arith, same_boxes (λ _. true), count_by-cons (λ _. true) b []))
+alone (x ∷ []) b same_boxes =
+    elim (cases_Bool (same_box b x)) [
+      | inl t ↦ ap (λ y. y ∷ []) (sym (same_box-true b x t))
+      | inr f ↦
+          absurd
+          (omega (
+            arith,
+            same_boxes (same_box b),
+            count_by-cons (same_box b) x [],
+            count_by-cons (same_box b) b [],
+            ap (λ t. cond {A = ℕ} t 1 0) f,
+            ap (λ t. cond {A = ℕ} t 1 0) (same_box-itself b),
+          ))
+    ]
+alone (x ∷ y ∷ zs) b same_boxes =
+    absurd
+    (omega (
+      arith,
+      same_boxes (λ _. true),
+      count_by-cons (λ _. true) b [],
+      count_by-cons (λ _. true) x (y ∷ zs),
+      count_by-cons (λ _. true) y zs,
+    ))

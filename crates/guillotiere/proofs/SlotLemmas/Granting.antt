@@ -1,0 +1,48 @@
+-- A free leaf is granted.
+use Rattle.std.proofs.Common.{ℕ, ◌+◌, ◌≤◌, ◌≡◌, List, refl, ◌∙◌, inl, inr, arith}
+use Rattle.std.proofs.lemmas.Bool.{cases_eq}
+use Rattle.guillotiere.specs.declared.slots.Node.{Node}
+use Rattle.guillotiere.specs.declared.slots.NodeKind.TheVariants as kind
+use Rattle.guillotiere.specs.Slots.{node_at, use_count, no_slot}
+use Rattle.guillotiere.specs.Slots.Numbered.{Numbered, tally, first_slot, same, granted_at, is_free_at}
+use Rattle.guillotiere.specs.Slots.Standing.{Sequence, Standing, Stands}
+use Rattle.guillotiere.proofs.SlotLemmas.Frames.{IsWritten, Standing-same, same-self, used-le, ne-from_count}
+use Rattle.guillotiere.proofs.SlotLemmas.Weights.{free_place}
+use Rattle.guillotiere.proofs.SlotLemmas.Editing.{IsEdit, Standing-edited, granting, free_here, first-edited, weigh-same, other-slot}
+
+pub first-granted : (i g : ℕ) (n : Numbered) → first_slot (granted_at i g n) ≡ first_slot n
+first-granted i g = first-edited (is_free_at i) (granting g) (λ a. free_here i (λ m. first_slot (granting g a m) ≡ first_slot m) (λ e rest. refl)) 0
+
+pub tally-granted : (x i g : ℕ) (n : Numbered) → tally x (granted_at i g n) ≡ tally x n
+tally-granted x i g = weigh-same (is_free_at i) (granting g) (same x) (λ a. free_here i (λ m. tally x (granting g a m) ≡ tally x m) (λ e rest. refl)) 0
+
+module _ (ns ms : List Node) (i : ℕ) (w : IsWritten ns ms i (record (node_at ns i) { kind = kind.Alloc })) (was : (node_at ns i).kind ≡ kind.Free) where
+  abbrev g : ℕ
+  g = (node_at ns i).generation
+
+  granted : (n : Numbered) → ((x : ℕ) → tally x n ≤ 1) → IsEdit ns ms (is_free_at i) (granting g) i n
+  granted n once =
+      record {
+        never = refl;
+        begins = free_here i (λ m. first_slot m ≡ i) (λ e rest. refl);
+        once = once;
+        first = λ a. free_here i (λ m. first_slot (granting g a m) ≡ first_slot m) (λ e rest. refl);
+        here = λ s b p. free_here i (λ m. Standing ns s b p m → ((x : ℕ) → tally x m ≤ tally x n) → Standing ms s b p (granting g s.width m)) (λ e rest h less. (
+          rw w.there (record { parent = h.0.parent; previous = h.0.previous; next = h.0.next; kind = refl; axis = h.0.axis }),
+          rw w.there h.1,
+          rw w.there refl,
+          Standing-same ns ms s i (p + e) rest (λ k l. w.others k (ne-from_count i k rest (omega (arith, less i, once i, same-self i)) l)) h.2,
+        ));
+        beside = λ f x z _. w.others x (other-slot x i f.members z f.here);
+      }
+
+  used_same : (k : ℕ) → use_count (node_at ns k).kind ≡ use_count (node_at ms k).kind
+  used_same k = elim (cases_eq k i) [ inl e ↦ rw (e, w.there, was) refl | inr ne ↦ rw (w.others k ne) refl ]
+
+  pub Stands-granted : (s : Sequence) (n : Numbered) → Stands ns s n → Stands ms s (granted_at i (node_at ns i).generation n)
+  Stands-granted s n h =
+      let once : (x : ℕ) → tally x n ≤ 1 = λ k. omega (arith, h.numbered k, used-le (node_at ns k).kind) in
+      record {
+        standing = Standing-edited ns ms (is_free_at i) (granting g) i n (granted n once) s no_slot 0 n (λ x. omega arith) (free_place ns i s n was h) h.standing;
+        numbered = λ k. tally-granted k i (node_at ns i).generation n ∙ h.numbered k ∙ used_same k;
+      }

@@ -1,0 +1,23 @@
+-- Lemmas of the store: slots with their lists.
+pub mod Unlinking
+pub mod Filing
+pub mod Taking
+pub mod Turning
+pub mod Starting
+pub mod StoreSteps
+pub mod SlotPlans
+pub mod PlannedTrees
+pub mod PlacingSteps
+pub mod StoreTakes
+pub mod PlacingChains
+pub mod PlanLines
+pub mod SpareCounts
+pub mod ChosenSlots
+pub mod PlannedSlots
+pub mod Sizes
+pub mod ExtendedTrees
+pub mod ExtendingSteps
+pub mod GrownTrees
+pub mod GrownSlots
+pub mod GrownStages
+pub mod StoreFacts

@@ -1,0 +1,165 @@
+-- The free slot that a request takes, and how it is granted.
+use Rattle.std.proofs.Common.{ℕ, ◌<◌, ◌≤◌, ◌≡◌, ◌≢◌, List, [], length, true, false, refl, sym, ap, subst, ◌∙◌, arith, vec_capacity}
+use Rattle.std.proofs.lemmas.List.{length-map}
+use Rattle.guillotiere.specs.declared.store.Store.{Store}
+use Rattle.guillotiere.specs.declared.slots.Slot.{Slot}
+use Rattle.guillotiere.specs.declared.slots.Node.{Node}
+use Rattle.guillotiere.specs.declared.slots.NodeKind.TheVariants as kind
+use Rattle.guillotiere.specs.declared.search.best.Found.{Found}
+use Rattle.guillotiere.specs.declared.tree.requests.Chosen.{Chosen}
+use Rattle.guillotiere.specs.declared.tree.Plan.{Plan}
+use Rattle.guillotiere.specs.Boxes.{Sides, Box, origin, box_sides, Fits}
+use Rattle.guillotiere.specs.Pixels.{box_of, rectangle_of, options_of}
+use Rattle.guillotiere.specs.Choice.{IsPick}
+use Rattle.guillotiere.specs.Trees.{ungranted, leaves}
+use Rattle.guillotiere.specs.Slots.{nodes, node_at}
+use Rattle.guillotiere.specs.Slots.Numbered.{erase, id_of}
+use Rattle.guillotiere.specs.Slots.Reading.{extent_of}
+use Rattle.guillotiere.specs.Search.Picks.{AreFreeBoxes, IsFreeSlot, IsSearchable}
+use Rattle.guillotiere.specs.Stored.{Shelf, Holding, Holds, places_of}
+use Rattle.guillotiere.specs.Store.Holdings.{shelf_of, node_in, across_of, with_loose, with_held, IsLow}
+use Rattle.guillotiere.specs.Search.Bands.{list_of, number_of}
+use Rattle.guillotiere.specs.Slots.Lists.{node_sides, node_strip}
+use Rattle.guillotiere.specs.Store.Planning.{IsPlanFor, IsFeasible, IsPlaceable, IsPlaceableAt, IsPlaced, IsPlanned, slots_of}
+use Rattle.guillotiere.specs.Store.StoreCalls.{IsSharpened, IsUnlisted}
+use Rattle.guillotiere.specs.Store.Chosen.{IsAtRest, IsChosen, IsGrantable, IsGrantMade}
+use Rattle.guillotiere.proofs.StoreLemmas.Filing.{with_mark-same}
+use Rattle.guillotiere.proofs.SlotLemmas.JoiningWrites.{used-inside}
+use Rattle.guillotiere.proofs.SlotLemmas.FreeSlots.{AreFreeBoxes-stands, exact-free, searchable}
+use Rattle.guillotiere.proofs.StoreLemmas.PlacingSteps.{only-more}
+use Rattle.guillotiere.proofs.StoreLemmas.StoreTakes.{slots-kept}
+
+module _ (v : Shelf) (h : Holding) (rest : IsAtRest v h) where
+  pub rest-searchable : (slots : List Slot) → slots ≡ v.slots → IsSearchable (options_of v.options) slots v.heads
+  rest-searchable slots e =
+      let P : List Slot → Type 0 = λ s. IsSearchable (options_of v.options) s v.heads in
+      subst P (sym e) (searchable (options_of v.options) v.slots v.heads v.unused (places_of (λ i. 0) h) h.sequence h.tree rest.holds.filed (λ i. rest.listed i refl) rest.holds.stands rest.holds.wide rest.holds.cut rest.holds.short rest.holds.valid)
+
+  pub rest-free : AreFreeBoxes (nodes v.slots) (ungranted (leaves h.sequence.axis origin h.sequence.width (erase h.tree)))
+  rest-free = AreFreeBoxes-stands (nodes v.slots) h.sequence h.tree rest.holds.stands rest.start
+
+  -- The slot that was found, in the words of the store.
+  module _ (slots : List Slot) (e : slots ≡ v.slots) (r : Sides) (found : Found) (leaf : Node) (le : leaf ≡ node_in v found.at.number)
+      (free : IsFreeSlot (nodes slots) found.at.number) (area : (node_at (nodes slots) found.at.number).area ≡ found.rectangle)
+      (picked : (free : List Box) → AreFreeBoxes (nodes slots) free → IsPick free (options_of v.options) r (box_of found.rectangle)) where
+    free_here : (node_in v found.at.number).kind ≡ kind.Free
+    free_here = subst (λ s. IsFreeSlot (nodes s) found.at.number) e free
+
+    area_here : (node_in v found.at.number).area ≡ found.rectangle
+    area_here = subst (λ s. (node_at (nodes s) found.at.number).area ≡ found.rectangle) e area
+
+    picked_here : (free : List Box) → AreFreeBoxes (nodes v.slots) free → IsPick free (options_of v.options) r (box_of found.rectangle)
+    picked_here = subst (λ s. (free : List Box) → AreFreeBoxes (nodes s) free → IsPick free (options_of v.options) r (box_of found.rectangle)) e picked
+
+    pub found-exact : leaf.area ≡ rectangle_of (box_of leaf.area)
+    found-exact =
+        subst (λ (n : Node). n.area ≡ rectangle_of (box_of n.area)) (sym le)
+        (exact-free (nodes v.slots) h.sequence h.tree rest.holds.stands rest.holds.wide rest.holds.cut found.at.number free_here).unsigned
+
+    pub found-fits : Fits r (box_sides (box_of leaf.area))
+    found-fits =
+        let is : leaf.area ≡ found.rectangle = ap (λ (n : Node). n.area) le ∙ area_here in
+        subst (λ a. Fits r (box_sides (box_of a))) (sym is) (picked_here (ungranted (leaves h.sequence.axis origin h.sequence.width (erase h.tree))) rest-free).best.candidate.fitting.fits
+
+    pub found-chosen : (plan : Plan) → IsPlanFor leaf r plan → IsFeasible plan (extent_of leaf) (across_of leaf)
+        → (found.place.row < 52) × (found.place.column < 52) × (number_of found.place ≡ list_of (options_of v.options) (node_sides (node_at (nodes slots) found.at.number)))
+        → ((i : ℕ) → IsFreeSlot (nodes slots) i → i ≢ found.at.number → list_of (options_of v.options) (node_sides (node_at (nodes slots) i)) ≡ number_of found.place
+        → found.low ≤ node_strip (node_at (nodes slots) i))
+        → IsChosen v r (record { at = found.at; area = found.rectangle; place = found.place; low = found.low; plan = plan })
+    found-chosen plan line feasible place low = record {
+      free = free_here;
+      area = area_here;
+      pick = picked_here;
+      row = place.0;
+      column = place.1;
+      place = subst (λ s. number_of found.place ≡ list_of (options_of v.options) (node_sides (node_at (nodes s) found.at.number))) e place.2;
+      low = subst (λ s. (i : ℕ) → IsFreeSlot (nodes s) i → i ≢ found.at.number → list_of (options_of v.options) (node_sides (node_at (nodes s) i)) ≡ number_of found.place
+          → found.low ≤ node_strip (node_at (nodes s) i)) e low;
+      line = subst (λ n. IsPlanFor n r plan) le line;
+      feasible = subst (λ n. IsFeasible plan (extent_of n) (across_of n)) le feasible;
+    }
+
+-- Once the slot is loose, no other slot of its list lies above the strip that the search saw.
+chosen-low : (v u : Shelf) (r : Sides) (p : Chosen) → IsChosen v r p → nodes u.slots ≡ nodes v.slots → u.options ≡ v.options
+    → (h : Holding) → h.loose p.at.number ≡ true → IsLow u h (number_of p.place) p.low
+chosen-low v u r p w same options h is_loose i free kept list =
+    let n : node_in u i ≡ node_in v i = ap (λ ns. node_at ns i) same in
+    let other : i ≢ p.at.number = λ e. (let z : true ≡ false = sym is_loose ∙ (ap h.loose (sym e) ∙ kept) in cc) in
+    let there : list_of (options_of v.options) (node_sides (node_in v i)) ≡ number_of p.place =
+    ap (λ o. list_of (options_of o) (node_sides (node_in v i))) (sym options) ∙ (ap (λ m. list_of (options_of u.options) (node_sides m)) (sym n) ∙ list) in
+    subst (λ m. p.low ≤ node_strip m) (sym n) (w.low i (subst (λ (m : Node). m.kind ≡ kind.Free) n free) other there)
+
+-- The slot leaves its list, for which another strip is kept then.
+pub unlisted-sharpened : {A : Type 0} {v u v' : Store A} {r : Sides} (p : Chosen) → IsChosen (shelf_of v) r p → IsUnlisted v u p.at.number
+    → IsSharpened u v' (number_of p.place) p.low → IsUnlisted v v' p.at.number
+unlisted-sharpened {A} {v} {u} {v'} {r} p w one two = record {
+  kept = λ h holds listed.
+      let left = one.kept h holds listed in
+      let now : Holding = with_loose p.at.number true (with_held left.0 h) in (
+        left.0,
+        two.kept now left.1
+            (chosen-low (shelf_of v) (shelf_of u) r p w one.nodes one.room.options now (with_mark-same h.loose p.at.number true)),
+      );
+  nodes = ap (λ s. nodes s.items) two.slots ∙ one.nodes;
+  room = record {
+    slots = ap (λ s. length s.items) two.slots ∙ one.room.slots;
+    capacity = ap vec_capacity two.slots ∙ one.room.capacity;
+    options = two.options ∙ one.room.options;
+  };
+  turns = two.turns ∙ one.turns;
+}
+
+module _ {A : Type 0} {v v' : Store A} {r : Sides} {p : Chosen} {h : Holding} (w : IsGrantable v r p h) (u : IsUnlisted v v' p.at.number) where
+  left : (held : ℕ → List ℕ) × Holds (shelf_of v') (with_loose p.at.number true (with_held held h))
+  left = u.kept h w.rest.holds (w.rest.listed p.at.number refl)
+
+  abbrev unlisted : Holding
+  unlisted = with_loose p.at.number true (with_held left.0 h)
+
+  is_placeable : IsPlaceableAt v' p.at.number p.plan unlisted
+  is_placeable = record {
+    leaf = record {
+      holds = left.1;
+      kind = ap (λ ns. (node_at ns p.at.number).kind) u.nodes ∙ w.chosen.free;
+      loose = with_mark-same h.loose p.at.number true;
+    };
+    only = only-more h.loose p.at.number [] w.rest.listed;
+    feasible =
+        subst (λ ns. IsFeasible p.plan (extent_of (node_at ns p.at.number)) (across_of (node_at ns p.at.number))) (sym u.nodes)
+        w.chosen.feasible;
+    slots = slots-kept v v' (slots_of p.plan) h u.room w.slots;
+  }
+
+  pub placeable-chosen : IsPlaceable v' p.at.number p.plan
+  placeable-chosen = (unlisted, is_placeable)
+
+  module _ {new : Store A} {to : ℕ} (placed : IsPlaced v' new p.at.number to p.plan) where
+    placed_there : (h' : Holding) × IsPlanned (shelf_of new) p.at.number to p.plan unlisted h'
+    placed_there = placed.kept unlisted is_placeable
+
+    pub granted-inside : to < length new.slots.items
+    granted-inside =
+        let inside : to < length (nodes new.slots.items) = used-inside (nodes new.slots.items) to (rw placed_there.1.granted (omega arith)) in
+        simp length-map at inside
+
+    pub granted-short : to < 16777216
+    granted-short = omega (arith, granted-inside, placed_there.1.holds.short)
+
+    pub grant-made : (id : ℕ) (node : Node) → node ≡ node_in (shelf_of new) to → id ≡ id_of to node.generation
+        → (to : ℕ) × (h' : Holding) × IsGrantMade (shelf_of new) p id to h h'
+    grant-made id node same is =
+        let q = placed_there.1 in (
+          to,
+          placed_there.0,
+          record {
+            planned = record {
+              holds = q.holds;
+              listed = q.listed;
+              tree = q.tree;
+              sequence = q.sequence;
+              granted = q.granted;
+              spare = q.spare;
+            };
+            names = is ∙ ap (λ (n : Node). id_of to n.generation) same;
+          },
+        )

@@ -1,0 +1,16 @@
+-- Sizes that aren't empty are the sides that they stand for.
+use Rattle.std.proofs.Common.{ℤ, pos, negsuc, ◌<◌, ◌≡◌, refl, arith}
+use Rattle.guillotiere.specs.declared.geometry.Size.{Size}
+use Rattle.guillotiere.specs.Boxes.{IsPositive}
+use Rattle.guillotiere.specs.Pixels.{natural, sides_of, size_of}
+
+-- A side above 0 is the number that it stands for.
+pub side_is : (n : ℤ) → 0 < natural n → n ≡ pos (natural n)
+side_is (pos n) h = refl
+side_is (negsuc n) h = absurd (omega arith)
+
+pub size_is : (size : Size) → IsPositive (sides_of size) → size ≡ size_of (sides_of size)
+size_is size h =
+    let w : size.width ≡ pos (natural size.width) = side_is size.width h.0 in
+    let t : size.height ≡ pos (natural size.height) = side_is size.height h.1 in
+    λ i. record { width = w i; height = t i }

@@ -1,0 +1,35 @@
+use Rattle.std.proofs.Common.{◌<◌, ◌≤◌, ◌∙◌, List, ◌∷◌, map, subst, sym, ap, arith}
+use Rattle.std.proofs.lemmas.List.{map-set}
+use Rattle.guillotiere.specs.declared.slots.Link.{Link}
+use Rattle.guillotiere.specs.Search.Bands.{list_of, number_of}
+use Rattle.guillotiere.specs.Boxes.{AreSameBoxes}
+use Rattle.guillotiere.specs.Simple.BoxShelves.{AreKept, free_item_boxes, stored_item}
+use Rattle.guillotiere.specs.Search.Items.{Item}
+use Rattle.guillotiere.specs.Pixels.{box_of, options_of}
+use Rattle.guillotiere.specs.Search.Tables.{low_of}
+use Rattle.guillotiere.proofs.SimpleLemmas.BoxStoring.{put-kept, boxes-with, exact-width}
+use Rattle.guillotiere.proofs.simple.boxes.FreeBoxes.put.Goals as goal
+
+pub returns-clause-kept : goal.returns-clause-kept
+returns-clause-kept g c =
+    let o = options_of c.args.options.now in
+    let es = map stored_item c.args.self.now.entries.items in
+    let k = number_of c.place_for-place.result in
+    let e = stored_item (record { area = c.args.area; after = c.head-after.result }) in
+    let place = c.place_for-place.ensures in
+    let few : k < 2704 = omega (arith, place.row_inside, place.column_inside) in
+    let list = ap (list_of o) (sym c.exact_size.ensures.sides) ∙ sym place.number in
+    let low = subst (λ n. low_of c.push.new.self k ≤ n) c.strip_in.ensures c.push.ensures.low in
+    subst (λ (ts : List Item). AreKept o (record { entries = ts; heads = c.push.new.self; unused = c.args.self.now.unused }))
+    (sym (map-set stored_item c.args.self.now.entries.items c.args.at.number (record { area = c.args.area; after = c.head-after.result })))
+    (put-kept o c.args.self.now.table c.push.new.self es c.args.self.now.unused c.args.at.number k e c.requires.hand
+    (exact-width c.args.area c.requires.exact) (ap (λ (l : Link). l.number) c.head-after.ensures) c.requires.exact list few
+    (ap (λ (l : Link). l.number) c.push.ensures.head) c.push.ensures.heads low c.push.ensures.lower c.push.ensures.lows)
+
+pub returns-clause-boxes : goal.returns-clause-boxes
+returns-clause-boxes g c =
+    let es = map stored_item c.args.self.now.entries.items in
+    let e = stored_item (record { area = c.args.area; after = c.head-after.result }) in
+    subst (λ (ts : List Item). AreSameBoxes (free_item_boxes ts) (box_of c.args.area ∷ free_item_boxes es))
+    (sym (map-set stored_item c.args.self.now.entries.items c.args.at.number (record { area = c.args.area; after = c.head-after.result })))
+    (boxes-with es c.args.at.number e c.requires.hand.inside c.requires.hand.idle (exact-width c.args.area c.requires.exact))

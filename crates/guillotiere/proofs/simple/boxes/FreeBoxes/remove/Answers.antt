@@ -1,0 +1,66 @@
+use Rattle.std.proofs.Common.{ℕ, ◌≡◌, ◌≢◌, ◌<◌, ◌∷◌, ◌∙◌, List, map, length, slice_set, subst, sym, ap, inl, inr, refl, arith}
+use Rattle.std.proofs.lemmas.List.{map-set, length-map}
+use Rattle.guillotiere.specs.declared.simple.boxes.FreeBox.{FreeBox}
+use Rattle.guillotiere.specs.declared.slots.Link.{Link}
+use Rattle.guillotiere.specs.Search.Bands.{number_of}
+use Rattle.guillotiere.specs.Boxes.{AreSameBoxes}
+use Rattle.guillotiere.specs.Simple.BoxShelves.{AreKept, free_item_boxes, idle_item, stored_item, with_after}
+use Rattle.guillotiere.specs.Search.Items.{Item}
+use Rattle.guillotiere.specs.Pixels.{box_of, options_of}
+use Rattle.guillotiere.specs.Search.Tables.{head_of, low_of}
+use Rattle.guillotiere.proofs.SimpleLemmas.BoxStoring.{first-removed, next-removed, free-inside, read-item, IsSameButLinks, same-links, linked-after, boxes-left}
+use Rattle.guillotiere.proofs.simple.boxes.FreeBoxes.remove.Goals as goal
+
+-- The entries once the one that was found is unused.
+entries-are : (bs : List FreeBox) (x : ℕ) (b : FreeBox) (link unused : Link) → stored_item b ≡ idle_item link.number → link ≡ unused
+    → map stored_item (slice_set bs x b) ≡ slice_set (map stored_item bs) x (idle_item unused.number)
+entries-are bs x b link unused e f =
+    map-set stored_item bs x b ∙ ap (λ (t : Item). slice_set (map stored_item bs) x t) (e ∙ ap (λ (l : Link). idle_item l.number) f)
+
+pub returns-clause-kept : goal.returns-clause-kept
+returns-clause-kept g c =
+    let o = options_of c.args.options.now in
+    let heads = c.args.self.now.table in
+    let heads' = c.set_low.new.self in
+    let bs = c.args.self.now.entries.items in
+    let es = map stored_item bs in
+    let es1 = map stored_item c.lead.new.self.entries.items in
+    let x = c.args.found.at.number in
+    let k = number_of c.args.found.place in
+    let standing = c.requires.standing in
+    let inside : x < length bs = omega (arith, free-inside es x standing.free, length-map bs stored_item) in
+    let read = ap (λ (t : Item). t.after) (read-item bs x c.index.result.now inside c.index.ensures) in
+    let heads_stay : (j : ℕ) → j ≢ k → head_of heads' j ≡ head_of heads j = λ j ne. c.set_low.ensures.heads j ∙ c.lead.ensures.heads j ne in
+    let lows_stay : (j : ℕ) → j ≢ k → low_of heads' j ≡ low_of heads j = λ j ne. c.set_low.ensures.lows j ne ∙ c.lead.ensures.lows j in
+    subst (λ (ts : List Item). AreKept o (record { entries = ts; heads = heads'; unused = c.args.found.at }))
+    (sym (entries-are c.lead.new.self.entries.items x c.unused_box.result c.lead.new.self.unused c.args.self.now.unused c.unused_box.ensures c.lead.ensures.unused))
+    (elim standing.before [
+      | inl first ↦
+          let led = c.lead.ensures.first first.0 in
+          first-removed o heads heads' es es1 c.args.self.now.unused c.args.found c.requires.kept standing heads_stay c.set_low.ensures.low lows_stay
+          (ap (λ (l : Link). l.number) (c.set_low.ensures.heads k ∙ led.0) ∙ read) first.1 led.1
+      | inr next ↦
+          let b = c.args.found.before.number in
+          let some : b ≢ 4294967295 = λ z. absurd (omega (arith, z, free-inside es b next.0, c.requires.kept.listed.short)) in
+          let led = c.lead.ensures.next some in
+          next-removed o heads heads' es es1 c.args.self.now.unused c.args.found c.requires.kept standing heads_stay c.set_low.ensures.low lows_stay
+          b next.0 next.1 next.2 (c.set_low.ensures.heads k ∙ ap (λ hs. head_of hs k) led.0) (led.1 ∙ ap (with_after es b) read)
+    ])
+
+pub returns-clause-boxes : goal.returns-clause-boxes
+returns-clause-boxes g c =
+    let es = map stored_item c.args.self.now.entries.items in
+    let es1 = map stored_item c.lead.new.self.entries.items in
+    let x = c.args.found.at.number in
+    let standing = c.requires.standing in
+    let links : IsSameButLinks es es1 =
+    elim standing.before [
+      | inl first ↦ same-links es es1 (c.lead.ensures.first first.0).1
+      | inr next ↦
+          let b = c.args.found.before.number in
+          let some : b ≢ 4294967295 = λ z. absurd (omega (arith, z, free-inside es b next.0, c.requires.kept.listed.short)) in
+          linked-after es es1 b c.index.result.now.after.number (free-inside es b next.0) (c.lead.ensures.next some).1
+    ] in
+    subst (λ (ts : List Item). AreSameBoxes (box_of c.args.found.rectangle ∷ free_item_boxes ts) (free_item_boxes es))
+    (sym (entries-are c.lead.new.self.entries.items x c.unused_box.result c.lead.new.self.unused c.args.self.now.unused c.unused_box.ensures c.lead.ensures.unused))
+    (boxes-left es es1 x (idle_item c.args.self.now.unused.number) c.args.found.rectangle links standing.free standing.area refl)

@@ -1,0 +1,13 @@
+use Rattle.std.proofs.Common.{rules, ◌<◌, length}
+use Rattle.std.proofs.lemmas.List.{length-map}
+use Rattle.guillotiere.specs.Slots.{nodes, node_at}
+use Rattle.guillotiere.specs.Slots.Growing.{stretched_area}
+use Rattle.guillotiere.proofs.SlotLemmas.Frames.{IsWritten-by}
+use Rattle.guillotiere.proofs.SlotLemmas.Stretching.{Stands-stretched}
+use Rattle.guillotiere.proofs.slots.extending.stretch_leaf.Goals as goal
+
+pub returns-clause-longer : goal.returns-clause-longer
+returns-clause-longer c =
+    let at : c.args.at.number < length (nodes c.args.slots.now) = simp length-map c.requires.inside in
+    let leaf = node_at (nodes c.args.slots.now) c.args.at.number in
+    Stands-stretched _ _ _ c.args.size c.requires.exact c.requires.free (IsWritten-by _ _ _ _ (record leaf { area = stretched_area leaf.area c.args.size }) c.write_node.ensures.written (rw c.read_node-leaf.ensures (search rules)) at)

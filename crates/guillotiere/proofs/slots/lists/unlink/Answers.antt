@@ -1,0 +1,29 @@
+use Rattle.std.proofs.Common.{◌<◌, length}
+use Rattle.std.proofs.lemmas.List.{length-map}
+use Rattle.guillotiere.specs.Slots.{rings}
+use Rattle.guillotiere.proofs.StoreLemmas.Unlinking.{can-unlink, unlinked-by, IsList-unlinked, others-unlinked}
+use Rattle.guillotiere.proofs.slots.lists.unlink.Goals as goal
+
+pub set_ring_next-requires-clause-inside : goal.set_ring_next-requires-clause-inside
+set_ring_next-requires-clause-inside c =
+    let short : length (rings c.args.slots.now) < 4294967295 = simp length-map c.requires.short in
+    rw c.requires.ring (simp length-map at ((can-unlink _ _ c.requires.listed short).previous))
+
+pub set_ring_previous-requires-clause-inside : goal.set_ring_previous-requires-clause-inside
+set_ring_previous-requires-clause-inside c =
+    let short : length (rings c.args.slots.now) < 4294967295 = simp length-map c.requires.short in
+    rw (c.requires.ring, c.set_ring_next.auto.slots) (simp length-map at ((can-unlink _ _ c.requires.listed short).next))
+
+pub returns-clause-list : goal.returns-clause-list
+returns-clause-list c = λ first.
+    let short : length (rings c.args.slots.now) < 4294967295 = simp length-map c.requires.short in
+    let er = c.requires.ring in
+    let w = unlinked-by (rings c.args.slots.now) _ (rings c.set_ring_previous.new.slots) c.args.at.number c.args.ring (can-unlink _ _ c.requires.listed short) er c.set_ring_next.ensures.written c.set_ring_previous.ensures.written in
+    IsList-unlinked _ _ first c.args.at.number c.args.ring short w er
+
+pub returns-clause-others : goal.returns-clause-others
+returns-clause-others c = λ first.
+    let short : length (rings c.args.slots.now) < 4294967295 = simp length-map c.requires.short in
+    let er = c.requires.ring in
+    let w = unlinked-by (rings c.args.slots.now) _ (rings c.set_ring_previous.new.slots) c.args.at.number c.args.ring (can-unlink _ _ c.requires.listed short) er c.set_ring_next.ensures.written c.set_ring_previous.ensures.written in
+    others-unlinked _ _ first c.args.at.number short w

@@ -1,0 +1,18 @@
+use Rattle.std.proofs.Common.{length}
+use Rattle.guillotiere.specs.Boxes.{Sides}
+use Rattle.guillotiere.specs.Slots.{nodes}
+use Rattle.guillotiere.specs.Stored.{Holding}
+use Rattle.guillotiere.specs.Store.Holdings.{shelf_of}
+use Rattle.guillotiere.specs.Store.Growths.{IsTreeOf}
+use Rattle.guillotiere.proofs.SlotLemmas.Following.{followers}
+use Rattle.guillotiere.proofs.SlotLemmas.LastMembers.{IsAtMember}
+use Rattle.guillotiere.proofs.tree.growth.last_member.Given as goal
+
+abbrev pub invariant-loop-next : goal.invariant-loop-next
+invariant-loop-next g l =
+    (h : Holding) (size : Sides) → IsTreeOf (shelf_of l.fn.store) size l.fn.first.number h → IsAtMember (nodes l.store.slots.items) l.at.number l.next.number h.sequence h.tree
+
+abbrev pub decreases-loop-next : goal.decreases-loop-next
+decreases-loop-next g l =
+    let ns = nodes l.store.slots.items in
+    followers (length ns) ns l.next.number

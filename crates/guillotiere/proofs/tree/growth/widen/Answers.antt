@@ -1,0 +1,18 @@
+use Rattle.std.proofs.Common.{◌∙◌}
+use Rattle.guillotiere.proofs.StoreLemmas.GrownSlots.{nest-list, nest-widened}
+use Rattle.guillotiere.proofs.tree.growth.widen.Goals as goal
+
+pub nest-requires-clause-ready : goal.nest-requires-clause-ready
+nest-requires-clause-ready g c =
+    let t = c.requires.ready in
+    (t.0, t.1, t.2.nests, t.2.slots)
+
+pub list-requires : goal.list-requires
+list-requires g c = nest-list c.requires.ready.2 c.nest.ensures
+
+pub returns : goal.returns
+returns g c = record {
+  kept = λ h d s. nest-widened s c.nest.ensures c.list.ensures;
+  options = c.list.ensures.room.options ∙ c.nest.ensures.options;
+  turns = c.list.ensures.turns ∙ c.nest.ensures.turns;
+}

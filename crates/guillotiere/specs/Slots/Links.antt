@@ -1,0 +1,105 @@
+-- What the calls on lists of slots make of rings, lists and marks. No public clause cites this module.
+use Rattle.std.specs.Prelude.{ℕ, ◌+◌, ◌%◌, ◌≡◌, ◌<◌, ◌==◌, Bool, true, false, List, [], ◌∷◌, length, slice_set}
+use Rattle.std.specs.Prelude.{if◌then◌else◌}
+use Rattle.guillotiere.specs.declared.slots.Slot.{Slot}
+use Rattle.guillotiere.specs.declared.slots.Link.{Link}
+use Rattle.guillotiere.specs.declared.slots.Node.{Node}
+use Rattle.guillotiere.specs.declared.slots.Ring.{Ring}
+use Rattle.guillotiere.specs.declared.slots.NodeKind.TheVariants as kind
+use Rattle.guillotiere.specs.declared.search.table.ListHead.{ListHead}
+use Rattle.guillotiere.specs.declared.geometry.Rectangle.{Rectangle}
+use Rattle.guillotiere.specs.Boxes.{IsNonempty}
+use Rattle.guillotiere.specs.Pixels.{box_of}
+use Rattle.guillotiere.specs.Rectangles.{IsUnsigned}
+use Rattle.guillotiere.specs.Choice.{Options}
+use Rattle.guillotiere.specs.Slots.{nodes, rings, node_at, ring_at, no_slot}
+use Rattle.guillotiere.specs.Slots.Lists.{IsList, AreFiled, Places, occurs, without}
+
+-- Slot i stands in a list that is in order.
+abbrev pub IsListed : List Ring → ℕ → Type 0
+IsListed rs i = (first : Link) × (xs : List ℕ) × IsList rs first xs × (0 < occurs i xs)
+
+-- The list that begins with this link is in order, and slot i does not stand in it.
+abbrev pub IsUnlisted : List Ring → Link → ℕ → Type 0
+IsUnlisted rs first i = (xs : List ℕ) × IsList rs first xs × (occurs i xs ≡ 0)
+
+-- What a list begins with once a slot with these neighbours left it.
+abbrev pub first_without : Ring → Link → Link
+first_without ring first = if ring.previous.number == no_slot then ring.next else first
+
+-- `link` comes after slot i in its list; nothing happens where i is no slot.
+abbrev pub with_next : List Ring → ℕ → Link → List Ring
+with_next rs i link = slice_set rs i (record (ring_at rs i) { next = link })
+
+-- `link` comes before slot i in its list; nothing happens where i is no slot.
+abbrev pub with_ring_previous : List Ring → ℕ → Link → List Ring
+with_ring_previous rs i link = slice_set rs i (record (ring_at rs i) { previous = link })
+
+-- The mark of slot i is `mark`, and the others stay.
+abbrev pub with_mark : (ℕ → Bool) → ℕ → Bool → ℕ → Bool
+with_mark loose i mark k = if k == i then mark else loose k
+
+-- The count of slot i is n, and the others stay.
+abbrev pub with_count : (ℕ → ℕ) → ℕ → ℕ → ℕ → ℕ
+with_count hand i n k = if k == i then n else hand k
+
+-- Slot i is gone from each list.
+abbrev pub held_without : (ℕ → List ℕ) → ℕ → ℕ → List ℕ
+held_without held i k = without i (held k)
+
+-- Slot i stands first in list m.
+abbrev pub held_with : (ℕ → List ℕ) → (m i : ℕ) → ℕ → List ℕ
+held_with held m i k = if k == m then i ∷ held k else held k
+
+-- A rectangle with sides above 0, and no corner below 0.
+pub record IsSolid (r : Rectangle) : Type 0 where
+  pub unsigned : IsUnsigned r
+  pub nonempty : IsNonempty (box_of r)
+
+-- The lists are in order, and slot i is not loose.
+pub record IsFiledSlot (o : Options) (slots : List Slot) (heads : List ListHead) (i : ℕ) : Type 0 where
+  pub unused : Link
+  pub places : Places
+  pub filed : AreFiled o (nodes slots) (rings slots) heads unused places
+  pub kept : places.loose i ≡ false
+
+-- The lists are in order, and slot i is loose.
+pub record IsLoose (o : Options) (slots : List Slot) (heads : List ListHead) (i : ℕ) : Type 0 where
+  pub unused : Link
+  pub places : Places
+  pub filed : AreFiled o (nodes slots) (rings slots) heads unused places
+  pub is_loose : places.loose i ≡ true
+
+-- The list but for its first.
+abbrev pub tail_of : List ℕ → List ℕ
+tail_of [] = []
+tail_of (x ∷ xs) = xs
+
+-- Slot i has left its list, and is loose.
+abbrev pub unlisted : Places → ℕ → Places
+unlisted p i = record p { held = held_without p.held i; loose = with_mark p.loose i true }
+
+-- Slot i stands first in list m, and is no longer loose.
+abbrev pub listed : Places → (m i : ℕ) → Places
+listed p m i = record p { held = held_with p.held m i; loose = with_mark p.loose i false }
+
+-- The first spare slot, if there was one, is gone, and slot i is in hand.
+abbrev pub in_hand : Places → ℕ → Places
+in_hand p i = record p { spare = tail_of p.spare; hand = with_count p.hand i 1 }
+
+-- Slot i, which was in hand, is the first spare one.
+abbrev pub given_back : Places → ℕ → Places
+given_back p i = record p { spare = i ∷ p.spare; hand = with_count p.hand i 0 }
+
+-- The node of an unused slot once it is taken again.
+abbrev pub renewed : Node → Node
+renewed n = record n { generation = (n.generation + 1) % 256 }
+
+-- Slot `at` was taken: it is in hand, no longer spare, not used, and none of those that were in hand.
+pub record IsTaken (o : Options) (old new : List Slot) (heads : List ListHead) (unused' : Link) (p : Places)
+    (at : ℕ) : Type 0 where
+  pub filed : AreFiled o (nodes new) (rings new) heads unused' (in_hand p at)
+  pub inside : at < length new
+  pub was_unused : (node_at (nodes old) at).kind ≡ kind.Unused
+  pub is_unused : (node_at (nodes new) at).kind ≡ kind.Unused
+  pub apart : (k : ℕ) → k < length old → 0 < p.hand k → at ≡ k → ⊥

@@ -1,0 +1,228 @@
+//! The free boxes of the simple allocator, in the lists of a table.
+ghost use Rattle.std.specs.Prelude.{◌≡◌, ◌≢◌, ◌+◌, ◌<◌, ◌≤◌, ◌∷◌, ℕ, IfOk, IsOkUnless, OnErr, OnOk, [], length};
+ghost use Rattle.std.specs.Prelude.{vec_capacity, vec_len};
+ghost use Rattle.guillotiere.specs.Simple.BoxShelves.{AreKept, IsInHand, box_shelf, free_item_boxes, idle_item};
+ghost use Rattle.guillotiere.specs.Simple.BoxShelves.{stored_item, with_after};
+ghost use Rattle.guillotiere.specs.Search.Bands.{number_of, strip_of};
+ghost use Rattle.guillotiere.specs.Boxes.{AreSameBoxes};
+ghost use Rattle.guillotiere.specs.Choice.{AreValid, Options};
+ghost use Rattle.guillotiere.specs.Slots.Links.{IsSolid};
+ghost use Rattle.guillotiere.specs.Search.Lookups.{IsStanding};
+ghost use Rattle.guillotiere.specs.Pixels.{box_of, options_of};
+ghost use Rattle.guillotiere.specs.Rectangles.{IsUnsigned};
+ghost use Rattle.guillotiere.specs.Slots.{no_slot};
+ghost use Rattle.guillotiere.specs.Search.Tables.{head_of, low_of};
+
+use crate::error::AtlasError;
+use crate::geometry::{Rectangle, point2};
+use crate::options::AllocatorOptions;
+use crate::search::Entry;
+use crate::search::bands::{BANDS, Place, place_for, strip};
+use crate::search::best::Found;
+use crate::search::table::Table;
+use crate::slots::lists::exact_size;
+use crate::slots::{Link, NO_SLOT};
+use std::alloc::Allocator;
+
+/// A free box and the entry after it in its list; or an unused entry, whose rectangle is empty, and the next one.
+#[derive(Clone, Copy, Debug, PartialEq, Eq)]
+pub struct FreeBox {
+    pub area: Rectangle,
+    pub after: Link,
+}
+
+impl Entry for FreeBox {
+    ghost use Rattle.guillotiere.specs.Simple.BoxShelves.{stored_item};
+
+    ghost item = { stored_item };
+
+    fn rectangle(&self) -> Rectangle {
+        self.area
+    }
+
+    fn after(&self) -> Link {
+        self.after
+    }
+}
+
+/// Free boxes, each in the list of its size, and entries that are unused.
+#[derive(Drop)]
+pub struct FreeBoxes<A: Allocator> {
+    pub entries: Vec<FreeBox, A>,
+    pub unused: Link,
+    pub table: Table<A>,
+}
+
+// The most entries: `NO_SLOT` is the number of none.
+const MOST_BOXES: usize = 4294967295;
+
+// An unused entry before this one.
+fn unused_box(after: Link) -> FreeBox
+    ensures { stored_item result ≡ idle_item after.number }
+{
+    let corner = point2(0, 0);
+    FreeBox {
+        area: Rectangle {
+            min: corner,
+            max: corner,
+        },
+        after,
+    }
+}
+
+// The strip of a box.
+fn strip_in(area: Rectangle) -> u8
+    requires { IsUnsigned area }
+    ensures { result ≡ strip_of (box_of area).min.y }
+{
+    strip(area.min.y)
+}
+
+impl<A: Allocator> FreeBoxes<A> {
+    /// No box. The only error is `Memory`.
+    pub fn new(alloc: A) -> Result<FreeBoxes<A>, AtlasError>
+    where
+        A: Copy,
+        ensures unless { IsOkUnless result AtlasError.Memory }
+        ensures kept { IfOk result (λ it. (o : Options) → AreValid o → AreKept o (box_shelf it)) }
+        ensures empty { IfOk result (λ it. (box_shelf it).entries ≡ []) }
+    {
+        let table = Table::new(alloc)?;
+        Ok(FreeBoxes {
+            entries: Vec::new(alloc),
+            unused: Link::NONE,
+            table,
+        })
+    }
+
+    // Takes the first of the unused entries, or else a new one, for which there is room.
+    fn take(&mut self) -> Link
+        requires kept { (o : Options) × AreKept o (box_shelf self.old) }
+        requires room { self.old.unused.number ≡ no_slot → vec_len self.old.entries < vec_capacity self.old.entries }
+        requires short { vec_len self.old.entries < no_slot }
+        ensures taken { (o : Options) → AreKept o (box_shelf self.old) → IsInHand o (box_shelf self.new) result.number }
+        ensures boxes { free_item_boxes (box_shelf self.new).entries ≡ free_item_boxes (box_shelf self.old).entries }
+        ensures heads { self.new.table ≡ self.old.table }
+        ensures length { vec_len self.new.entries ≤ vec_len self.old.entries + 1 }
+        ensures capacity { vec_capacity self.new.entries ≡ vec_capacity self.old.entries }
+    {
+        let at = self.unused;
+        if at.number == NO_SLOT {
+            let number = self.entries.len() as u32;
+            self.entries.push_reserved(unused_box(Link { number: 0 }));
+            Link { number }
+        } else {
+            self.unused = self.entries[at.number as usize].after;
+            at
+        }
+    }
+
+    // Puts a box into the entry that is in hand, and that into the box's list.
+    fn put(&mut self, at: Link, area: Rectangle, options: &AllocatorOptions)
+        requires exact { IsSolid area }
+        requires hand { IsInHand (options_of options.now) (box_shelf self.old) at.number }
+        ensures kept { AreKept (options_of options.now) (box_shelf self.new) }
+        ensures boxes { AreSameBoxes (free_item_boxes (box_shelf self.new).entries)
+            (box_of area ∷ free_item_boxes (box_shelf self.old).entries) }
+        ensures length { vec_len self.new.entries ≡ vec_len self.old.entries }
+        ensures capacity { vec_capacity self.new.entries ≡ vec_capacity self.old.entries }
+    {
+        let place = place_for(exact_size(area), options);
+        let after = self.table.head(place);
+        self.entries[at.number as usize] = FreeBox { area, after };
+        self.table.push(place, at, strip_in(area));
+    }
+
+    /// Room for n more entries. The only error is `Memory`, and nothing changes but the room.
+    pub fn make_room(&mut self, n: usize) -> Result<(), AtlasError>
+        requires { n ≤ 2 }
+        ensures unless { IsOkUnless result AtlasError.Memory }
+        ensures same { box_shelf self.new ≡ box_shelf self.old }
+        ensures room { OnOk result (vec_len self.new.entries + n ≤ vec_capacity self.new.entries) }
+        ensures short { OnOk result (vec_len self.new.entries + n ≤ no_slot) }
+    {
+        if self.entries.len() > MOST_BOXES - n {
+            return Err(AtlasError::Memory);
+        }
+        self.entries.reserve(n)?;
+        Ok(())
+    }
+
+    /// Adds a box, for which there is room.
+    pub fn add(&mut self, area: Rectangle, options: &AllocatorOptions)
+        requires exact { IsSolid area }
+        requires kept { AreKept (options_of options.now) (box_shelf self.old) }
+        requires room { vec_len self.old.entries < vec_capacity self.old.entries }
+        requires short { vec_len self.old.entries < no_slot }
+        ensures kept { AreKept (options_of options.now) (box_shelf self.new) }
+        ensures boxes { AreSameBoxes (free_item_boxes (box_shelf self.new).entries)
+            (box_of area ∷ free_item_boxes (box_shelf self.old).entries) }
+        ensures length { vec_len self.new.entries ≤ vec_len self.old.entries + 1 }
+        ensures capacity { vec_capacity self.new.entries ≡ vec_capacity self.old.entries }
+    {
+        let at = self.take();
+        self.put(at, area, options);
+    }
+
+    /// Leaves this box alone, in the room that there is. The only error is `Memory`, and after it all boxes stay.
+    pub fn restart(&mut self, area: Rectangle, options: &AllocatorOptions) -> Result<(), AtlasError>
+        requires exact { IsSolid area }
+        requires valid { AreValid (options_of options.now) }
+        ensures unless { IsOkUnless result AtlasError.Memory }
+        ensures kept { OnOk result (AreKept (options_of options.now) (box_shelf self.new)) }
+        ensures alone { OnOk result (free_item_boxes (box_shelf self.new).entries ≡ box_of area ∷ []) }
+        ensures err { OnErr result (box_shelf self.new ≡ box_shelf self.old) }
+    {
+        if self.entries.capacity() == 0 {
+            self.entries.reserve(1)?;
+        }
+        self.entries.clear();
+        self.unused = Link::NONE;
+        self.table.clear();
+        self.add(area, options);
+        Ok(())
+    }
+
+    // `after` comes after `before` in a list, or first where that is none.
+    fn lead(&mut self, place: Place, before: Link, after: Link)
+        requires row { place.row < BANDS }
+        requires column { place.column < BANDS }
+        requires inside { before.number ≢ no_slot → before.number < vec_len self.old.entries }
+        ensures first { before.number ≡ no_slot
+            → (head_of self.new.table (number_of place) ≡ after)
+            × ((box_shelf self.new).entries ≡ (box_shelf self.old).entries) }
+        ensures next { before.number ≢ no_slot
+            → (self.new.table ≡ self.old.table)
+            × ((box_shelf self.new).entries ≡ with_after (box_shelf self.old).entries before.number after.number) }
+        ensures heads { (j : ℕ) → j ≢ number_of place → head_of self.new.table j ≡ head_of self.old.table j }
+        ensures lows { (j : ℕ) → low_of self.new.table j ≡ low_of self.old.table j }
+        ensures unused { self.new.unused ≡ self.old.unused }
+        ensures length { vec_len self.new.entries ≡ vec_len self.old.entries }
+        ensures capacity { vec_capacity self.new.entries ≡ vec_capacity self.old.entries }
+    {
+        if before.number == NO_SLOT {
+            self.table.set_head(place, after);
+        } else {
+            self.entries[before.number as usize].after = after;
+        }
+    }
+
+    /// Takes a box out of its list; its entry is unused from then on.
+    pub fn remove(&mut self, found: Found, options: &AllocatorOptions)
+        requires kept { AreKept (options_of options.now) (box_shelf self.old) }
+        requires standing { IsStanding (options_of options.now) (box_shelf self.old).heads (box_shelf self.old).entries
+            found }
+        ensures kept { AreKept (options_of options.now) (box_shelf self.new) }
+        ensures boxes { AreSameBoxes (box_of found.rectangle ∷ free_item_boxes (box_shelf self.new).entries)
+            (free_item_boxes (box_shelf self.old).entries) }
+        ensures unused { self.new.unused ≡ found.at }
+        ensures length { vec_len self.new.entries ≡ vec_len self.old.entries }
+        ensures capacity { vec_capacity self.new.entries ≡ vec_capacity self.old.entries }
+    {
+        let after = self.entries[found.at.number as usize].after;
+        self.lead(found.place, found.before, after);
+        self.table.set_low(found.place, found.low);
+        self.entries[found.at.number as usize] = unused_box(self.unused);
+        self.unused = found.at;
+    }
+}

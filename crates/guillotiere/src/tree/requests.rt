@@ -1,0 +1,92 @@
+//! Granting a request: the free slot that it takes, the slots that this needs, and the placing itself.
+ghost use Rattle.std.specs.Prelude.{◌≡◌, ◌+◌, ◌<◌, ◌≤◌, ◌⊎◌, ℕ, List, None, IfSome, OnOk, IfErr, vec_capacity, length};
+ghost use Rattle.guillotiere.specs.Boxes.{Box, IsPositive, Sides};
+ghost use Rattle.guillotiere.specs.Choice.{IsFitting};
+ghost use Rattle.guillotiere.specs.Pixels.{sides_of};
+ghost use Rattle.guillotiere.specs.Slots.{nodes};
+ghost use Rattle.guillotiere.specs.Trees.{most_slots};
+ghost use Rattle.guillotiere.specs.Search.Picks.{AreFreeBoxes};
+ghost use Rattle.guillotiere.specs.Stored.{Holding};
+ghost use Rattle.guillotiere.specs.Store.Holdings.{shelf_of};
+ghost use Rattle.guillotiere.specs.Store.Chosen.{CanGrant, IsAtRest, IsChosen, IsRequestGranted, IsShortOf};
+
+use crate::allocation::AllocId;
+use crate::error::AtlasError;
+use crate::geometry::{Rectangle, Size};
+use crate::search::bands::Place;
+use crate::slots::Link;
+use crate::slots::pick::pick;
+use crate::slots::walks::slot_id;
+use crate::store::Store;
+use crate::tree::{Plan, place, plan_for};
+use std::alloc::Allocator;
+
+/// The free slot that a request takes, its rectangle, the list where it stands, a strip that no other slot of that list
+/// lies above, and how the slot gives way.
+#[derive(Clone, Copy)]
+pub struct Chosen {
+    pub at: Link,
+    pub area: Rectangle,
+    pub place: Place,
+    pub low: u8,
+    pub plan: Plan,
+}
+
+/// The free slot that a request of this rounded size takes; None if it fits none.
+pub fn choose<A: Allocator>(store: &Store<A>, size: Size) -> Option<Chosen>
+    requires positive { IsPositive (sides_of size) }
+    requires rest { (h : Holding) × IsAtRest (shelf_of store.now) h }
+    ensures none { result ≡ None → (free : List Box) → AreFreeBoxes (nodes store.now.slots.items) free
+        → (b : Box) → IsFitting free (sides_of size) b → ⊥ }
+    ensures some { IfSome result (IsChosen (shelf_of store.now) (sides_of size)) }
+{
+    let found = pick(&store.slots, &store.lists, &store.options, size)?;
+    let leaf = store.node(found.at);
+    Some(Chosen {
+        at: found.at,
+        area: found.rectangle,
+        place: found.place,
+        low: found.low,
+        plan: plan_for(&leaf, size),
+    })
+}
+
+/// Makes room for slots beside those that are used. `Slots` if there would be more than the limit; `Memory`, if they
+/// are more than were ever used and memory for them is refused. The slots and their lists stay as they are.
+pub fn make_room<A: Allocator>(
+    store: &mut Store<A>,
+    used: u32,
+    limit: u32,
+    needed: u32,
+) -> Result<(), AtlasError>
+    requires used { used ≤ limit }
+    requires limited { limit ≤ most_slots }
+    requires short { length store.old.slots.items ≤ most_slots }
+    ensures ok { OnOk result ((used + needed ≤ limit)
+        × ((used + needed ≤ length store.new.slots.items) ⊎ (used + needed ≤ vec_capacity store.new.slots))) }
+    ensures refused { IfErr result (IsShortOf used limit needed (length store.old.slots.items)) }
+    ensures same { shelf_of store.new ≡ shelf_of store.old }
+    ensures turns { store.new.turns ≡ store.old.turns }
+{
+    if needed > limit - used {
+        return Err(AtlasError::Slots);
+    }
+    let all = (used + needed) as usize;
+    let kept = store.slots.len();
+    if all > kept {
+        store.slots.reserve(all - kept)?;
+    }
+    Ok(())
+}
+
+/// Places a request in the slot that it takes. The answer is its id.
+pub fn grant<A: Allocator>(store: &mut Store<A>, chosen: Chosen) -> AllocId
+    requires { CanGrant store.old chosen }
+    ensures { IsRequestGranted store.old store.new chosen result }
+{
+    store.unlist(chosen.at);
+    store.sharpen(chosen.place, chosen.low);
+    let slot = place(store, chosen.at, chosen.plan);
+    let node = store.node(slot);
+    slot_id(slot.number as usize, node.generation)
+}
