@@ -40,7 +40,7 @@ shown_item es i = shown_at (item_box (item_at es i)) i
 abbrev pub shown_items : List Item → List ℕ → List Shown
 shown_items es xs = map (shown_item es) xs
 
--- Xs are the entries from one up to another, which isn't among them.
+-- The list xs has the entries from one up to another, which isn't among them.
 abbrev pub IsPath : List Item → (from : ℕ) → List ℕ → (to : ℕ) → Type 0
 IsPath es from [] to = from ≡ to
 IsPath es from (x ∷ xs) to = (from ≡ x) × (x < length es) × IsPath es (item_at es x).after xs to

@@ -30,7 +30,7 @@ abbrev pub without : ℕ → List ℕ → List ℕ
 without i [] = []
 without i (x ∷ xs) = if i == x then xs else x ∷ without i xs
 
--- Xs runs through the rings in both directions; `before` comes before its first.
+-- The list xs runs through the rings in both directions; `before` comes before its first.
 abbrev pub Chain : List Ring → ℕ → List ℕ → Type 0
 Chain rs before [] = Unit {0}
 Chain rs before (x ∷ xs) =
@@ -43,7 +43,7 @@ pub record IsList (rs : List Ring) (first : Link) (xs : List ℕ) : Type 0 where
   pub begins : first.number ≡ front xs
   pub once : (k : ℕ) → occurs k xs ≤ 1
 
--- Xs runs through the rings forwards.
+-- The list xs runs through the rings forwards.
 abbrev pub Line : List Ring → List ℕ → Type 0
 Line rs [] = Unit {0}
 Line rs (x ∷ xs) = (x < length rs) × ((ring_at rs x).next.number ≡ front xs) × Line rs xs
