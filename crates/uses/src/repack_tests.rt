@@ -30,15 +30,25 @@ const PACKED: [(i32, i32, i32, i32); 4] = [
     (0, 60, 40, 70),
 ];
 
+// Puts a picture that isn't there, and finds it at these corners.
+fn put_new(
+    rt: &impl Abort,
+    cache: &mut PictureCache,
+    key: u32,
+    sides: (i32, i32),
+    corners: (i32, i32, i32, i32),
+) {
+    assert!(rt; cache.get(key) == None, "new {key}");
+    let area = cache.put(key, size2(sides.0, sides.1)).expect(rt, "memory");
+    assert!(rt; area == Some(rectangle(corners)), "put {key}");
+    assert!(rt; cache.get(key) == Some(rectangle(corners)), "get {key}");
+}
+
 // A cache that holds the pictures.
 fn filled(rt: &impl Abort, alloc: Global) -> PictureCache {
     let mut cache = PictureCache::new(alloc, size2(100, 100)).expect(rt, "memory");
     for (k, key) in KEYS.iter().enumerate() {
-        assert!(rt; cache.get(*key) == None, "new {key}");
-        let size = size2(SIZES[k].0, SIZES[k].1);
-        let area = cache.put(*key, size).expect(rt, "memory");
-        assert!(rt; area == Some(rectangle(FIRST[k])), "put {key}");
-        assert!(rt; cache.get(*key) == Some(rectangle(FIRST[k])), "get {key}");
+        put_new(rt, &mut cache, *key, SIZES[k], FIRST[k]);
     }
     cache
 }
@@ -74,8 +84,7 @@ fn removed(rt: HostRuntime) {
     for k in [0_usize, 2, 3] {
         assert!(&rt; cache.get(KEYS[k]) == Some(rectangle(FIRST[k])), "get {k}");
     }
-    let area = cache.put(3, size2(60, 60)).expect(&rt, "memory");
-    assert!(&rt; area == Some(rectangle(FIRST[1])));
+    put_new(&rt, &mut cache, 3, SIZES[1], FIRST[1]);
 }
 
 #[test]
