@@ -34,4 +34,3 @@ pub mod Following
 pub mod Hanging
 pub mod LastMembers
 pub mod Editing
-pub mod CutRectangles

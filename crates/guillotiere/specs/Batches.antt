@@ -1,12 +1,11 @@
 -- Lists of ids that are freed together. Public clauses cite `AreLiveOnce` alone.
-use Rattle.std.specs.Prelude.{ℕ, ◌≡◌, true, false, List, [], ◌∷◌, slice_set}
+use Rattle.std.specs.Prelude.{ℕ, ◌≡◌, true, false, List, [], ◌∷◌}
 use Rattle.guillotiere.specs.declared.slots.Node.{Node}
-use Rattle.guillotiere.specs.declared.slots.NodeKind.{NodeKind}
 use Rattle.guillotiere.specs.declared.slots.NodeKind.TheVariants as kind
 use Rattle.guillotiere.specs.Trees.{slot_of}
 use Rattle.guillotiere.specs.States.{State, IsLive}
 use Rattle.guillotiere.specs.Laws.TreeLaws.{is_among}
-use Rattle.guillotiere.specs.Slots.{node_at}
+use Rattle.guillotiere.specs.Slots.Standing.{with_kind}
 use Rattle.guillotiere.specs.Visits.{is_named}
 
 -- Each id is live, and none stands twice.
@@ -18,10 +17,6 @@ AreLiveOnce s (id ∷ rest) = IsLive s id × (is_among rest id ≡ false) × Are
 abbrev pub AreNamedOnce : List Node → List ℕ → Type 0
 AreNamedOnce ns [] = Unit {0}
 AreNamedOnce ns (id ∷ rest) = (is_named ns id ≡ true) × (is_among rest id ≡ false) × AreNamedOnce ns rest
-
--- Slot i is used for something else.
-abbrev pub with_kind : List Node → ℕ → NodeKind → List Node
-with_kind ns i k = slice_set ns i (record (node_at ns i) { kind = k })
 
 -- The slots of these ids are hidden: they are no longer those of allocated leaves, so that no id names them.
 abbrev pub hidden : List Node → List ℕ → List Node

@@ -3,6 +3,7 @@ pub mod SimpleRuns
 pub mod SimpleSessions
 pub mod FreeLists
 pub mod BoxShelves
+pub mod BoxCalls
 use Rattle.std.specs.Prelude.{◌≡◌, ◌≢◌, nat_le, Bool, ◌&&◌, List, [], ◌∷◌, ◌++◌, map, filter, All}
 use Rattle.std.specs.Prelude.{Option, Some, None, Result, Ok, Err}
 use Rattle.guillotiere.specs.declared.error.AtlasError.{AtlasError}

@@ -1,17 +1,12 @@
 //! The atlas allocator.
-ghost use Rattle.std.specs.Prelude.{◌≡◌, ◌≤◌, ◌<◌, ◌+◌, ◌-◌, ◌*◌, ◌↔◌, List, [], sum_by, IsTrue, IfOk, IfSome, OnErr};
+ghost use Rattle.std.specs.Prelude.{◌≡◌, ◌≤◌, ◌<◌, ◌+◌, ◌-◌, ◌*◌, ◌↔◌, [], IsTrue, IfOk, IfSome, OnErr};
 ghost use Rattle.std.specs.Prelude.{IsOkUnless, OnOk, length, IsSome, option_map, None, Some, Ok, All, map};
 ghost use Rattle.guillotiere.specs.Boxes.{area, Fits, IsPositive, IsWithin};
 ghost use Rattle.guillotiere.specs.Choice.{AreValid};
-ghost use Rattle.guillotiere.specs.Pixels.{sides_of, size_of, options_of, rectangle_of, box_of, IsMeasurable};
-ghost use Rattle.guillotiere.specs.States.{live_in, free_in, used_in, started, after_freeing, IsSound, IsLive};
-ghost use Rattle.std.specs.List.{FoldsTo};
-ghost use Rattle.std.specs.Fn.{CalledAt};
-ghost use Rattle.guillotiere.specs.declared.geometry.Rectangle.{Rectangle as Area};
-ghost use Rattle.guillotiere.specs.declared.allocation.Allocation.{Allocation as Grant};
-ghost use Rattle.guillotiere.specs.Visits.{AreFreeAreas, AreGrants, CalledAtGrant, free_areas};
+ghost use Rattle.guillotiere.specs.Pixels.{sides_of, size_of, options_of, rectangle_of, box_of};
+ghost use Rattle.guillotiere.specs.States.{live_in, used_in, started, after_freeing, IsSound, IsLive};
+ghost use Rattle.guillotiere.specs.Visits.{AreFreeAreas, free_areas};
 ghost use Rattle.guillotiere.specs.Slots.{nodes};
-ghost use Rattle.guillotiere.specs.Walks.{IsCallableAlong, IsCallableAlongGrants, IsShownArea, IsShownGrant};
 ghost use Rattle.guillotiere.specs.Changes.{only};
 ghost use Rattle.guillotiere.specs.Laws.TreeLaws.{is_among};
 ghost use Rattle.guillotiere.specs.Batches.{AreLiveOnce};
@@ -22,6 +17,7 @@ ghost use Rattle.guillotiere.specs.Steps.AtlasCall.{ResizeAndRearrange};
 ghost use Rattle.guillotiere.specs.Steps.AtlasReply.{Done};
 
 pub mod rearranging;
+pub mod walks;
 
 use crate::allocation::{AllocId, Allocation, SlotCount};
 use crate::atlas::rearranging::{refit, sort_for_refit};
@@ -33,10 +29,7 @@ use crate::geometry::{Rectangle, Size};
 use crate::options::{AllocatorOptions, DEFAULT_OPTIONS};
 use crate::search::table::Table;
 use crate::slots::batch::are_named_once;
-use crate::slots::walks::{
-    free_sum, gather_allocated, gather_free, live_sum, named_slot, slot_number, visit_allocated,
-    visit_free,
-};
+use crate::slots::walks::{named_slot, slot_number};
 use crate::slots::{Link, MOST_SLOTS, NO_SLOT, NodeKind};
 use crate::store::Store;
 use crate::store::turns::Turns;
@@ -491,65 +484,6 @@ impl<A: Allocator + Copy> AtlasAllocator<A> {
         ensures areas { AreFreeAreas (state_of self.now) (free_areas (nodes result.now.slots.items)) }
     {
         &self.store
-    }
-
-    /// The area of all live rectangles together, in unit squares: with `free_area` it is the width times the height of
-    /// the atlas. One pass over the slots, and no memory.
-    pub fn allocated_area(&self) -> u64
-        ensures area { result ≡ sum_by (λ g. area g.box) (live_in (state_of self.now)) }
-        ensures whole { result + sum_by area (free_in (state_of self.now))
-            ≡ (state_of self.now).size.width * (state_of self.now).size.height }
-    {
-        live_sum(&self.store.slots)
-    }
-
-    /// The area of all free rectangles together, in unit squares. One pass over the slots, and no memory.
-    pub fn free_area(&self) -> u64
-        ensures area { result ≡ sum_by area (free_in (state_of self.now)) }
-        ensures whole { sum_by (λ g. area g.box) (live_in (state_of self.now)) + result
-            ≡ (state_of self.now).size.width * (state_of self.now).size.height }
-    {
-        free_sum(&self.store.slots)
-    }
-
-    /// Calls `visit` on each free rectangle once, in an order that is left open. Asks that `visit` may be called along
-    /// each list that may be shown, and no more: nothing else is called. No coordinate of these rectangles is negative.
-    pub fn for_each_free_rectangle<F: FnMut(&Rectangle)>(&self, visit: F)
-        requires { (areas : List Area) → AreFreeAreas (state_of self.now) areas
-            → IsCallableAlong F.FnMut IsShownArea visit areas }
-        ensures { (areas : List Area) × AreFreeAreas (state_of self.now) areas
-            × ((last : F) × FoldsTo (λ p x q. CalledAt F.FnMut p x tt q) visit areas last) }
-    {
-        visit_free(&self.store.slots, visit);
-    }
-
-    /// Calls `visit` on each live id and its rectangle once, by rising number of the slot, which is the low 24 bits of
-    /// the id. Asks that `visit` may be called along that list, and no more: nothing else is called.
-    pub fn for_each_allocated_rectangle<F: FnMut(AllocId, &Rectangle)>(&self, visit: F)
-        requires { (grants : List Grant) → AreGrants (state_of self.now) grants
-            → IsCallableAlongGrants F.FnMut (IsShownGrant (state_of self.now)) visit grants }
-        ensures { (grants : List Grant) × AreGrants (state_of self.now) grants
-            × ((last : F) × FoldsTo (CalledAtGrant F.FnMut) visit grants last) }
-    {
-        visit_allocated(&self.store.slots, visit);
-    }
-
-    /// The live ids with their rectangles, by rising number of the slot. `Memory` is the only error.
-    pub fn allocations(&self) -> Result<Vec<Allocation, A>, AtlasError>
-        ensures unless { IsOkUnless result AtlasError.Memory }
-        ensures list { IfOk result (λ found. AreGrants (state_of self.now) found.items) }
-        ensures measurable { IfOk result (λ found. All (λ a. IsMeasurable a.rectangle) found.items) }
-    {
-        gather_allocated(*self.store.slots.allocator(), &self.store.slots)
-    }
-
-    /// The free rectangles, in an order that is left open. `Memory` is the only error.
-    pub fn free_rectangles(&self) -> Result<Vec<Rectangle, A>, AtlasError>
-        ensures unless { IsOkUnless result AtlasError.Memory }
-        ensures list { IfOk result (λ found. AreFreeAreas (state_of self.now) found.items) }
-        ensures measurable { IfOk result (λ found. All IsMeasurable found.items) }
-    {
-        gather_free(*self.store.slots.allocator(), &self.store.slots)
     }
 }
 

@@ -1,6 +1,6 @@
 //! Rounded sizes and classes, and what a search compares of the boxes that it is shown.
 ghost use Rattle.std.specs.Prelude.{◌≡◌, ◌-◌, ◌<◌, ◌≤◌, pos, ◌<ℤ◌, ◌≤ℤ◌, ◌↔◌, IsTrue, SomeIff};
-ghost use Rattle.guillotiere.specs.Boxes.{Fits, IsNonempty, IsPositive, Sides, box_sides};
+ghost use Rattle.guillotiere.specs.Boxes.{Fits, IsNonempty, IsPositive, box_sides};
 ghost use Rattle.guillotiere.specs.Choice.{AreValid, class_of, least_margin, reaches, rounded, up};
 ghost use Rattle.guillotiere.specs.Pixels.{box_of, natural, options_of, sides_of, size_of};
 ghost use Rattle.guillotiere.specs.Rectangles.{IsUnsigned};

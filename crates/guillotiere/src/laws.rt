@@ -34,32 +34,38 @@ ghost use Rattle.guillotiere.specs.Callers.{LiveAreGuarded};
 
 /// In a well formed tree of cuts each unit square of the atlas lies in exactly one leaf's box, and no
 /// such box is empty or passes the sides of the atlas.
+#[tactic(auto, using(crate::proofs::TreeLemmas::TreeTiling::leaves_tile))]
 pub fn tiling()
     ensures { LeavesTile }
 {}
 
 /// The areas of the leaves' boxes add up to the width times the height of the atlas.
+#[tactic(auto, using(crate::proofs::TreeLemmas::TreeTiling::areas_add_up))]
 pub fn areas()
     ensures { AreasAddUp }
 {}
 
 /// Ids may be freed in any order, in one go or one after another, and what is left is the same tree.
+#[tactic(auto, using(crate::proofs::TreeLemmas::TreeReleases::releases_in_any_order))]
 pub fn release_any_order()
     ensures { ReleasesInAnyOrder }
 {}
 
 /// A grant leaves no trace once it is freed, whatever is freed with it.
+#[tactic(auto, using(crate::proofs::TreeLemmas::TreeUndone::grant_undone))]
 pub fn grant_undone()
     ensures { GrantsAreUndone }
 {}
 
 /// A growth and a freeing may come in either order. Only where one free box is left may the two trees
 /// differ, in the axis and so the extent of that box, which is the whole atlas in both.
+#[tactic(auto, using(crate::proofs::TreeLemmas::TreeGrowth::growth_and_release_swap))]
 pub fn growth_released()
     ensures { GrowthAndReleaseSwap }
 {}
 
 /// A well formed normal tree without a live leaf is one free box, the whole atlas.
+#[tactic(auto, using(crate::proofs::TreeLemmas::TreeIdle::nothing_live))]
 pub fn nothing_live()
     ensures { NothingLiveIsOneFree }
 {}
@@ -83,12 +89,14 @@ pub fn grown_keeps()
 {}
 
 /// Right after a live box is freed, a free box has room for its sides.
+#[tactic(auto, using(crate::proofs::TreeLemmas::TreeRoom::freed_has_room))]
 pub fn freed_has_room()
     ensures { FreedHasRoom }
 {}
 
 /// A placing adds as many members as it needs, at most four; a growth as many as it needs, at most
 /// three; a freeing none.
+#[tactic(auto, using(crate::proofs::TreeLemmas::TreeCounts::members_are_counted))]
 pub fn counts()
     ensures { MembersAreCounted }
 {}
@@ -137,6 +145,7 @@ pub fn examples_of_choice()
 {}
 
 /// Worked picks, by computation.
+#[tactic(auto, using(crate::proofs::SearchLemmas::WorkedPicks::worked_picks))]
 pub fn examples_of_picks()
     // The highest of boxes that are equally good, and then the one furthest left.
     ensures tie { IsDefaultPick 10 10 alike_boxes (box 30 0 50 20) }
@@ -150,6 +159,7 @@ pub fn examples_of_picks()
 {}
 
 /// A worked rearranging, of three boxes: its order, its changes, its failure, and the limits that it would pass.
+#[tactic(auto, using(crate::proofs::StepLemmas::WorkedRefits::worked_refits))]
 pub fn examples_of_refits()
     ensures three { Shows (sides 10 10) three_boxes
         (grant 0 (box 0 0 10 3) ∷ grant 3 (box 0 3 5 10) ∷ grant 2 (box 5 3 10 10) ∷ []) [] 4 }
@@ -169,6 +179,7 @@ pub fn examples_of_refits()
 {}
 
 /// A worked run, with what it leaves once what it granted and still holds is freed.
+#[tactic(auto, using(crate::proofs::StepLemmas::WorkedRefits::five_run))]
 pub fn examples_of_runs()
     ensures run { Run one_older five_calls five_replies after_five }
     ensures held { since_five.held 5 ≡ true }
@@ -180,6 +191,7 @@ pub fn examples_of_runs()
 {}
 
 /// Each step from a sound state leads to a sound state.
+#[tactic(auto, using(crate::proofs::StepLemmas::StepKeeping::steps_keep))]
 pub fn steps_keep()
     ensures { StepsKeep }
 {}
@@ -190,6 +202,7 @@ pub fn picks_are_one()
 {}
 
 /// A request that has room has a pick.
+#[tactic(auto, using(crate::proofs::SearchLemmas::PickExistence::picks_exist))]
 pub fn picks_exist()
     ensures { PicksExist }
 {}
@@ -211,16 +224,19 @@ pub fn growths_keep_boxes()
 {}
 
 /// A rearranging moves each live id once or lists it as failed, and each moved box has its former sides.
+#[tactic(auto, using(crate::proofs::StepLemmas::StepEffects::rearrangings_lose_nothing))]
 pub fn rearrangings_lose_nothing()
     ensures { RearrangingsLoseNothing }
 {}
 
 /// A call that is refused, or has no room, changes nothing.
+#[tactic(auto, using(crate::proofs::StepLemmas::StepEffects::refusals_change_nothing))]
 pub fn refusals_change_nothing()
     ensures { RefusalsChangeNothing }
 {}
 
 /// A positive request that isn't refused for memory or slots is granted exactly if its rounded sides fit a free box.
+#[tactic(auto, using(crate::proofs::StepLemmas::DueAnswers::steps_answer_as_due))]
 pub fn steps_answer_as_due()
     ensures { StepsAnswerAsDue }
 {}
@@ -231,22 +247,26 @@ pub fn runs_keep_order()
 {}
 
 /// After a run the freeing of what it granted leaves the tree of the run without its grants.
+#[tactic(auto, using(crate::proofs::StepLemmas::Traces::runs_leave_no_trace))]
 pub fn runs_leave_no_trace()
     ensures { RunsLeaveNoTrace }
 {}
 
 /// From one state, if a request fits, each positive request no wider and no higher fits.
+#[tactic(auto, using(crate::proofs::SearchLemmas::PickExistence::smaller_fits))]
 pub fn smaller_fits()
     ensures { SmallerFits }
 {}
 
 /// Names in place of ids change nothing that a tree shows; placing, freeing and growing are the same under them.
+#[tactic(auto, using(crate::proofs::TreeLemmas::Renaming::renaming))]
 pub fn renaming()
     ensures { RenamingChangesNothing }
 {}
 
 /// Two sound states that are one but for their ids answer each grant, freeing and growth alike, where neither is
 /// refused for memory, and are one but for their ids after it.
+#[tactic(auto, using(crate::proofs::StepLemmas::Alike::alike_laws))]
 pub fn answers_without_ids()
     ensures alike { AnswersWithoutIds }
     // The names of ids that aren't live don't count.
@@ -254,48 +274,57 @@ pub fn answers_without_ids()
 {}
 
 /// The rounded side is at least the side and a multiple of the alignment, and no such multiple is smaller.
+#[tactic(auto, using(crate::proofs::StepLemmas::Existence::rounding_is_least))]
 pub fn rounding()
     ensures { RoundingIsLeast }
 {}
 
 /// An atlas of a positive size, with valid options and a limit of at least 1, starts in a sound state.
+#[tactic(auto, using(crate::proofs::StepLemmas::Existence::starts_are_sound))]
 pub fn starts_are_sound()
     ensures { StartsAreSound }
 {}
 
 /// From each sound state whose limit is at most 16777216 each call has a reply other than a refusal for memory, and a
 /// state that it leads to.
+#[tactic(auto, using(crate::proofs::StepLemmas::Existence::steps_exist))]
 pub fn steps_exist()
     ensures { StepsExist }
 {}
 
 /// In each sound state live and free boxes tile the atlas.
+#[tactic(auto, using(crate::proofs::StepLemmas::LiveBoxes::sound_is_tiled))]
 pub fn sound_is_tiled()
     ensures { SoundIsTiled }
 {}
 
 /// An id is live exactly if it has a box.
+#[tactic(auto, using(crate::proofs::StepLemmas::LiveBoxes::live_have_boxes))]
 pub fn live_ids_have_boxes()
     ensures { LiveHaveBoxes }
 {}
 
 /// The boxes of two live ids share no unit square, and lie apart.
+#[tactic(auto, using(crate::proofs::StepLemmas::LyingApart::live_share_nothing))]
 pub fn live_boxes_lie_apart()
     ensures { LiveShareNothing }
 {}
 
 /// Each live box is nonempty and lies within the atlas.
+#[tactic(auto, using(crate::proofs::StepLemmas::LyingApart::live_lie_within))]
 pub fn live_boxes_lie_within()
     ensures { LiveLieWithin }
 {}
 
 /// The live boxes are guarded: disjoint from each other and from the free boxes.
+#[tactic(auto, using(crate::proofs::StepLemmas::Guarding::live_are_guarded))]
 pub fn live_boxes_are_guarded()
     ensures { LiveAreGuarded }
 {}
 
 /// Along each run of a simple allocator, boxes that are held stay within it and disjoint from each other and from the
 /// free boxes, with those granted since.
+#[tactic(auto, using(crate::proofs::SimpleLemmas::SimpleRunning::simple_runs_keep_guard))]
 pub fn simple_runs_keep_guard()
     ensures { SimpleRunsKeepGuard }
 {}
@@ -307,6 +336,7 @@ pub fn guarded_are_disjoint()
 
 /// After a creation, a clearing and a reset of a simple allocator no box is held, and after a start from an atlas the
 /// boxes that are live there are.
+#[tactic(auto, using(crate::proofs::SimpleLemmas::SimpleRunning::simple_starts_guard))]
 pub fn simple_starts_guard()
     ensures { SimpleStartsGuard }
 {}

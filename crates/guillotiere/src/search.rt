@@ -1,12 +1,12 @@
 //! The search for the free box that a request takes, through the lists of a table.
-ghost use Rattle.std.specs.Prelude.{◌≡◌, ◌≢◌, ◌+◌, ◌*◌, ◌<◌, ◌≤◌, ◌↔◌, ℕ, true, map, IsTrue, List, None, IfSome};
+ghost use Rattle.std.specs.Prelude.{◌≡◌, ◌+◌, ◌*◌, ◌<◌, ◌≤◌, ◌⊎◌, ℕ, true, map, List, None, IfSome};
 ghost use Rattle.guillotiere.specs.Search.Bands.{IsInWindow};
-ghost use Rattle.guillotiere.specs.Boxes.{Box, Fits, IsPositive, Sides};
-ghost use Rattle.guillotiere.specs.Choice.{IsFitting, IsPick, Options, class_of};
-ghost use Rattle.guillotiere.specs.Search.Items.{IsShowable, item_at, item_sides};
-ghost use Rattle.guillotiere.specs.Search.Lookups.{AreFreeItems, AreListed, FitsNoneIn, HasAdded, HasSearched};
-ghost use Rattle.guillotiere.specs.Search.Lookups.{HasShown, IsBestIn, IsBeyond, IsInColumn, IsInRow, IsInsideWindow};
-ghost use Rattle.guillotiere.specs.Search.Lookups.{IsStanding, IsWindowOf};
+ghost use Rattle.guillotiere.specs.Boxes.{Box, IsPositive, Sides};
+ghost use Rattle.guillotiere.specs.Choice.{IsFitting, IsPick, Options};
+ghost use Rattle.guillotiere.specs.Search.Items.{IsShowable};
+ghost use Rattle.guillotiere.specs.Search.Lookups.{AreFreeItems, AreListed, HasAdded, HasSearched};
+ghost use Rattle.guillotiere.specs.Search.Lookups.{HasShown, IsBeyond, IsInColumn, IsInRow, IsInsideWindow};
+ghost use Rattle.guillotiere.specs.Search.Lookups.{IsSearch, IsStanding, IsWindowOf};
 ghost use Rattle.guillotiere.specs.Search.Masks.{IsMarked};
 ghost use Rattle.guillotiere.specs.Pixels.{box_of, options_of, sides_of};
 ghost use Rattle.guillotiere.specs.Search.Tables.{is_used_at};
@@ -20,12 +20,23 @@ pub mod table;
 use crate::choice::class;
 use crate::geometry::{Rectangle, Size};
 use crate::options::AllocatorOptions;
-use crate::search::bands::{BANDS, Place, Window, place_for, window_for};
+use crate::search::bands::{
+    BANDS, Borders, Place, Window, borders_for, class_from, place_for, window_for,
+};
 use crate::search::best::{Best, Found};
 use crate::search::masks::Mask;
 use crate::search::table::Table;
 use crate::slots::{Link, NO_SLOT};
 use std::alloc::Allocator;
+
+// What a search computes of a request: its list, whether it is large, and the borders of the classes.
+#[derive(Clone, Copy)]
+struct Request {
+    size: Size,
+    is_large: bool,
+    own: Place,
+    borders: Borders,
+}
 
 /// What a search reads of an entry of a list of free boxes.
 pub trait Entry {
@@ -50,10 +61,7 @@ fn show_list<E: Entry>(entries: &[E], head: Link, place: Place, best: &mut Best)
     best.begin_list();
     let mut at = head;
     let mut before = Link::NONE;
-    for _step in 0..entries.len() {
-        if at.number == NO_SLOT {
-            break;
-        }
+    while at.number != NO_SLOT {
         let entry = &entries[at.number as usize];
         best.look(entry.rectangle(), at, before, place);
         before = at;
@@ -160,6 +168,19 @@ fn rows_in<A: Allocator>(table: &Table<A>, window: Window, column: usize, first:
     table.column(column).from(from).below(window.end)
 }
 
+// The rows with a list that isn't empty in these columns.
+fn rows_with<A: Allocator>(table: &Table<A>, first: usize, end: usize) -> Mask
+    requires { end ≤ BANDS }
+    ensures { (i j : ℕ) → i < BANDS → first ≤ j → j < end → is_used_at table.now (52 * i + j) ≡ true
+        → IsMarked result i }
+{
+    let mut rows = Mask::none();
+    for column in first..end {
+        rows = rows.or(table.column(column));
+    }
+    rows
+}
+
 // Shows lists of these rows to a search, from a column on.
 fn search_rows<A: Allocator, E: Entry>(
     entries: &[E],
@@ -185,19 +206,16 @@ fn search_rows<A: Allocator, E: Entry>(
     }
 }
 
-// Whether each list of a window, from the request's own place on, is empty.
-fn are_empty<A: Allocator>(table: &Table<A>, window: Window, own: Place) -> bool
+// A row or column that each list with a slot reaches, of those from a place on.
+fn least_from<A: Allocator>(table: &Table<A>, own: Place) -> usize
     requires row { own.row < BANDS }
     requires column { own.column < BANDS }
-    requires end { window.end ≤ BANDS }
-    ensures { result ≡ true → (i j : ℕ) → own.row ≤ i → own.column ≤ j → IsInsideWindow window i j
-        → is_used_at table.now (52 * i + j) ≡ true → ⊥ }
+    ensures { (i j : ℕ) → i < BANDS → j < BANDS → own.row ≤ i → own.column ≤ j
+        → is_used_at table.now (52 * i + j) ≡ true → (result ≤ i) ⊎ (result ≤ j) }
 {
-    let right = table.row(own.row).from(own.column);
-    let columns = right.below(window.end);
-    let after = table.used().from(own.row + 1);
-    let rows = after.below(window.end);
-    columns.is_empty() && rows.is_empty()
+    let columns = table.row(own.row).from(own.column);
+    let rows = table.used().from(own.row + 1);
+    columns.or(rows).first()
 }
 
 // A search that was shown the free entries of a class: those with an equal side first, which stand in the request's row
@@ -205,50 +223,35 @@ fn are_empty<A: Allocator>(table: &Table<A>, window: Window, own: Place) -> bool
 fn search_class<A: Allocator, E: Entry>(
     entries: &[E],
     table: &Table<A>,
-    options: &AllocatorOptions,
-    size: Size,
+    request: Request,
     number: usize,
 ) -> Best
-    requires positive { IsPositive (sides_of size) }
-    requires class { number < 3 }
-    requires from { class_of (options_of options.now) (sides_of size) ≤ number }
-    requires listed { AreListed (options_of options.now) table.now (map E.item entries.now) }
-    ensures { HasSearched (options_of options.now) table.now (map E.item entries.now) number (sides_of size) result }
+    requires row { request.own.row < BANDS }
+    requires column { request.own.column < BANDS }
+    requires search { (o : Options) × IsSearch o table.now (map E.item entries.now) number request }
+    ensures { (o : Options) → IsSearch o table.now (map E.item entries.now) number request
+        → HasSearched o table.now (map E.item entries.now) number (sides_of request.size) result }
 {
-    let mut best = Best::new(size, class(size, options) == 2);
-    let own = place_for(size, options);
-    let window = window_for(number, options);
+    let mut best = Best::new(request.size, request.is_large);
+    let own = request.own;
+    let window = window_for(number, request.borders);
     let columns = columns_in(table, window, own.row, own.column);
     search_row(entries, table, own.row, columns, &mut best);
     let rows = rows_in(table, window, own.column, own.row + 1);
     search_column(entries, table, own.column, rows, &mut best);
     if !best.has_equal_side() {
-        let others = table.used().from(own.row + 1).below(window.end);
-        search_rows(entries, table, window, others, own.column + 1, &mut best);
+        let first = own.column + 1;
+        let others = rows_with(table, first, window.end).from(own.row + 1);
+        search_rows(
+            entries,
+            table,
+            window,
+            others.below(window.end),
+            first,
+            &mut best,
+        );
     }
     best
-}
-
-// The best free entry of a class.
-fn best_of_class<A: Allocator, E: Entry>(
-    entries: &[E],
-    table: &Table<A>,
-    options: &AllocatorOptions,
-    size: Size,
-    number: usize,
-) -> Option<Found>
-    requires positive { IsPositive (sides_of size) }
-    requires class { number < 3 }
-    requires from { class_of (options_of options.now) (sides_of size) ≤ number }
-    requires listed { AreListed (options_of options.now) table.now (map E.item entries.now) }
-    ensures none { result ≡ None → FitsNoneIn (options_of options.now) (map E.item entries.now) number (sides_of size) }
-    ensures some { IfSome result
-        (IsBestIn (options_of options.now) table.now (map E.item entries.now) number (sides_of size)) }
-{
-    if are_empty(table, window_for(number, options), place_for(size, options)) {
-        return None;
-    }
-    search_class(entries, table, options, size, number).best()
 }
 
 /// The free entry that a request of this rounded size takes.
@@ -260,17 +263,25 @@ pub fn pick<A: Allocator, E: Entry>(
 ) -> Option<Found>
     requires positive { IsPositive (sides_of size) }
     requires listed { AreListed (options_of options.now) table.now (map E.item entries.now) }
-    ensures none { result ≡ None → (i : ℕ) → (item_at (map E.item entries.now) i).is_free ≡ true
-        → Fits (sides_of size) (item_sides (item_at (map E.item entries.now) i)) → ⊥ }
-    ensures no_room { result ≡ None → (free : List Box) → AreFreeItems (map E.item entries.now) free → (b : Box)
+    ensures none { result ≡ None → (free : List Box) → AreFreeItems (map E.item entries.now) free → (b : Box)
         → IsFitting free (sides_of size) b → ⊥ }
     ensures picked { IfSome result
         (λ found. (free : List Box) → AreFreeItems (map E.item entries.now) free
         → IsPick free (options_of options.now) (sides_of size) (box_of found.rectangle)) }
     ensures standing { IfSome result (IsStanding (options_of options.now) table.now (map E.item entries.now)) }
 {
-    for number in class(size, options)..3 {
-        if let Some(found) = best_of_class(entries, table, options, size, number) {
+    let own_class = class(size, options);
+    let own = place_for(size, options);
+    let borders = borders_for(options);
+    let request = Request {
+        size,
+        is_large: own_class == 2,
+        own,
+        borders,
+    };
+    let first = class_from(least_from(table, own), borders).max(own_class);
+    for number in first..3 {
+        if let Some(found) = search_class(entries, table, request, number).best() {
             return Some(found);
         }
     }

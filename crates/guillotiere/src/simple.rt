@@ -1,18 +1,15 @@
 //! An allocator that hands out boxes and never takes one back.
-ghost use Rattle.std.specs.Prelude.{◌≡◌, ◌↔◌, Any, Contains, IsTrue, true, ℕ, ◌+◌, ◌<◌, ◌≤◌, ◌++◌, [], ◌∷◌, List, map};
-ghost use Rattle.std.specs.Prelude.{vec_len, vec_capacity, OnOk, OnErr, IfOk, IfSome, IsOkUnless};
-ghost use Rattle.guillotiere.specs.Boxes.{AreSameBoxes, Box, Fits, IsNonempty, IsPositive, Sides, box_sides};
-ghost use Rattle.guillotiere.specs.Choice.{AreValid, Options};
-ghost use Rattle.guillotiere.specs.Simple.BoxShelves.{AreKept, box_shelf, free_item_boxes, stored_item};
+ghost use Rattle.std.specs.Prelude.{◌≡◌, ◌↔◌, Any, IsTrue, true, ◌+◌, ◌<◌, ◌≤◌, ◌++◌, [], ◌∷◌, List};
+ghost use Rattle.std.specs.Prelude.{OnOk, OnErr, IfOk, IfSome, IsOkUnless};
+ghost use Rattle.guillotiere.specs.Boxes.{AreSameBoxes, Box, IsPositive, Sides, box_sides};
+ghost use Rattle.guillotiere.specs.Choice.{AreValid};
+ghost use Rattle.guillotiere.specs.Simple.BoxCalls.{AreFiledBoxes, HasEntriesFor, HasTakenEntries, IsFoundFor};
+ghost use Rattle.guillotiere.specs.Simple.BoxShelves.{AreKept, box_shelf, free_item_boxes};
 ghost use Rattle.guillotiere.specs.Simple.FreeLists.{kept_of, simple_state_of};
-ghost use Rattle.guillotiere.specs.Search.Items.{item_at};
-ghost use Rattle.guillotiere.specs.Slots.Links.{IsSolid};
-ghost use Rattle.guillotiere.specs.Search.Lookups.{IsStanding};
 ghost use Rattle.guillotiere.specs.Pixels.{box_of, options_of, rectangle_of, sides_of, size_of};
 ghost use Rattle.guillotiere.specs.Rectangles.{IsUnsigned};
 ghost use Rattle.guillotiere.specs.Simple.{IsGuarded, IsSimple, SimpleStep, is_kept, kept_rest, simple_answer};
 ghost use Rattle.guillotiere.specs.Simple.{simple_start};
-ghost use Rattle.guillotiere.specs.Slots.{no_slot};
 ghost use Rattle.guillotiere.specs.Simple.SimpleAtlasCall.{Allocate};
 
 pub mod boxes;
@@ -148,17 +145,12 @@ fn is_kept(part: Rectangle, options: &AllocatorOptions) -> bool
 
 // Adds a part if it is kept.
 fn keep<A: Allocator>(boxes: &mut FreeBoxes<A>, part: Rectangle, options: &AllocatorOptions)
-    requires valid { AreValid (options_of options.now) }
     requires unsigned { IsUnsigned part }
     requires kept { AreKept (options_of options.now) (box_shelf boxes.old) }
-    requires room { is_kept (options_of options.now) (box_of part) ≡ true
-        → vec_len boxes.old.entries < vec_capacity boxes.old.entries }
-    requires short { is_kept (options_of options.now) (box_of part) ≡ true → vec_len boxes.old.entries < no_slot }
-    ensures kept { AreKept (options_of options.now) (box_shelf boxes.new) }
-    ensures boxes { AreSameBoxes (free_item_boxes (box_shelf boxes.new).entries)
-        (kept_of (options_of options.now) (box_of part) ++ free_item_boxes (box_shelf boxes.old).entries) }
-    ensures length { vec_len boxes.new.entries ≤ vec_len boxes.old.entries + 1 }
-    ensures capacity { vec_capacity boxes.new.entries ≡ vec_capacity boxes.old.entries }
+    requires room { is_kept (options_of options.now) (box_of part) ≡ true → HasEntriesFor 1 boxes.old }
+    ensures boxes { AreFiledBoxes (options_of options.now) (kept_of (options_of options.now) (box_of part)) boxes.old
+        boxes.new }
+    ensures entries { HasTakenEntries 1 boxes.old boxes.new }
 {
     if is_kept(part, options) {
         boxes.add(part, options);
@@ -172,12 +164,7 @@ fn cut_picked<A: Allocator>(
     size: Size,
     options: &AllocatorOptions,
 ) -> Result<(), AtlasError>
-    requires valid { AreValid (options_of options.now) }
-    requires positive { IsPositive (sides_of size) }
-    requires fits { Fits (sides_of size) (box_sides (box_of found.rectangle)) }
-    requires kept { AreKept (options_of options.now) (box_shelf boxes.old) }
-    requires standing { IsStanding (options_of options.now) (box_shelf boxes.old).heads (box_shelf boxes.old).entries
-        found }
+    requires { IsFoundFor (options_of options.now) found (sides_of size) boxes.old }
     ensures unless { IsOkUnless result AtlasError.Memory }
     ensures kept { AreKept (options_of options.now) (box_shelf boxes.new) }
     ensures ok { OnOk result
@@ -200,8 +187,7 @@ fn grant<A: Allocator>(
     requested_size: Size,
     options: &AllocatorOptions,
 ) -> Result<Option<Rectangle>, AtlasError>
-    requires valid { AreValid (options_of options.now) }
-    requires kept { AreKept (options_of options.now) (box_shelf boxes.old) }
+    requires { AreKept (options_of options.now) (box_shelf boxes.old) }
     ensures unless { IsOkUnless result AtlasError.Memory }
     ensures kept { AreKept (options_of options.now) (box_shelf boxes.new) }
     ensures unsigned { IfOk result (λ granted. IfSome granted IsUnsigned) }

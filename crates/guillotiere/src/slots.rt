@@ -2,7 +2,7 @@
 ghost use Rattle.std.specs.Prelude.{◌≡◌, ◌<◌, length, slice_set};
 ghost use Rattle.guillotiere.specs.Slots.{nodes, rings, node_at, ring_at};
 ghost use Rattle.guillotiere.specs.Slots.SlotCalls.{IsChildLifted, IsFreePair, IsLeafFreed, IsLoneLeaf, IsNextJoined};
-ghost use Rattle.guillotiere.specs.Slots.Standing.{IsTree, IsWhole, IsSlot, with_previous};
+ghost use Rattle.guillotiere.specs.Slots.Standing.{IsTree, IsWhole, IsSlot, with_kind, with_previous};
 ghost use Rattle.guillotiere.specs.declared.slots.NodeKind.TheVariants.{Alloc};
 
 pub mod batch;
@@ -106,6 +106,17 @@ pub fn write_ring(slots: &mut [Slot], at: Link, ring: Ring)
     slot.ring = ring;
 }
 
+/// What a slot is used for from now on.
+pub fn set_kind(slots: &mut [Slot], at: Link, kind: NodeKind)
+    requires { at.number < length slots.old }
+    ensures written { nodes slots.new ≡ with_kind (nodes slots.old) at.number kind }
+    ensures same_rings { rings slots.new ≡ rings slots.old }
+{
+    let mut node = read_node(slots, at);
+    node.kind = kind;
+    write_node(slots, at, node);
+}
+
 /// What stands at `at`, if that is a slot, follows `previous` from now on.
 pub fn set_previous(slots: &mut [Slot], at: Link, previous: Link)
     requires inside { IsSlot (length slots.old) at.number }
@@ -126,9 +137,7 @@ pub fn mark_free(slots: &mut [Slot], slot: Link)
     requires allocated { (node_at (nodes slots.old) slot.number).kind ≡ Alloc }
     ensures { IsLeafFreed slots.old slots.new slot.number }
 {
-    let mut node = read_node(slots, slot);
-    node.kind = NodeKind::Free;
-    write_node(slots, slot, node);
+    set_kind(slots, slot, NodeKind::Free);
 }
 
 /// One turn of a freeing: a free leaf takes in the next one, which is free too. The answer is the slot of the next one,
@@ -142,14 +151,13 @@ pub fn join_next(slots: &mut [Slot], slot: Link) -> Link
 {
     let mut this = read_node(slots, slot);
     let next_slot = this.next;
-    let mut next = read_node(slots, next_slot);
+    let next = read_node(slots, next_slot);
     let after_slot = next.next;
     this.next = after_slot;
     this.area.max = next.area.max;
     write_node(slots, slot, this);
     set_previous(slots, after_slot, slot);
-    next.kind = NodeKind::Unused;
-    write_node(slots, next_slot, next);
+    set_kind(slots, next_slot, NodeKind::Unused);
     next_slot
 }
 
@@ -162,12 +170,8 @@ pub fn lift(slots: &mut [Slot], child: Link) -> Link
     ensures parent { result ≡ (node_at (nodes slots.old) child.number).parent }
     ensures lifted { IsChildLifted slots.old slots.new result.number child.number }
 {
-    let mut inner = read_node(slots, child);
-    let container = inner.parent;
-    let mut outer = read_node(slots, container);
-    outer.kind = NodeKind::Free;
-    write_node(slots, container, outer);
-    inner.kind = NodeKind::Unused;
-    write_node(slots, child, inner);
+    let container = read_node(slots, child).parent;
+    set_kind(slots, container, NodeKind::Free);
+    set_kind(slots, child, NodeKind::Unused);
     container
 }

@@ -2,7 +2,6 @@
 ghost use Rattle.std.specs.Prelude.{◌≡◌, ◌≢◌, ◌<◌, ◌≤◌, ◌↔◌, ℕ, true, false, IsTrue, IfOk, length};
 ghost use Rattle.guillotiere.specs.declared.slots.NodeKind.TheVariants.{Alloc, Free};
 ghost use Rattle.guillotiere.specs.Trees.{most_slots};
-ghost use Rattle.guillotiere.specs.Pixels.{natural};
 ghost use Rattle.guillotiere.specs.Search.Bands.{number_of};
 ghost use Rattle.guillotiere.specs.Slots.{no_slot};
 ghost use Rattle.guillotiere.specs.Slots.Standing.{IsSlot};
@@ -16,7 +15,7 @@ pub mod turns;
 use crate::options::AllocatorOptions;
 use crate::search::bands::Place;
 use crate::search::table::Table;
-use crate::slots::lists::{enlist, give_back, take_slot, unlist};
+use crate::slots::lists::{enlist, give_back, take_slot, unlist, unlist_at};
 use crate::slots::placing::{grant_leaf, split_leaf, wrap_leaf};
 use crate::slots::{Link, NO_SLOT, Node, NodeKind, Slot, join_next, lift, mark_free, read_node};
 use crate::store::turns::Turns;
@@ -35,10 +34,10 @@ pub struct Store<A: Allocator> {
 
 impl<A: Allocator> Store<A> {
     ghost use Rattle.guillotiere.specs.Store.Holdings.{shelf_of, node_in, across_of, HasSlotsFor, IsHeld, IsLooseLeaf};
-    ghost use Rattle.guillotiere.specs.Store.StoreCalls.{HasInHand, IsGranted, IsJoined, IsLifted, IsListed, IsLoose};
-    ghost use Rattle.guillotiere.specs.Store.StoreCalls.{IsMarkedFree, IsReadyFor, IsSharpened, IsSlotTaken, IsSplit};
-    ghost use Rattle.guillotiere.specs.Store.StoreCalls.{IsSplitWith, IsUnlisted, IsWrapped, IsWrappedTwo};
-    ghost use Rattle.guillotiere.specs.Store.StoreCalls.{IsWrappedWith};
+    ghost use Rattle.guillotiere.specs.Store.StoreCalls.{HasInHand, IsGranted, IsJoined, IsLifted, IsListed};
+    ghost use Rattle.guillotiere.specs.Store.StoreCalls.{IsListedAt, IsLoose, IsMarkedFree, IsReadyFor, IsSharpened};
+    ghost use Rattle.guillotiere.specs.Store.StoreCalls.{IsSlotTaken, IsSplit, IsSplitWith, IsUnlisted, IsWrapped};
+    ghost use Rattle.guillotiere.specs.Store.StoreCalls.{IsWrappedTwo, IsWrappedWith};
 
     /// A copy: the same slots and lists, in new memory of the same allocator. No turn was taken in it yet.
     pub fn copy(&self) -> Result<Store<A>, AllocError>
@@ -84,6 +83,14 @@ impl<A: Allocator> Store<A> {
         unlist(&mut self.slots, &mut self.lists, &self.options, at);
     }
 
+    /// Takes a free leaf out of the list where it stands.
+    pub fn unlist_at(&mut self, at: Link, place: Place)
+        requires { IsListedAt self.old at.number place }
+        ensures { IsUnlisted self.old self.new at.number }
+    {
+        unlist_at(&mut self.slots, &mut self.lists, at, place);
+    }
+
     /// No slot of a list lies above this strip.
     pub fn sharpen(&mut self, place: Place, low: u8)
         requires row { place.row < 52 }
@@ -118,11 +125,11 @@ impl<A: Allocator> Store<A> {
     }
 
     // A loose leaf keeps the first `extent` pixels along its axis, and the slot in hand takes the rest.
-    fn split_with(&mut self, at: Link, fresh: Link, extent: i32)
+    fn split_with(&mut self, at: Link, fresh: Link, extent: u32)
         requires hand { HasInHand self.old at.number fresh.number }
-        requires positive { 0 < natural extent }
-        requires less { natural extent < extent_of (node_in (shelf_of self.old) at.number) }
-        ensures { IsSplitWith self.old self.new at fresh (natural extent) }
+        requires positive { 0 < extent }
+        requires less { extent < extent_of (node_in (shelf_of self.old) at.number) }
+        ensures { IsSplitWith self.old self.new at fresh extent }
     {
         split_leaf(&mut self.slots, at, fresh, extent);
     }
@@ -137,11 +144,11 @@ impl<A: Allocator> Store<A> {
 
     /// A loose leaf keeps the first `extent` pixels along its axis; the slot that is returned takes the rest, and is
     /// loose too.
-    pub fn split(&mut self, at: Link, extent: i32) -> Link
+    pub fn split(&mut self, at: Link, extent: u32) -> Link
         requires ready { IsReadyFor 1 self.old at.number }
-        requires positive { 0 < natural extent }
-        requires less { natural extent < extent_of (node_in (shelf_of self.old) at.number) }
-        ensures { IsSplit self.old self.new at.number result.number (natural extent) }
+        requires positive { 0 < extent }
+        requires less { extent < extent_of (node_in (shelf_of self.old) at.number) }
+        ensures { IsSplit self.old self.new at.number result.number extent }
     {
         let fresh = self.take();
         self.split_with(at, fresh, extent);
@@ -160,11 +167,11 @@ impl<A: Allocator> Store<A> {
 
     /// A loose leaf becomes a container of two, the first with `extent` pixels along the other axis; the slot of the
     /// second is taken before that of the first. Both are loose.
-    pub fn wrap_two(&mut self, at: Link, extent: i32) -> (Link, Link)
+    pub fn wrap_two(&mut self, at: Link, extent: u32) -> (Link, Link)
         requires ready { IsReadyFor 2 self.old at.number }
-        requires positive { 0 < natural extent }
-        requires less { natural extent < across_of (node_in (shelf_of self.old) at.number) }
-        ensures { IsWrappedTwo self.old self.new at.number result.0.number result.1.number (natural extent) }
+        requires positive { 0 < extent }
+        requires less { extent < across_of (node_in (shelf_of self.old) at.number) }
+        ensures { IsWrappedTwo self.old self.new at.number result.0.number result.1.number extent }
     {
         let back = self.take();
         let front = self.take();

@@ -5,7 +5,7 @@ ghost use Rattle.guillotiere.specs.Boxes.{IsPositive, Fits, box_sides, side, oth
 ghost use Rattle.guillotiere.specs.Cuts.{cut, cut_axis};
 ghost use Rattle.guillotiere.specs.Cuts.Cut.{Whole, Strip, Corner};
 ghost use Rattle.guillotiere.specs.Slots.{axis_of};
-ghost use Rattle.guillotiere.specs.Pixels.{box_of, rectangle_of, sides_of, natural};
+ghost use Rattle.guillotiere.specs.Pixels.{box_of, rectangle_of, sides_of};
 ghost use Rattle.guillotiere.specs.Slots.Reading.{extent_of};
 ghost use Rattle.guillotiere.specs.Stored.{Holding};
 ghost use Rattle.guillotiere.specs.Store.Holdings.{shelf_of, across_of, KeepsRoom};
@@ -29,13 +29,13 @@ pub enum Plan {
     /// The leaf is granted whole.
     Whole,
     /// The leaf is cut along its sequence.
-    StripAlong(i32),
+    StripAlong(u32),
     /// It is cut along its sequence, and its first part across.
-    CornerAlong(i32, i32),
+    CornerAlong(u32, u32),
     /// It becomes a container, and is cut across.
-    StripAcross(i32),
+    StripAcross(u32),
     /// It becomes a container, is cut across, and its first part along.
-    CornerAcross(i32, i32),
+    CornerAcross(u32, u32),
 }
 
 /// How many slots a plan takes.
@@ -71,6 +71,22 @@ fn equal_sides(whole: Size, size: Size) -> u32
     }
 }
 
+// The axis on which the greater part remains. Where a side is equal, nothing remains on its axis.
+fn remaining_axis(whole: Size, size: Size) -> Orientation
+    requires whole { IsPositive (sides_of whole) }
+    requires positive { IsPositive (sides_of size) }
+    requires fits { Fits (sides_of size) (sides_of whole) }
+    ensures { axis_of result ≡ cut_axis (sides_of whole) (sides_of size) }
+{
+    if whole.width == size.width {
+        Orientation::Vertical
+    } else if whole.height == size.height {
+        Orientation::Horizontal
+    } else {
+        orientation_of(whole, size)
+    }
+}
+
 // Whether the greater part remains along this axis.
 fn remains_along(whole: Size, size: Size, axis: Orientation) -> bool
     requires whole { IsPositive (sides_of whole) }
@@ -79,17 +95,20 @@ fn remains_along(whole: Size, size: Size, axis: Orientation) -> bool
     ensures along { result ≡ true → cut_axis (sides_of whole) (sides_of size) ≡ axis_of axis }
     ensures across { result ≡ false → cut_axis (sides_of whole) (sides_of size) ≡ other (axis_of axis) }
 {
-    orientation_of(whole, size) == axis
+    remaining_axis(whole, size) == axis
 }
 
 // The pixels of a size along an axis, and those across it.
-fn along_and_across(size: Size, axis: Orientation) -> (i32, i32)
-    ensures along { natural result.0 ≡ side (axis_of axis) (sides_of size) }
-    ensures across { natural result.1 ≡ side (other (axis_of axis)) (sides_of size) }
+fn along_and_across(size: Size, axis: Orientation) -> (u32, u32)
+    requires { IsPositive (sides_of size) }
+    ensures along { result.0 ≡ side (axis_of axis) (sides_of size) }
+    ensures across { result.1 ≡ side (other (axis_of axis)) (sides_of size) }
 {
+    let width = size.width as u32;
+    let height = size.height as u32;
     match axis {
-        Orientation::Horizontal => (size.width, size.height),
-        Orientation::Vertical => (size.height, size.width),
+        Orientation::Horizontal => (width, height),
+        Orientation::Vertical => (height, width),
     }
 }
 
@@ -137,7 +156,7 @@ pub fn place<A: Allocator>(store: &mut Store<A>, at: Link, plan: Plan) -> Link
     }
 }
 
-fn strip_along<A: Allocator>(store: &mut Store<A>, at: Link, along: i32) -> Link
+fn strip_along<A: Allocator>(store: &mut Store<A>, at: Link, along: u32) -> Link
     requires { IsPlaceable store.old at.number (Plan.StripAlong along) }
     ensures { IsPlaced store.old store.new at.number result.number (Plan.StripAlong along) }
 {
@@ -147,7 +166,7 @@ fn strip_along<A: Allocator>(store: &mut Store<A>, at: Link, along: i32) -> Link
     at
 }
 
-fn corner_along<A: Allocator>(store: &mut Store<A>, at: Link, along: i32, across: i32) -> Link
+fn corner_along<A: Allocator>(store: &mut Store<A>, at: Link, along: u32, across: u32) -> Link
     requires { IsPlaceable store.old at.number (Plan.CornerAlong along across) }
     ensures { IsPlaced store.old store.new at.number result.number (Plan.CornerAlong along across) }
 {
@@ -160,7 +179,7 @@ fn corner_along<A: Allocator>(store: &mut Store<A>, at: Link, along: i32, across
     granted
 }
 
-fn strip_across<A: Allocator>(store: &mut Store<A>, at: Link, across: i32) -> Link
+fn strip_across<A: Allocator>(store: &mut Store<A>, at: Link, across: u32) -> Link
     requires { IsPlaceable store.old at.number (Plan.StripAcross across) }
     ensures { IsPlaced store.old store.new at.number result.number (Plan.StripAcross across) }
 {
@@ -170,7 +189,7 @@ fn strip_across<A: Allocator>(store: &mut Store<A>, at: Link, across: i32) -> Li
     granted
 }
 
-fn corner_across<A: Allocator>(store: &mut Store<A>, at: Link, along: i32, across: i32) -> Link
+fn corner_across<A: Allocator>(store: &mut Store<A>, at: Link, along: u32, across: u32) -> Link
     requires { IsPlaceable store.old at.number (Plan.CornerAcross along across) }
     ensures { IsPlaced store.old store.new at.number result.number (Plan.CornerAcross along across) }
 {

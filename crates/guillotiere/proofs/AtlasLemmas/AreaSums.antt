@@ -1,31 +1,31 @@
 -- The areas of the leaves that slots hold, added up.
-use Rattle.std.proofs.Common.{ℕ, ◌+◌, ◌*◌, ◌<◌, ◌^◌, ◌≡◌, Bool, true, false, cond, List, [], ◌∷◌, map, All, get_or, drop, length, refl, sym, ap, subst, ◌∙◌, arith}
-use Rattle.std.specs.List.{sum_by}
-use Rattle.std.proofs.lemmas.Nat.{mul-lt}
+use Rattle.std.proofs.Common.{rules, ℕ, ◌+◌, ◌*◌, ◌<◌, ◌^◌, ◌≡◌, Bool, true, false, cond, List, [], ◌∷◌, map, All}
+use Rattle.std.proofs.Common.{get_or, drop, length, refl, sym, ap, subst, ◌∙◌, arith}
 use Rattle.std.proofs.lemmas.List.{at_drop_more}
 use Rattle.std.proofs.lemmas.List.Elements.{All-nil, All-cons, All-head, All-rest}
 use Rattle.std.proofs.lemmas.List.Sums.{sum_by-cons, sum_by-append}
-use denote.Enum.Bare.{sameb}
-use Rattle.guillotiere.specs.contracts.slots.NodeKind.{the_type}
-use Rattle.guillotiere.specs.declared.slots.Slot.{Slot}
-use Rattle.guillotiere.specs.declared.slots.Node.{Node}
-use Rattle.guillotiere.specs.declared.slots.NodeKind.TheVariants as kind
-use Rattle.guillotiere.specs.declared.allocation.Allocation.{Allocation}
-use Rattle.guillotiere.specs.declared.geometry.Rectangle.{Rectangle}
+use Rattle.std.proofs.lemmas.Nat.{mul-lt}
+use Rattle.std.specs.List.{sum_by}
 use Rattle.guillotiere.specs.Boxes.{Axis, Sides, area, other, side}
 use Rattle.guillotiere.specs.Boxes.Axis.{Horizontal, Vertical}
 use Rattle.guillotiere.specs.Pixels.{box_of, sides_of}
-use Rattle.guillotiere.specs.Trees.{Grant, live, free_boxes, total}
-use Rattle.guillotiere.specs.Slots.Numbered.{erase}
-use Rattle.guillotiere.specs.States.{live_in, free_in}
-use Rattle.guillotiere.specs.Slots.{nodes}
-use Rattle.guillotiere.specs.Slots.Lists.{is_free}
 use Rattle.guillotiere.specs.Replies.{grant_of}
+use Rattle.guillotiere.specs.Slots.{nodes}
+use Rattle.guillotiere.specs.Slots.Areas.{live_areas, area_sum}
+use Rattle.guillotiere.specs.Slots.Lists.{is_free}
 use Rattle.guillotiere.specs.Slots.Reading.{tree_of}
+use Rattle.guillotiere.specs.States.{live_in, free_in}
 use Rattle.guillotiere.specs.Stored.{Stored, IsAtlas, state_of}
+use Rattle.guillotiere.specs.Trees.{Grant, live, free_boxes}
 use Rattle.guillotiere.specs.Visits.{is_alloc, allocation_at, allocated_from, free_areas}
 use Rattle.guillotiere.specs.Walks.{IsShownArea}
-use Rattle.guillotiere.specs.Slots.Areas.{live_areas, area_sum}
+use Rattle.guillotiere.specs.contracts.slots.NodeKind.{the_type}
+use Rattle.guillotiere.specs.declared.allocation.Allocation.{Allocation}
+use Rattle.guillotiere.specs.declared.geometry.Rectangle.{Rectangle}
+use Rattle.guillotiere.specs.declared.slots.Node.{Node}
+use Rattle.guillotiere.specs.declared.slots.Slot.{Slot}
+use denote.Enum.Bare.{sameb}
+use Rattle.guillotiere.specs.declared.slots.NodeKind.TheVariants as kind
 use Rattle.guillotiere.proofs.TreeLemmas.BoxLists.{areas_of_boxes}
 use Rattle.guillotiere.proofs.ListLemmas.CountSums.{sum_by-counts}
 use Rattle.guillotiere.proofs.AtlasLemmas.Observing.{live-IsAtlas, free-IsAtlas, tree_of-IsAtlas}
@@ -148,21 +148,11 @@ module _ (v : Stored) (a : IsAtlas v) (turns : ℕ) where
 
   pub areas-IsAtlas : sum_by (λ (g : Grant). area g.box) (live_in (state_of (record { stored = v; turns = turns }))) + sum_by area (free_in (state_of (record { stored = v; turns = turns })))
       ≡ (sides_of v.size).width * (sides_of v.size).height
-  areas-IsAtlas =
-      let s = state_of (record { stored = v; turns = turns }) in
-      omega (
-        arith,
-        areas_of_boxes s.size s.tree a.sound.well_formed,
-        sum_by-append area (map (λ (g : Grant). g.box) (live_in s)) (free_in s),
-        sum_by-map area (λ (g : Grant). g.box) (live_in s),
-      )
+  areas-IsAtlas = search (rules, areas_of_boxes, sum_by-append, sum_by-map)
 
   -- Both sides are below 2 ^ 31.
   small-IsAtlas : ((sides_of v.size).width < 2 ^ 31) × ((sides_of v.size).height < 2 ^ 31)
-  small-IsAtlas =
-      let along : total (erase a.holding.tree) ≡ side a.holding.sequence.axis (sides_of v.size) =
-      subst (λ t. total t.members ≡ side t.axis (sides_of v.size)) (tree_of-IsAtlas v a) a.sound.well_formed.along in
-      sides_small a.holding.sequence.axis (sides_of v.size) (omega (arith, along, a.holds.along)) (omega (arith, a.across, a.holds.across))
+  small-IsAtlas = grind (arith, tree_of-IsAtlas, sides_small)
 
   area_fits : (sides_of v.size).width * (sides_of v.size).height < 2 ^ 31 * 2 ^ 31
   area_fits = mul-lt _ _ _ _ small-IsAtlas.0 small-IsAtlas.1

@@ -1,21 +1,24 @@
 -- Freeing the box of a live id in an atlas.
-use Rattle.std.proofs.Common.{ℕ, ◌+◌, ◌-◌, ◌/◌, ◌^◌, ◌<◌, ◌≤◌, ◌≡◌, ◌↔◌, max, Bool, true, false, List, Option, Some, None, length, refl, sym, ap, subst, ◌∙◌, arith, Contains}
-use Rattle.std.specs.Option.{IfSome, IfNone, is_some}
+use Rattle.std.proofs.Common.{ℕ, ◌+◌, ◌-◌, ◌/◌, ◌^◌, ◌<◌, ◌≤◌, ◌≡◌, ◌↔◌, Bool, true, false, List, Option, Some, None}
+use Rattle.std.proofs.Common.{length, refl, sym, ap, subst, ◌∙◌, arith, Contains}
 use Rattle.std.proofs.lemmas.Bool.{and_parts, eqb-true, false≢true}
-use Rattle.guillotiere.specs.declared.slots.Slot.{Slot}
-use Rattle.guillotiere.specs.declared.slots.Node.{Node}
-use Rattle.guillotiere.specs.declared.slots.NodeKind.TheVariants as kind
-use Rattle.guillotiere.specs.Pixels.{options_of}
-use Rattle.guillotiere.specs.Trees.{Tree, ids, IsNormal, slot_of}
-use Rattle.guillotiere.specs.Trees as tree
+use Rattle.std.specs.Option.{IfNone, is_some}
 use Rattle.guillotiere.specs.Changes.{nf, mark, only, release}
-use Rattle.guillotiere.specs.States.{State, IsSound, after_freeing, used_in}
+use Rattle.guillotiere.specs.Pixels.{options_of}
 use Rattle.guillotiere.specs.Slots.{nodes, node_at, use_count, no_slot}
-use Rattle.guillotiere.specs.Slots.Numbered.{Numbered, tally, first_slot, numbers, erase, id_of, End, Free, Alloc, Seq}
+use Rattle.guillotiere.specs.Slots.Numbered.{Numbered, tally, first_slot, erase, id_of}
 use Rattle.guillotiere.specs.Slots.Reading.{tree_of}
-use Rattle.guillotiere.specs.Stored.{Stored, Shelf, Holding, IsAtlas, state_of}
-use Rattle.guillotiere.specs.Visits.{is_named}
+use Rattle.guillotiere.specs.States.{State, IsSound, after_freeing, used_in}
 use Rattle.guillotiere.specs.Store.Freeing.{IsFreeable, IsFreed}
+use Rattle.guillotiere.specs.Stored.{Stored, Shelf, Holding, IsAtlas, state_of}
+use Rattle.guillotiere.specs.Trees.{Tree, ids, slot_of}
+use Rattle.guillotiere.specs.Visits.{is_named}
+use Rattle.guillotiere.specs.declared.slots.Node.{Node}
+use Rattle.guillotiere.specs.declared.slots.Slot.{Slot}
+use Rattle.std.specs.Option.{IfSome}
+use Rattle.guillotiere.specs.declared.slots.NodeKind.TheVariants as kind
+use Rattle.guillotiere.specs.Trees as tree
+use Rattle.guillotiere.specs.Slots.Numbered.{End, Free, Alloc, Seq}
 use Rattle.guillotiere.proofs.SlotLemmas.Frames.{same-self}
 use Rattle.guillotiere.proofs.SlotLemmas.JoiningWrites.{none-unused, used-inside}
 use Rattle.guillotiere.proofs.SlotLemmas.Reading.{IsNonempty, tree_of-Stands}
@@ -47,10 +50,7 @@ named-parts ns id h =
 -- The state after a freeing, of its parts.
 pub state-freed : (new old : State) (set : ℕ → Bool) → new.tree ≡ release set old.tree → new.size ≡ old.size → new.options ≡ old.options → new.limit ≡ old.limit → new.kept ≡ old.kept
     → IsSound old → new ≡ after_freeing old set
-state-freed new old set et es eo el ek sound =
-    let few = release_nodes set old.tree in
-    let kept : new.kept ≡ max old.kept (tree.node_count (release set old.tree).members) = omega (arith, few, sound.counted, ek) in
-    rw (← kept, ← et, ← es, ← eo, ← el) refl
+state-freed new old set et es eo el ek sound = grind (arith, release_nodes)
 
 -- As many turns more as members fewer, and one.
 pub turns-sum : (now before n used used' : ℕ) → now ≡ before + 1 + n → used' + n ≡ used → now + used' ≡ before + 1 + used
@@ -77,20 +77,12 @@ module _ (v : Stored) (a : IsAtlas v) (id : ℕ) where
   -- Whether a slot was found says whether the id is live.
   pub live-found : (slots : List Slot) (o : Option ℕ) → slots ≡ v.shelf.slots → IfSome o (λ at. is_named (nodes slots) id ≡ true) → IfNone o (is_named (nodes slots) id ≡ false)
       → (is_some o ≡ true) ↔ Contains (ids (tree_of (nodes v.shelf.slots)).members) id
-  live-found slots None same found missed =
-      ((λ t. absurd (false≢true t)), (λ live. absurd (false≢true (sym missed ∙ ap (λ l. is_named (nodes l) id) same ∙ live-named live))))
+  live-found slots None same found missed = grind (arith, false≢true, live-named)
   live-found slots (Some at) same found missed = ((λ _. named-live (ap (λ l. is_named (nodes l) id) (sym same) ∙ found)), (λ _. refl))
 
   -- The slot of a live id can be freed.
   pub freeable : (at : ℕ) → at ≡ slot_of id → Contains (ids (tree_of (nodes v.shelf.slots)).members) id → IsFreeable v.shelf at a.holding
-  freeable at same live =
-      let is = named-parts (nodes v.shelf.slots) id (live-named live) in
-      record {
-        holds = a.holds;
-        only = a.at_rest;
-        normal = subst IsNormal (members-IsAtlas v a) a.sound.normal;
-        granted = ap (λ k. (node_at (nodes v.shelf.slots) k).kind) same ∙ is.kind;
-      }
+  freeable at same live = grind (arith, named-parts, live-named, members-IsAtlas)
 
   -- What is left of a freeing.
   module _ (u : Shelf) (n : ℕ) (h : Holding) (live : Contains (ids (tree_of (nodes v.shelf.slots)).members) id)
@@ -134,13 +126,7 @@ module _ (v : Stored) (a : IsAtlas v) (id : ℕ) where
     -- As many members fewer as slots were given back.
     pub used-IsFreed : (m turns before : ℕ) → used_in (state_of (record { stored = record { shelf = u; first = v.first; used = m; size = v.size; limit = v.limit }; turns = turns })) + n
         ≡ used_in (state_of (record { stored = v; turns = before }))
-    used-IsFreed m turns before =
-        let now : tree.node_count (tree_of (nodes u.slots)).members ≡ tree.node_count (nf (mark (only id) (tree_of (nodes v.shelf.slots)).members)) = ap (λ t. tree.node_count t.members) tree-freed in
-        let is = named-parts (nodes v.shelf.slots) id (live-named live) in
-        let less : tree.node_count (erase h.tree) ≡ tree.node_count (nf (mark (only id) (tree_of (nodes v.shelf.slots)).members)) =
-        ap tree.node_count (freed.tree ∙ ap (λ k. nf (mark (only k) (erase a.holding.tree))) is.names ∙ ap (λ k. nf (mark (only id) k)) (sym (members-IsAtlas v a))) in
-        let old : tree.node_count (tree_of (nodes v.shelf.slots)).members ≡ numbers a.holding.tree = ap tree.node_count (members-IsAtlas v a) ∙ sym (numbers-erase a.holding.tree) in
-        omega (arith, now, less, old, numbers-erase h.tree, freed.given)
+    used-IsFreed m turns before = grind (arith, tree-freed, named-parts, live-named, members-IsAtlas, numbers-erase)
 
 -- What a call that frees the leaf of a live id leaves: n slots were given back.
 pub record FreesBox (v : Stored) (u : Shelf) (id n : ℕ) : Type 0 where

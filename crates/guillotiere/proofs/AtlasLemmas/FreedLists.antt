@@ -1,16 +1,17 @@
 -- Freeing the ids of a list one after another.
-use Rattle.std.proofs.Common.{ℕ, ◌+◌, ◌≤◌, ◌<◌, ◌≡◌, Bool, true, false, cond, List, [], ◌∷◌, length, drop, get_or, refl, sym, ap, subst, ◌∙◌, inl, inr, arith, Contains}
-use Rattle.std.proofs.lemmas.Bool.{ne_eqb, eqb-false, true≢false}
+use Rattle.std.proofs.Common.{ℕ, ◌+◌, ◌≤◌, ◌<◌, ◌≡◌, Bool, true, false, cond, List, [], ◌∷◌, length, drop, get_or, refl}
+use Rattle.std.proofs.Common.{sym, ap, subst, ◌∙◌, inl, inr, arith, Contains}
+use Rattle.std.proofs.lemmas.Bool.{ne_eqb, eqb-false}
 use Rattle.std.proofs.lemmas.List.{drop_more, drop_all}
 use Rattle.std.proofs.lemmas.List.Elements.{Contains-append_left, Contains-append_right, Contains-append_cases}
-use Rattle.guillotiere.specs.Trees.{Members, Tree, ids}
-use Rattle.guillotiere.specs.Trees as tree
-use Rattle.guillotiere.specs.Changes.{mark, only, release}
-use Rattle.guillotiere.specs.Laws.TreeLaws.{is_among}
-use Rattle.guillotiere.specs.States.{State, IsSound, IsLive, after_freeing}
-use Rattle.guillotiere.specs.Slots.{nodes}
-use Rattle.guillotiere.specs.Stored.{Stored, IsAtlas, state_of}
 use Rattle.guillotiere.specs.Batches.{AreLiveOnce, AreNamedOnce}
+use Rattle.guillotiere.specs.Changes.{mark, only}
+use Rattle.guillotiere.specs.Laws.TreeLaws.{is_among}
+use Rattle.guillotiere.specs.Slots.{nodes}
+use Rattle.guillotiere.specs.States.{State, IsSound, IsLive, after_freeing}
+use Rattle.guillotiere.specs.Stored.{Stored, IsAtlas, state_of}
+use Rattle.guillotiere.specs.Trees.{Members, ids}
+use Rattle.guillotiere.specs.Trees as tree
 use Rattle.guillotiere.proofs.TreeLemmas.TreeIds.{Contains-first, Contains-later, Contains-cons_cases}
 use Rattle.guillotiere.proofs.TreeLemmas.TreeKept.{ids-nf}
 use Rattle.guillotiere.proofs.TreeLemmas.TreeCounts.{release_nodes}
@@ -25,12 +26,7 @@ after_each s [] = s
 after_each s (id ∷ rest) = after_each (after_freeing s (only id)) rest
 
 freeing_twice : (s : State) (id : ℕ) (rest : List ℕ) → IsSound s → after_freeing (after_freeing s (only id)) (is_among rest) ≡ after_freeing s (is_among (id ∷ rest))
-freeing_twice s id rest sound =
-    let once = after_freeing s (only id) in
-    let few = release_nodes (only id) s.tree in
-    let fewer = release_nodes (is_among rest) (release (only id) s.tree) in
-    let kept : (after_freeing (after_freeing s (only id)) (is_among rest)).kept ≡ s.kept = omega (arith, few, fewer, sound.counted) in
-    state-freed (after_freeing once (is_among rest)) s (is_among (id ∷ rest)) (release-release (is_among rest) (only id) s.tree) refl refl refl kept sound
+freeing_twice s id rest sound = grind (arith, release_nodes, state-freed, release-release)
 
 -- Ids freed one after another are their set freed at once.
 pub each-all : (s : State) (ids : List ℕ) → IsSound s → after_each s ids ≡ after_freeing s (is_among ids)
@@ -47,8 +43,7 @@ mark-live set (tree.Alloc id e rest) k out at = by_test (set id) refl (mark-live
   where
     by_test : (b : Bool) → set id ≡ b → (Contains (ids rest) k → Contains (ids (mark set rest)) k)
         → Contains (ids (cond b (tree.Free e (mark set rest)) (tree.Alloc id e (mark set rest)))) k
-    by_test true is later =
-        elim (Contains-cons_cases id (ids rest) k at) [ inl q ↦ absurd (true≢false (sym is ∙ ap set q ∙ out)) | inr x ↦ later x ]
+    by_test true is later = grind arith
     by_test false is later =
         elim (Contains-cons_cases id (ids rest) k at) [
           | inl q ↦ subst (λ v. Contains (v ∷ ids (mark set rest)) k) (sym q) (Contains-first k (ids (mark set rest)))
@@ -72,8 +67,7 @@ once-after s id (x ∷ rest) h out =
 
 -- A step of the loop over the list.
 pub head-live : (s : State) (ids : List ℕ) (k id : ℕ) → k < length ids → id ≡ get_or ids k id → AreLiveOnce s (drop k ids) → AreLiveOnce s (id ∷ drop (k + 1) ids)
-head-live s ids k id l is h =
-    subst (AreLiveOnce s) (drop_more ids k id l ∙ ap (λ v. v ∷ drop (k + 1) ids) (sym is)) h
+head-live s ids k id l is h = grind (arith, drop_more)
 
 pub each-next : (s : State) (ids : List ℕ) (k id : ℕ) → k < length ids → id ≡ get_or ids k id → after_each s (drop k ids) ≡ after_each (after_freeing s (only id)) (drop (k + 1) ids)
 each-next s ids k id l is = ap (after_each s) (drop_more ids k id l ∙ ap (λ v. v ∷ drop (k + 1) ids) (sym is))

@@ -1,34 +1,37 @@
 -- Granting a request in an atlas.
-use Rattle.std.proofs.Common.{ℕ, ◌+◌, ◌%◌, ◌^◌, ◌<◌, ◌≤◌, ◌≡◌, max, List, length, refl, sym, ap, subst, ◌∙◌, ◌⊎◌, inl, inr, arith, vec_capacity}
-use Rattle.std.specs.Prelude.{Option, Result, Err}
-use Rattle.guillotiere.specs.declared.store.Store.{Store}
-use Rattle.guillotiere.specs.declared.allocation.Allocation.{Allocation}
-use Rattle.guillotiere.specs.Replies.{allocate_reply}
-use Rattle.guillotiere.specs.declared.geometry.Size.{Size}
-use Rattle.guillotiere.specs.declared.geometry.Rectangle.{Rectangle}
-use Rattle.guillotiere.specs.declared.tree.requests.Chosen.{Chosen}
-use Rattle.guillotiere.specs.declared.error.AtlasError.{AtlasError}
-use Rattle.guillotiere.specs.declared.error.AtlasError.TheVariants.{Memory, Slots, NotLive}
-use Rattle.guillotiere.specs.Boxes.{Sides, Box, other, side, origin, box_at, box_sides, Fits, IsPositive}
+use Rattle.std.proofs.Common.{rules, ℕ, ◌+◌, ◌%◌, ◌^◌, ◌<◌, ◌≤◌, ◌≡◌, max, List, length, refl, sym, ap, subst, ◌∙◌, ◌⊎◌}
+use Rattle.std.proofs.Common.{inl, inr, arith, vec_capacity}
+use Rattle.std.specs.Prelude.{Err}
+use Rattle.guillotiere.specs.Boxes.{Sides, Box, box_at, box_sides, Fits, IsPositive}
+use Rattle.guillotiere.specs.Changes.{place}
+use Rattle.guillotiere.specs.Choice.{rounded, IsFitting, HasNoRoom}
 use Rattle.guillotiere.specs.Pixels.{box_of, rectangle_of, sides_of, size_of, options_of}
 use Rattle.guillotiere.specs.Rectangles.{FitsInto, IsUnsigned}
+use Rattle.guillotiere.specs.Replies.{allocate_reply}
+use Rattle.guillotiere.specs.Search.Picks.{AreFreeBoxes}
 use Rattle.guillotiere.specs.Search.Requests.{CanBeRounded}
-use Rattle.guillotiere.specs.Choice.{rounded, IsFitting, HasNoRoom}
-use Rattle.guillotiere.specs.Trees.{Tree, Grant, ids, slot_count, ungranted, leaves}
-use Rattle.guillotiere.specs.Trees as tree
-use Rattle.guillotiere.specs.Changes.{place, place_need}
+use Rattle.guillotiere.specs.Slots.{nodes}
+use Rattle.guillotiere.specs.Slots.Numbered.{numbers}
+use Rattle.guillotiere.specs.Slots.Reading.{tree_of}
 use Rattle.guillotiere.specs.States.{State, free_in, after_placing}
 use Rattle.guillotiere.specs.Steps.{Step, Takes, Grants, nodes_with}
 use Rattle.guillotiere.specs.Steps.AtlasCall.{Allocate}
 use Rattle.guillotiere.specs.Steps.AtlasReply.{Refused}
-use Rattle.guillotiere.specs.Slots.{nodes}
-use Rattle.guillotiere.specs.Slots.Numbered.{erase, numbers, id_of}
-use Rattle.guillotiere.specs.Slots.Reading.{tree_of}
-use Rattle.guillotiere.specs.Search.Picks.{AreFreeBoxes}
-use Rattle.guillotiere.specs.Stored.{Stored, Shelf, Holding, IsAtlas, state_of}
+use Rattle.guillotiere.specs.Store.Chosen.{CanGrant, IsAtRest, IsChosen, IsGrantable, IsGrantMade, IsRequestGranted}
+use Rattle.guillotiere.specs.Store.Chosen.{IsShortOf}
 use Rattle.guillotiere.specs.Store.Holdings.{shelf_of, node_in}
 use Rattle.guillotiere.specs.Store.Planning.{slots_of}
-use Rattle.guillotiere.specs.Store.Chosen.{CanGrant, IsAtRest, IsChosen, IsGrantable, IsGrantMade, IsRequestGranted, IsShortOf}
+use Rattle.guillotiere.specs.Stored.{Stored, Shelf, Holding, IsAtlas, state_of}
+use Rattle.guillotiere.specs.Trees.{ids, slot_count}
+use Rattle.guillotiere.specs.declared.allocation.Allocation.{Allocation}
+use Rattle.guillotiere.specs.declared.error.AtlasError.{AtlasError}
+use Rattle.guillotiere.specs.declared.error.AtlasError.TheVariants.{Memory, Slots, NotLive}
+use Rattle.guillotiere.specs.declared.geometry.Rectangle.{Rectangle}
+use Rattle.guillotiere.specs.declared.geometry.Size.{Size}
+use Rattle.guillotiere.specs.declared.store.Store.{Store}
+use Rattle.guillotiere.specs.declared.tree.requests.Chosen.{Chosen}
+use Rattle.std.specs.Prelude.{Option, Result}
+use Rattle.guillotiere.specs.Trees as tree
 use Rattle.guillotiere.proofs.SearchLemmas.Picking.{no_room_unrounded}
 use Rattle.guillotiere.proofs.SearchLemmas.Rounding.{rounded_positive}
 use Rattle.guillotiere.proofs.TreeLemmas.BoxLists.{free_in_place}
@@ -60,11 +63,7 @@ module _ (v : Stored) (a : IsAtlas v) (request : Sides) where
   wanted = rounded (options_of v.shelf.options) request
 
   free_here : AreFreeBoxes (nodes v.shelf.slots) (free_in (state_of (record { stored = v; turns = 0 })))
-  free_here =
-      let s = a.holding.sequence in
-      let P : Tree → Type 0 = λ t. AreFreeBoxes (nodes v.shelf.slots) (ungranted (leaves t.axis origin (side (other t.axis) (sides_of v.size)) t.members)) in
-      subst P (sym (tree_of-IsAtlas v a))
-      (subst (λ w. AreFreeBoxes (nodes v.shelf.slots) (ungranted (leaves s.axis origin w (erase a.holding.tree)))) a.across (rest-free v.shelf a.holding at-rest))
+  free_here = grind (arith, tree_of-IsAtlas, rest-free, at-rest)
 
   -- Nothing is granted.
 
@@ -81,22 +80,10 @@ module _ (v : Stored) (a : IsAtlas v) (request : Sides) where
     takes = record { positive = positive; pick = chosen.pick (free_in now) free_here }
 
     placing : IsPlacing (sides_of v.size) v.shelf a.holding p.at.number wanted
-    placing = record {
-      holds = a.holds;
-      start = a.start;
-      across = a.across;
-      well = a.sound.well_formed;
-      free = chosen.free;
-      positive = rounded_positive (options_of v.shelf.options) request a.holds.valid positive;
-      fits = subst (λ r. Fits wanted (box_sides (box_of r))) (sym chosen.area) takes.pick.best.candidate.fitting.fits;
-    }
+    placing = grind (arith, rounded_positive, takes)
 
     pub need : nodes_with now request (box_of p.area) ≡ v.used + slots_of p.plan
-    need =
-        let one : place_need (sides_of v.size) (box_of p.area) wanted (tree_of (nodes v.shelf.slots)) ≡ slots_of p.plan =
-        ap (λ r. place_need (sides_of v.size) (box_of r) wanted (tree_of (nodes v.shelf.slots))) (sym chosen.area)
-        ∙ need-read (sides_of v.size) v.shelf a.holding p.at.number wanted placing p.plan chosen.line in
-        omega (arith, one, used-IsAtlas v a)
+    need = grind (arith, need-read, placing, used-IsAtlas)
 
     -- Slots were refused.
     pub step-refused : (error : AtlasError) → IsShortOf v.used v.limit (slots_of p.plan) (length v.shelf.slots) error → Step now (Allocate request) (Refused error) now
@@ -108,17 +95,7 @@ module _ (v : Stored) (a : IsAtlas v) (request : Sides) where
     pub grantable : {A : Type 0} (made : Store A) → shelf_of made ≡ v.shelf → v.used + slots_of p.plan ≤ v.limit
         → (v.used + slots_of p.plan ≤ length v.shelf.slots) ⊎ (v.used + slots_of p.plan ≤ vec_capacity made.slots)
         → IsGrantable made wanted p a.holding
-    grantable made same few room =
-        let long : length made.slots.items ≡ length v.shelf.slots = ap (λ s. length s.slots) same in
-        let spare = spare-count v.shelf a.holding a.holds in
-        record {
-          rest = subst (λ u. IsAtRest u a.holding) (sym same) at-rest;
-          chosen = subst (λ u. IsChosen u wanted p) (sym same) chosen;
-          slots = elim room [
-            | inl s ↦ inl (omega (arith, spare, a.used))
-            | inr s ↦ inr (omega (arith, long, spare, a.used), omega (arith, long, spare, a.used, a.limited))
-          ];
-        }
+    grantable made same few room = grind (arith, spare-count, at-rest)
 
     -- The request is placed and granted.
     module _ (u : Shelf) (id to : ℕ) (h : Holding) (w : IsGrantMade u p id to a.holding h) (same_options : u.options ≡ v.shelf.options) (few : v.used + slots_of p.plan ≤ v.limit) (box : Box)
@@ -127,26 +104,13 @@ module _ (v : Stored) (a : IsAtlas v) (request : Sides) where
       after used turns = state_of (record { stored = record { shelf = u; first = v.first; used = used; size = v.size; limit = v.limit }; turns = turns })
 
       tree-placed : tree_of (nodes u.slots) ≡ place (sides_of v.size) (box_of p.area) wanted id (tree_of (nodes v.shelf.slots))
-      tree-placed =
-          planned-tree (sides_of v.size) v.shelf a.holding p.at.number wanted placing u to p.plan h chosen.line w.planned
-          ∙ ap (λ r. place (sides_of v.size) (box_of r) wanted (id_of to (node_in u to).generation) (tree_of (nodes v.shelf.slots))) chosen.area
-          ∙ ap (λ i. place (sides_of v.size) (box_of p.area) wanted i (tree_of (nodes v.shelf.slots))) (sym w.names)
+      tree-placed = grind (arith, planned-tree, placing)
 
       more : numbers h.tree ≡ numbers a.holding.tree + slots_of p.plan
       more = planned-used (sides_of v.size) v.shelf a.holding p.at.number wanted placing u to p.plan h chosen.line w.planned
 
       kept-placed : length u.slots ≡ max (length v.shelf.slots) (tree.node_count (place (sides_of v.size) (box_of p.area) wanted id (tree_of (nodes v.shelf.slots))).members)
-      kept-placed =
-          omega (
-            arith,
-            spare-count v.shelf a.holding a.holds,
-            spare-count u h w.planned.holds,
-            more,
-            w.planned.spare,
-            a.used,
-            need,
-            place_nodes (sides_of v.size) (tree_of (nodes v.shelf.slots)) (box_of p.area) wanted id,
-          )
+      kept-placed = search (rules, spare-count, more, need, place_nodes)
 
       pub state-placing : (used turns : ℕ) → after used turns ≡ after_placing now (box_of p.area) wanted id
       state-placing used turns = state-placed (after used turns) now (box_of p.area) wanted id tree-placed refl (ap options_of same_options) refl kept-placed
@@ -161,13 +125,7 @@ module _ (v : Stored) (a : IsAtlas v) (request : Sides) where
           (λ q. planned-unused v.shelf u p.at.number to p.plan a.holding h a.holds chosen.free w.planned (ap (λ k. (node_in v.shelf k).kind) (sym is) ∙ q))
 
       pub grants : (used turns : ℕ) → Grants now request (box_of p.area) (record { id = id; box = box }) (after used turns)
-      grants used turns = record {
-        takes = takes;
-        room = omega (arith, need, few);
-        unused = unused;
-        box = there;
-        state = state-placing used turns;
-      }
+      grants used turns = search (rules, takes, need, unused, state-placing)
 
       pub atlas-placed : IsAtlas (record { shelf = u; first = v.first; used = v.used + slots_of p.plan; size = v.size; limit = v.limit })
       atlas-placed = record {
@@ -199,9 +157,7 @@ module _ (v : Stored) (a : IsAtlas v) (request : Sides) (size : Size) (sized : C
   chosen_here = subst (λ r. IsChosen v.shelf r p) same_sides chosen
 
   pub area-unsigned : IsUnsigned p.area
-  area-unsigned =
-      subst IsUnsigned chosen.area
-      (exact-free (nodes v.shelf.slots) a.holding.sequence a.holding.tree a.holds.stands a.holds.wide a.holds.cut p.at.number chosen.free).unsigned
+  area-unsigned = grind (arith, exact-free)
 
   pub area-fits : FitsInto size p.area
   area-fits =
@@ -214,12 +170,7 @@ module _ (v : Stored) (a : IsAtlas v) (request : Sides) (size : Size) (sized : C
     pub refused-step : (result : Result (Option Allocation) AtlasError) (error : AtlasError) → result ≡ Err error → IsShortOf v.used v.limit needed (length v.shelf.slots) error → (turns before : ℕ)
         → Step (state_of (record { stored = v; turns = before })) (Allocate request) (allocate_reply result)
         (state_of (record { stored = record { shelf = shelf_of made; first = v.first; used = v.used; size = v.size; limit = v.limit }; turns = turns }))
-    refused-step result error is short turns before =
-        let after : Shelf → State = λ u. state_of (record { stored = record { shelf = u; first = v.first; used = v.used; size = v.size; limit = v.limit }; turns = turns }) in
-        let here : Step (state_of (record { stored = v; turns = before })) (Allocate request) (Refused error) (after v.shelf) =
-        step-refused v a request p chosen_here sized.0.positive error (subst (λ n. IsShortOf v.used v.limit n (length v.shelf.slots) error) is_needed short) in
-        subst (λ (r : Result (Option Allocation) AtlasError). Step (state_of (record { stored = v; turns = before })) (Allocate request) (allocate_reply r) (after (shelf_of made))) (sym is)
-        (subst (λ u. Step (state_of (record { stored = v; turns = before })) (Allocate request) (Refused error) (after u)) (sym same) here)
+    refused-step result error is short turns before = grind (arith, step-refused, chosen_here)
 
     module _ (ok : (v.used + needed ≤ v.limit) × ((v.used + needed ≤ length made.slots.items) ⊎ (v.used + needed ≤ vec_capacity made.slots))) where
       grantable_here : IsGrantable made (rounded (options_of v.shelf.options) request) p a.holding

@@ -1,32 +1,34 @@
 -- Growing an atlas.
-use Rattle.std.proofs.Common.{ℕ, ◌+◌, ◌<◌, ◌≤◌, ◌≡◌, max, Bool, true, false, [], length, refl, sym, ap, subst, ◌∙◌, ◌⊎◌, inl, inr, arith, vec_capacity}
-use Rattle.std.specs.Prelude.{Result, Err}
-use Rattle.std.proofs.lemmas.Bool.{true≢false}
-use Rattle.guillotiere.specs.declared.store.Store.{Store}
-use Rattle.guillotiere.specs.declared.geometry.Size.{Size}
-use Rattle.guillotiere.specs.declared.slots.Link.{Link}
-use Rattle.guillotiere.specs.declared.tree.growth.Growth.{Growth}
-use Rattle.guillotiere.specs.declared.error.AtlasError.{AtlasError}
-use Rattle.guillotiere.specs.declared.error.AtlasError.TheVariants.{Memory, Slots, NotLive}
-use Rattle.guillotiere.specs.Boxes.{Axis, Sides, Fits, IsPositive, side}
-use Rattle.guillotiere.specs.Pixels.{sides_of, size_of, options_of}
-use Rattle.guillotiere.specs.Trees.{Members, Tree, IsOneFree, is_one_free, live, total}
-use Rattle.guillotiere.specs.Trees as tree
+use Rattle.std.proofs.Common.{ℕ, ◌+◌, ◌≤◌, ◌≡◌, max, true, false, [], length, refl, sym, ap, subst, ◌∙◌, ◌⊎◌, arith}
+use Rattle.std.proofs.Common.{vec_capacity}
+use Rattle.std.specs.Prelude.{Err}
+use Rattle.guillotiere.specs.Boxes.{Sides, Fits, IsPositive, side}
 use Rattle.guillotiere.specs.Changes.{grown, grown_members}
+use Rattle.guillotiere.specs.Pixels.{sides_of, size_of, options_of}
+use Rattle.guillotiere.specs.Replies.{done_reply}
+use Rattle.guillotiere.specs.Slots.{nodes}
+use Rattle.guillotiere.specs.Slots.Growing.{IsLone}
+use Rattle.guillotiere.specs.Slots.Numbered.{erase, first_slot, numbers}
+use Rattle.guillotiere.specs.Slots.Reading.{tree_of}
 use Rattle.guillotiere.specs.States.{State, IsSound, after_growth, live_in}
 use Rattle.guillotiere.specs.Steps.{Step, nodes_grown}
 use Rattle.guillotiere.specs.Steps.AtlasCall.{Grow}
 use Rattle.guillotiere.specs.Steps.AtlasReply.{Done, Refused}
-use Rattle.guillotiere.specs.Replies.{done_reply}
-use Rattle.guillotiere.specs.Slots.{nodes}
-use Rattle.guillotiere.specs.Slots.Numbered.{erase, first_slot, numbers}
-use Rattle.guillotiere.specs.Slots.Numbered as numbered
-use Rattle.guillotiere.specs.Slots.Reading.{tree_of}
-use Rattle.guillotiere.specs.Stored.{Stored, Shelf, Holding, IsAtlas, state_of}
 use Rattle.guillotiere.specs.Store.Chosen.{IsShortOf}
-use Rattle.guillotiere.specs.Slots.Growing.{IsLone}
+use Rattle.guillotiere.specs.Store.Growths.{CanGrow, IsTreeOf, IsGrowthOf, IsGrowable, IsGrownHolding, IsNeedOf}
+use Rattle.guillotiere.specs.Store.Growths.{IsTreeGrown}
 use Rattle.guillotiere.specs.Store.Holdings.{shelf_of}
-use Rattle.guillotiere.specs.Store.Growths.{CanGrow, IsTreeOf, IsGrowthOf, IsGrowable, IsGrownHolding, IsNeedOf, IsTreeGrown}
+use Rattle.guillotiere.specs.Stored.{Stored, Shelf, Holding, IsAtlas, state_of}
+use Rattle.guillotiere.specs.Trees.{Tree, IsOneFree, is_one_free, live}
+use Rattle.guillotiere.specs.declared.error.AtlasError.{AtlasError}
+use Rattle.guillotiere.specs.declared.error.AtlasError.TheVariants.{Memory, Slots, NotLive}
+use Rattle.guillotiere.specs.declared.geometry.Size.{Size}
+use Rattle.guillotiere.specs.declared.slots.Link.{Link}
+use Rattle.guillotiere.specs.declared.store.Store.{Store}
+use Rattle.guillotiere.specs.declared.tree.growth.Growth.{Growth}
+use Rattle.std.specs.Prelude.{Result}
+use Rattle.guillotiere.specs.Trees as tree
+use Rattle.guillotiere.specs.Slots.Numbered as numbered
 use Rattle.guillotiere.proofs.SlotLemmas.Reading.{tree_of-Stands}
 use Rattle.guillotiere.proofs.SlotLemmas.Normal.{numbers-erase}
 use Rattle.guillotiere.proofs.StoreLemmas.SpareCounts.{spare-count}
@@ -40,11 +42,7 @@ use Rattle.guillotiere.proofs.AtlasLemmas.Observing.{nodes-below, nonempty-total
 
 -- A tree of one free leaf has nothing live.
 one_free-idle : (size : Sides) (t : Tree) → is_one_free t.members ≡ true → live size t ≡ []
-one_free-idle size t h = by_members t.axis t.members h
-  where
-    by_members : (a : Axis) (m : Members) → is_one_free m ≡ true → live size (record { axis = a; members = m }) ≡ []
-    by_members a (tree.Free e tree.End) h = refl
-    by_members a m h = absurd (true≢false (sym h))
+one_free-idle size t h = grind arith
 
 -- The state after a growth, of its parts.
 state-grown : (new old : State) (n : Sides) → new.tree ≡ grown old.size n old.tree → new.size ≡ n → new.options ≡ old.options → new.limit ≡ old.limit
@@ -62,20 +60,7 @@ module _ (v : Stored) (a : IsAtlas v) where
   now = state_of (record { stored = v; turns = 0 })
 
   pub tree-here : IsTreeOf v.shelf (sides_of v.size) v.first.number a.holding
-  tree-here =
-      let P : Tree → Type 0 = λ t. total t.members ≡ side t.axis (sides_of v.size) in
-      let along : total (erase a.holding.tree) ≡ side a.holding.sequence.axis (sides_of v.size) = subst P (tree_of-IsAtlas v a) a.sound.well_formed.along in
-      record {
-        holds = a.holds;
-        listed = a.at_rest;
-        spans = record {
-          start = a.start;
-          begins = sym a.first;
-          some = subst (λ k. 0 < k) (sym along) (side_positive a.holding.sequence.axis (sides_of v.size) a.sound.well_formed.nonempty);
-          along = along;
-          across = a.across;
-        };
-      }
+  tree-here = grind (arith, tree_of-IsAtlas, side_positive)
 
   -- An atlas with nothing live is one leaf.
   pub lone-here : live_in now ≡ [] → IsLone v.first.number a.holding
@@ -101,14 +86,10 @@ module _ (v : Stored) (a : IsAtlas v) where
     -- What a growth leaves.
     module _ (u : Shelf) (first n : ℕ) (h : Holding) (w : IsGrownHolding u (sides_of v.size) (sides_of size) first n a.holding h) (same_options : u.options ≡ v.shelf.options) where
       tree-grown : tree_of (nodes u.slots) ≡ grown (sides_of v.size) (sides_of size) (tree_of (nodes v.shelf.slots))
-      tree-grown =
-          tree_of-Stands (nodes u.slots) h.sequence h.tree (nodes-below u.slots w.tree.holds.short) w.tree.holds.top w.tree.holds.stands (nonempty-total h.tree w.tree.spans.some)
-          ∙ w.grown
-          ∙ ap (grown (sides_of v.size) (sides_of size)) (sym (tree_of-IsAtlas v a))
+      tree-grown = grind (arith, tree_of-Stands, nodes-below, nonempty-total, tree_of-IsAtlas)
 
       nodes-grown : numbers h.tree ≡ tree.node_count (grown (sides_of v.size) (sides_of size) (tree_of (nodes v.shelf.slots))).members
-      nodes-grown =
-          numbers-erase h.tree ∙ ap (λ t. tree.node_count t.members) (w.grown ∙ ap (grown (sides_of v.size) (sides_of size)) (sym (tree_of-IsAtlas v a)))
+      nodes-grown = grind (arith, numbers-erase, tree_of-IsAtlas)
 
       -- With n the members that the growth adds.
       module _ (need : IsNeedOf (sides_of v.size) (sides_of size) a.holding n) where
@@ -164,11 +145,7 @@ module _ (v : Stored) (a : IsAtlas v) where
 
       module _ (some : live_in now ≡ [] → ⊥) where
         busy : is_one_free (erase a.holding.tree) ≡ false
-        busy = by_test (is_one_free (erase a.holding.tree)) refl
-          where
-            by_test : (b : Bool) → is_one_free (erase a.holding.tree) ≡ b → is_one_free (erase a.holding.tree) ≡ false
-            by_test false e = e
-            by_test true e = absurd (some (one_free-idle (sides_of v.size) (tree_of (nodes v.shelf.slots)) (ap (λ t. is_one_free t.members) (tree_of-IsAtlas v a) ∙ e)))
+        busy = grind (arith, one_free-idle, tree_of-IsAtlas)
 
         module _ (n : ℕ) (counted : (h : Holding) (first : ℕ) → IsTreeOf v.shelf (sides_of p.from) first h → IsGrowthOf (sides_of p.from) (sides_of p.to) h p
             → is_one_free (erase h.tree) ≡ false → IsNeedOf (sides_of p.from) (sides_of p.to) h n) where
@@ -195,28 +172,11 @@ module _ (v : Stored) (a : IsAtlas v) where
             pub refused-step : (result : Result (Unit {0}) AtlasError) (error : AtlasError) → result ≡ Err error → IsShortOf v.used v.limit n (length v.shelf.slots) error → (turns before : ℕ)
                 → Step (state_of (record { stored = v; turns = before })) (Grow (sides_of size)) (done_reply result)
                 (state_of (record { stored = record { shelf = shelf_of made; first = v.first; used = v.used; size = v.size; limit = v.limit }; turns = turns }))
-            refused-step result error is short turns before =
-                let after : Shelf → State = λ u. state_of (record { stored = record { shelf = u; first = v.first; used = v.used; size = v.size; limit = v.limit }; turns = turns }) in
-                let here : Step (state_of (record { stored = v; turns = before })) (Grow (sides_of size)) (Refused error) (after v.shelf) = step-refused error short in
-                subst (λ (r : Result (Unit {0}) AtlasError). Step (state_of (record { stored = v; turns = before })) (Grow (sides_of size)) (done_reply r) (after (shelf_of made))) (sym is)
-                (subst (λ u. Step (state_of (record { stored = v; turns = before })) (Grow (sides_of size)) (Refused error) (after u)) (sym same) here)
+            refused-step result error is short turns before = grind (arith, step-refused)
 
             module _ (ok : (v.used + n ≤ v.limit) × ((v.used + n ≤ length made.slots.items) ⊎ (v.used + n ≤ vec_capacity made.slots))) where
               growable-here : IsGrowable made (sides_of p.from) (sides_of p.to) v.first.number n p a.holding
-              growable-here =
-                  let long : length made.slots.items ≡ length v.shelf.slots = ap (λ s. length s.slots) same in
-                  let spare = spare-count v.shelf a.holding a.holds in
-                  record {
-                    tree = subst (λ u. IsTreeOf u (sides_of p.from) v.first.number a.holding) (sym same) tree-from;
-                    growth = plan-from;
-                    fits = fits-from;
-                    busy = busy;
-                    need = need-from;
-                    slots = elim ok.1 [
-                      | inl s ↦ inl (omega (arith, long, spare, a.used))
-                      | inr s ↦ inr (omega (arith, long, spare, a.used), omega (arith, long, ok.0, spare, a.used, a.limited))
-                    ];
-                  }
+              growable-here = grind (arith, spare-count, tree-from, plan-from, fits-from, busy, need-from)
 
               pub some-growable : CanGrow made v.first.number p
               some-growable = (a.holding, n, growable-here)

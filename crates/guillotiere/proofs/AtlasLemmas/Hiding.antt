@@ -1,16 +1,18 @@
 -- Hiding the slots of ids, and showing them again.
-use Rattle.std.proofs.Common.{ℕ, ◌+◌, ◌/◌, ◌%◌, ◌^◌, ◌<◌, ◌≡◌, ◌≢◌, ◌↔◌, ◌&&◌, ◌==◌, ◌||◌, Bool, true, false, List, [], ◌∷◌, ◌++◌, length, take, drop, set, get_or, refl, sym, ap, subst, ◌∙◌, inl, inr, arith}
-use Rattle.std.proofs.lemmas.Bool.{cases_eq, ne_eqb, eqb-false, true≢false}
-use Rattle.std.proofs.lemmas.List.{take_more, take_all, take-append-drop, get_or-set_same, get_or-set_other, length-set, set-set, set-get_or}
-use Rattle.guillotiere.specs.declared.slots.Slot.{Slot}
-use Rattle.guillotiere.specs.declared.slots.Node.{Node}
-use Rattle.guillotiere.specs.declared.slots.NodeKind.TheVariants as kind
+use Rattle.std.proofs.Common.{ℕ, ◌+◌, ◌/◌, ◌%◌, ◌^◌, ◌<◌, ◌≡◌, ◌≢◌, ◌↔◌, ◌&&◌, ◌==◌, ◌||◌, Bool, true, false, List, []}
+use Rattle.std.proofs.Common.{◌∷◌, ◌++◌, length, take, drop, set, get_or, refl, sym, ap, subst, ◌∙◌, arith}
+use Rattle.std.proofs.lemmas.Bool.{ne_eqb, eqb-false, true≢false}
+use Rattle.std.proofs.lemmas.List.{take_more, take_all, take-append-drop, get_or-set_same, get_or-set_other, length-set}
+use Rattle.std.proofs.lemmas.List.{set-set, set-get_or}
+use Rattle.guillotiere.specs.Batches.{AreNamedOnce, hidden, AreHidable}
 use Rattle.guillotiere.specs.Changes.{only}
 use Rattle.guillotiere.specs.Laws.TreeLaws.{is_among}
 use Rattle.guillotiere.specs.Slots.{nodes, rings, node_at, blank_node, use_count}
-use Rattle.guillotiere.specs.Slots.Numbered.{id_of}
 use Rattle.guillotiere.specs.Visits.{is_alloc, is_named}
-use Rattle.guillotiere.specs.Batches.{AreNamedOnce, with_kind, hidden, AreHidable}
+use Rattle.guillotiere.specs.Slots.Standing.{with_kind}
+use Rattle.guillotiere.specs.declared.slots.Node.{Node}
+use Rattle.guillotiere.specs.declared.slots.Slot.{Slot}
+use Rattle.guillotiere.specs.declared.slots.NodeKind.TheVariants as kind
 use Rattle.guillotiere.proofs.SlotLemmas.JoiningWrites.{used-inside}
 use Rattle.guillotiere.proofs.AtlasLemmas.FreedAtlas.{named-parts}
 
@@ -32,8 +34,7 @@ hidable-back ns (x ∷ xs) ys h = hidable-back (with_kind ns (x % 2 ^ 24) kind.U
 
 length-hidden : (ns : List Node) (xs : List ℕ) → length (hidden ns xs) ≡ length ns
 length-hidden ns [] = refl
-length-hidden ns (x ∷ xs) =
-    length-hidden (with_kind ns (x % 2 ^ 24) kind.Unused) xs ∙ length-set ns (x % 2 ^ 24) (record (node_at ns (x % 2 ^ 24)) { kind = kind.Unused })
+length-hidden ns (x ∷ xs) = grind (arith, length-hidden (with_kind ns (x % 2 ^ 24) kind.Unused) xs, length-set)
 
 -- One slot more is hidden.
 pub hidden-more : (ns now new : List Node) (ids : List ℕ) (k id at : ℕ) → k < length ids → id ≡ get_or ids k id → at ≡ id % 2 ^ 24
@@ -57,8 +58,7 @@ named-next ns ids k id l is h =
 
 pub not-hidable : (ns now : List Node) (ids : List ℕ) (k id : ℕ) → k < length ids → id ≡ get_or ids k id → now ≡ hidden ns (take k ids) → is_named now id ≡ false
     → AreHidable ns ids → ⊥
-not-hidable ns now ids k id l is e missed h =
-    true≢false (sym (named-next ns ids k id l is h) ∙ ap (λ v. is_named v id) (sym e) ∙ missed)
+not-hidable ns now ids k id l is e missed h = grind (arith, true≢false, named-next)
 
 -- A slot that was hidden is shown again.
 with_kind-back : (ns : List Node) (i : ℕ) → (node_at ns i).kind ≡ kind.Alloc → with_kind (with_kind ns i kind.Unused) i kind.Alloc ≡ ns
@@ -118,19 +118,14 @@ module _ (ns : List Node) (id : ℕ) where
       cc
 
   weaker : (k : ℕ) → is_named (with_kind ns (id % 2 ^ 24) kind.Unused) k ≡ true → (is_named ns k ≡ true) × (k ≡ id → ⊥)
-  weaker k named =
-      (sym (same_name k (elsewhere (k % 2 ^ 24) (apart k named))) ∙ named, (λ e. apart k named (ap (λ v. v % 2 ^ 24) e)))
+  weaker k named = grind (arith, same_name, elsewhere, apart)
 
   -- Two ids that name a slot are one.
   one_name : (k : ℕ) → is_named ns id ≡ true → is_named ns k ≡ true → k % 2 ^ 24 ≡ id % 2 ^ 24 → k ≡ id
-  one_name k named also e =
-      let a = named-parts ns id named in
-      let b = named-parts ns k also in
-      sym b.names ∙ ap (λ v. id_of v (node_at ns v).generation) e ∙ a.names
+  one_name k named also e = grind arith
 
   stronger : (k : ℕ) → is_named ns id ≡ true → is_named ns k ≡ true → (k ≡ id → ⊥) → is_named (with_kind ns (id % 2 ^ 24) kind.Unused) k ≡ true
-  stronger k named also ne =
-      same_name k (elsewhere (k % 2 ^ 24) (λ e. ne (one_name k named also e))) ∙ also
+  stronger k named also ne = grind (arith, same_name, elsewhere, one_name)
 
   named-weaker : (xs : List ℕ) → AreNamedOnce (with_kind ns (id % 2 ^ 24) kind.Unused) xs → AreNamedOnce ns xs × (is_among xs id ≡ false)
   named-weaker [] h = (tt, refl)
@@ -147,9 +142,7 @@ module _ (ns : List Node) (id : ℕ) where
 
 hidable-named : (ns : List Node) (xs : List ℕ) → AreHidable ns xs → AreNamedOnce ns xs
 hidable-named ns [] h = tt
-hidable-named ns (x ∷ xs) h =
-    let rest = named-weaker ns x xs (hidable-named (with_kind ns (x % 2 ^ 24) kind.Unused) xs h.1) in
-    (h.0, rest.1, rest.0)
+hidable-named ns (x ∷ xs) h = grind (arith, named-weaker, hidable-named (with_kind ns (x % 2 ^ 24) kind.Unused) xs h.1)
 
 named-hidable : (ns : List Node) (xs : List ℕ) → AreNamedOnce ns xs → AreHidable ns xs
 named-hidable ns [] h = tt
@@ -159,10 +152,7 @@ named-hidable ns (x ∷ xs) h =
 -- Whether all were hidden says whether each id names a slot, and none stands twice.
 pub named-hidden : (ns : List Node) (ids : List ℕ) (count : ℕ) → AreHidable ns (take count ids) → (count ≢ length ids → AreHidable ns ids → ⊥)
     → (count ≡ length ids) ↔ AreNamedOnce ns ids
-named-hidden ns ids count front last = (
-  (λ e. hidable-named ns ids (subst (AreHidable ns) (ap (λ v. take v ids) e ∙ take_all (length ids) ids (omega arith)) front)),
-  (λ h. elim (cases_eq count (length ids)) [ inl e ↦ e | inr ne ↦ absurd (last ne (named-hidable ns ids h)) ]),
-)
+named-hidden ns ids count front last = grind (arith, hidable-named, take_all, named-hidable)
 
 cons-same : (x y : Slot) (xs ys : List Slot) → x ≡ y → xs ≡ ys → x ∷ xs ≡ y ∷ ys
 cons-same x y xs ys e f = ap (λ v. v ∷ xs) e ∙ ap (λ v. y ∷ v) f

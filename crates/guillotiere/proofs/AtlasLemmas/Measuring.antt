@@ -1,19 +1,20 @@
 -- The rectangles that lists show can be measured.
-use Rattle.std.proofs.Common.{◌≡◌, ◌^◌, ◌≤◌, ◌<◌, Bool, true, List, [], ◌∷◌, map, ap, subst, sym, arith, Contains, All, Result, Ok, Err, IfOk, pos}
+use Rattle.std.proofs.Common.{◌≡◌, ◌^◌, ◌≤◌, ◌<◌, Bool, true, List, [], ◌∷◌, map, subst, sym, arith, Contains, All}
+use Rattle.std.proofs.Common.{Result, Ok, IfOk}
+use Rattle.std.proofs.lemmas.List.Elements.{All-nil, All-cons, All-head, All-tail, All-contains, All-contains_itself}
+use Rattle.std.proofs.lemmas.List.Elements.{All-weaker}
 use Rattle.std.specs.List.{count_by}
-use Rattle.std.proofs.lemmas.Int.{ints}
-use Rattle.std.proofs.lemmas.List.Elements.{All-nil, All-cons, All-head, All-tail, All-contains, All-contains_itself, All-weaker}
-use Rattle.guillotiere.specs.declared.allocation.Allocation.{Allocation}
-use Rattle.guillotiere.specs.declared.geometry.Rectangle.{Rectangle}
 use Rattle.guillotiere.specs.Boxes.{Axis, Sides, Box, side, other, IsNonempty, IsWithin, same_box}
 use Rattle.guillotiere.specs.Boxes.Axis.{Horizontal, Vertical}
-use Rattle.guillotiere.specs.Pixels.{natural, box_of, sides_of, IsMeasurable}
-use Rattle.guillotiere.specs.Trees.{Grant, total}
-use Rattle.guillotiere.specs.Slots.Numbered.{erase}
-use Rattle.guillotiere.specs.Stored.{Stored, IsAtlas}
-use Rattle.guillotiere.specs.States.{State, live_in, free_in, IsSound}
+use Rattle.guillotiere.specs.Pixels.{box_of, sides_of, IsMeasurable}
 use Rattle.guillotiere.specs.Replies.{IsExact, grant_of}
+use Rattle.guillotiere.specs.States.{State, live_in, free_in, IsSound}
+use Rattle.guillotiere.specs.Stored.{Stored, IsAtlas}
+use Rattle.guillotiere.specs.Trees.{Grant}
 use Rattle.guillotiere.specs.Visits.{AreGrants, AreFreeAreas}
+use Rattle.guillotiere.specs.declared.allocation.Allocation.{Allocation}
+use Rattle.guillotiere.specs.declared.geometry.Rectangle.{Rectangle}
+use Rattle.std.proofs.Common.{Err}
 use Rattle.guillotiere.proofs.TreeLemmas.TreeBasics.{same_box-true, same_box-itself}
 use Rattle.guillotiere.proofs.AtlasLemmas.Observing.{tree_of-IsAtlas}
 use Rattle.guillotiere.proofs.ListLemmas.Counting.{count_some}
@@ -33,10 +34,7 @@ module _ {X : Type 0} (same : X → X → Bool) (itself : (x : X) → same x x �
 -- The sides of an atlas are those of an `i32`.
 module _ (v : Stored) (a : IsAtlas v) where
   along_fits : side a.holding.sequence.axis (sides_of v.size) < 2 ^ 31
-  along_fits =
-      let along : total (erase a.holding.tree) ≡ side a.holding.sequence.axis (sides_of v.size) =
-      subst (λ t. total t.members ≡ side t.axis (sides_of v.size)) (tree_of-IsAtlas v a) a.sound.well_formed.along in
-      omega (arith, a.holds.along)
+  along_fits = grind (arith, tree_of-IsAtlas)
 
   across_fits : side (other a.holding.sequence.axis) (sides_of v.size) < 2 ^ 31
   across_fits = omega (arith, a.holds.across, a.across)
@@ -51,14 +49,7 @@ module _ (v : Stored) (a : IsAtlas v) where
 
 -- An exact rectangle within sides that an `i32` holds can be measured.
 exact-measurable : (s : Sides) (r : Rectangle) → s.width ≤ 2147483647 → s.height ≤ 2147483647 → IsExact r → IsNonempty (box_of r) → IsWithin s (box_of r) → IsMeasurable r
-exact-measurable s r wide high exact some within =
-    let e : r.min.x ≡ pos (natural r.min.x) = ap (λ q. q.min.x) exact in
-    let f : r.min.y ≡ pos (natural r.min.y) = ap (λ q. q.min.y) exact in
-    let g : r.max.x ≡ pos (natural r.max.x) = ap (λ q. q.max.x) exact in
-    let h : r.max.y ≡ pos (natural r.max.y) = ap (λ q. q.max.y) exact in
-    let x : natural r.max.x ≤ s.width = within.0 in
-    let y : natural r.max.y ≤ s.height = within.1 in
-    (omega (arith, ints, some.0), omega (arith, ints, some.1))
+exact-measurable s r wide high exact some within = grind arith
 
 module _ (s : State) (sound : IsSound s) (wide : s.size.width ≤ 2147483647) (high : s.size.height ≤ 2147483647) where
   abbrev InPlace : Box → Type 0

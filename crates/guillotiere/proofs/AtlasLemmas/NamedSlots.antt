@@ -1,27 +1,28 @@
 -- The slot that an id names, and the live grant of that id.
-use Rattle.std.proofs.Common.{ℕ, zero, suc, ◌+◌, ◌/◌, ◌%◌, ◌^◌, ◌<◌, ◌≤◌, ◌≡◌, ◌&&◌, ◌==◌, eqb, Bool, true, false, cond, List, [], ◌∷◌, length, get_or, Option, Some, None, IsSome, option_map, refl, sym, ap, subst, ◌∙◌, arith}
-use Rattle.std.specs.Prelude.{find}
-use Rattle.std.specs.List.{count_by}
+use Rattle.std.proofs.Common.{ℕ, zero, suc, ◌+◌, ◌/◌, ◌%◌, ◌^◌, ◌<◌, ◌≤◌, ◌≡◌, ◌&&◌, ◌==◌, eqb, Bool, true, false, cond}
+use Rattle.std.proofs.Common.{List, [], ◌∷◌, length, get_or, Option, Some, None, IsSome, option_map, refl, sym, ap}
+use Rattle.std.proofs.Common.{subst, ◌∙◌, arith}
 use Rattle.std.proofs.lemmas.Bool.{and_parts, and_from, eqb-true, eq-eqb, false≢true}
 use Rattle.std.proofs.lemmas.List.{length-map}
-use Rattle.guillotiere.specs.declared.slots.Slot.{Slot}
-use Rattle.guillotiere.specs.declared.slots.Node.{Node}
-use Rattle.guillotiere.specs.declared.slots.NodeKind.{NodeKind}
-use Rattle.guillotiere.specs.declared.slots.NodeKind.TheVariants as kind
-use Rattle.guillotiere.specs.declared.geometry.Rectangle.{Rectangle}
+use Rattle.std.specs.List.{count_by}
 use Rattle.guillotiere.specs.Boxes.{Box, same_box}
 use Rattle.guillotiere.specs.Pixels.{box_of, rectangle_of, sides_of}
-use Rattle.guillotiere.specs.Trees.{Grant, grant, live}
 use Rattle.guillotiere.specs.Slots.{nodes, node_at, use_count}
 use Rattle.guillotiere.specs.Slots.Numbered.{id_of}
 use Rattle.guillotiere.specs.Slots.Reading.{tree_of}
 use Rattle.guillotiere.specs.Stored.{Stored, IsAtlas}
+use Rattle.guillotiere.specs.Trees.{Grant, grant, live}
 use Rattle.guillotiere.specs.Visits.{is_alloc, is_named, named_area}
+use Rattle.guillotiere.specs.declared.geometry.Rectangle.{Rectangle}
+use Rattle.guillotiere.specs.declared.slots.Node.{Node}
+use Rattle.guillotiere.specs.declared.slots.NodeKind.{NodeKind}
+use Rattle.guillotiere.specs.declared.slots.Slot.{Slot}
+use Rattle.std.specs.Prelude.{find}
+use Rattle.guillotiere.specs.declared.slots.NodeKind.TheVariants as kind
 use Rattle.guillotiere.proofs.TreeLemmas.TreeBasics.{one_if, same_box-true, same_box-itself}
 use Rattle.guillotiere.proofs.ListLemmas.Counting.{count_by-cons}
 use Rattle.guillotiere.proofs.SlotLemmas.JoiningWrites.{used-inside}
 use Rattle.guillotiere.proofs.SlotLemmas.SlotAreas.{Stands-exact}
-use Rattle.guillotiere.proofs.SlotLemmas.SlotIds.{id_of-slot}
 use Rattle.guillotiere.proofs.SlotLemmas.SlotSums.{slot_sum}
 use Rattle.guillotiere.proofs.SlotLemmas.LeafCounts.{alloc_weight, count-allocated}
 use Rattle.guillotiere.proofs.AtlasLemmas.Observing.{live-IsAtlas}
@@ -29,11 +30,7 @@ use Rattle.guillotiere.proofs.AtlasLemmas.Observing.{live-IsAtlas}
 module _ {X : Type 0} where
   find-none : (p : X → Bool) (xs : List X) → find p xs ≡ None → count_by p xs ≡ 0
   find-none p [] h = refl
-  find-none p (x ∷ xs) h = count_by-cons p x xs ∙ by_test (p x) h (find-none p xs)
-    where
-      by_test : (b : Bool) → cond b (Some x) (find p xs) ≡ None → (find p xs ≡ None → count_by p xs ≡ 0) → one_if b + count_by p xs ≡ 0
-      by_test true e rest = absurd (cc)
-      by_test false e rest = omega (arith, rest e)
+  find-none p (x ∷ xs) h = grind (arith, find-none p xs)
 
   -- What is found passes, and counts for each weaker test.
   find-some : (p q : X → Bool) (xs : List X) (y : X) → find p xs ≡ Some y → (p y ≡ true → q y ≡ true) → (p y ≡ true) × (1 ≤ count_by q xs)
@@ -41,26 +38,14 @@ module _ {X : Type 0} where
   find-some p q (x ∷ xs) y h weaker = by_test (p x) refl h (λ e. find-some p q xs y e weaker)
     where
       by_test : (b : Bool) → p x ≡ b → cond b (Some x) (find p xs) ≡ Some y → (find p xs ≡ Some y → (p y ≡ true) × (1 ≤ count_by q xs)) → (p y ≡ true) × (1 ≤ count_by q (x ∷ xs))
-      by_test true is e rest =
-          let same : x ≡ y = cc in
-          let passes : p y ≡ true = ap p (sym same) ∙ is in
-          let one : one_if (q x) ≡ 1 = ap (λ k. one_if (q k)) same ∙ ap one_if (weaker passes) in
-          (passes, omega (arith, one, count_by-cons q x xs))
+      by_test true is e rest = grind (arith, one_if, count_by-cons)
       by_test false is e rest = ((rest e).0, omega (arith, (rest e).1, count_by-cons q x xs))
 
 -- A slot weighs no more than all.
 slot_sum-at : (w : ℕ → Node → ℕ) (i j : ℕ) (ns : List Node) → j < length ns → w (i + j) (node_at ns j) ≤ slot_sum w i ns
 slot_sum-at w i j [] l = absurd (omega arith)
-slot_sum-at w i zero (n ∷ ns) l = let at : w (i + 0) n ≡ w i n = ap (λ k. w k n) (add_nothing i) in omega (arith, at)
-  where
-    add_nothing : (i : ℕ) → i + 0 ≡ i
-    add_nothing i = omega arith
-slot_sum-at w i (suc j) (n ∷ ns) l =
-    let at : w (i + suc j) (node_at ns j) ≡ w (i + 1 + j) (node_at ns j) = ap (λ k. w k (node_at ns j)) (one_on i j) in
-    omega (arith, at, slot_sum-at w (i + 1) j ns (omega arith))
-  where
-    one_on : (i k : ℕ) → i + suc k ≡ i + 1 + k
-    one_on i k = omega arith
+slot_sum-at w i zero (n ∷ ns) l = grind arith
+slot_sum-at w i (suc j) (n ∷ ns) l = grind (arith, slot_sum-at w (i + 1) j ns (omega arith))
 
 pub record WeighsAt (w : ℕ → Node → ℕ) (i : ℕ) (ns : List Node) : Type 0 where
   pub at : ℕ
@@ -86,10 +71,7 @@ slot_sum-some w i (n ∷ ns) h = by_weight (w i n) refl (slot_sum-some w (i + 1)
 
 -- The same for all slots.
 all-at : (w : ℕ → Node → ℕ) (j : ℕ) (ns : List Node) → j < length ns → w j (node_at ns j) ≤ slot_sum w 0 ns
-all-at w j ns l = subst (λ k. w k (node_at ns j) ≤ slot_sum w 0 ns) none_on (slot_sum-at w 0 j ns l)
-  where
-    none_on : 0 + j ≡ j
-    none_on = omega arith
+all-at w j ns l = grind (arith, slot_sum, slot_sum-at)
 
 all-some : (w : ℕ → Node → ℕ) (ns : List Node) → 1 ≤ slot_sum w 0 ns → (j : ℕ) × (j < length ns) × (1 ≤ w j (node_at ns j))
 all-some w ns h =
@@ -105,32 +87,22 @@ has_id id g = g.id == id
 abbrev has_both : ℕ → Box → Grant → Bool
 has_both id b g = (g.id == id) && same_box g.box b
 
--- The parts of an id.
-div_of-slot : (i g : ℕ) → i < 2 ^ 24 → id_of i g / 2 ^ 24 ≡ g
-div_of-slot i g l = omega arith
-
 pub id_of-parts : (id : ℕ) → id_of (id % 2 ^ 24) (id / 2 ^ 24) ≡ id
 id_of-parts id = omega arith
 
 pub is_alloc-true : (k : NodeKind) → is_alloc k ≡ true → k ≡ kind.Alloc
 is_alloc-true kind.Alloc h = refl
-is_alloc-true kind.Container h = absurd (false≢true h)
-is_alloc-true kind.Free h = absurd (false≢true h)
-is_alloc-true kind.Unused h = absurd (false≢true h)
+is_alloc-true k h = absurd (false≢true h)
 
 -- What weighs is allocated, and passes.
 weighs-parts : (b c : Bool) → 1 ≤ cond b (one_if c) 0 → (b ≡ true) × (c ≡ true)
 weighs-parts true true h = (refl, refl)
-weighs-parts true false h = absurd (omega arith)
-weighs-parts false c h = absurd (omega arith)
+weighs-parts b c h = absurd (omega arith)
 
 -- An allocated slot is named by its id.
 pub named-true : (ns : List Node) (i : ℕ) (id : ℕ) → i < 2 ^ 24 → is_alloc (node_at ns i).kind ≡ true → id_of i (node_at ns i).generation ≡ id
     → (is_named ns id ≡ true) × (id % 2 ^ 24 ≡ i)
-named-true ns i id l is e =
-    let slot : id % 2 ^ 24 ≡ i = ap (λ k. k % 2 ^ 24) (sym e) ∙ id_of-slot i (node_at ns i).generation l in
-    let age : id / 2 ^ 24 ≡ (node_at ns i).generation = ap (λ k. k / 2 ^ 24) (sym e) ∙ div_of-slot i (node_at ns i).generation l in
-    (and_from _ _ (ap (λ k. is_alloc (node_at ns k).kind) slot ∙ is) (eq-eqb _ _ (ap (λ k. (node_at ns k).generation) slot ∙ sym age)), slot)
+named-true ns i id l is e = grind arith
 
 -- No slot is named by an id that counts nothing.
 named-false : (ns : List Node) (id : ℕ) → slot_sum (alloc_weight (has_id id)) 0 ns ≡ 0 → is_named ns id ≡ false
@@ -196,17 +168,9 @@ module _ (v : Stored) (a : IsAtlas v) (id : ℕ) where
       → s ≡ get_or v.shelf.slots at s
       → option_map rectangle_of (option_map (λ (g : Grant). g.box) (find (λ g. g.id == id) (live (sides_of v.size) (tree_of (nodes v.shelf.slots)))))
       ≡ Some s.node.area
-  named-found slots at s same named is inside read =
-      let ns = nodes v.shelf.slots in
-      let here : node_at ns (id % 2 ^ 24) ≡ s.node =
-      ap (node_at ns) (sym is) ∙ node_at-slot v.shelf.slots at s (subst (λ l. at < length l) same inside) read in
-      named-IsAtlas
-      ∙ ap (λ b. cond b (Some (node_at ns (id % 2 ^ 24)).area) None) (subst (λ l. is_named (nodes l) id ≡ true) same named)
-      ∙ ap (λ (n : Node). Some n.area) here
+  named-found slots at s same named is inside read = grind (arith, node_at-slot, at, inside, named-IsAtlas)
 
   pub named-missed : (slots : List Slot) → slots ≡ v.shelf.slots → is_named (nodes slots) id ≡ false
       → option_map rectangle_of (option_map (λ (g : Grant). g.box) (find (λ g. g.id == id) (live (sides_of v.size) (tree_of (nodes v.shelf.slots)))))
       ≡ None
-  named-missed slots same missed =
-      named-IsAtlas
-      ∙ ap (λ b. cond b (Some (node_at (nodes v.shelf.slots) (id % 2 ^ 24)).area) None) (subst (λ l. is_named (nodes l) id ≡ false) same missed)
+  named-missed slots same missed = grind (arith, named-IsAtlas)

@@ -1,23 +1,24 @@
 -- What an atlas shows of its state, read from its slots.
-use Rattle.std.proofs.Common.{ℕ, ◌<◌, ◌≤◌, ◌≡◌, Bool, List, [], map, length, refl, sym, ap, subst, ◌∙◌, arith}
-use Rattle.std.specs.List.{count_by}
+use Rattle.std.proofs.Common.{ℕ, ◌<◌, ◌≤◌, ◌≡◌, Bool, List, [], map, length, sym, ap, subst, ◌∙◌, arith}
 use Rattle.std.proofs.lemmas.List.{length-map}
-use Rattle.guillotiere.specs.declared.slots.Slot.{Slot}
-use Rattle.guillotiere.specs.declared.slots.Node.{Node}
-use Rattle.guillotiere.specs.declared.slots.NodeKind.TheVariants as kind
+use Rattle.std.specs.List.{count_by}
 use Rattle.guillotiere.specs.Boxes.{Axis, Box, side, origin}
 use Rattle.guillotiere.specs.Boxes.Axis.{Horizontal, Vertical}
 use Rattle.guillotiere.specs.Pixels.{box_of, sides_of}
-use Rattle.guillotiere.specs.Trees.{Grant, Members, IsOneFree, total, live, free_boxes}
-use Rattle.guillotiere.specs.Trees as tree
-use Rattle.guillotiere.specs.Slots.{nodes, node_at, use_count, no_slot}
-use Rattle.guillotiere.specs.Slots.Numbered.{Numbered, tally, first_slot, erase, End, Free, Alloc, Seq}
-use Rattle.guillotiere.specs.Slots.Standing.{Sequence, Stands, spot}
-use Rattle.guillotiere.specs.Slots.Reading.{tree_of}
 use Rattle.guillotiere.specs.Replies.{grant_of}
+use Rattle.guillotiere.specs.Slots.{nodes, node_at, no_slot}
+use Rattle.guillotiere.specs.Slots.Numbered.{Numbered, first_slot, erase}
+use Rattle.guillotiere.specs.Slots.Reading.{tree_of}
+use Rattle.guillotiere.specs.Slots.Standing.{Sequence, Stands, spot}
 use Rattle.guillotiere.specs.Stored.{Stored, IsAtlas}
+use Rattle.guillotiere.specs.Trees.{Grant, Members, IsOneFree, total, live, free_boxes}
 use Rattle.guillotiere.specs.Visits.{allocated_from, free_areas}
-use Rattle.guillotiere.proofs.TreeLemmas.TreeBasics.{side_positive, live_among, free_among}
+use Rattle.guillotiere.specs.declared.slots.Node.{Node}
+use Rattle.guillotiere.specs.declared.slots.Slot.{Slot}
+use Rattle.guillotiere.specs.declared.slots.NodeKind.TheVariants as kind
+use Rattle.guillotiere.specs.Trees as tree
+use Rattle.guillotiere.specs.Slots.Numbered.{End, Free, Alloc, Seq}
+use Rattle.guillotiere.proofs.TreeLemmas.TreeBasics.{live_among, free_among}
 use Rattle.guillotiere.proofs.TreeLemmas.TreeIdle.{nothing_live}
 use Rattle.guillotiere.proofs.SlotLemmas.Frames.{same-self}
 use Rattle.guillotiere.proofs.SlotLemmas.JoiningWrites.{none-unused, used-inside}
@@ -47,97 +48,50 @@ lone : (ns : List Node) (s : Sequence) (n : Numbered) → length ns < no_slot �
     → (node_at ns (first_slot n)).kind ≡ kind.Free → (node_at ns (first_slot n)).next.number ≡ no_slot
     → (i : ℕ) × (e : ℕ) × (n ≡ Free i e End)
 lone ns s End short h some free last = absurd (omega arith)
-lone ns s (Alloc i g e rest) short h some free last = let here = h.standing.0.kind in absurd (cc)
-lone ns s (Seq i e inner rest) short h some free last = let here = h.standing.0.kind in absurd (cc)
-lone ns s (Free i e rest) short h some free last = (i, e, ends rest (sym h.standing.0.next ∙ last) none)
-  where
-    none : tally no_slot rest ≡ 0
-    none =
-        let all : tally no_slot (Free i e rest) ≡ 0 = h.numbered no_slot ∙ ap use_count (none-unused ns short) in
-        omega arith
-
-    ends : (m : Numbered) → first_slot m ≡ no_slot → tally no_slot m ≡ 0 → Free i e m ≡ Free i e End
-    ends End f z = refl
-    ends (Free j d more) f z = absurd (omega (arith, ap (λ k. tally k (Free j d more)) f, same-self j))
-    ends (Alloc j g d more) f z = absurd (omega (arith, ap (λ k. tally k (Alloc j g d more)) f, same-self j))
-    ends (Seq j d inner more) f z = absurd (omega (arith, ap (λ k. tally k (Seq j d inner more)) f, same-self j))
+lone ns s (Free i e rest) short h some free last = grind (arith, none-unused, same-self)
+lone ns s n short h some free last = let here = h.standing.0.kind in absurd (cc)
 
 -- A tree of one free leaf.
 pub one_leaf : (n : Numbered) (e : ℕ) → erase n ≡ tree.Free e tree.End → (i : ℕ) × (n ≡ Free i e End)
-one_leaf End e h = absurd (cc)
-one_leaf (Alloc i g d rest) e h = absurd (cc)
-one_leaf (Seq i d inner rest) e h = absurd (cc)
 one_leaf (Free i d End) e h = let same : d ≡ e = ap extent h in (i, ap (λ k. Free i k End) same)
   where
     extent : Members → ℕ
     extent (tree.Free k m) = k
     extent _ = 0
-one_leaf (Free i d (Free j k rest)) e h = absurd (cc)
-one_leaf (Free i d (Alloc j g k rest)) e h = absurd (cc)
-one_leaf (Free i d (Seq j k inner rest)) e h = absurd (cc)
+one_leaf n e h = absurd (cc)
 
 module _ (v : Stored) (a : IsAtlas v) where
   -- The members of the tree are those of the numbered one.
   pub members-IsAtlas : (tree_of (nodes v.shelf.slots)).members ≡ erase a.holding.tree
-  members-IsAtlas =
-      members_of-Stands (nodes v.shelf.slots) a.holding.sequence a.holding.tree (nodes-below v.shelf.slots a.holds.short) a.holds.top a.holds.stands
+  members-IsAtlas = grind (arith, members_of-Stands, nodes-below)
 
   pub nonempty-IsAtlas : IsNonempty a.holding.tree
-  nonempty-IsAtlas =
-      let t = tree_of (nodes v.shelf.slots) in
-      let along : 0 < total t.members =
-      subst (λ k. 0 < k) (sym a.sound.well_formed.along) (side_positive t.axis (sides_of v.size) a.sound.well_formed.nonempty) in
-      nonempty-total a.holding.tree (subst (λ m. 0 < total m) members-IsAtlas along)
+  nonempty-IsAtlas = grind arith
 
   pub tree_of-IsAtlas : tree_of (nodes v.shelf.slots) ≡ record { axis = a.holding.sequence.axis; members = erase a.holding.tree }
-  tree_of-IsAtlas =
-      tree_of-Stands (nodes v.shelf.slots) a.holding.sequence a.holding.tree (nodes-below v.shelf.slots a.holds.short) a.holds.top a.holds.stands nonempty-IsAtlas
+  tree_of-IsAtlas = grind (arith, tree_of-Stands, nodes-below, nonempty-IsAtlas)
 
   -- The live grants are those of the allocated slots.
   pub live-IsAtlas : (p : Grant → Bool)
       → count_by p (map grant_of (allocated_from 0 (nodes v.shelf.slots))) ≡ count_by p (live (sides_of v.size) (tree_of (nodes v.shelf.slots)))
-  live-IsAtlas p =
-      let s = a.holding.sequence in
-      let m = erase a.holding.tree in
-      sym
-      (ap (λ t. count_by p (live (sides_of v.size) t)) tree_of-IsAtlas
-      ∙ ap (λ w. count_by p (live_among s.axis origin w m)) (sym a.across)
-      ∙ ap (λ o. count_by p (live_among s.axis o s.width m)) (origin-spot s.axis s.start a.start)
-      ∙ live-Stands p (nodes v.shelf.slots) s a.holding.tree a.holds.stands)
+  live-IsAtlas p = grind (arith, tree_of-IsAtlas, live_among, origin-spot, live-Stands)
 
   -- The free boxes are those of the free slots.
   pub free-IsAtlas : (p : Box → Bool)
       → count_by p (map box_of (free_areas (nodes v.shelf.slots))) ≡ count_by p (free_boxes (sides_of v.size) (tree_of (nodes v.shelf.slots)))
-  free-IsAtlas p =
-      let s = a.holding.sequence in
-      let m = erase a.holding.tree in
-      sym
-      (ap (λ t. count_by p (free_boxes (sides_of v.size) t)) tree_of-IsAtlas
-      ∙ ap (λ w. count_by p (free_among s.axis origin w m)) (sym a.across)
-      ∙ ap (λ o. count_by p (free_among s.axis o s.width m)) (origin-spot s.axis s.start a.start)
-      ∙ free-Stands p (nodes v.shelf.slots) s a.holding.tree a.holds.stands)
+  free-IsAtlas p = grind (arith, tree_of-IsAtlas, free_among, origin-spot, free-Stands)
 
   pub used-IsAtlas : v.used ≡ tree.node_count (tree_of (nodes v.shelf.slots)).members
   used-IsAtlas = a.used ∙ numbers-erase a.holding.tree ∙ ap tree.node_count (sym members-IsAtlas)
 
   -- The first slot of the top sequence is a used one.
   pub first-IsAtlas : v.first.number < length v.shelf.slots
-  first-IsAtlas =
-      let ns = nodes v.shelf.slots in
-      let i = first_slot a.holding.tree in
-      let used : 0 < use_count (node_at ns i).kind = subst (λ k. 0 < k) (a.holds.stands.numbered i) nonempty-IsAtlas in
-      let inside : i < length ns = used-inside ns i used in
-      omega (arith, inside, a.first, length-map v.shelf.slots (λ (s : Slot). s.node))
+  first-IsAtlas = grind (arith, nonempty-IsAtlas, used-inside, length-map)
 
   -- An atlas whose first slot is free and has nothing after it has nothing live.
   pub idle-none_live : (node_at (nodes v.shelf.slots) v.first.number).kind ≡ kind.Free → (node_at (nodes v.shelf.slots) v.first.number).next.number ≡ no_slot
       → live (sides_of v.size) (tree_of (nodes v.shelf.slots)) ≡ []
-  idle-none_live free last =
-      let ns = nodes v.shelf.slots in
-      let one = lone ns a.holding.sequence a.holding.tree (nodes-below v.shelf.slots a.holds.short) a.holds.stands nonempty-IsAtlas
-      (subst (λ k. (node_at ns k).kind ≡ kind.Free) a.first free) (subst (λ k. (node_at ns k).next.number ≡ no_slot) a.first last) in
-      ap (λ t. live (sides_of v.size) t) tree_of-IsAtlas
-      ∙ ap (λ n. live (sides_of v.size) (record { axis = a.holding.sequence.axis; members = erase n })) one.2
+  idle-none_live free last = grind (arith, lone, nodes-below, nonempty-IsAtlas, tree_of-IsAtlas)
 
   -- An atlas with nothing live is one free leaf.
   pub none_live-idle : live (sides_of v.size) (tree_of (nodes v.shelf.slots)) ≡ []
@@ -158,6 +112,4 @@ module _ (v : Stored) (a : IsAtlas v) where
 
   pub none_live-read : (n : Node) → n ≡ node_at (nodes v.shelf.slots) v.first.number → live (sides_of v.size) (tree_of (nodes v.shelf.slots)) ≡ []
       → (n.kind ≡ kind.Free) × (n.next.number ≡ no_slot)
-  none_live-read n e none =
-      let h = none_live-idle none in
-      (ap (λ (k : Node). k.kind) e ∙ h.0, ap (λ (k : Node). k.next.number) e ∙ h.1)
+  none_live-read n e none = grind (arith, none_live-idle)

@@ -1,40 +1,33 @@
 -- What a rearranging makes of an atlas.
-use Rattle.std.proofs.Common.{◌≡◌, List, map, All, IsPermutation, refl, ap, sym, subst, [], ◌∷◌}
+use Rattle.std.proofs.Common.{rules, arith, ◌≡◌, List, map, All, IsPermutation, ap, sym, subst, [], ◌∷◌}
 use Rattle.std.proofs.lemmas.List.Elements.{All-nil, All-cons, All-head, All-tail}
 use Rattle.std.proofs.lemmas.List.Sorted.{All-permutation, IsPermutation-map}
-use Rattle.guillotiere.specs.declared.allocation.Allocation.{Allocation}
-use Rattle.guillotiere.specs.declared.change.Change.{Change}
 use Rattle.guillotiere.specs.Boxes.{Sides, IsPositive, box_sides}
-use Rattle.guillotiere.specs.Trees.{Grant}
-use Rattle.guillotiere.specs.States.{State, live_in, started, after_refit, IsSound}
-use Rattle.guillotiere.specs.Refits.{Transfer, Rearrangement, IsRanked, IsRefitOrder}
-use Rattle.guillotiere.specs.Steps.{Rearranges}
-use Rattle.guillotiere.specs.Steps.AtlasReply.{Changed}
 use Rattle.guillotiere.specs.Laws.StepLaws.{IsRearrangingStep}
 use Rattle.guillotiere.specs.Rearranging.{transfer_of, KeepsSides}
-use Rattle.guillotiere.specs.Replies.{grant_of, AreRising}
-use Rattle.guillotiere.specs.Visits.{AreGrants}
-use Rattle.guillotiere.specs.Stored.{AtlasValue, state_of}
+use Rattle.guillotiere.specs.Refits.{Transfer, Rearrangement, IsRanked, IsRefitOrder}
 use Rattle.guillotiere.specs.Refits.Refitted.{HasExactRectangle, IsRefitOf}
+use Rattle.guillotiere.specs.Replies.{grant_of, AreRising}
+use Rattle.guillotiere.specs.States.{State, live_in, started, IsSound}
+use Rattle.guillotiere.specs.Steps.{Rearranges}
+use Rattle.guillotiere.specs.Steps.AtlasReply.{Changed}
+use Rattle.guillotiere.specs.Stored.{AtlasValue, state_of}
+use Rattle.guillotiere.specs.Trees.{Grant}
+use Rattle.guillotiere.specs.Visits.{AreGrants}
+use Rattle.guillotiere.specs.declared.allocation.Allocation.{Allocation}
+use Rattle.guillotiere.specs.declared.change.Change.{Change}
 use Rattle.guillotiere.proofs.AtlasLemmas.RefitRanks.{refit_order_of}
 use Rattle.guillotiere.proofs.StepLemmas.StepEffects.{rearranging_step}
 
 -- What is allocated, put into order.
 pub order-sorted : (s : State) (found sorted : List Allocation) → AreGrants s found → IsPermutation found sorted
     → (AreRising (map grant_of found) → IsRanked (map grant_of sorted)) → IsRefitOrder (live_in s) (map grant_of sorted)
-order-sorted s found sorted grants moved ranked =
-    refit_order_of s (map grant_of found) (map grant_of sorted) grants.list (IsPermutation-map grant_of found sorted moved) (ranked grants.list.rising)
+order-sorted s found sorted grants moved ranked = grind (arith, refit_order_of, IsPermutation-map)
 
 module _ (old : State) (n : Sides) (start : State) (order : List Grant) (positive : IsPositive n)
     (is_start : start ≡ started n old.options old.limit) (ordered : IsRefitOrder (live_in old) order) where
-  state_refitted : (new : State) → new.size ≡ n → new.options ≡ old.options → new.limit ≡ old.limit → new.kept ≡ (after_refit old n new.tree).kept
-      → new ≡ after_refit old n new.tree
-  state_refitted new s o l k = λ i. record { tree = new.tree; size = s i; options = o i; limit = l i; kept = k i }
-
   rearranged : (list : Rearrangement) (new : State) → IsRefitOf start order list new → Rearranges old n (Changed list) new
-  rearranged list new made =
-      let at : IsRefitOf (started n old.options old.limit) order list new = subst (λ s. IsRefitOf s order list new) is_start made in
-      (positive, order, new.tree, ordered, at.refits, state_refitted new at.size at.options at.limit (at.kept refl))
+  rearranged list new made = search rules
 
   rearranged-step : (list : Rearrangement) (new : State) → IsSound old → IsRefitOf start order list new → IsRearrangingStep old list new
   rearranged-step list new sound made = rearranging_step old new n list sound (rearranged list new made)
@@ -60,9 +53,7 @@ module _ (old start placed new : AtlasValue) (n : Sides) (positive : IsPositive 
     (order : List Grant) (ordered : IsRefitOrder (live_in (state_of old)) order) (list : Rearrangement)
     (made : IsRefitOf (state_of start) order list (state_of placed)) (stored : new.stored ≡ placed.stored) where
   pub atlas-rearranged : Rearranges (state_of old) n (Changed list) (state_of new)
-  atlas-rearranged =
-      subst (λ s. Rearranges (state_of old) n (Changed list) s) (sym (same_state new placed stored))
-      (rearranged (state_of old) n (state_of start) order positive is_start ordered list (state_of placed) made)
+  atlas-rearranged = search rules
 
   pub atlas-moved : IsSound (state_of old) → IsRearrangingStep (state_of old) list (state_of new)
   atlas-moved sound =

@@ -1,22 +1,26 @@
 -- The loop that places allocations anew.
-use Rattle.std.proofs.Common.{◌≡◌, ℕ, suc, ◌+◌, ◌<◌, ◌≤◌, List, [], ◌∷◌, ◌++◌, map, length, get_or, take, drop, All, Option, Some, None, Result, Ok, Err, refl, ap, sym, subst, ◌∙◌, add-one, arith}
-use Rattle.std.specs.Prelude.{IfErr, IfSome}
-use Rattle.std.proofs.Math.ListN.{set}
+use Rattle.std.proofs.Common.{◌≡◌, ℕ, suc, ◌+◌, ◌<◌, ◌≤◌, List, [], ◌∷◌, ◌++◌, map, length, get_or, take, drop, All}
+use Rattle.std.proofs.Common.{Option, Some, None, Result, Ok, ap, sym, subst, ◌∙◌, add-one, arith}
 use Rattle.std.proofs.Math.Seq.{take-suc-set, drop-cons}
 use Rattle.std.proofs.lemmas.List.{append-nil, drop-set-lt, drop_all, length-set, map_push}
-use Rattle.std.proofs.lemmas.List.Elements.{All-nil, All-push}
-use Rattle.guillotiere.specs.declared.allocation.Allocation.{Allocation}
-use Rattle.guillotiere.specs.declared.change.Change.{Change}
-use Rattle.guillotiere.specs.declared.error.AtlasError.{AtlasError}
+use Rattle.std.proofs.lemmas.List.Elements.{All-push}
+use Rattle.std.specs.Prelude.{IfErr}
 use Rattle.guillotiere.specs.Boxes.{Sides, box_sides}
 use Rattle.guillotiere.specs.Pixels.{box_of}
+use Rattle.guillotiere.specs.Rearranging.{IsExactChange}
+use Rattle.guillotiere.specs.Refits.Refitted.{HasExactRectangle, IsRefitOf, IsRefitRefusal, IsPartOfRefit, IsRefitting}
+use Rattle.guillotiere.specs.Refits.Refitted.{followed_by, moved_so_far}
+use Rattle.guillotiere.specs.Replies.{grant_of, allocate_reply, IsExact}
 use Rattle.guillotiere.specs.States.{State}
 use Rattle.guillotiere.specs.Steps.{Step}
 use Rattle.guillotiere.specs.Steps.AtlasCall.{Allocate}
-use Rattle.guillotiere.specs.Replies.{grant_of, allocate_reply, IsExact}
-use Rattle.guillotiere.specs.Rearranging.{transfer_of, IsExactChange}
-use Rattle.guillotiere.specs.Refits.Refitted.{HasExactRectangle, IsRefitOf, IsRefitRefusal, IsPartOfRefit, IsRefitting, followed_by, moved_so_far}
-use Rattle.guillotiere.proofs.AtlasLemmas.RefitParts.{one_change, one_failure, part-start, part-end, part-change, part-failure, part-refusal}
+use Rattle.guillotiere.specs.declared.allocation.Allocation.{Allocation}
+use Rattle.guillotiere.specs.declared.change.Change.{Change}
+use Rattle.guillotiere.specs.declared.error.AtlasError.{AtlasError}
+use Rattle.std.proofs.Common.{Err}
+use Rattle.std.specs.Prelude.{IfSome}
+use Rattle.std.proofs.Math.ListN.{set}
+use Rattle.guillotiere.proofs.AtlasLemmas.RefitParts.{one_change, one_failure, part-end, part-change, part-failure, part-refusal}
 
 abbrev change : (old new : Allocation) → Change
 change old new = record { old = old; new = new }
@@ -24,50 +28,29 @@ change old new = record { old = old; new = new }
 -- Nothing is placed yet.
 pub refitting-start : (old : State) (order : List Allocation) (changes : List Change) → changes ≡ []
     → IsRefitting old order old 0 0 changes order
-refitting-start old order changes none = record {
-  few = omega arith;
-  length = refl;
-  left = refl;
-  part = subst (λ l. IsPartOfRefit old (map grant_of order) (moved_so_far l []) old (map grant_of order)) (sym none)
-      (part-start old (map grant_of order));
-  changes_exact = subst (All IsExactChange) (sym none) (All-nil IsExactChange);
-  failures_exact = All-nil HasExactRectangle;
-}
+refitting-start old order changes none = grind arith
 
 -- The same of equal variables.
 pub refitting-same : (old : State) (order : List Allocation) (now : State) (at failed failed' : ℕ) (changes changes' : List Change)
     (boxes boxes' : List Allocation) → failed' ≡ failed → changes' ≡ changes → boxes' ≡ boxes
     → IsRefitting old order now at failed changes boxes → IsRefitting old order now at failed' changes' boxes'
-refitting-same old order now at failed failed' changes changes' boxes boxes' f c b h =
-    subst (λ k. IsRefitting old order now at k changes' boxes') (sym f)
-    (subst (λ l. IsRefitting old order now at failed l boxes') (sym c)
-    (subst (λ l. IsRefitting old order now at failed changes l) (sym b) h))
+refitting-same old order now at failed failed' changes changes' boxes boxes' f c b h = grind arith
 
 change-moved : (changes : List Change) (failures : List Allocation) (old new : Allocation)
     → followed_by (moved_so_far changes failures) (one_change (grant_of old) (grant_of new))
     ≡ moved_so_far (changes ++ change old new ∷ []) failures
-change-moved changes failures old new =
-    let c = sym (map_push transfer_of changes (change old new)) in
-    let f = append-nil (map grant_of failures) in
-    λ i. record { changes = c i; failures = f i }
+change-moved changes failures old new = grind (arith, map_push, append-nil)
 
 failure-moved : (changes : List Change) (failures : List Allocation) (x : Allocation)
     → followed_by (moved_so_far changes failures) (one_failure (grant_of x)) ≡ moved_so_far changes (failures ++ x ∷ [])
-failure-moved changes failures x =
-    let c = append-nil (map transfer_of changes) in
-    let f = sym (map_push grant_of failures x) in
-    λ i. record { changes = c i; failures = f i }
+failure-moved changes failures x = grind (arith, append-nil, map_push)
 
 module _ (old : State) (order : List Allocation) (now : State) (at failed : ℕ) (changes : List Change)
     (boxes : List Allocation) (i : IsRefitting old order now at failed changes boxes) where
   -- All are placed.
   pub refitting-end : length order ≤ at → (failures : List Allocation) → failures ≡ take failed boxes
       → IsRefitOf old (map grant_of order) (moved_so_far changes failures) now
-  refitting-end over failures is =
-      let none : drop at order ≡ [] = drop_all at order over in
-      subst (λ l. IsRefitOf old (map grant_of order) (moved_so_far changes l) now) (sym is)
-      (part-end old now (map grant_of order) (moved_so_far changes (take failed boxes))
-      (subst (λ l. IsPartOfRefit old (map grant_of order) (moved_so_far changes (take failed boxes)) now (map grant_of l)) none i.part))
+  refitting-end over failures is = grind (arith, drop_all, part-end)
 
   module _ (below : at < length boxes) (x : Allocation) (here : x ≡ get_or boxes at x) where
     same_here : get_or order at x ∷ drop (suc at) order ≡ x ∷ drop (suc at) boxes
@@ -138,8 +121,4 @@ module _ (old : State) (order : List Allocation) (now : State) (at failed : ℕ)
       -- The next one is refused.
       pub refitting-refusal : {T : Type 0} (error : AtlasError) → Step now (Allocate sides) (allocate_reply (Err error)) new
           → (result : Result T AtlasError) → result ≡ Err error → IfErr result (IsRefitRefusal old (map grant_of order))
-      refitting-refusal error step result is =
-          let t = subst (λ r. Step now (Allocate r) (allocate_reply (Err error)) new) measured step in
-          subst (λ r. IfErr r (IsRefitRefusal old (map grant_of order))) (sym is)
-          (part-refusal old now new (map grant_of order) (moved_so_far changes (take failed boxes)) (grant_of x)
-          (map grant_of (drop (at + 1) order)) part_here error t)
+      refitting-refusal error step result is = grind (arith, part-refusal, part_here)

@@ -1,17 +1,18 @@
 -- Placing grants anew, one after another.
-use Rattle.std.proofs.Common.{◌≡◌, ◌≤◌, List, [], ◌∷◌, ◌++◌, refl, ap, sym, subst, ◌∙◌, inl, inr, append_assoc, arith}
+use Rattle.std.proofs.Common.{◌≡◌, List, [], ◌∷◌, ◌++◌, refl, ap, sym, subst, ◌∙◌, inl, inr, append_assoc, arith}
 use Rattle.std.proofs.lemmas.List.{append-nil}
-use Rattle.guillotiere.specs.declared.error.AtlasError.{AtlasError}
-use Rattle.guillotiere.specs.declared.error.AtlasError.TheVariants.{Memory, Slots, NotLive}
 use Rattle.guillotiere.specs.Boxes.{Box, box_at, box_sides}
-use Rattle.guillotiere.specs.Trees.{Grant, grant, node_count}
 use Rattle.guillotiere.specs.Changes.{place}
+use Rattle.guillotiere.specs.Refits.{Rearrangement, no_changes, with_change, with_failure, refit_sides, Refits}
+use Rattle.guillotiere.specs.Refits.{RefitPasses}
+use Rattle.guillotiere.specs.Refits.Refitted.{IsRefitOf, IsRefitRefusal, IsPartOfRefit, followed_by}
 use Rattle.guillotiere.specs.States.{State, used_in}
-use Rattle.guillotiere.specs.Refits.{Transfer, Rearrangement, no_changes, with_change, with_failure, refit_sides, Refits, RefitPasses}
 use Rattle.guillotiere.specs.Steps.{Step, Grants}
 use Rattle.guillotiere.specs.Steps.AtlasCall.{Allocate}
 use Rattle.guillotiere.specs.Steps.AtlasReply.{Allocated, NoRoom, Refused}
-use Rattle.guillotiere.specs.Refits.Refitted.{IsRefitOf, IsRefitRefusal, IsPartOfRefit, followed_by}
+use Rattle.guillotiere.specs.Trees.{Grant, grant}
+use Rattle.guillotiere.specs.declared.error.AtlasError.{AtlasError}
+use Rattle.guillotiere.specs.declared.error.AtlasError.TheVariants.{Memory, Slots, NotLive}
 use Rattle.guillotiere.proofs.TreeLemmas.TreeCounts.{place_nodes}
 
 abbrev pub one_change : (old new : Grant) → Rearrangement
@@ -25,37 +26,14 @@ append_one xs x ys = sym (append_assoc xs (x ∷ []) ys)
 
 then_change : (done : Rearrangement) (old new : Grant) (rest : Rearrangement)
     → followed_by done (with_change old new rest) ≡ followed_by (followed_by done (one_change old new)) rest
-then_change done old new rest =
-    let t : Transfer = record { old = old; new = new } in
-    let c : done.changes ++ t ∷ rest.changes ≡ (done.changes ++ t ∷ []) ++ rest.changes = append_one done.changes t rest.changes in
-    let f : done.failures ++ rest.failures ≡ (done.failures ++ []) ++ rest.failures =
-    ap (λ l. l ++ rest.failures) (sym (append-nil done.failures)) in
-    λ i. record { changes = c i; failures = f i }
+then_change done old new rest = grind (arith, append_one, append-nil)
 
 then_failure : (done : Rearrangement) (g : Grant) (rest : Rearrangement)
     → followed_by done (with_failure g rest) ≡ followed_by (followed_by done (one_failure g)) rest
-then_failure done g rest =
-    let c : done.changes ++ rest.changes ≡ (done.changes ++ []) ++ rest.changes =
-    ap (λ l. l ++ rest.changes) (sym (append-nil done.changes)) in
-    let f : done.failures ++ g ∷ rest.failures ≡ (done.failures ++ g ∷ []) ++ rest.failures = append_one done.failures g rest.failures in
-    λ i. record { changes = c i; failures = f i }
+then_failure done g rest = grind (arith, append-nil, append_one)
 
 then_nothing : (done : Rearrangement) → followed_by done no_changes ≡ done
-then_nothing done =
-    let c : done.changes ++ [] ≡ done.changes = append-nil done.changes in
-    let f : done.failures ++ [] ≡ done.failures = append-nil done.failures in
-    λ i. record { changes = c i; failures = f i }
-
--- Nothing is placed yet.
-pub part-start : (s : State) (order : List Grant) → IsPartOfRefit s order no_changes s order
-part-start s order = record {
-  refits = λ rest new h. h;
-  passes = λ h. h;
-  size = refl;
-  options = refl;
-  limit = refl;
-  kept = λ h. h;
-}
+then_nothing done = grind (arith, append-nil)
 
 -- All is placed.
 pub part-end : (old now : State) (order : List Grant) (done : Rearrangement) → IsPartOfRefit old order done now []
@@ -77,10 +55,7 @@ module _ (old now new : State) (order : List Grant) (done : Rearrangement) (g : 
     same_grant = λ i. record { id = h.id; box = granted.box i }
 
     kept-placed : now.kept ≡ used_in now → new.kept ≡ used_in new
-    kept-placed is =
-        let count = place_nodes now.size now.tree f (refit_sides now.options g) h.id in
-        let more : node_count now.tree.members ≤ node_count (place now.size f (refit_sides now.options g) h.id now.tree).members = omega (arith, count) in
-        subst (λ s. s.kept ≡ used_in s) (sym granted.state) (omega (arith, is, more))
+    kept-placed is = grind (arith, place_nodes)
 
     part-granted : IsPartOfRefit old order (followed_by done (one_change g h)) new left
     part-granted = record {

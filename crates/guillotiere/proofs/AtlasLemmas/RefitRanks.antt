@@ -1,23 +1,23 @@
 -- The order in which grants are placed anew.
-use Rattle.std.proofs.Common.{◌≡◌, ℕ, suc, ◌+◌, ◌%◌, ◌^◌, ◌==◌, ◌<◌, ◌≤◌, ◌⊎◌, Bool, true, false, List, [], ◌∷◌, map, length, get_or, All, IsPermutation, refl, ap, sym, subst, ◌∙◌, inl, inr, add-one, arith}
+use Rattle.std.proofs.Common.{◌≡◌, ℕ, suc, ◌+◌, ◌%◌, ◌^◌, ◌==◌, ◌<◌, ◌≤◌, ◌⊎◌, Bool, true, false, List, [], ◌∷◌, map}
+use Rattle.std.proofs.Common.{length, get_or, All, IsPermutation, refl, ap, subst, ◌∙◌, inl, inr, add-one, arith}
 use Rattle.std.proofs.Common.{Ordering}
 use Rattle.std.proofs.Math.Nat.{eq-or-lt_of_le}
-use Rattle.std.specs.List.{count_by}
-use Rattle.std.specs.Ordering.{nat_cmp, ordering_then, is_lt, MatchOrdering}
-use Rattle.std.specs.declared.cmp.Ordering.TheVariants.{Less, Equal, Greater}
-use Rattle.std.specs.declared.cmp.Reverse.{Reverse}
-use Rattle.std.specs.List.Sorted.{IsSortedByKey}
 use Rattle.std.proofs.lemmas.Bool.{eq-eqb, eqb-true}
-use Rattle.std.proofs.lemmas.Cmp.{ranked}
 use Rattle.std.proofs.lemmas.List.Elements.{All-nil, All-cons, All-head, All-tail}
-use Rattle.std.proofs.lemmas.List.Sorted.{IsPermutation-map, IsPermutation-sym, IsPermutation-trans, sum_by-IsPermutation}
-use Rattle.guillotiere.specs.declared.allocation.Allocation.{Allocation}
+use Rattle.std.proofs.lemmas.List.Sorted.{IsPermutation-map, IsPermutation-sym, IsPermutation-trans}
+use Rattle.std.proofs.lemmas.List.Sorted.{sum_by-IsPermutation}
+use Rattle.std.specs.List.{count_by}
+use Rattle.std.specs.List.Sorted.{IsSortedByKey}
+use Rattle.std.specs.Ordering.{nat_cmp, ordering_then, is_lt}
+use Rattle.std.specs.declared.cmp.Reverse.{Reverse}
 use Rattle.guillotiere.specs.Boxes.{area}
 use Rattle.guillotiere.specs.Cuts.{cap}
-use Rattle.guillotiere.specs.Trees.{Grant}
-use Rattle.guillotiere.specs.States.{State, live_in}
 use Rattle.guillotiere.specs.Refits.{Precedes, IsRanked, IsRefitOrder}
 use Rattle.guillotiere.specs.Replies.{grant_of, AreRising, IsLiveList}
+use Rattle.guillotiere.specs.States.{State, live_in}
+use Rattle.guillotiere.specs.Trees.{Grant}
+use Rattle.guillotiere.specs.declared.allocation.Allocation.{Allocation}
 use Rattle.guillotiere.proofs.TreeLemmas.BoxLists.{same_grant, same_grant-itself, same_grant-true}
 use Rattle.guillotiere.proofs.ListLemmas.Counting.{count_by-cons, permuted_from_counts}
 use Rattle.guillotiere.proofs.TreeLemmas.TreeBasics.{one_if}
@@ -36,15 +36,7 @@ has_slot k g = slot_of g == k
 none_above : (k : ℕ) (gs : List Grant) → All (λ h. k < slot_of h) gs → count_by (has_slot k) gs ≡ 0
 none_above k [] all = refl
 none_above k (g ∷ gs) all =
-    let later : count_by (has_slot k) gs ≡ 0 = none_above k gs (All-tail (λ h. k < slot_of h) g gs all) in
-    let first : k < slot_of g = All-head (λ h. k < slot_of h) g gs all in
-    let count : count_by (has_slot k) (g ∷ gs) ≡ one_if (has_slot k g) + count_by (has_slot k) gs = count_by-cons (has_slot k) g gs in
-    let here : one_if (has_slot k g) ≡ 0 = by_test (has_slot k g) refl first in
-    omega arith
-  where
-    by_test : (b : Bool) → has_slot k g ≡ b → k < slot_of g → one_if b ≡ 0
-    by_test true e l = let same : slot_of g ≡ k = eqb-true _ _ e in absurd (omega arith)
-    by_test false e l = refl
+    grind (arith, none_above k gs (All-tail (λ h. k < slot_of h) g gs all), All-tail, All-head, one_if, count_by-cons, eqb-true)
 
 abbrev AreApart : List Grant → Type 0
 AreApart gs = (k : ℕ) → count_by (has_slot k) gs ≤ 1
@@ -74,18 +66,7 @@ abbrev IsNotBefore : (g h : Grant) → Type 0
 IsNotBefore g h = (rank_of h < rank_of g) ⊎ ((rank_of h ≡ rank_of g) × (slot_of h ≤ slot_of g))
 
 lexical : (a b m n : ℕ) → is_lt (ordering_then (nat_cmp a b) (nat_cmp m n)) ≡ false → (b < a) ⊎ ((b ≡ a) × (n ≤ m))
-lexical a b m n = by_first (nat_cmp a b) (ranked a b (nat_cmp a b) refl)
-  where
-    by_second : (q : Ordering) → MatchOrdering q (m < n) (m ≡ n) (n < m) → is_lt q ≡ false → n ≤ m
-    by_second Less h e = absurd (cc)
-    by_second Equal h e = omega arith
-    by_second Greater h e = omega arith
-
-    by_first : (o : Ordering) → MatchOrdering o (a < b) (a ≡ b) (b < a) → is_lt (ordering_then o (nat_cmp m n)) ≡ false
-        → (b < a) ⊎ ((b ≡ a) × (n ≤ m))
-    by_first Less h e = absurd (cc)
-    by_first Equal h e = inr (sym h, by_second (nat_cmp m n) (ranked m n (nat_cmp m n) refl) e)
-    by_first Greater h e = inl h
+lexical a b m n = grind arith
 
 precedes_through : (f g h : Grant) → Precedes f g → Precedes g h → Precedes f h
 precedes_through f g h (inl a) (inl b) = inl (omega arith)

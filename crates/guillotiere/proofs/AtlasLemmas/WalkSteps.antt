@@ -1,22 +1,24 @@
 -- One slot more in a walk over slots.
-use Rattle.std.proofs.Common.{ℕ, ◌+◌, ◌<◌, ◌≡◌, Bool, false, cond, List, [], ◌∷◌, get_or, drop, length, refl, sym, ap, subst, ◌∙◌}
+use Rattle.std.proofs.Common.{rules, ℕ, ◌+◌, ◌<◌, ◌≡◌, Bool, false, cond, List, [], ◌∷◌, get_or, drop, length, refl}
+use Rattle.std.proofs.Common.{sym, ap, subst, ◌∙◌}
 use Rattle.std.proofs.lemmas.Bool.{true≢false}
 use Rattle.std.proofs.lemmas.List.{at_drop_more}
-use denote.Enum.Bare.{sameb}
-use Rattle.guillotiere.specs.contracts.slots.NodeKind.{the_type}
 use Rattle.std.specs.Borrow.{Bor}
-use Rattle.std.specs.Fn.{Mut, Called, CalledAt, Takes, TakesAt}
+use Rattle.std.specs.Fn.{Mut, Called, CalledAt}
+use Rattle.std.specs.Iterator.{CallableAtEachTurn}
 use Rattle.std.specs.List.{FoldsTo}
-use Rattle.guillotiere.specs.declared.slots.Slot.{Slot}
-use Rattle.guillotiere.specs.declared.slots.NodeKind.{NodeKind}
-use Rattle.guillotiere.specs.declared.slots.NodeKind.TheVariants as kind
-use Rattle.guillotiere.specs.declared.geometry.Rectangle.{Rectangle}
 use Rattle.guillotiere.specs.Slots.{nodes}
 use Rattle.guillotiere.specs.Slots.Lists.{is_free}
 use Rattle.guillotiere.specs.Slots.Numbered.{id_of}
 use Rattle.guillotiere.specs.Visits.{CalledAtGrant, is_alloc, allocation_at, allocated_from, free_areas}
-use Rattle.guillotiere.specs.Walks.{first_of, IsCallableAlong, IsCallableAlongGrants, TakesAtGrant}
-use Rattle.std.specs.Iterator.{CallableAtEachTurn}
+use Rattle.guillotiere.specs.Walks.{first_of, IsCallableAlong, IsCallableAlongGrants}
+use Rattle.guillotiere.specs.contracts.slots.NodeKind.{the_type}
+use Rattle.guillotiere.specs.declared.geometry.Rectangle.{Rectangle}
+use Rattle.guillotiere.specs.declared.slots.NodeKind.{NodeKind}
+use Rattle.guillotiere.specs.declared.slots.Slot.{Slot}
+use denote.Enum.Bare.{sameb}
+use Rattle.std.specs.Fn.{Takes}
+use Rattle.guillotiere.specs.declared.slots.NodeKind.TheVariants as kind
 
 -- The list from an allocated slot on.
 allocated-next : (xs : List Slot) (i : ℕ) (d : Slot) → i < length xs → (get_or xs i d).node.kind ≡ kind.Alloc
@@ -28,15 +30,11 @@ allocated-next xs i d low is =
 -- A kind that the test of the code tells apart.
 pub not_alloc : (k : NodeKind) (b : Bool) → b ≡ sameb the_type k kind.Alloc → b ≡ false → is_alloc k ≡ false
 not_alloc kind.Alloc b e f = absurd (true≢false (sym e ∙ f))
-not_alloc kind.Container b e f = refl
-not_alloc kind.Free b e f = refl
-not_alloc kind.Unused b e f = refl
+not_alloc k b e f = refl
 
 pub not_free : (k : NodeKind) (b : Bool) → b ≡ sameb the_type k kind.Free → b ≡ false → is_free k ≡ false
 not_free kind.Free b e f = absurd (true≢false (sym e ∙ f))
-not_free kind.Container b e f = refl
-not_free kind.Alloc b e f = refl
-not_free kind.Unused b e f = refl
+not_free k b e f = refl
 
 -- The call at one allocated slot more.
 pub visits-allocated : {F : Type 0} (g : Mut F (ℕ × (Bor Rectangle × Unit {0})) (Unit {0})) (f f' at last : F) (xs : List Slot) (i : ℕ) (d : Slot) (id : ℕ) (shown : Bor Rectangle)
@@ -45,8 +43,7 @@ pub visits-allocated : {F : Type 0} (g : Mut F (ℕ × (Bor Rectangle × Unit {0
     → FoldsTo (CalledAtGrant g) at (allocated_from (i + 1) (nodes (drop (i + 1) xs))) last
     → FoldsTo (CalledAtGrant g) f (allocated_from i (nodes (drop i xs))) last
 visits-allocated g f f' at last xs i d id shown low is same_id same_area call here more =
-    subst (λ l. FoldsTo (CalledAtGrant g) f l last) (sym (allocated-next xs i d low is))
-    (at, record { shown = shown; shows = same_area; called = subst (λ v. Called g f (v, (shown, tt)) tt at) same_id (subst (λ v. Called g f (id, (shown, tt)) tt v) (sym here) call) }, more)
+    search (rules, allocated-next)
 
 -- No call at a slot that isn't allocated.
 pub passes-allocated : {F : Type 0} (g : Mut F (ℕ × (Bor Rectangle × Unit {0})) (Unit {0})) (f at last : F) (xs : List Slot) (i : ℕ) (d : Slot) (b : Bool)
@@ -108,16 +105,11 @@ module _ {F : Type 0} (g : Mut F (Bor Rectangle × Unit {0}) (Unit {0})) (xs : L
 
   -- A callback may be called at a free slot.
   pub asks-free : (f : F) (shown : Bor Rectangle) → (get_or xs i d).node.kind ≡ kind.Free → shown.now ≡ (get_or xs i d).node.area → From f i → Takes g f (shown, tt)
-  asks-free f shown is same h =
-      along-first (λ p x q. CalledAt g p x tt q) (λ p x. Unit {0} → TakesAt g p x) f _ _
-      (subst (λ l. IsCallableAlong g (λ _. Unit {0}) f l) (free-next is) h) tt shown same
+  asks-free f shown is same h = search (rules, along-first, free-next)
 
   -- And after that call at those that follow.
   pub asks-more-free : (f f' at : F) → (get_or xs i d).node.kind ≡ kind.Free → CalledAt g f (get_or xs i d).node.area tt f' → at ≡ f' → From f i → From at (i + 1)
-  asks-more-free f f' at is call here h =
-      along-rest (λ p x q. CalledAt g p x tt q) (λ p x. Unit {0} → TakesAt g p x) f at _ _
-      (subst (λ l. IsCallableAlong g (λ _. Unit {0}) f l) (free-next is) h)
-      (subst (λ v. CalledAt g f (get_or xs i d).node.area tt v) (sym here) call)
+  asks-more-free f f' at is call here h = search (rules, along-rest, free-next)
 
   -- A slot that isn't free is passed over.
   pub asks-past-free : (f at : F) (b : Bool) → b ≡ sameb the_type (get_or xs i d).node.kind kind.Free → b ≡ false → at ≡ f → From f i → From at (i + 1)
@@ -135,18 +127,12 @@ module _ {F : Type 0} (g : Mut F (ℕ × (Bor Rectangle × Unit {0})) (Unit {0})
   -- A callback may be called at an allocated slot.
   pub asks-allocated : (f : F) (id : ℕ) (shown : Bor Rectangle) → (get_or xs i d).node.kind ≡ kind.Alloc → id ≡ id_of i (get_or xs i d).node.generation
       → shown.now ≡ (get_or xs i d).node.area → GrantsFrom f i → Takes g f (id, (shown, tt))
-  asks-allocated f id shown is same_id same h =
-      subst (λ v. Takes g f (v, (shown, tt))) (sym same_id)
-      (along-first (CalledAtGrant g) (λ p x. Unit {0} → TakesAtGrant g p x) f _ _
-      (subst (λ l. IsCallableAlongGrants g (λ _. Unit {0}) f l) (allocated-next xs i d low is) h) tt shown same)
+  asks-allocated f id shown is same_id same h = search (rules, along-first, allocated-next)
 
   -- And after that call at those that follow.
   pub asks-more-allocated : (f f' at : F) (id : ℕ) (shown : Bor Rectangle) → (get_or xs i d).node.kind ≡ kind.Alloc → id ≡ id_of i (get_or xs i d).node.generation
       → shown.now ≡ (get_or xs i d).node.area → Called g f (id, (shown, tt)) tt f' → at ≡ f' → GrantsFrom f i → GrantsFrom at (i + 1)
-  asks-more-allocated f f' at id shown is same_id same call here h =
-      along-rest (CalledAtGrant g) (λ p x. Unit {0} → TakesAtGrant g p x) f at _ _
-      (subst (λ l. IsCallableAlongGrants g (λ _. Unit {0}) f l) (allocated-next xs i d low is) h)
-      (record { shown = shown; shows = same; called = subst (λ v. Called g f (v, (shown, tt)) tt at) same_id (subst (λ v. Called g f (id, (shown, tt)) tt v) (sym here) call) })
+  asks-more-allocated f f' at id shown is same_id same call here h = search (rules, along-rest, allocated-next)
 
   -- A slot that isn't allocated is passed over.
   pub asks-past-allocated : (f at : F) (b : Bool) → b ≡ sameb the_type (get_or xs i d).node.kind kind.Alloc → b ≡ false → at ≡ f → GrantsFrom f i → GrantsFrom at (i + 1)

@@ -1,24 +1,25 @@
 -- What a callback is told of each item of a list that a walk shows.
-use Rattle.std.proofs.Common.{ℕ, suc, ◌+◌, ◌%◌, ◌^◌, ◌<◌, ◌≡◌, Bool, true, false, cond, List, [], ◌∷◌, length, All, Option, Some, None, option_map, refl, sym, ap, subst, ◌∙◌, arith}
+use Rattle.std.proofs.Common.{ℕ, suc, ◌+◌, ◌%◌, ◌^◌, ◌<◌, ◌≡◌, Bool, true, false, cond, List, [], ◌∷◌, length, All}
+use Rattle.std.proofs.Common.{Option, Some, None, option_map, refl, sym, ap, subst, ◌∙◌, arith}
 use Rattle.std.proofs.lemmas.Bool.{false≢true}
 use Rattle.std.proofs.lemmas.List.{length-map}
 use Rattle.std.proofs.lemmas.List.Elements.{All-nil, All-cons, All-head, All-rest, All-weaker}
 use Rattle.std.specs.Iterator.{Yields, CallableAtEachTurn}
-use Rattle.guillotiere.specs.declared.slots.Slot.{Slot}
-use Rattle.guillotiere.specs.declared.slots.Node.{Node}
-use Rattle.guillotiere.specs.declared.slots.NodeKind.{NodeKind}
-use Rattle.guillotiere.specs.declared.slots.NodeKind.TheVariants as kind
-use Rattle.guillotiere.specs.declared.allocation.Allocation.{Allocation}
-use Rattle.guillotiere.specs.declared.geometry.Rectangle.{Rectangle}
 use Rattle.guillotiere.specs.Boxes.{Box}
 use Rattle.guillotiere.specs.Pixels.{box_of, rectangle_of}
 use Rattle.guillotiere.specs.Slots.{nodes, node_at, use_count}
+use Rattle.guillotiere.specs.Slots.Areas.{live_areas}
+use Rattle.guillotiere.specs.Slots.Lists.{is_free}
 use Rattle.guillotiere.specs.Slots.Numbered.{id_of}
 use Rattle.guillotiere.specs.Stored.{Stored, IsAtlas, state_of}
 use Rattle.guillotiere.specs.Visits.{is_alloc, allocation_at, allocated_from, free_areas}
-use Rattle.guillotiere.specs.Slots.Lists.{is_free}
 use Rattle.guillotiere.specs.Walks.{first_of, IsShownArea, IsShownGrant}
-use Rattle.guillotiere.specs.Slots.Areas.{live_areas}
+use Rattle.guillotiere.specs.declared.allocation.Allocation.{Allocation}
+use Rattle.guillotiere.specs.declared.geometry.Rectangle.{Rectangle}
+use Rattle.guillotiere.specs.declared.slots.Node.{Node}
+use Rattle.guillotiere.specs.declared.slots.NodeKind.{NodeKind}
+use Rattle.guillotiere.specs.declared.slots.Slot.{Slot}
+use Rattle.guillotiere.specs.declared.slots.NodeKind.TheVariants as kind
 use Rattle.guillotiere.proofs.AtlasLemmas.AreaSums.{live_areas-shown}
 use Rattle.guillotiere.proofs.SlotLemmas.JoiningWrites.{used-inside}
 use Rattle.guillotiere.proofs.SlotLemmas.SlotAreas.{Stands-exact}
@@ -49,9 +50,7 @@ each-allocated P all k (n ∷ ns) at each = by_test (is_alloc n.kind) refl (each
 
     by_test : (b : Bool) → is_alloc n.kind ≡ b → All P (allocated_from (k + 1) ns)
         → All P (cond b (allocation_at k n ∷ allocated_from (k + 1) ns) (allocated_from (k + 1) ns))
-    by_test true is rest =
-        All-cons P (allocation_at k n) (allocated_from (k + 1) ns)
-        (subst (λ m. P (allocation_at k m)) here (each k (ap (λ (m : Node). is_alloc m.kind) here ∙ is))) rest
+    by_test true is rest = grind (arith, All-cons, here)
     by_test false is rest = rest
 
 -- And what holds of the rectangle of each free slot.
@@ -74,9 +73,7 @@ each-free P all k (n ∷ ns) at each = by_test (is_free n.kind) refl (each-free 
 
 is_free-used : (k : NodeKind) → is_free k ≡ true → 0 < use_count k
 is_free-used kind.Free h = omega arith
-is_free-used kind.Alloc h = absurd (false≢true h)
-is_free-used kind.Container h = absurd (false≢true h)
-is_free-used kind.Unused h = absurd (false≢true h)
+is_free-used k h = absurd (false≢true h)
 
 -- A box whose rectangle is r is that of r.
 box_is : (o : Option Box) (r : Rectangle) → option_map rectangle_of o ≡ Some r → o ≡ Some (box_of r)

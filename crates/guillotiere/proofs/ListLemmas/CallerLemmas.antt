@@ -1,7 +1,8 @@
 -- Lists as callers meet them: counts and searches under a permutation, a filter and a map.
-use Rattle.std.proofs.Common.{◌≡◌, ◌↔◌, zero, suc, ◌+◌, ◌≤◌, Bool, true, false, cond, List, [], ◌∷◌, map, length, refl, ap, subst, sym, ◌∙◌, arith, Contains, IsPermutation, inl, inr, Option, Some, None}
-use Rattle.std.specs.List.{count_by, filter, find}
+use Rattle.std.proofs.Common.{rules, ◌≡◌, ◌↔◌, zero, suc, ◌+◌, ◌≤◌, Bool, true, false, cond, List, [], ◌∷◌, map, length}
+use Rattle.std.proofs.Common.{refl, ap, subst, sym, ◌∙◌, arith, Contains, IsPermutation, inl, inr, Option, Some, None}
 use Rattle.std.proofs.lemmas.List.Sorted.{sum_by-IsPermutation, Contains-permutation}
+use Rattle.std.specs.List.{count_by, filter, find}
 use Rattle.guillotiere.proofs.TreeLemmas.TreeBasics.{one_if}
 use Rattle.guillotiere.proofs.TreeLemmas.TreeIds.{Contains-first, Contains-later, Contains-none, Contains-cons_cases}
 use Rattle.guillotiere.proofs.ListLemmas.Counting.{count_by-cons, count_some, counted_once}
@@ -14,10 +15,7 @@ module _ {X : Type 0} where
   -- All are counted where all pass.
   pub count_by-all : (xs : List X) → count_by (λ x. true) xs ≡ length xs
   count_by-all [] = refl
-  count_by-all (x ∷ xs) =
-      let e : count_by (λ k. true) (x ∷ xs) ≡ 1 + count_by (λ k. true) xs = count_by-cons (λ k. true) x xs in
-      let h : count_by (λ k. true) xs ≡ length xs = count_by-all xs in
-      omega arith
+  count_by-all (x ∷ xs) = search (rules, count_by-cons, count_by-all xs)
 
   pub length-permutation : (xs ys : List X) → IsPermutation xs ys → length ys ≡ length xs
   length-permutation xs ys h = sym (count_by-all ys) ∙ count_by-permutation (λ k. true) xs ys h ∙ count_by-all xs
@@ -26,16 +24,7 @@ module _ {X : Type 0} where
   pub count_by-filter_gone : (p q : X → Bool) → ((x : X) → p x ≡ true → q x ≡ false) → (xs : List X)
       → count_by p (filter q xs) ≡ 0
   count_by-filter_gone p q w [] = refl
-  count_by-filter_gone p q w (x ∷ xs) = by_test (q x) refl (count_by-filter_gone p q w xs)
-    where
-      missed : (b : Bool) → p x ≡ b → q x ≡ true → one_if b ≡ 0
-      missed true e hit = let miss : q x ≡ false = w x e in cc
-      missed false e hit = refl
-
-      by_test : (b : Bool) → q x ≡ b → count_by p (filter q xs) ≡ 0
-          → count_by p (cond b (x ∷ filter q xs) (filter q xs)) ≡ 0
-      by_test true e h = let c = count_by-cons p x (filter q xs) in let z = missed (p x) refl e in omega arith
-      by_test false e h = h
+  count_by-filter_gone p q w (x ∷ xs) = grind (arith, count_by-filter_gone p q w xs)
 
   -- What a filter leaves was in the list and passes.
   pub Contains-filter : (q : X → Bool) (xs : List X) (x : X) → Contains (filter q xs) x → Contains xs x × (q x ≡ true)
@@ -57,8 +46,7 @@ module _ {X : Type 0} where
     where
       by_test : (b : Bool) → p y ≡ b → cond b (Some y) (find p ys) ≡ Some x
           → (find p ys ≡ Some x → Contains ys x × (p x ≡ true)) → Contains (y ∷ ys) x × (p x ≡ true)
-      by_test true e h rest =
-          let same : y ≡ x = cc in (subst (Contains (y ∷ ys)) same (Contains-first y ys), subst (λ k. p k ≡ true) same e)
+      by_test true e h rest = grind arith
       by_test false e h rest = (Contains-later y ys x (rest h).0, (rest h).1)
 
   -- What is counted is found.
@@ -116,14 +104,7 @@ module _ {X : Type 0} where
   pub find-filter_kept : (p q : X → Bool) → ((x : X) → p x ≡ true → q x ≡ true) → (xs : List X)
       → find p (filter q xs) ≡ find p xs
   find-filter_kept p q w [] = refl
-  find-filter_kept p q w (x ∷ xs) = by_tests (p x) (q x) refl refl (find-filter_kept p q w xs)
-    where
-      by_tests : (a b : Bool) → p x ≡ a → q x ≡ b → find p (filter q xs) ≡ find p xs
-          → find p (cond b (x ∷ filter q xs) (filter q xs)) ≡ cond a (Some x) (find p xs)
-      by_tests true true e f h = rw e refl
-      by_tests false true e f h = rw e h
-      by_tests false false e f h = h
-      by_tests true false e f h = let hit : q x ≡ true = w x e in absurd (cc)
+  find-filter_kept p q w (x ∷ xs) = grind (arith, find-filter_kept p q w xs)
 
   -- A filter that passes nothing that a search looks for leaves nothing to find.
   pub find-filter_gone : (p q : X → Bool) → ((x : X) → p x ≡ true → q x ≡ false) → (xs : List X) → find p (filter q xs) ≡ None
@@ -133,9 +114,7 @@ module _ {X : Type 0} where
     -- A count over a map.
     pub count_by-map : (p : Y → Bool) (xs : List X) → count_by p (map f xs) ≡ count_by (λ x. p (f x)) xs
     count_by-map p [] = refl
-    count_by-map p (x ∷ xs) =
-        count_by-cons p (f x) (map f xs) ∙ ap (λ n. one_if (p (f x)) + n) (count_by-map p xs)
-        ∙ sym (count_by-cons (λ k. p (f k)) x xs)
+    count_by-map p (x ∷ xs) = search (rules, count_by-cons, one_if, count_by-map p xs)
 
     -- A member of a list is mapped to one of the mapped list.
     pub Contains-map : (xs : List X) (x : X) → Contains xs x → Contains (map f xs) (f x)

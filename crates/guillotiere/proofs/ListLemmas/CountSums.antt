@@ -1,9 +1,8 @@
 -- Two lists that count the same for each test add up to the same.
 use Rattle.std.proofs.Common.{◌≡◌, ℕ, zero, suc, ◌+◌, ◌≤◌, min, Bool, List, [], ◌∷◌, refl, sym, ◌∙◌, arith}
-use Rattle.std.specs.Prelude.{nat_lt}
-use Rattle.std.specs.List.{count_by, sum_by}
-use Rattle.std.proofs.lemmas.Bool.Decides.{nat_tests}
 use Rattle.std.proofs.lemmas.List.Sums.{sum_by-cons}
+use Rattle.std.specs.List.{count_by, sum_by}
+use Rattle.std.specs.Prelude.{nat_lt}
 use Rattle.guillotiere.proofs.TreeLemmas.TreeBasics.{one_if}
 use Rattle.guillotiere.proofs.ListLemmas.Counting.{count_by-cons}
 
@@ -21,7 +20,7 @@ module _ {X : Type 0} (f : X → ℕ) where
   layers-nil (suc m) = omega (arith, layers-nil m)
 
   one_above : (m n : ℕ) → one_if (nat_lt m n) + min n m ≡ min n (suc m)
-  one_above m n = grind (arith, nat_tests)
+  one_above m n = grind arith
 
   layers-cons : (m : ℕ) (x : X) (xs : List X) → layers m (x ∷ xs) ≡ min (f x) m + layers m xs
   layers-cons zero x xs = omega arith

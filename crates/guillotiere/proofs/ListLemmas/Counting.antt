@@ -1,8 +1,10 @@
 -- Counts over lists: what occurs once, and lists with the same counts.
-use Rattle.std.proofs.Common.{◌≡◌, zero, suc, ◌+◌, ◌≤◌, Bool, true, false, List, [], ◌∷◌, ◌++◌, refl, ap, subst, sym, ◌∙◌, arith, Contains, IsPermutation}
-use Rattle.std.specs.List.{count_by}
+use Rattle.std.proofs.Common.{◌≡◌, zero, suc, ◌+◌, ◌≤◌, Bool, true, false, List, [], ◌∷◌, ◌++◌, refl, ap, subst, sym}
+use Rattle.std.proofs.Common.{◌∙◌, arith, Contains, IsPermutation}
+use Rattle.std.proofs.lemmas.List.Sorted.{IsPermutation-refl, IsPermutation-sym, IsPermutation-trans}
+use Rattle.std.proofs.lemmas.List.Sorted.{IsPermutation-cons, IsPermutation-middle}
 use Rattle.std.proofs.lemmas.List.Sums.{sum_by-cons, sum_by-append}
-use Rattle.std.proofs.lemmas.List.Sorted.{IsPermutation-refl, IsPermutation-sym, IsPermutation-trans, IsPermutation-cons, IsPermutation-middle}
+use Rattle.std.specs.List.{count_by}
 use Rattle.guillotiere.proofs.TreeLemmas.TreeBasics.{one_if}
 
 module _ {X : Type 0} where
@@ -15,27 +17,13 @@ module _ {X : Type 0} where
   -- Where one test is weaker, it counts at least as many.
   pub count_by-weaker : (p q : X → Bool) → ((x : X) → p x ≡ true → q x ≡ true) → (xs : List X) → count_by p xs ≤ count_by q xs
   count_by-weaker p q w [] = omega arith
-  count_by-weaker p q w (x ∷ xs) =
-      let a : count_by p (x ∷ xs) ≡ one_if (p x) + count_by p xs = count_by-cons p x xs in
-      let b : count_by q (x ∷ xs) ≡ one_if (q x) + count_by q xs = count_by-cons q x xs in
-      let h : count_by p xs ≤ count_by q xs = count_by-weaker p q w xs in
-      let c : one_if (p x) ≤ one_if (q x) = by_test (p x) refl in
-      omega arith
-    where
-      by_test : (b : Bool) → p x ≡ b → one_if b ≤ one_if (q x)
-      by_test true e = rw (w x e) (omega arith)
-      by_test false e = omega arith
+  count_by-weaker p q w (x ∷ xs) = grind (arith, one_if, count_by-cons, count_by-weaker p q w xs)
 
   pub count_some : (p : X → Bool) (xs : List X) (x : X) → Contains xs x → p x ≡ true → 1 ≤ count_by p xs
   count_some p [] x (k, below, is) h = absurd (omega arith)
-  count_some p (y ∷ ys) x (zero, below, is) h =
-      let e : count_by p (y ∷ ys) ≡ one_if (p y) + count_by p ys = count_by-cons p y ys in
-      let yes : one_if (p y) ≡ 1 = ap (λ k. one_if (p k)) is ∙ ap one_if h in
-      omega arith
+  count_some p (y ∷ ys) x (zero, below, is) h = grind (arith, one_if, count_by-cons)
   count_some p (y ∷ ys) x (suc k, below, is) h =
-      let e : count_by p (y ∷ ys) ≡ one_if (p y) + count_by p ys = count_by-cons p y ys in
-      let rest : 1 ≤ count_by p ys = count_some p ys x (k, omega arith, is) h in
-      omega arith
+      grind (arith, one_if, count_by-cons, count_some p ys x (k, omega arith, is) h)
 
   -- Of what is counted once there is one.
   pub counted_once : (p : X → Bool) (xs : List X) (a b : X) → count_by p xs ≤ 1 → Contains xs a → Contains xs b
@@ -86,10 +74,7 @@ module _ {X : Type 0} where
     permuted_from_counts (x ∷ xs) ys h = found (split_at (same x) ys some) (λ k. permuted_from_counts xs k)
       where
         some : 1 ≤ count_by (same x) ys
-        some =
-            let e : count_by (same x) (x ∷ xs) ≡ one_if (same x x) + count_by (same x) xs = count_by-cons (same x) x xs in
-            let yes : one_if (same x x) ≡ 1 = ap one_if (itself x) in
-            omega (arith, h (same x))
+        some = grind (arith, one_if, count_by-cons)
 
         found : IsSplitAt (same x) ys → ((zs : List X) → ((p : X → Bool) → count_by p xs ≡ count_by p zs)
             → IsPermutation xs zs) → IsPermutation (x ∷ xs) ys

@@ -2,8 +2,8 @@
 use Rattle.std.proofs.Common.{ℕ, ◌+◌, ◌<◌, ◌≡◌, List, [], ◌∷◌, refl, sym, ap, ◌∙◌, ◌⊎◌, inl, inr, arith, eqb, length}
 use Rattle.std.proofs.lemmas.Bool.{cond_both, eqb-true, eqb-false, ne_eqb, cond-false}
 use Rattle.guillotiere.specs.Slots.{no_slot}
-use Rattle.guillotiere.specs.Slots.Numbered.{same}
 use Rattle.guillotiere.specs.Slots.Lists.{occurs, without, front}
+use Rattle.guillotiere.specs.Slots.Numbered.{same}
 pub use Rattle.guillotiere.proofs.SlotLemmas.Frames.{same-self, same-ne}
 
 pub ne-from_occurs : (i j : ℕ) (xs : List ℕ) → occurs i xs ≡ 0 → 0 < occurs j xs → j ≡ i → ⊥
@@ -32,9 +32,7 @@ without-other i x xs e = cond-false (eqb i x) xs (x ∷ without i xs) (ne_eqb i 
 -- A list in which a slot does not stand is the same without it.
 pub without-none : (i : ℕ) (xs : List ℕ) → occurs i xs ≡ 0 → without i xs ≡ xs
 without-none i [] z = refl
-without-none i (x ∷ xs) z =
-    let ne : i ≡ x → ⊥ = (λ q. ne-from_same i x (omega arith) (sym q)) in
-    without-other i x xs ne ∙ ap (λ ys. x ∷ ys) (without-none i xs (omega arith))
+without-none i (x ∷ xs) z = grind (arith, without-none i xs (omega arith))
 
 pub occurs-without : (i : ℕ) (xs : List ℕ) → 0 < occurs i xs → (k : ℕ) → occurs k (without i xs) + same k i ≡ occurs k xs
 occurs-without i [] l k = absurd (omega arith)

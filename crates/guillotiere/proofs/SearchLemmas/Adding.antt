@@ -1,5 +1,5 @@
 -- What a search knows once it was shown lists of a table.
-use Rattle.std.proofs.Common.{◌≡◌, ℕ, ◌+◌, ◌*◌, ◌<◌, ◌≤◌, ◌⊎◌, Bool, true, not, List, [], ◌++◌, refl, ap, sym, ◌∙◌, subst, inl, inr, append_assoc, arith}
+use Rattle.std.proofs.Common.{◌≡◌, ℕ, ◌+◌, ◌*◌, ◌<◌, ◌≤◌, ◌⊎◌, Bool, true, List, ◌++◌, refl, sym, subst, inl, inr, append_assoc, arith}
 use Rattle.std.specs.List.{Contains}
 use Rattle.std.proofs.lemmas.Bool.{ne_eqb, cases_lt}
 use Rattle.std.proofs.lemmas.List.Elements.{Contains-append_left, Contains-append_right, Contains-append_cases}
@@ -17,7 +17,6 @@ use Rattle.guillotiere.specs.Search.Lookups.{IsSpot, IsLowBut, HasShown, AreList
 use Rattle.guillotiere.specs.Pixels.{natural}
 use Rattle.guillotiere.specs.Search.Ranks.{no_rank}
 use Rattle.guillotiere.specs.Search.Searches.{Shown}
-use Rattle.guillotiere.specs.Slots.{no_slot}
 use Rattle.guillotiere.specs.Search.Tables.{head_of, low_of, is_used_at}
 use Rattle.guillotiere.proofs.SearchLemmas.BandLaws.{band_below, window_law}
 use Rattle.guillotiere.proofs.SearchLemmas.Besting.{seen-passed}
@@ -25,26 +24,12 @@ use Rattle.guillotiere.proofs.SearchLemmas.Showing.{path-stop, path-same, append
 
 -- Nothing was shown.
 pub added-none : (o : Options) (heads : List ListHead) (es : List Item) (class : ℕ) (r : Sides) (s : Best) → HasAdded o heads es class r (λ i j. ⊥) s s
-added-none o heads es class r s =
-    record {
-      more = [];
-      of_class = λ c h. absurd (omega (arith, h.1));
-      each = λ i free e v. absurd v;
-      seen = λ is_large shown h. subst (λ (list : List Shown). HasSeen s is_large r list) (append-none shown) h;
-      known = λ k. k;
-    }
+added-none o heads es class r s = grind (arith, append-none)
 
 -- Fewer lists.
 pub added-of : (o : Options) (heads : List ListHead) (es : List Item) (class : ℕ) (r : Sides) (V W : ℕ → ℕ → Type 0) (s t : Best)
     → ((i j : ℕ) → W i j → V i j) → HasAdded o heads es class r V s t → HasAdded o heads es class r W s t
-added-of o heads es class r V W s t to h =
-    record {
-      more = h.more;
-      of_class = h.of_class;
-      each = λ i free e w. h.each i free e (to _ _ w);
-      seen = h.seen;
-      known = h.known;
-    }
+added-of o heads es class r V W s t to h = grind arith
 
 module _ (o : Options) (heads : List ListHead) (es : List Item) (class : ℕ) (r : Sides) where
   -- Lists are shown after others.
@@ -79,12 +64,7 @@ module _ (o : Options) (heads : List ListHead) (es : List Item) (class : ℕ) (r
 
     -- A list with an entry isn't empty.
     pub used-at : (i : ℕ) → (item_at es i).is_free ≡ true → is_used_at heads (52 * row_at i + column_at i) ≡ true
-    used-at i free =
-        let k = 52 * row_at i + column_at i in
-        let below = list-below (row_at i) (column_at i) (band_below o _) (band_below o _) in
-        ap not (ne_eqb (head_of heads k).number no_slot (λ e.
-        let none = path-stop es (a.held k) a.short _ e (a.path k below) in
-        absurd (omega (arith, a.each i free, ap (occurs i) none))))
+    used-at i free = grind (arith, list-below, band_below, ne_eqb, path-stop)
 
     -- What holds of the lists that aren't empty in the window of the class.
     pub added-weaker : (V W : ℕ → ℕ → Type 0) (s t : Best) → class < 3
@@ -106,20 +86,10 @@ module _ (o : Options) (heads : List ListHead) (es : List Item) (class : ℕ) (r
 
       -- The bands of an entry of the list.
       pub bands-of_list : (i : ℕ) → list_of o (item_sides (item_at es i)) ≡ number_of place → (row_at i ≡ place.row) × (column_at i ≡ place.column)
-      bands-of_list i e =
-          let b = band_below o (item_sides (item_at es i)).width in
-          let d = band_below o (item_sides (item_at es i)).height in
-          (omega (arith, e, b, d), omega (arith, e, b, d))
+      bands-of_list i e = grind (arith, band_below)
 
       pub showable : IsShowable es (head_of heads (number_of place)).number
-      showable =
-          record {
-            xs = a.held (number_of place);
-            short = a.short;
-            path = a.path (number_of place) number-below;
-            once = λ i. a.once (number_of place) i number-below;
-            exact = λ i h. a.exact i (a.own (number_of place) i number-below h).0;
-          }
+      showable = grind (arith, number-below)
 
       module _ (few : class < 3) (w : IsInWindow o class place.row place.column) (xs : List ℕ) (same : xs ≡ a.held (number_of place)) where
         of_list : (c : Shown) → Contains (shown_items es xs) c
@@ -135,9 +105,7 @@ module _ (o : Options) (heads : List ListHead) (es : List Item) (class : ℕ) (r
 
         has-each : (i : ℕ) → (item_at es i).is_free ≡ true → class_of o (item_sides (item_at es i)) ≡ class
             → (row_at i ≡ place.row) × (column_at i ≡ place.column) → Contains (shown_items es xs) (shown_item es i)
-        has-each i free ec e =
-            let k : list_of o (item_sides (item_at es i)) ≡ number_of place = omega (arith, e.0, e.1) in
-            shown_items-has es xs i (subst (λ zs. 0 < occurs i zs) (sym same) (subst (λ n. 0 < occurs i (a.held n)) k (a.each i free)))
+        has-each i free ec e = grind (arith, shown_items-has)
 
         -- The list is passed over.
         pub added-passed : (s : Best) → s.rank ≡ 0 → strip_of (natural s.found.rectangle.min.y) < low_of heads (number_of place)
@@ -160,27 +128,7 @@ module _ (o : Options) (heads : List ListHead) (es : List Item) (class : ℕ) (r
 
         -- The best of the list is known.
         standing : (found : Found) → IsSpot es (head_of heads (number_of place)).number place xs found → IsLowBut es xs found.at.number found.low → IsStanding o heads es found
-        standing found spot low =
-            let k = number_of place in
-            let held : (i : ℕ) → 0 < occurs i xs → ((item_at es i).is_free ≡ true) × (list_of o (item_sides (item_at es i)) ≡ k) = λ i h.
-            a.own k i number-below (subst (λ zs. 0 < occurs i zs) same h) in
-            let here = held found.at.number spot.inside in
-            let P : Place → Type 0 = λ p. (p.row < 52) × (p.column < 52) × (list_of o (item_sides (item_at es found.at.number)) ≡ number_of p) in
-            let at = subst P (sym spot.at_place) (lr, lc, here.1) in
-            let n : number_of found.place ≡ k = ap (λ (p : Place). number_of p) spot.at_place in
-            record {
-              free = here.0;
-              area = spot.area;
-              row = at.0;
-              column = at.1;
-              list = at.2;
-              before = elim spot.before [
-                | inl b ↦ inl (b.0, ap (λ m. (head_of heads m).number) n ∙ sym b.1)
-                | inr b ↦ let h = held found.before.number b.0 in inr (h.0, h.1 ∙ sym n, b.1)
-              ];
-              low = λ i free e ne.
-                  low i (subst (λ zs. 0 < occurs i zs) (sym same) (subst (λ m. 0 < occurs i (a.held m)) (e ∙ n) (a.each i free))) ne;
-            }
+        standing found spot low = grind (arith, number-below)
 
         -- The list was shown.
         pub added-shown : (s t : Best) → ((is_large : Bool) (r : Sides) (shown : List Shown) → HasSeen s is_large r shown → HasSeen t is_large r (shown ++ shown_items es xs))

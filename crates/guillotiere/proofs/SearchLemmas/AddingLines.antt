@@ -1,5 +1,5 @@
 -- What a search knows once it was shown lists of a row or of a column, one by one.
-use Rattle.std.proofs.Common.{◌≡◌, ℕ, ◌+◌, ◌*◌, ◌<◌, ◌≤◌, ◌⊎◌, ◌==◌, ◌&&◌, Bool, true, false, not, List, refl, ap, sym, ◌∙◌, subst, inl, inr, arith}
+use Rattle.std.proofs.Common.{◌≡◌, ℕ, ◌+◌, ◌*◌, ◌<◌, ◌≤◌, ◌⊎◌, ◌==◌, ◌&&◌, Bool, true, false, not, List, refl, sym, ◌∙◌, subst, inl, inr, arith}
 use Rattle.std.proofs.lemmas.Bool.{cases_eq, ne_eqb, true≢false}
 use Rattle.guillotiere.specs.declared.search.bands.Window.{Window}
 use Rattle.guillotiere.specs.declared.search.best.Best.{Best}
@@ -30,28 +30,17 @@ pub rest-marked : (old new : Mask) (k j : ℕ) → IsRest old new k → IsMarked
 rest-marked old new k j rest h = and_left (has old j) (not (j == k)) (sym (rest j) ∙ h)
 
 rest-other : (old new : Mask) (k j : ℕ) → IsRest old new k → (j ≡ k → ⊥) → has new j ≡ false → has old j ≡ false
-rest-other old new k j rest ne h =
-    sym (and_true (has old j)) ∙ ap (λ (b : Bool). has old j && not b) (sym (ne_eqb j k ne)) ∙ sym (rest j) ∙ h
+rest-other old new k j rest ne h = grind (arith, and_true, ne_eqb)
 
 rest-cases : (old new : Mask) (k j : ℕ) → IsRest old new k → has new j ≡ false → (has old j ≡ false) ⊎ (j ≡ k)
 rest-cases old new k j rest h = elim (cases_eq j k) [ inl e ↦ inr e | inr ne ↦ inl (rest-other old new k j rest ne h) ]
 
 -- The window of a class.
 pub inside-window : (o : Options) (class : ℕ) (w : Window) (i j : ℕ) → IsWindowOf o class w → IsInsideWindow w i j → IsInWindow o class i j
-inside-window o class w i j is h =
-    record {
-      row_ends = omega (arith, h.row_ends, is.end);
-      column_ends = omega (arith, h.column_ends, is.end);
-      begins = elim h.begins [ inl l ↦ inl (omega (arith, l, is.first)) | inr l ↦ inr (omega (arith, l, is.first)) ];
-    }
+inside-window o class w i j is h = grind arith
 
 pub window-inside : (o : Options) (class : ℕ) (w : Window) (i j : ℕ) → IsWindowOf o class w → IsInWindow o class i j → IsInsideWindow w i j
-window-inside o class w i j is h =
-    record {
-      row_ends = omega (arith, h.row_ends, is.end);
-      column_ends = omega (arith, h.column_ends, is.end);
-      begins = elim h.begins [ inl l ↦ inl (omega (arith, l, is.first)) | inr l ↦ inr (omega (arith, l, is.first)) ];
-    }
+window-inside o class w i j is h = grind arith
 
 module _ (o : Options) (heads : List ListHead) (es : List Item) (class : ℕ) (r : Sides) where
   -- Before the first.

@@ -2,7 +2,6 @@
 use Rattle.std.proofs.Common.{◌≡◌, ℕ, ◌-◌, ◌<◌, ◌≤◌, ◌⊎◌, Bool, true, false, List, [], ◌∷◌, ◌++◌, ℤ, pos, negsuc, ◌≤ℤ◌, FitsSigned, w32, refl, ap, sym, ◌∙◌, subst, inl, inr, arith}
 use Rattle.std.specs.List.{Contains}
 use Rattle.std.proofs.lemmas.Int.{ints}
-use Rattle.std.proofs.lemmas.Bool.{cases_eq, cases_lt}
 use Rattle.std.proofs.lemmas.List.Elements.{Contains-push_cases, Contains-append_left, Contains-append_cases}
 use Rattle.guillotiere.specs.declared.search.best.Best.{Best}
 use Rattle.guillotiere.specs.declared.search.best.Found.{Found}
@@ -27,48 +26,19 @@ rank-large m nz = grind arith
 
 pub rank-below : (l : Bool) (m : ℕ) → m < no_rank → rank_of l m < no_rank
 rank-below false m h = h
-rank-below true m h =
-    elim (cases_eq m 0) [
-      | inl z ↦ omega (arith, rank-equal true m z)
-      | inr nz ↦ omega (arith, rank-large m nz)
-    ]
+rank-below true m h = grind (arith, rank-equal, rank-large)
 
 rank-better : (l : Bool) (m n : ℕ) → m < no_rank → n < no_rank → rank_of l m < rank_of l n → IsBetterMargin l (pos m) (pos n)
 rank-better false m n a b h = omega (arith, ints)
-rank-better true m n a b h =
-    elim (cases_eq n 0) [
-      | inl z ↦ absurd (omega (arith, rank-equal true n z))
-      | inr nz ↦ (
-        λ e. nz (omega (arith, ints)),
-        elim (cases_eq m 0) [
-          | inl z ↦ inl (ap pos z)
-          | inr mz ↦ let less : n < m = omega (arith, h, rank-large m mz, rank-large n nz) in inr (omega (arith, ints))
-        ],
-      )
-    ]
+rank-better true m n a b h = grind (arith, rank-equal, rank-large)
 
 better-rank : (l : Bool) (m n : ℕ) → m < no_rank → n < no_rank → IsBetterMargin l (pos m) (pos n) → rank_of l m < rank_of l n
 better-rank false m n a b h = omega (arith, ints)
-better-rank true m n a b h =
-    let nz : n ≡ 0 → ⊥ = λ z. h.0 (ap pos z) in
-    elim h.1 [
-      | inl e ↦ let z : m ≡ 0 = omega (arith, ints) in omega (arith, rank-equal true m z, rank-large n nz)
-      | inr l ↦ let less : n < m = omega (arith, ints) in omega (arith, rank-large m (omega arith), rank-large n nz)
-    ]
+better-rank true m n a b h = grind (arith, rank-equal, rank-large)
 
 rank-same : (l : Bool) (m n : ℕ) → m < no_rank → n < no_rank → rank_of l m ≡ rank_of l n → m ≡ n
 rank-same false m n a b e = e
-rank-same true m n a b e =
-    elim (cases_eq m 0) [
-      | inl mz ↦ elim (cases_eq n 0) [
-        | inl nz ↦ omega arith
-        | inr nn ↦ absurd (omega (arith, e, rank-equal true m mz, rank-large n nn))
-      ]
-      | inr mn ↦ elim (cases_eq n 0) [
-        | inl nz ↦ absurd (omega (arith, e, rank-equal true n nz, rank-large m mn))
-        | inr nn ↦ omega (arith, e, rank-large m mn, rank-large n nn)
-      ]
-    ]
+rank-same true m n a b e = grind (arith, rank-equal, rank-large)
 
 pub rank-zero : (l : Bool) (m : ℕ) → m < no_rank → rank_of l m ≡ 0 → m ≡ 0
 rank-zero l m h e = rank-same l m 0 h (omega arith) (e ∙ sym (rank-equal l 0 refl))
@@ -89,35 +59,20 @@ module _ (s : Best) (is_large : Bool) (r : Sides) (shown : List Shown) (seen : H
   -- The rank of a margin in the terms of the request.
   pub ranked-asked : (a : Rectangle) (m : ℤ) (rank : ℕ) → m ≡ pos (least_margin (sides_of s.size) (box_of a)) → rank ≡ rank_of s.is_large (natural m)
       → rank ≡ rank_of is_large (least_margin r (box_of a))
-  ranked-asked a m rank e f =
-      f
-      ∙ ap (λ (x : ℤ). rank_of s.is_large (natural x)) e
-      ∙ ap (λ (b : Bool). rank_of b (least_margin (sides_of s.size) (box_of a))) seen.large
-      ∙ ap (λ (q : Sides). rank_of is_large (least_margin q (box_of a))) asked
+  ranked-asked a m rank e f = grind (arith, asked)
 
   kept-more : (c : Shown) → IsKeptOf is_large r shown s.rank s.found
       → (Fits r (box_sides c.box) → IsAsGood is_large r (box_of s.found.rectangle) c.box × (IsAsGood is_large r c.box (box_of s.found.rectangle) → ComesFirst (box_of s.found.rectangle) c.box))
       → IsKeptOf is_large r (shown ++ c ∷ []) s.rank s.found
   kept-more c k worse =
-      record {
-        unsigned = k.unsigned;
-        below = k.below;
-        ranked = k.ranked;
-        best = best_kept is_large r shown (shown_at (box_of s.found.rectangle) s.found.at.number) c k.best worse;
-      }
+      grind (
+        arith,
+        best_kept is_large r shown (shown_at (box_of s.found.rectangle) s.found.at.number) c k.best worse,
+      )
 
   -- It does not fit.
   pub seen-unfit : (c : Shown) → (Fits r (box_sides c.box) → ⊥) → HasSeen s is_large r (shown ++ c ∷ [])
-  seen-unfit c misfit =
-      record {
-        positive = seen.positive;
-        size = seen.size;
-        large = seen.large;
-        best = elim seen.best [
-          | inl n ↦ inl (n.0, none_more r shown c n.1 misfit)
-          | inr k ↦ inr (k.0, kept-more c k.1 (λ fits. absurd (misfit fits)))
-        ];
-      }
+  seen-unfit c misfit = grind (arith, none_more r shown c, kept-more c)
 
   module _ (a : Rectangle) (rank : ℕ) (u : IsUnsigned a) (below : least_margin r (box_of a) < no_rank)
       (ranked : rank ≡ rank_of is_large (least_margin r (box_of a))) (fits : Fits r (box_sides (box_of a))) where
@@ -130,9 +85,7 @@ module _ (s : Best) (is_large : Bool) (r : Sides) (shown : List Shown) (seen : H
         → PrecedesBox is_large (pos (least_margin r (box_of a))) (pos (least_margin r (box_of s.found.rectangle))) a.min s.found.rectangle.min
         → IsAhead rank a.min s
     ahead k (inl better) = let less = better-rank is_large _ _ below k.below better in inl (omega (arith, less, ranked, k.ranked))
-    ahead k (inr same) =
-        let e : least_margin r (box_of a) ≡ least_margin r (box_of s.found.rectangle) = omega (arith, ints, same.0) in
-        inr (ranked ∙ ap (rank_of is_large) e ∙ sym k.ranked, same.1)
+    ahead k (inr same) = grind arith
 
     -- The best one is kept.
     pub seen-behind : (at : ℕ) → (IsAhead rank a.min s → ⊥) → HasSeen s is_large r (shown ++ shown_at (box_of a) at ∷ [])
@@ -182,14 +135,7 @@ module _ (s : Best) (is_large : Bool) (r : Sides) (shown : List Shown) (seen : H
             ]
 
   fits-cases : (b : Sides) → Fits r b ⊎ (Fits r b → ⊥)
-  fits-cases b =
-      elim (cases_lt b.width r.width) [
-        | inl narrow ↦ inr (λ fits. omega (arith, narrow, fits.0))
-        | inr wide ↦ elim (cases_lt b.height r.height) [
-          | inl low ↦ inr (λ fits. omega (arith, low, fits.1))
-          | inr high ↦ inl (wide, high)
-        ]
-      ]
+  fits-cases b = grind arith
 
   -- No box with this `min` is ahead of the best one.
   pub seen-unbeaten : (a : Rectangle) → IsUnsigned a → least_margin r (box_of a) < no_rank → (at : ℕ)
@@ -266,10 +212,7 @@ seen-passed s is_large r shown more seen zero below =
         record {
           is_shown = Contains-append_left shown more _ k.best.is_shown;
           fits = k.best.fits;
-          best = λ d has fits. elim (Contains-append_cases shown more d has) [
-            | inl earlier ↦ k.best.best d earlier fits
-            | inr later ↦ good is_large b d.box k.best.fits e
-          ];
+          best = grind (arith, Contains-append_cases);
           first = λ d has fits h. elim (Contains-append_cases shown more d has) [
             | inl earlier ↦ k.best.first d earlier fits h
             | inr later ↦ inl (below d later (equal is_large b d.box k.best.fits fits e h))

@@ -1,7 +1,7 @@
 -- The search for the box that a request takes, and that what it finds is the pick.
-use Rattle.std.proofs.Common.{◌≡◌, ◌≢◌, ℕ, ◌-◌, ◌<◌, ◌≤◌, ◌↔◌, ◌⊎◌, min, Bool, true, false, List, [], ◌∷◌, ◌++◌, ℤ, pos, negsuc, ◌-ℤ◌, ◌≤ℤ◌, ◌<ℤ◌, refl, ap, sym, ◌∙◌, subst, inl, inr, arith}
+use Rattle.std.proofs.Common.{◌≡◌, ℕ, ◌-◌, ◌≤◌, ◌↔◌, ◌⊎◌, min, Bool, true, false, List, [], ◌∷◌, ◌++◌, ℤ, pos, negsuc, ◌-ℤ◌, ◌≤ℤ◌, ◌<ℤ◌, refl, ◌∙◌, subst, inl, inr, arith}
 use Rattle.std.proofs.lemmas.Int.{ints}
-use Rattle.std.proofs.lemmas.Bool.{cases_eq, cases_order, cases_lt}
+use Rattle.std.proofs.lemmas.Bool.{cases_lt}
 use Rattle.std.proofs.lemmas.List.Elements.{Contains-push, Contains-push_cases, Contains-append_left}
 use Rattle.guillotiere.specs.declared.geometry.Rectangle.{Rectangle}
 use Rattle.guillotiere.specs.Boxes.{Sides, Box, box_sides, Fits}
@@ -34,16 +34,10 @@ pub margin_fits_height : {A B : Type 0} (width height : ℤ) → ((pos 0 ≤ℤ 
 margin_fits_height width height a b h = (λ p. (a.0 (omega (arith, ints)), b.0 p), λ q. b.1 q.1)
 
 pub margin_is : (width height : ℤ) (m n : ℕ) → (pos 0 ≤ℤ width → width ≡ pos m) → (pos 0 ≤ℤ height → height ≡ pos n) → width ≤ℤ height → pos 0 ≤ℤ width → width ≡ pos (min m n)
-margin_is width height m n a b h p =
-    let e = a p in
-    let f = b (omega (arith, ints)) in
-    omega (arith, ints, e, f)
+margin_is width height m n a b h p = grind arith
 
 pub margin_is_height : (width height : ℤ) (m n : ℕ) → (pos 0 ≤ℤ width → width ≡ pos m) → (pos 0 ≤ℤ height → height ≡ pos n) → height ≤ℤ width → pos 0 ≤ℤ height → height ≡ pos (min m n)
-margin_is_height width height m n a b h p =
-    let e = a (omega (arith, ints)) in
-    let f = b p in
-    omega (arith, ints, e, f)
+margin_is_height width height m n a b h p = grind arith
 
 -- The order of the boxes.
 
@@ -52,8 +46,7 @@ margin-equal_side r b fits (inl e) = omega arith
 margin-equal_side r b fits (inr e) = omega arith
 
 pub equal_side-margin : (r : Sides) (b : Box) → Fits r (box_sides b) → least_margin r b ≡ 0 → HasEqualSide r b
-equal_side-margin r b fits e =
-    elim (cases_eq (box_sides b).width r.width) [ inl same ↦ inl same | inr different ↦ inr (omega arith) ]
+equal_side-margin r b fits e = grind arith
 
 as_good-trans : (is_large : Bool) (r : Sides) (a b c : Box) → IsAsGood is_large r a b → IsAsGood is_large r b c → IsAsGood is_large r a c
 as_good-trans false r a b c p q = omega arith
@@ -62,14 +55,7 @@ as_good-trans true r a b c (inr p) (inl e) = absurd (p.0 e)
 as_good-trans true r a b c (inr p) (inr q) = inr (q.0, omega arith)
 
 pub equal_side_cases : (r : Sides) (b : Box) → HasEqualSide r b ⊎ (HasEqualSide r b → ⊥)
-equal_side_cases r b =
-    elim (cases_eq (box_sides b).width r.width) [
-      | inl e ↦ inl (inl e)
-      | inr ne ↦ elim (cases_eq (box_sides b).height r.height) [
-        | inl e ↦ inl (inr e)
-        | inr ne' ↦ inr (λ k. elim k [ inl e ↦ ne e | inr e ↦ ne' e ])
-      ]
-    ]
+equal_side_cases r b = grind arith
 
 as_good-same : (is_large : Bool) (r : Sides) (a b : Box) → (HasEqualSide r b → HasEqualSide r a) → least_margin r a ≡ least_margin r b → IsAsGood is_large r a b
 as_good-same false r a b h e = omega arith
@@ -86,25 +72,12 @@ comes_first-before b c (inl p) = inl (omega (arith, ints))
 comes_first-before b c (inr p) = inr (omega (arith, ints), omega (arith, ints))
 
 comes_first-not_before : (b c : Box) → (IsBefore (rectangle_of b).min (rectangle_of c).min → ⊥) → ComesFirst c b
-comes_first-not_before b c h =
-    elim (cases_order b.min.y c.min.y) [
-      | inl e ↦ elim (cases_lt b.min.x c.min.x) [ inl l ↦ absurd (h (inr (ap pos e, omega (arith, ints)))) | inr g ↦ inr (sym e, g) ]
-      | inr o ↦ elim o [ inl l ↦ absurd (h (inl (omega (arith, ints)))) | inr g ↦ inl g ]
-    ]
+comes_first-not_before b c h = grind arith
 
 better_margin-good : (is_large : Bool) (r : Sides) (b c : Box) → Fits r (box_sides b) → Fits r (box_sides c)
     → IsBetterMargin is_large (pos (least_margin r b)) (pos (least_margin r c)) → IsAsGood is_large r b c × (IsAsGood is_large r c b → ⊥)
 better_margin-good false r b c fb fc h = (omega (arith, ints), λ k. omega (arith, ints))
-better_margin-good true r b c fb fc h =
-    let other : least_margin r c ≢ 0 = λ e. h.0 (ap pos e) in
-    elim h.1 [
-      | inl e ↦
-          let z : least_margin r b ≡ 0 = omega (arith, ints) in
-          (inl (equal_side-margin r b fb z), λ k. elim k [ inl s ↦ other (margin-equal_side r c fc s) | inr p ↦ p.0 (equal_side-margin r b fb z) ])
-      | inr l ↦
-          let less : least_margin r c < least_margin r b = omega (arith, ints) in
-          (inr (λ s. other (margin-equal_side r c fc s), omega arith), λ k. elim k [ inl s ↦ other (margin-equal_side r c fc s) | inr p ↦ omega arith ])
-    ]
+better_margin-good true r b c fb fc h = grind (arith, equal_side-margin, margin-equal_side)
 
 equal_margin-good : (is_large : Bool) (r : Sides) (b c : Box) → Fits r (box_sides b) → Fits r (box_sides c) → least_margin r b ≡ least_margin r c → IsAsGood is_large r b c
 equal_margin-good is_large r b c fb fc e = as_good-same is_large r b c (λ s. equal_side-margin r b fb (e ∙ margin-equal_side r c fc s)) e
@@ -112,54 +85,26 @@ equal_margin-good is_large r b c fb fc e = as_good-same is_large r b c (λ s. eq
 worse_margin-good : (is_large : Bool) (r : Sides) (b c : Box) → Fits r (box_sides b) → Fits r (box_sides c)
     → (IsBetterMargin is_large (pos (least_margin r b)) (pos (least_margin r c)) → ⊥) → IsAsGood is_large r c b
 worse_margin-good false r b c fb fc h = elim (cases_lt (least_margin r b) (least_margin r c)) [ inl l ↦ absurd (h (omega (arith, ints))) | inr g ↦ g ]
-worse_margin-good true r b c fb fc h =
-    elim (cases_eq (least_margin r c) 0) [
-      | inl z ↦ inl (equal_side-margin r c fc z)
-      | inr nz ↦ inr (
-        λ s. h (λ e. nz (omega (arith, ints)), inl (ap pos (margin-equal_side r b fb s))),
-        elim (cases_lt (least_margin r c) (least_margin r b)) [ inl l ↦ absurd (h (λ e. nz (omega (arith, ints)), inr (omega (arith, ints)))) | inr g ↦ g ],
-      )
-    ]
+worse_margin-good true r b c fb fc h = grind (arith, equal_side-margin, margin-equal_side)
 
 -- b is kept rather than c.
 pub precedes-good : (is_large : Bool) (r : Sides) (b c : Box) → Fits r (box_sides b) → Fits r (box_sides c)
     → PrecedesBox is_large (pos (least_margin r b)) (pos (least_margin r c)) (rectangle_of b).min (rectangle_of c).min
     → IsAsGood is_large r b c × (IsAsGood is_large r c b → ComesFirst b c)
-precedes-good is_large r b c fb fc (inl h) =
-    let k = better_margin-good is_large r b c fb fc h in
-    (k.0, λ g. absurd (k.1 g))
-precedes-good is_large r b c fb fc (inr h) =
-    (equal_margin-good is_large r b c fb fc (omega (arith, ints)), λ g. comes_first-before b c h.1)
+precedes-good is_large r b c fb fc (inl h) = grind (arith, better_margin-good)
+precedes-good is_large r b c fb fc (inr h) = grind (arith, equal_margin-good, comes_first-before)
 
 -- c is kept.
 pub not_precedes-good : (is_large : Bool) (r : Sides) (b c : Box) → Fits r (box_sides b) → Fits r (box_sides c)
     → (PrecedesBox is_large (pos (least_margin r b)) (pos (least_margin r c)) (rectangle_of b).min (rectangle_of c).min → ⊥)
     → IsAsGood is_large r c b × (IsAsGood is_large r b c → ComesFirst c b)
-not_precedes-good is_large r b c fb fc h = (
-  worse_margin-good is_large r b c fb fc (λ k. h (inl k)),
-  elim (cases_eq (least_margin r b) (least_margin r c)) [
-    | inl e ↦ (λ g. comes_first-not_before b c (λ k. h (inr (ap pos e, k))))
-    | inr ne ↦ (λ g. absurd (differ is_large r b c fb fc ne (λ k. h (inl k)) g))
-  ],
-)
-  where
-    differ : (is_large : Bool) (r : Sides) (b c : Box) → Fits r (box_sides b) → Fits r (box_sides c) → (least_margin r b ≡ least_margin r c → ⊥)
-        → (IsBetterMargin is_large (pos (least_margin r b)) (pos (least_margin r c)) → ⊥) → IsAsGood is_large r b c → ⊥
-    differ false r b c fb fc ne h g = h (omega (arith, ints))
-    differ true r b c fb fc ne h (inl s) =
-        let z = margin-equal_side r b fb s in
-        h (λ e. ne (z ∙ omega (arith, ints)), inl (ap pos z))
-    differ true r b c fb fc ne h (inr g) =
-        h (λ e. g.0 (equal_side-margin r c fc (omega (arith, ints))), inr (omega (arith, ints)))
+not_precedes-good is_large r b c fb fc h =
+    grind (arith, worse_margin-good, comes_first-not_before, margin-equal_side, equal_side-margin)
 
 -- One box more is shown.
 
 pub none_more : (r : Sides) (shown : List Shown) (c : Shown) → FitsNone r shown → (Fits r (box_sides c.box) → ⊥) → FitsNone r (shown ++ c ∷ [])
-none_more r shown c none misfit d has fits =
-    elim (Contains-push_cases shown c d has) [
-      | inl earlier ↦ none d earlier fits
-      | inr same ↦ let P : Shown → Type 0 = λ s. Fits r (box_sides s.box) in misfit (subst P (sym same) fits)
-    ]
+none_more r shown c none misfit d has fits = grind (arith, Contains-push_cases shown c d has)
 
 pub best_kept : (is_large : Bool) (r : Sides) (shown : List Shown) (f c : Shown) → IsBestShown is_large r shown f
     → (Fits r (box_sides c.box) → IsAsGood is_large r f.box c.box × (IsAsGood is_large r c.box f.box → ComesFirst f.box c.box))
@@ -222,18 +167,8 @@ best_only is_large r shown c none fits = record {
 -- The margin and the place in the order of a rectangle that stands for a box.
 pub at_box : (is_large : Bool) (margin other : ℤ) (m n : ℕ) (a b : Rectangle) → margin ≡ pos m → other ≡ pos n → IsUnsigned a → IsUnsigned b
     → PrecedesBox is_large margin other a.min b.min → PrecedesBox is_large (pos m) (pos n) (rectangle_of (box_of a)).min (rectangle_of (box_of b)).min
-at_box is_large margin other m n a b p q u v h =
-    let P : ℤ → ℤ → Rectangle → Rectangle → Type 0 = λ i j x y. PrecedesBox is_large i j x.min y.min in
-    let h1 = subst (λ i. P i other a b) p h in
-    let h2 = subst (λ j. P (pos m) j a b) q h1 in
-    let h3 = subst (λ x. P (pos m) (pos n) x b) u h2 in
-    subst (λ y. P (pos m) (pos n) (rectangle_of (box_of a)) y) v h3
+at_box is_large margin other m n a b p q u v h = grind arith
 
 pub not_at_box : (is_large : Bool) (margin other : ℤ) (m n : ℕ) (a b : Rectangle) → margin ≡ pos m → other ≡ pos n → IsUnsigned a → IsUnsigned b
     → PrecedesBox is_large (pos m) (pos n) (rectangle_of (box_of a)).min (rectangle_of (box_of b)).min → PrecedesBox is_large margin other a.min b.min
-not_at_box is_large margin other m n a b p q u v h =
-    let P : ℤ → ℤ → Rectangle → Rectangle → Type 0 = λ i j x y. PrecedesBox is_large i j x.min y.min in
-    let h1 = subst (λ i. P i (pos n) (rectangle_of (box_of a)) (rectangle_of (box_of b))) (sym p) h in
-    let h2 = subst (λ j. P margin j (rectangle_of (box_of a)) (rectangle_of (box_of b))) (sym q) h1 in
-    let h3 = subst (λ x. P margin other x (rectangle_of (box_of b))) (sym u) h2 in
-    subst (λ y. P margin other a y) (sym v) h3
+not_at_box is_large margin other m n a b p q u v h = grind arith

@@ -1,24 +1,28 @@
 -- A search of a class: its own row and column first, and the rest only if no equal side was found.
-use Rattle.std.proofs.Common.{◌≡◌, ℕ, zero, suc, ◌+◌, ◌*◌, ◌<◌, ◌≤◌, ◌⊎◌, ◌==◌, ◌&&◌, nat_lt, nat_le, Bool, true, false, cond, List, [], ◌∷◌, length, refl, ap, sym, ◌∙◌, subst, inl, inr, arith}
-use Rattle.std.proofs.lemmas.Bool.{cases_eq, cond_both, eq-eqb, eqb-true, true≢false}
+use Rattle.std.proofs.Common.{◌≡◌, ℕ, zero, suc, ◌+◌, ◌*◌, ◌<◌, ◌≤◌, ◌⊎◌, ◌==◌, ◌&&◌, ◌||◌, nat_lt, nat_le, max, Bool, true, false, cond, List, [], ◌∷◌, length, refl, ap, sym, ◌∙◌, subst, inl, inr, arith}
+use Rattle.std.proofs.lemmas.Bool.{cases_eq, cases_lt, cond_both, eq-eqb, eqb-true, true≢false}
 use Rattle.std.proofs.lemmas.Bool.Decides.{nat_tests}
+use Rattle.guillotiere.specs.declared.search.bands.Borders.{Borders}
+use Rattle.guillotiere.specs.declared.search.bands.Place.{Place}
 use Rattle.guillotiere.specs.declared.search.bands.Window.{Window}
+use Rattle.guillotiere.specs.declared.geometry.Size.{Size}
 use Rattle.guillotiere.specs.declared.search.best.Best.{Best}
 use Rattle.guillotiere.specs.declared.search.masks.Mask.{Mask}
 use Rattle.guillotiere.specs.declared.search.table.ListHead.{ListHead}
-use Rattle.guillotiere.specs.Search.Bands.{band_of}
+use Rattle.guillotiere.specs.Search.Bands.{band_of, start_of}
 use Rattle.guillotiere.specs.Search.Bests.{HasSeen}
 use Rattle.guillotiere.specs.Boxes.{Sides, IsPositive}
 use Rattle.guillotiere.specs.Choice.{Options, AreValid, class_of, HasEqualSide}
 use Rattle.guillotiere.specs.Search.Items.{Item, item_at, item_box, item_sides, shown_item, shown_items}
 use Rattle.guillotiere.specs.Slots.Lists.{occurs}
-use Rattle.guillotiere.specs.Search.Lookups.{AreListed, FitsNoneIn, HasAdded, HasSearched, IsInRow, IsInColumn, IsBeyond, IsInsideWindow, IsWindowOf}
+use Rattle.guillotiere.specs.Search.Lookups.{AreBorders, AreListed, FitsItemsFrom, HasAdded, HasSearched, IsInRow, IsInColumn, IsBeyond, IsInsideWindow, IsSearch, IsWindowOf}
 use Rattle.guillotiere.specs.Search.Masks.{has, IsMarked}
+use Rattle.guillotiere.specs.Pixels.{sides_of}
 use Rattle.guillotiere.specs.Search.Searches.{Shown}
 use Rattle.guillotiere.specs.Search.Tables.{is_used_at}
 use Rattle.guillotiere.proofs.SearchLemmas.Adding.{added-then, added-weaker, positive-at, row_at, column_at, used-at}
 use Rattle.guillotiere.proofs.SearchLemmas.AddingLines.{window-inside}
-use Rattle.guillotiere.proofs.SearchLemmas.BandLaws.{band_mono, start_mono, window_law, list_of-most}
+use Rattle.guillotiere.proofs.SearchLemmas.BandLaws.{band_below, band_mono, border_of-most, class_of-most, list_of-most, start_mono, window_law}
 use Rattle.guillotiere.proofs.SearchLemmas.Besting.{seen-passed}
 use Rattle.guillotiere.proofs.ListLemmas.Occurrences.{same-self, same-ne}
 use Rattle.guillotiere.proofs.SearchLemmas.Showing.{path-inside, shown_items-has, shown_items-in}
@@ -39,10 +43,7 @@ where-has p (suc n) i l h =
 where-only : (p : ℕ → Bool) (n i : ℕ) → 0 < occurs i (numbers_where p n) → p i ≡ true
 unfolding numbers_where
 where-only p zero i h = absurd (omega arith)
-where-only p (suc n) i h =
-    cond_both (p n) (n ∷ numbers_where p n) (numbers_where p n) (λ xs. 0 < occurs i xs → p i ≡ true)
-    (λ t k. elim (cases_eq i n) [ inl e ↦ ap p e ∙ t | inr ne ↦ where-only p n i (omega (arith, k, same-ne i n ne)) ])
-    (λ f k. where-only p n i k) h
+where-only p (suc n) i h = grind (arith, numbers_where, where-only p n i, same-ne)
 
 and_both : (a b : Bool) → (a && b) ≡ true → (a ≡ true) × (b ≡ true)
 and_both true b e = (refl, e)
@@ -60,52 +61,54 @@ le_true m n h = grind (arith, nat_tests)
 -- The rows below a row and above the end of a window.
 pub marked-between : (used from below : Mask) (k end i : ℕ) → ((j : ℕ) → has from j ≡ (has used j && nat_le k j)) → ((j : ℕ) → has below j ≡ (has from j && nat_lt j end))
     → IsMarked used i → k ≤ i → i < end → IsMarked below i
-marked-between used from below k end i f b h l m =
-    b i ∙ ap (λ t. t && nat_lt i end) (f i ∙ ap (λ t. t && nat_le k i) h ∙ ap (λ t. true && t) (le_true k i l)) ∙ ap (λ t. true && t) (lt_true i end m)
+marked-between used from below k end i f b h l m = grind (arith, le_true, lt_true)
 
--- Where no column of the own row and no later row is marked, no list is used.
-pub none-used : (heads : List ListHead) (row column : ℕ) (window : Window) (in_row right columns used after rows : Mask)
-    → window.end ≤ 52
+and_of : (a b : Bool) → a ≡ true → b ≡ true → (a && b) ≡ true
+and_of a b e f = ap (λ t. t && b) e ∙ f
+
+or_left : (a b : Bool) → a ≡ true → (a || b) ≡ true
+or_left a b e = ap (λ t. t || b) e
+
+or_right : (a b : Bool) → b ≡ true → (a || b) ≡ true
+or_right true b e = refl
+or_right false b e = e
+
+-- Each used list from a place on reaches the least of the columns marked in its row and of the rows marked later.
+pub least-reached : (heads : List ListHead) (row column least : ℕ) (in_row columns used rows both : Mask)
     → ((j : ℕ) → j < 52 → has in_row j ≡ is_used_at heads (52 * row + j))
-    → ((j : ℕ) → has right j ≡ (has in_row j && nat_le column j))
-    → ((j : ℕ) → has columns j ≡ (has right j && nat_lt j window.end))
+    → ((j : ℕ) → has columns j ≡ (has in_row j && nat_le column j))
     → ((i j : ℕ) → i < 52 → j < 52 → is_used_at heads (52 * i + j) ≡ true → IsMarked used i)
-    → ((i : ℕ) → has after i ≡ (has used i && nat_le (row + 1) i))
-    → ((i : ℕ) → has rows i ≡ (has after i && nat_lt i window.end))
-    → ((j : ℕ) → has columns j ≡ false) → ((i : ℕ) → has rows i ≡ false)
-    → (i j : ℕ) → row ≤ i → column ≤ j → IsInsideWindow window i j → is_used_at heads (52 * i + j) ≡ true → ⊥
-none-used heads row column window in_row right columns used after rows most each_column rc cc each ra ca no_column no_row
-    i j right_of under inside full =
-    let below : j < 52 = omega (arith, inside.column_ends, most) in
-    elim (cases_eq i row) [
-      | inl e ↦ true≢false (sym (marked-between in_row right columns column window.end j rc cc
-          (each_column j below ∙ subst (λ k. is_used_at heads (52 * k + j) ≡ true) e full) under inside.column_ends) ∙ no_column j)
-      | inr ne ↦ true≢false (sym (marked-between used after rows (row + 1) window.end i ra ca
-          (each i j (omega (arith, inside.row_ends, most)) below full) (omega (arith, right_of, ne)) inside.row_ends) ∙ no_row i)
-    ]
+    → ((i : ℕ) → has rows i ≡ (has used i && nat_le (row + 1) i))
+    → ((k : ℕ) → has both k ≡ (has columns k || has rows k))
+    → ((k : ℕ) → IsMarked both k → least ≤ k)
+    → (i j : ℕ) → i < 52 → j < 52 → row ≤ i → column ≤ j → is_used_at heads (52 * i + j) ≡ true → (least ≤ i) ⊎ (least ≤ j)
+least-reached heads row column least in_row columns used rows both each_column right each_row later either first i j hi hj past under full =
+    grind (arith, and_of, le_true, or_left, or_right)
+
+-- A column more, of those that the marked rows have a list in.
+pub rows-next : (heads : List ListHead) (first column : ℕ) (rows here more : Mask)
+    → ((i : ℕ) → i < 52 → has here i ≡ is_used_at heads (52 * i + column))
+    → ((i : ℕ) → has more i ≡ (has rows i || has here i))
+    → ((i j : ℕ) → i < 52 → first ≤ j → j < column → is_used_at heads (52 * i + j) ≡ true → IsMarked rows i)
+    → (i j : ℕ) → i < 52 → first ≤ j → j < column + 1 → is_used_at heads (52 * i + j) ≡ true → IsMarked more i
+rows-next heads first column rows here more each either known i j h from below used = grind (arith, or_right, or_left)
+
+-- The borders of valid options are bands.
+pub borders-inside : (o : Options) (b : Borders) → AreBorders o b → (b.small < 52) × (b.large < 52)
+borders-inside o b is = (omega (arith, is.small, border_of-most o o.small_threshold), omega (arith, is.large, border_of-most o o.large_threshold))
 
 -- The request's own row and column lie before the end of the window.
 pub own-ends : (o : Options) (r : Sides) (class : ℕ) (w : Window) → AreValid o → IsPositive r → class < 3 → class_of o r ≤ class → IsWindowOf o class w
     → (band_of o r.width < w.end) × (band_of o r.height < w.end)
 own-ends o r class w valid positive few from is =
-    let own = (window_law o r (class_of o r) valid positive (omega arith)).0 refl in
-    let mono = start_mono o (class_of o r + 1) (class + 1) valid (omega arith) (omega arith) in
-    (omega (arith, own.row_ends, mono, is.end), omega (arith, own.column_ends, mono, is.end))
+    grind (
+      arith,
+      window_law o r (class_of o r) valid positive (omega arith),
+      start_mono o (class_of o r + 1) (class + 1) valid (omega arith) (omega arith),
+    )
 
 module _ (o : Options) (heads : List ListHead) (es : List Item) (class : ℕ) (r : Sides) (a : AreListed o heads es) (few : class < 3) (row column : ℕ)
     (er : row ≡ band_of o r.width) (ec : column ≡ band_of o r.height) where
-  -- Where no list is used from the request's own place on, the request fits no free entry.
-  pub none-fits : (window : Window) → IsWindowOf o class window
-      → ((i j : ℕ) → row ≤ i → column ≤ j → IsInsideWindow window i j → is_used_at heads (52 * i + j) ≡ true → ⊥)
-      → FitsNoneIn o es class r
-  none-fits window is none i free e fits =
-      let sides = item_sides (item_at es i) in
-      let within = (window_law o sides class a.valid (positive-at o heads es class r a i free) few).0 e in
-      none (row_at o heads es class r a i) (column_at o heads es class r a i)
-      (omega (arith, er, band_mono o _ _ fits.0)) (omega (arith, ec, band_mono o _ _ fits.1))
-      (window-inside o class window (band_of o sides.width) (band_of o sides.height) is within)
-      (used-at o heads es class r a i free)
-
   -- The lists to the right and below.
   abbrev pub IsApart : ℕ → ℕ → Type 0
   IsApart i j = (row < i) × (column < j)
@@ -134,11 +137,7 @@ module _ (o : Options) (heads : List ListHead) (es : List Item) (class : ℕ) (r
             let q = and_both _ _ p.0 in
             let P : Shown → Type 0 = λ d. ((item_at es d.at).is_free ≡ true) × (d ≡ shown_item es d.at) × (class_of o (item_sides (item_at es d.at)) ≡ class) in
             subst P (sym t.2) (q.0, refl, eqb-true _ _ q.1);
-        each = λ i free e v.
-            let test : is_apart i ≡ true = ap (λ b. (b && (class_of o (item_sides (item_at es i)) == class)) && (nat_lt row (band_of o (item_sides (item_at es i)).width) && nat_lt column (band_of o (item_sides (item_at es i)).height))) free
-            ∙ ap (λ b. b && (nat_lt row (band_of o (item_sides (item_at es i)).width) && nat_lt column (band_of o (item_sides (item_at es i)).height))) (eq-eqb _ _ e)
-            ∙ ap (λ b. b && nat_lt column (band_of o (item_sides (item_at es i)).height)) (lt_true _ _ v.0) ∙ lt_true _ _ v.1 in
-            shown_items-has es xs i (where-has is_apart (length es) i (inside-free i free) test);
+        each = grind (arith, is_apart, eq-eqb, lt_true, shown_items-has, where-has, inside-free);
         seen = λ is_large shown h. seen-passed s is_large r shown (shown_items es xs) h best_is (λ c has e.
             let t = shown_items-in es xs c has in
             let p = and_both _ _ (and_both _ _ (only t.0 t.1)).1 in
@@ -154,13 +153,15 @@ module _ (o : Options) (heads : List ListHead) (es : List Item) (class : ℕ) (r
 
   -- And else they are shown.
   pub added-beyond : (window : Window) (used from below : Mask) (s t : Best) → IsWindowOf o class window
-      → ((i j : ℕ) → i < 52 → j < 52 → is_used_at heads (52 * i + j) ≡ true → IsMarked used i)
+      → ((i j : ℕ) → i < 52 → column + 1 ≤ j → j < window.end → is_used_at heads (52 * i + j) ≡ true → IsMarked used i)
       → ((j : ℕ) → has from j ≡ (has used j && nat_le (row + 1) j)) → ((j : ℕ) → has below j ≡ (has from j && nat_lt j window.end))
       → HasAdded o heads es class r (IsBeyond below (column + 1)) s t → HasAdded o heads es class r IsApart s t
   added-beyond window used from below s t is each f b h =
       added-weaker o heads es class r a (IsBeyond below (column + 1)) IsApart s t few
       (λ i j hi hj full inside v.
-      (marked-between used from below (row + 1) window.end i f b (each i j hi hj full) (omega (arith, v.0)) (window-inside o class window i j is inside).row_ends, omega (arith, v.1))) h
+      let within = window-inside o class window i j is inside in
+      let marked = each i j hi (omega (arith, v.1)) within.column_ends full in
+      (marked-between used from below (row + 1) window.end i f b marked (omega (arith, v.0)) within.row_ends, omega (arith, v.1))) h
 
   -- All of them.
   pub added-all : (window : Window) (columns rows : Mask) (s t u v : Best) → IsWindowOf o class window
@@ -193,8 +194,38 @@ module _ (o : Options) (heads : List ListHead) (es : List Item) (class : ℕ) (r
           each = λ i free ec' fits. h.each i free ec' (omega (arith, er, band_mono o _ _ fits.0), omega (arith, ec, band_mono o _ _ fits.1));
         };
         seen = subst (λ (l : Bool). HasSeen v l r h.more) e (h.seen is_large [] begun);
-        known = h.known (λ some. elim begun.best [
-          | inl n ↦ absurd (omega (arith, some, n.0))
-          | inr k ↦ absurd (omega (arith, k.1.best.is_shown.1))
-        ]);
+        known = grind arith;
       }
+
+-- Each free entry that the request fits has a class whose window ends after what all lists reach.
+pub fits-from : (o : Options) (heads : List ListHead) (es : List Item) (r : Sides) → AreListed o heads es → (row column least first : ℕ)
+    → row ≡ band_of o r.width → column ≡ band_of o r.height
+    → ((i j : ℕ) → i < 52 → j < 52 → row ≤ i → column ≤ j → is_used_at heads (52 * i + j) ≡ true → (least ≤ i) ⊎ (least ≤ j))
+    → ((class : ℕ) → class < first → start_of o (class + 1) ≤ least)
+    → FitsItemsFrom o es first r
+fits-from o heads es r a row column least first er ec reached passed i free fits =
+    let sides = item_sides (item_at es i) in
+    let class = class_of o sides in
+    elim (cases_lt class first) [
+      | inl l ↦
+          let within = (window_law o sides class a.valid (positive-at o heads es class r a i free) (class_of-most o sides)).0 refl in
+          let right : row ≤ band_of o sides.width = omega (arith, er, band_mono o _ _ fits.0) in
+          let under : column ≤ band_of o sides.height = omega (arith, ec, band_mono o _ _ fits.1) in
+          let far = passed class l in
+          absurd (elim (reached (band_of o sides.width) (band_of o sides.height) (band_below o _) (band_below o _) right under (used-at o heads es class r a i free)) [
+            | inl h ↦ omega (arith, h, far, within.row_ends)
+            | inr h ↦ omega (arith, h, far, within.column_ends)
+          ])
+      | inr g ↦ g
+    ]
+
+pub from-both : (o : Options) (es : List Item) (r : Sides) (a b : ℕ) → FitsItemsFrom o es a r → FitsItemsFrom o es b r → FitsItemsFrom o es (max a b) r
+from-both o es r a b x y i free fits = omega (arith, x i free fits, y i free fits)
+
+-- The search of a class, as the code makes its request.
+pub search-of : (o : Options) (heads : List ListHead) (es : List Item) (size : Size) (own_class number : ℕ) (own : Place) (b : Borders)
+    → AreListed o heads es → IsPositive (sides_of size) → own_class ≡ class_of o (sides_of size)
+    → own.row ≡ band_of o (sides_of size).width → own.column ≡ band_of o (sides_of size).height → AreBorders o b
+    → number < 3 → own_class ≤ number
+    → IsSearch o heads es number (record { size = size; is_large = own_class == 2; own = own; borders = b })
+search-of o heads es size own_class number own b a positive ec er ecol borders few from = grind arith

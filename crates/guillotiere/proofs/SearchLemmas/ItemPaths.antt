@@ -21,32 +21,15 @@ use Rattle.guillotiere.proofs.SearchLemmas.TableHeads.{slot-is}
 pub path-frame : (es es' : List Item) (from : ℕ) (xs : List ℕ) (to : ℕ) → length es ≤ length es'
     → ((i : ℕ) → 0 < occurs i xs → (item_at es' i).after ≡ (item_at es i).after) → IsPath es from xs to → IsPath es' from xs to
 path-frame es es' from [] to l same_after p = p
-path-frame es es' from (x ∷ xs) to l same_after p = (
-  p.0,
-  omega (arith, l, p.1),
-  subst (λ n. IsPath es' n xs to) (sym (same_after x (omega (arith, same-self x))))
-      (path-frame es es' (item_at es x).after xs to l (λ i h. same_after i (omega arith)) p.2),
-)
+path-frame es es' from (x ∷ xs) to l same_after p =
+    grind (arith, same-self, path-frame es es' (item_at es x).after xs to l (λ i h. same_after i (omega arith)) p.2)
 
 -- After each entry comes the end of the path or an entry that isn't its first.
 pub path-next : (es : List Item) (from x : ℕ) (xs : List ℕ) (to b : ℕ) → IsPath es from (x ∷ xs) to → 0 < occurs b (x ∷ xs)
     → ((item_at es b).after ≡ to) ⊎ (0 < occurs (item_at es b).after xs)
-path-next es from x [] to b p h =
-    elim (cases_eq b x) [
-      | inl e ↦ inl (ap (λ n. (item_at es n).after) e ∙ p.2)
-      | inr ne ↦ absurd (omega (arith, same-ne b x ne))
-    ]
+path-next es from x [] to b p h = grind (arith, same-ne)
 path-next es from x (y ∷ ys) to b p h =
-    elim (cases_eq b x) [
-      | inl e ↦
-          let first : (item_at es b).after ≡ y = ap (λ n. (item_at es n).after) e ∙ p.2.0 in
-          inr (subst (λ n. 0 < occurs n (y ∷ ys)) (sym first) (omega (arith, same-self y)))
-      | inr ne ↦
-          elim (path-next es (item_at es x).after y ys to b p.2 (omega (arith, same-ne b x ne))) [
-            | inl e ↦ inl e
-            | inr g ↦ inr (omega (arith, g))
-          ]
-    ]
+    grind (arith, same-self, path-next es (item_at es x).after y ys to b p.2, same-ne)
 
 -- The entry b leads past x from now on.
 pub path-bypassed : (es es' : List Item) (x b : ℕ) (from : ℕ) (xs : List ℕ) (to : ℕ) → length es ≤ length es' → to ≢ x
@@ -101,35 +84,18 @@ pub path-begun : (es es' : List Item) (x : ℕ) (xs : List ℕ) → length es �
     → ((i : ℕ) → i ≢ x → (item_at es' i).after ≡ (item_at es i).after)
     → IsPath es x xs no_slot → IsPath es' (item_at es x).after (without x xs) no_slot
 path-begun es es' x [] l once has_x others p = absurd (omega (arith, has_x))
-path-begun es es' x (y ∷ ys) l once has_x others p =
-    let gone : without x (y ∷ ys) ≡ ys = cond-true (x == y) ys (y ∷ without x ys) (eq-eqb x y p.0) in
-    let still : (i : ℕ) → 0 < occurs i ys → (item_at es' i).after ≡ (item_at es i).after =
-    λ i h. others i (λ ix. omega (arith, h, once y, same-self y, ap (λ n. occurs n ys) (ix ∙ p.0))) in
-    subst (λ w. IsPath es' (item_at es x).after w no_slot) (sym gone)
-    (subst (λ n. IsPath es' (item_at es n).after ys no_slot) (sym p.0) (path-frame es es' (item_at es y).after ys no_slot l still p.2))
+path-begun es es' x (y ∷ ys) l once has_x others p = grind (arith, cond-true, eq-eqb, same-self, path-frame)
 
 -- ---- what stands in the lists
 
 occurs-without_other : (x i : ℕ) (xs : List ℕ) → i ≢ x → occurs i (without x xs) ≡ occurs i xs
-occurs-without_other x i xs ne =
-    elim (cases_eq (occurs x xs) 0) [
-      | inl none ↦ ap (occurs i) (without-none x xs none)
-      | inr some ↦ omega (arith, occurs-without x xs (omega arith) i, same-ne i x ne)
-    ]
+occurs-without_other x i xs ne = grind (arith, without-none, occurs-without, same-ne)
 
 occurs-without_le : (x i : ℕ) (xs : List ℕ) → occurs i (without x xs) ≤ occurs i xs
-occurs-without_le x i xs =
-    elim (cases_eq (occurs x xs) 0) [
-      | inl none ↦ omega (arith, ap (occurs i) (without-none x xs none))
-      | inr some ↦ omega (arith, occurs-without x xs (omega arith) i)
-    ]
+occurs-without_le x i xs = grind (arith, without-none, occurs-without)
 
 occurs-without_self : (x : ℕ) (xs : List ℕ) → occurs x xs ≤ 1 → occurs x (without x xs) ≡ 0
-occurs-without_self x xs once =
-    elim (cases_eq (occurs x xs) 0) [
-      | inl none ↦ ap (occurs x) (without-none x xs none) ∙ none
-      | inr some ↦ omega (arith, occurs-without x xs (omega arith) x, same-self x)
-    ]
+occurs-without_self x xs once = grind (arith, without-none, occurs-without, same-self)
 
 -- The list of an entry.
 abbrev pub list_at : Options → List Item → ℕ → ℕ
@@ -155,27 +121,16 @@ module _ (o : Options) (heads heads' : List ListHead) (es es' : List Item) (list
   was_free i ne f = sym (kept i ne).1 ∙ f
 
   not_in : (j : ℕ) → j < 2704 → j ≢ k → occurs x (listed.held j) ≡ 0
-  not_in j l ne =
-      elim (cases_eq (occurs x (listed.held j)) 0) [
-        | inl none ↦ none
-        | inr some ↦ absurd (ne (sym (listed.own j x l (omega arith)).1 ∙ list))
-      ]
+  not_in j l ne = grind arith
 
   paths : (j : ℕ) → j < 2704 → (j ≡ k) ⊎ (j ≢ k) → IsPath es' (head_of heads' j).number (without x (listed.held j)) no_slot
   paths j l (inl e) = subst (λ n. IsPath es' (head_of heads' n).number (without x (listed.held n)) no_slot) (sym e) (here (omega arith))
-  paths j l (inr ne) =
-      let all : without x (listed.held j) ≡ listed.held j = without-none x (listed.held j) (not_in j l ne) in
-      subst (λ xs. IsPath es' (head_of heads' j).number xs no_slot) (sym all)
-      (subst (λ h. IsPath es' h.number (listed.held j) no_slot) (sym (other_heads j ne))
-      (path-frame es es' (head_of heads j).number (listed.held j) no_slot (omega (arith, long)) (λ i h. links j i ne l h) (listed.path j l)))
+  paths j l (inr ne) = grind (arith, without-none, not_in, path-frame)
 
   owned : (j i : ℕ) → j < 2704 → 0 < occurs i (without x (listed.held j)) → (i ≡ x) ⊎ (i ≢ x)
       → ((item_at es' i).is_free ≡ true) × (list_at o es' i ≡ j)
-  owned j i l h (inl e) =
-      absurd (omega (arith, subst (λ n. 0 < occurs n (without x (listed.held j))) e h, occurs-without_self x (listed.held j) (listed.once j x l)))
-  owned j i l h (inr ne) =
-      let old = listed.own j i l (omega (arith, h, occurs-without_other x i (listed.held j) ne)) in
-      ((kept i ne).1 ∙ old.0, same_list i ne ∙ old.1)
+  owned j i l h (inl e) = grind (arith, occurs-without_self)
+  owned j i l h (inr ne) = grind (arith, occurs-without_other, same_list)
 
   lows : (i : ℕ) → i ≢ x → (item_at es i).is_free ≡ true → (list_at o es i ≡ k) ⊎ (list_at o es i ≢ k)
       → low_of heads' (list_at o es i) ≤ strip_of (item_box (item_at es i)).min.y
@@ -190,17 +145,10 @@ module _ (o : Options) (heads heads' : List ListHead) (es es' : List Item) (list
         short = omega (arith, long, listed.short);
         path = λ j l. paths j l (cases_eq j k);
         own = λ j i l h. owned j i l h (cases_eq i x);
-        each = λ i f.
-            let ne = not_x i f in
-            subst (λ n. 0 < occurs i (without x (listed.held n))) (sym (same_list i ne))
-            (omega (arith, listed.each i (was_free i ne f), occurs-without_other x i (listed.held (list_at o es i)) ne));
+        each = grind (arith, not_x, same_list, was_free, occurs-without_other);
         once = λ j i l. omega (arith, listed.once j i l, occurs-without_le x i (listed.held j));
         exact = λ i f. (let ne = not_x i f in subst IsSolid (sym (kept i ne).0) (listed.exact i (was_free i ne f)));
-        low = λ i f.
-            let ne = not_x i f in
-            let old = lows i ne (was_free i ne f) (cases_eq (list_at o es i) k) in
-            subst (λ n. low_of heads' n ≤ strip_of (item_box (item_at es' i)).min.y) (sym (same_list i ne))
-            (subst (λ r. low_of heads' (list_at o es i) ≤ strip_of (item_box (record { area = r; after = 0; is_free = true })).min.y) (sym (kept i ne).0) old);
+        low = grind (arith, not_x, lows, was_free, same_list);
       }
 
 -- An entry e, at x, comes first in its list k: the others stay.
@@ -222,26 +170,14 @@ module _ (o : Options) (heads heads' : List ListHead) (es es' : List Item) (list
   added-other j ne = cond-false (j == k) (x ∷ listed.held j) (listed.held j) (ne_eqb j k ne)
 
   not_held : (j : ℕ) → j < 2704 → occurs x (listed.held j) ≡ 0
-  not_held j l =
-      elim (cases_eq (occurs x (listed.held j)) 0) [
-        | inl none ↦ none
-        | inr some ↦ absurd (both_ways _ idle (listed.own j x l (omega arith)).0)
-      ]
+  not_held j l = grind (arith, both_ways)
 
   frame : (j : ℕ) → j < 2704 → IsPath es' (head_of heads j).number (listed.held j) no_slot
-  frame j l =
-      path-frame es es' (head_of heads j).number (listed.held j) no_slot (omega (arith, long))
-      (λ i h. ap (λ (t : Item). t.after) (others i (λ ix. omega (arith, h, not_held j l, ap (λ n. occurs n (listed.held j)) ix)))) (listed.path j l)
+  frame j l = grind (arith, path-frame, not_held)
 
   added-paths : (j : ℕ) → j < 2704 → (j ≡ k) ⊎ (j ≢ k) → IsPath es' (head_of heads' j).number (added j) no_slot
-  added-paths j l (inl is) =
-      let leads : (item_at es' x).after ≡ (head_of heads k).number = ap (λ (t : Item). t.after) this ∙ after in
-      subst (λ n. IsPath es' (head_of heads' n).number (added n) no_slot) (sym is)
-      (subst (λ xs. IsPath es' (head_of heads' k).number xs no_slot) (sym added-here)
-      (head, omega (arith, inside, long), subst (λ n. IsPath es' n (listed.held k) no_slot) (sym leads) (frame k (omega arith))))
-  added-paths j l (inr ne) =
-      subst (λ xs. IsPath es' (head_of heads' j).number xs no_slot) (sym (added-other j ne))
-      (subst (λ h. IsPath es' h.number (listed.held j) no_slot) (sym (other_heads j ne)) (frame j l))
+  added-paths j l (inl is) = grind (arith, added-here, frame)
+  added-paths j l (inr ne) = grind (arith, added-other, frame)
 
   x-list : list_at o es' x ≡ k
   x-list = ap (λ (t : Item). list_of o (item_sides t)) this ∙ list
@@ -254,35 +190,19 @@ module _ (o : Options) (heads heads' : List ListHead) (es es' : List Item) (list
   occurs-added j i (inr ne) = omega (arith, ap (occurs i) (added-other j ne))
 
   occurs-added_back : (j i : ℕ) → i ≢ x → (j ≡ k) ⊎ (j ≢ k) → occurs i (added j) ≡ occurs i (listed.held j)
-  occurs-added_back j i ne (inl is) =
-      subst (λ n. occurs i (added n) ≡ occurs i (listed.held n)) (sym is) (omega (arith, ap (occurs i) added-here, same-ne i x ne))
+  occurs-added_back j i ne (inl is) = grind (arith, added-here, same-ne)
   occurs-added_back j i ne (inr apart) = ap (occurs i) (added-other j apart)
 
   own-added : (j i : ℕ) → j < 2704 → 0 < occurs i (added j) → (i ≡ x) ⊎ (i ≢ x) → ((item_at es' i).is_free ≡ true) × (list_at o es' i ≡ j)
-  own-added j i l h (inl is) =
-      let at_k : j ≡ k =
-      elim (cases_eq j k) [
-        | inl jk ↦ jk
-        | inr ne ↦ absurd (omega (arith, subst (λ n. 0 < occurs n (added j)) is h, ap (occurs x) (added-other j ne), not_held j l))
-      ] in
-      (ap (λ n. (item_at es' n).is_free) is ∙ ap (λ (t : Item). t.is_free) this ∙ free, ap (list_at o es') is ∙ x-list ∙ sym at_k)
-  own-added j i l h (inr ne) =
-      let old = listed.own j i l (omega (arith, h, occurs-added_back j i ne (cases_eq j k))) in
-      (ap (λ (t : Item). t.is_free) (others i ne) ∙ old.0, list-same i ne ∙ old.1)
+  own-added j i l h (inl is) = grind (arith, added-other, not_held, x-list)
+  own-added j i l h (inr ne) = grind (arith, occurs-added_back, list-same)
 
   each-added : (i : ℕ) → (item_at es' i).is_free ≡ true → (i ≡ x) ⊎ (i ≢ x) → 0 < occurs i (added (list_at o es' i))
-  each-added i f (inl is) =
-      subst (λ n. 0 < occurs n (added (list_at o es' n))) (sym is)
-      (subst (λ j. 0 < occurs x (added j)) (sym x-list) (omega (arith, ap (occurs x) added-here, same-self x)))
-  each-added i f (inr ne) =
-      let old = listed.each i (ap (λ (t : Item). t.is_free) (sym (others i ne)) ∙ f) in
-      subst (λ j. 0 < occurs i (added j)) (sym (list-same i ne))
-      (omega (arith, old, occurs-added (list_at o es i) i (cases_eq (list_at o es i) k)))
+  each-added i f (inl is) = grind (arith, x-list, added-here, same-self)
+  each-added i f (inr ne) = grind (arith, list-same, occurs-added)
 
   once-added : (j i : ℕ) → j < 2704 → (i ≡ x) ⊎ (i ≢ x) → (j ≡ k) ⊎ (j ≢ k) → occurs i (added j) ≤ 1
-  once-added j i l (inl is) (inl jk) =
-      subst (λ n. occurs n (added j) ≤ 1) (sym is)
-      (subst (λ n. occurs x (added n) ≤ 1) (sym jk) (omega (arith, ap (occurs x) added-here, same-self x, not_held k (omega arith))))
+  once-added j i l (inl is) (inl jk) = grind (arith, added-here, same-self, not_held)
   once-added j i l (inl is) (inr ne) = omega (arith, listed.once j i l, ap (occurs i) (added-other j ne))
   once-added j i l (inr apart) c = omega (arith, listed.once j i l, occurs-added_back j i apart c)
 
@@ -295,22 +215,8 @@ module _ (o : Options) (heads heads' : List ListHead) (es es' : List Item) (list
       some (y ∷ ys) p h z = omega (arith, z, p.0, p.1, listed.short)
 
   low-added : k < 2704 → (i : ℕ) → (item_at es' i).is_free ≡ true → (i ≡ x) ⊎ (i ≢ x) → low_of heads' (list_at o es' i) ≤ strip_of (item_box (item_at es' i)).min.y
-  low-added l i f (inl is) =
-      subst (λ n. low_of heads' (list_at o es' n) ≤ strip_of (item_box (item_at es' n)).min.y) (sym is)
-      (subst (λ t. low_of heads' (list_of o (item_sides t)) ≤ strip_of (item_box t).min.y) (sym this)
-      (subst (λ j. low_of heads' j ≤ strip_of (item_box e).min.y) (sym list) low))
-  low-added l i f (inr ne) =
-      subst (λ t. low_of heads' (list_of o (item_sides t)) ≤ strip_of (item_box t).min.y) (sym (others i ne)) (old (cases_eq (list_at o es i) k))
-    where
-      was : (item_at es i).is_free ≡ true
-      was = ap (λ (t : Item). t.is_free) (sym (others i ne)) ∙ f
-
-      old : (list_at o es i ≡ k) ⊎ (list_at o es i ≢ k) → low_of heads' (list_at o es i) ≤ strip_of (item_box (item_at es i)).min.y
-      old (inl is) =
-          let less = lower (used_list i was is l) in
-          let bound = subst (λ j. low_of heads j ≤ strip_of (item_box (item_at es i)).min.y) is (listed.low i was) in
-          subst (λ j. low_of heads' j ≤ strip_of (item_box (item_at es i)).min.y) (sym is) (omega (arith, less, bound))
-      old (inr apart) = subst (λ n. n ≤ strip_of (item_box (item_at es i)).min.y) (sym (other_lows (list_at o es i) apart)) (listed.low i was)
+  low-added l i f (inl is) = grind arith
+  low-added l i f (inr ne) = grind (arith, used_list)
 
   pub listed-with : k < 2704 → AreListed o heads' es'
   listed-with l =

@@ -1,13 +1,12 @@
 -- The best free entry of the lowest class with one that the request fits is the pick.
-use Rattle.std.proofs.Common.{ℕ, ◌+◌, ◌≤◌, ◌≡◌, ◌≢◌, inl, inr, List, sym, ap, ◌∙◌, arith, true, subst}
-use Rattle.std.specs.Prelude.{Contains, Option, Some, None, IfSome}
-use Rattle.std.proofs.lemmas.Bool.{cases_eq}
+use Rattle.std.proofs.Common.{ℕ, ◌+◌, ◌≤◌, ◌≡◌, ◌≢◌, List, sym, ap, ◌∙◌, arith, true, subst}
+use Rattle.std.specs.Prelude.{Contains}
 use Rattle.guillotiere.specs.declared.search.best.Best.{Best}
 use Rattle.guillotiere.specs.declared.search.best.Found.{Found}
 use Rattle.guillotiere.specs.declared.search.table.ListHead.{ListHead}
 use Rattle.guillotiere.specs.Boxes.{Sides, Box, Fits, box_sides}
 use Rattle.guillotiere.specs.Choice.{Options, class_of, IsFitting, IsPick}
-use Rattle.guillotiere.specs.Search.Items.{Item, item_at, item_box, item_sides, shown_item}
+use Rattle.guillotiere.specs.Search.Items.{Item, item_at, item_box, item_sides}
 use Rattle.guillotiere.specs.Search.Lookups.{HasSearched, IsBestIn, FitsNoneIn, FitsItemsFrom, AreFreeItems}
 use Rattle.guillotiere.specs.Pixels.{box_of}
 use Rattle.guillotiere.specs.Search.Ranks.{no_rank}
@@ -21,11 +20,7 @@ module _ (o : Options) (es : List Item) (r : Sides) where
 
   -- A class without a fitting entry is passed.
   pub from-next : (class : ℕ) → FitsItemsFrom o es class r → FitsNoneIn o es class r → FitsItemsFrom o es (class + 1) r
-  from-next class from none i free fits =
-      elim (cases_eq (class_of o (item_sides (item_at es i))) class) [
-        | inl e ↦ absurd (none i free e fits)
-        | inr ne ↦ omega (arith, from i free fits)
-      ]
+  from-next class from none i free fits = grind arith
 
   -- No class is left.
   pub none-from : (class : ℕ) → 3 ≤ class → FitsItemsFrom o es class r → (i : ℕ) → (item_at es i).is_free ≡ true → Fits r (item_sides (item_at es i)) → ⊥
@@ -39,24 +34,11 @@ module _ (o : Options) (es : List Item) (r : Sides) where
 
   -- The best of the class that was searched.
   pub none-found : (heads : List ListHead) (class : ℕ) (search : Best) → HasSearched o heads es class r search → search.rank ≡ no_rank → FitsNoneIn o es class r
-  none-found heads class search h e i free ec fits =
-      elim h.seen.best [
-        | inl n ↦ n.1 (shown_item es i) (h.are_shown.each i free ec fits) fits
-        | inr k ↦ absurd (omega (arith, e, k.0))
-      ]
+  none-found heads class search h e i free ec fits = grind arith
 
   pub best-found : (heads : List ListHead) (class : ℕ) (search : Best) (found : Found) → HasSearched o heads es class r search → found ≡ search.found → search.rank ≢ no_rank
       → IsBestIn o heads es class r found
-  best-found heads class search found h e ne =
-      subst (λ (f : Found). IsBestIn o heads es class r f) (sym e) (elim h.seen.best [
-        | inl n ↦ absurd (ne n.0)
-        | inr k ↦ record { shown = h.shown; are_shown = h.are_shown; best = k.1.best; standing = h.known k.0 }
-      ])
-
-  pub some-found : (heads : List ListHead) (class : ℕ) (search : Best) (best : Option Found) → HasSearched o heads es class r search
-      → IfSome best (λ found. (found ≡ search.found) × (search.rank ≢ no_rank)) → IfSome best (IsBestIn o heads es class r)
-  some-found heads class search None h e = e
-  some-found heads class search (Some found) h e = best-found heads class search found h e.0 e.1
+  best-found heads class search found h e ne = grind arith
 
   pub pick-of_items : (heads : List ListHead) (class : ℕ) (found : Found) → FitsItemsFrom o es class r → IsBestIn o heads es class r found
       → (free : List Box) → AreFreeItems es free → IsPick free o r (box_of found.rectangle)

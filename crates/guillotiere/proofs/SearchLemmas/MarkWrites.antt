@@ -1,5 +1,5 @@
 -- The marks of rows and columns after one of them is written.
-use Rattle.std.proofs.Common.{◌≡◌, ◌≢◌, ℕ, ◌<◌, ◌≤◌, ◌⊎◌, inl, inr, Bool, true, false, List, length, slice_set, replicate, sym, ap, ◌∙◌, arith}
+use Rattle.std.proofs.Common.{◌≡◌, ◌≢◌, ℕ, ◌<◌, ◌≤◌, ◌⊎◌, inl, inr, Bool, true, false, List, length, slice_set, replicate, sym, ap, ◌∙◌, arith, rules}
 use Rattle.std.proofs.lemmas.List.{get_or-set_same, get_or-set_other, get_or-replicate, length-set, length-replicate}
 use Rattle.std.proofs.Math.ListN.{get_or-eq_default}
 use Rattle.std.proofs.lemmas.Bool.{cases_lt, cases_eq, both_ways}
@@ -18,20 +18,11 @@ set_this rows i j m b l w = ap (λ x. has x j) (get_or-set_same rows i m (record
 pub set_others : (rows : List Mask) (i j k l : ℕ) (m : Mask) (b : Bool) → i < length rows → IsWritten (mask_at rows i) m j b → (k ≢ i) ⊎ (l ≢ j)
     → is_marked_at (slice_set rows i m) k l ≡ is_marked_at rows k l
 set_others rows i j k l m b within w (inl apart) = ap (λ x. has x l) (get_or-set_other rows i k m (record { bits = 0 }) apart)
-set_others rows i j k l m b within w (inr apart) =
-    elim (cases_eq k i) [
-      | inl same ↦ ap (λ n. is_marked_at (slice_set rows i m) n l) same ∙ ap (λ x. has x l) (get_or-set_same rows i m (record { bits = 0 }) within) ∙ w.others l apart
-          ∙ ap (λ n. is_marked_at rows n l) (sym same)
-      | inr other ↦ ap (λ x. has x l) (get_or-set_other rows i k m (record { bits = 0 }) other)
-    ]
+set_others rows i j k l m b within w (inr apart) = grind (arith, get_or-set_same, get_or-set_other)
 
 -- Two places are the same, or differ in one of their numbers.
 pub cases_place : (i j k l : ℕ) → ((k ≡ i) × (l ≡ j)) ⊎ ((k ≢ i) ⊎ (l ≢ j))
-cases_place i j k l =
-    elim (cases_eq k i) [
-      | inl e ↦ elim (cases_eq l j) [ inl f ↦ inl (e, f) | inr g ↦ inr (inr g) ]
-      | inr g ↦ inr (inl g)
-    ]
+cases_place i j k l = grind arith
 
 turned : (i j k l : ℕ) → (k ≢ i) ⊎ (l ≢ j) → (l ≢ j) ⊎ (k ≢ i)
 turned i j k l (inl p) = inr p
@@ -56,40 +47,24 @@ module _ (rows columns : List Mask) (any : Mask) (are : AreMarks rows columns an
   inside_by k l (inr apart) h = are.inside k l (sym (row_others k l apart) ∙ h)
 
   same_by : (k l : ℕ) → ((k ≡ i) × (l ≡ j)) ⊎ ((k ≢ i) ⊎ (l ≢ j)) → is_marked_at (slice_set columns j column) l k ≡ is_marked_at (slice_set rows i row) k l
-  same_by k l (inl e) =
-      (λ t. is_marked_at (slice_set columns j column) (e.1 t) (e.0 t)) ∙ set_this columns j i column b in_columns in_column
-      ∙ sym ((λ t. is_marked_at (slice_set rows i row) (e.0 t) (e.1 t)) ∙ row_this)
+  same_by k l (inl e) = search (rules, set_this, in_columns, row_this)
   same_by k l (inr apart) = set_others columns j i l k column b in_columns in_column (turned i j k l apart) ∙ are.same k l ∙ sym (row_others k l apart)
 
   pub written-marks : (any' : Mask)
       → ((k l : ℕ) → is_marked_at (slice_set rows i row) k l ≡ true → IsMarked any' k)
       → ((k : ℕ) → IsMarked any' k → (l : ℕ) × (is_marked_at (slice_set rows i row) k l ≡ true))
       → AreMarks (slice_set rows i row) (slice_set columns j column) any'
-  written-marks any' each only =
-      record {
-        row_count = length-set rows i row ∙ are.row_count;
-        column_count = length-set columns j column ∙ are.column_count;
-        inside = λ k l. inside_by k l (cases_place i j k l);
-        same = λ k l. same_by k l (cases_place i j k l);
-        used = each;
-        used_only = only;
-      }
+  written-marks any' each only = grind (arith, length-set, inside_by, cases_place, same_by)
 
   used_by : (b ≡ true) → (any' : Mask) → IsWritten any any' i true → (k l : ℕ) → ((k ≡ i) × (l ≡ j)) ⊎ ((k ≢ i) ⊎ (l ≢ j))
       → is_marked_at (slice_set rows i row) k l ≡ true → IsMarked any' k
   used_by is any' w k l (inl e) h = ap (has any') e.0 ∙ w.this
-  used_by is any' w k l (inr apart) h =
-      elim (cases_eq k i) [
-        | inl e ↦ ap (has any') e ∙ w.this
-        | inr other ↦ w.others k other ∙ are.used k l (sym (row_others k l apart) ∙ h)
-      ]
+  used_by is any' w k l (inr apart) h = grind (arith, row_others)
 
   only_by : (b ≡ true) → (any' : Mask) → IsWritten any any' i true → (k : ℕ) → (k ≡ i) ⊎ (k ≢ i)
       → IsMarked any' k → (l : ℕ) × (is_marked_at (slice_set rows i row) k l ≡ true)
   only_by is any' w k (inl e) h = (j, ap (λ n. is_marked_at (slice_set rows i row) n j) e ∙ row_this ∙ is)
-  only_by is any' w k (inr apart) h =
-      let old = are.used_only k (sym (w.others k apart) ∙ h) in
-      (old.0, row_others k old.0 (inl apart) ∙ old.1)
+  only_by is any' w k (inr apart) h = grind (arith, row_others)
 
   -- A place is marked.
   pub marked-marks : b ≡ true → (any' : Mask) → IsWritten any any' i true → AreMarks (slice_set rows i row) (slice_set columns j column) any'

@@ -1,13 +1,13 @@
 -- The numbers of a mask after each operation on its bits.
-use Rattle.std.proofs.Common.{◌≡◌, ◌≢◌, ℕ, zero, suc, ◌+◌, ◌-◌, ◌*◌, ◌/◌, ◌%◌, ◌^◌, ◌<◌, ◌≤◌, inl, inr, min, Bool, true, false, not, ◌&&◌, ◌==◌, nat_le, nat_lt, refl, sym, ap, ◌∙◌, arith, w64, bit_and, bit_or}
+use Rattle.std.proofs.Common.{◌≡◌, ◌≢◌, ℕ, zero, suc, ◌+◌, ◌-◌, ◌*◌, ◌/◌, ◌%◌, ◌^◌, ◌<◌, ◌≤◌, inl, inr, min, max, Bool, true, false, not, ◌&&◌, ◌||◌, ◌==◌, nat_le, nat_lt, refl, sym, ap, ◌∙◌, arith, w64, bit_and, bit_or, rules}
 use Rattle.std.proofs.Math.Nat.{mod-eq_of_lt}
 use Rattle.std.specs.Int.{bit_at, trailing_zeros}
 use Rattle.std.specs.Int.Bits.{and_self}
 use Rattle.std.specs.Int.Count.{count_trailing_zeros}
 use lib.Count.{under}
 use Rattle.std.proofs.lemmas.Nat.{one_shl, shr-shr, shr_split, and_shr, pow_pos}
-use Rattle.std.proofs.lemmas.Nat.Bits.{bit_at-zero, bit_at_lowest, bit_at-suc, bit_at_and, bit_at_ones, bit_at_ones_above, bit_at_above, bit_at-lt, bit_at_cat_low, bit_at_cat_high, bit_at_set_same, bit_at_set_other, bit_at_clear_same, bit_at_clear_other, bit_at-trailing_zeros}
-use Rattle.std.proofs.lemmas.Bool.{cases_lt, cases_eq, lt-ltb, le-ltb, le-leb, lt-leb, eq-eqb, ne_eqb, and_right, both_ways}
+use Rattle.std.proofs.lemmas.Nat.Bits.{bit_at-zero, bit_at_lowest, bit_at-suc, bit_at_and, bit_at_or, bit_at_ones, bit_at_ones_above, bit_at_above, bit_at-lt, bit_at_cat_low, bit_at_cat_high, bit_at_set_same, bit_at_set_other, bit_at_clear_same, bit_at_clear_other, bit_at-trailing_zeros}
+use Rattle.std.proofs.lemmas.Bool.{cases_lt, lt-ltb, le-ltb, le-leb, lt-leb, eq-eqb, ne_eqb, and_right, both_ways}
 use Rattle.guillotiere.specs.declared.search.masks.Mask.{Mask}
 use Rattle.guillotiere.specs.Search.Masks.{has, IsMarked}
 
@@ -44,10 +44,7 @@ without_this n k within = ap is_one (bit_at_clear_same w64 n k within)
 
 -- Past the 64 bits there is none, whatever the other operand.
 and_above : (n m j : ℕ) → n < 2 ^ 64 → 64 ≤ j → bit_at (bit_and n m) j ≡ bit_at n j
-and_above n m j fits more =
-    let z = bit_at_above n 64 j fits more in
-    let low : (x : ℕ) → min 0 x ≡ 0 = λ x. omega arith in
-    bit_at_and n m j ∙ ap (λ x. min x (bit_at m j)) z ∙ low (bit_at m j) ∙ sym z
+and_above n m j fits more = grind (arith, bit_at_above n 64 j fits more, bit_at_and n m j)
 
 pub without_others : (n k j : ℕ) → n < 2 ^ 64 → k < 64 → j ≢ k → has (of_bits (bit_and n (2 ^ 64 - 1 - 1 * 2 ^ k % 2 ^ 64))) j ≡ has (of_bits n) j
 unfolding has
@@ -68,11 +65,7 @@ from_high n k j fits g =
 
 pub from_has : (n k j : ℕ) → n < 2 ^ 64 → has (of_bits (n / 2 ^ k * 2 ^ k % 2 ^ 64)) j ≡ (has (of_bits n) j && nat_le k j)
 unfolding has
-from_has n k j fits =
-    elim (cases_lt j k) [
-      | inl l ↦ ap is_one (from_low n k j fits l) ∙ sym (and_right (is_one (bit_at n j)) (nat_le k j) (lt-leb k j l))
-      | inr g ↦ ap is_one (from_high n k j fits g) ∙ and_true (is_one (bit_at n j)) ∙ ap (λ b. is_one (bit_at n j) && b) (sym (le-leb k j g))
-    ]
+from_has n k j fits = grind (arith, from_low, and_right, lt-leb, from_high, and_true, le-leb)
 
 below_is : (n k j : ℕ) → k < 64 → bit_at (bit_and n (1 * 2 ^ k % 2 ^ 64 - 1)) j ≡ min (bit_at n j) (bit_at (2 ^ k - 1) j)
 below_is n k j within = ap (λ m. bit_at (bit_and n (m - 1)) j) (one_shl k 64 within) ∙ bit_at_and n (2 ^ k - 1) j
@@ -87,17 +80,14 @@ pub below_has : (n k j : ℕ) → k < 64 → has (of_bits (bit_and n (1 * 2 ^ k 
 unfolding has
 below_has n k j within =
     elim (cases_lt j k) [
-      | inl l ↦ ap is_one (below_is n k j within ∙ ap (min (bit_at n j)) (bit_at_ones k j l) ∙ min_one (bit_at n j) (bit_at-lt n j))
-          ∙ and_true (is_one (bit_at n j)) ∙ ap (λ b. is_one (bit_at n j) && b) (sym (lt-ltb j k l))
-      | inr g ↦ ap is_one (below_is n k j within ∙ ap (min (bit_at n j)) (bit_at_ones_above k j g) ∙ min_zero (bit_at n j))
-          ∙ sym (and_right (is_one (bit_at n j)) (nat_lt j k) (le-ltb j k g))
+      | inl l ↦ grind (arith, below_is, bit_at_ones, min_one, bit_at-lt, and_true, lt-ltb)
+      | inr g ↦ grind (arith, below_is, bit_at_ones_above, min_zero, and_right, le-ltb)
     ]
 
 -- ---- `n & (n - 1)` is without the lowest bit
 
 lowest_gone : (n : ℕ) → bit_at (bit_and n (n - 1)) 0 ≡ min (n % 2) ((n - 1) % 2)
-lowest_gone n =
-    bit_at_and n (n - 1) 0 ∙ ap (λ x. min x (bit_at (n - 1) 0)) (bit_at_lowest n) ∙ ap (min (n % 2)) (bit_at_lowest (n - 1))
+lowest_gone n = search (rules, bit_at_and, bit_at_lowest)
 
 above_lowest : (n i : ℕ) → bit_at (bit_and n (n - 1)) (suc i) ≡ bit_at (bit_and (n / 2) ((n - 1) / 2)) i
 above_lowest n i = bit_at-suc (bit_and n (n - 1)) i ∙ ap (λ x. bit_at x i) (and_shr n (n - 1) 1)
@@ -105,12 +95,8 @@ above_lowest n i = bit_at-suc (bit_and n (n - 1)) i ∙ ap (λ x. bit_at x i) (a
 others_by : (n t d j : ℕ) → 0 < n → n % 2 ≡ d
     → ((i : ℕ) → n % 2 ≡ 0 → i ≢ t → bit_at (bit_and (n / 2) (n / 2 - 1)) i ≡ bit_at (n / 2) i)
     → j ≢ under d t → bit_at (bit_and n (n - 1)) j ≡ bit_at n j
-others_by n t zero zero some e rest apart =
-    let low : min (n % 2) ((n - 1) % 2) ≡ n % 2 = omega arith in
-    lowest_gone n ∙ low ∙ sym (bit_at_lowest n)
-others_by n t zero (suc i) some e rest apart =
-    let half : (n - 1) / 2 ≡ n / 2 - 1 = omega arith in
-    above_lowest n i ∙ ap (λ x. bit_at (bit_and (n / 2) x) i) half ∙ rest i e (λ z. apart (ap suc z)) ∙ sym (bit_at-suc n i)
+others_by n t zero zero some e rest apart = grind (arith, lowest_gone, bit_at_lowest)
+others_by n t zero (suc i) some e rest apart = grind (arith, above_lowest, bit_at-suc)
 others_by n t (suc d) zero some e rest apart = absurd (apart refl)
 others_by n t (suc d) (suc i) some e rest apart =
     let half : (n - 1) / 2 ≡ n / 2 = omega arith in
@@ -119,16 +105,11 @@ others_by n t (suc d) (suc i) some e rest apart =
 others_stay : (w n j : ℕ) → 0 < n → n < 2 ^ w → j ≢ count_trailing_zeros w n → bit_at (bit_and n (n - 1)) j ≡ bit_at n j
 unfolding count_trailing_zeros
 others_stay zero n j some fits apart = absurd (omega arith)
-others_stay (suc w) n j some fits apart =
-    others_by n (count_trailing_zeros w (n / 2)) (n % 2) j some refl (λ i e ne. others_stay w (n / 2) i (omega arith) (omega arith) ne) apart
+others_stay (suc w) n j some fits apart = grind (arith, others_by, others_stay w (n / 2))
 
 this_by : (n t d : ℕ) → 0 < n → n % 2 ≡ d → (n % 2 ≡ 0 → bit_at (bit_and (n / 2) (n / 2 - 1)) t ≡ 0) → bit_at (bit_and n (n - 1)) (under d t) ≡ 0
-this_by n t zero some e rest =
-    let half : (n - 1) / 2 ≡ n / 2 - 1 = omega arith in
-    above_lowest n t ∙ ap (λ x. bit_at (bit_and (n / 2) x) t) half ∙ rest e
-this_by n t (suc d) some e rest =
-    let low : min (n % 2) ((n - 1) % 2) ≡ 0 = omega arith in
-    lowest_gone n ∙ low
+this_by n t zero some e rest = grind (arith, above_lowest)
+this_by n t (suc d) some e rest = grind (arith, lowest_gone)
 
 this_goes : (w n : ℕ) → 0 < n → n < 2 ^ w → bit_at (bit_and n (n - 1)) (count_trailing_zeros w n) ≡ 0
 unfolding count_trailing_zeros
@@ -140,17 +121,34 @@ pub rest_has : (n j : ℕ) → (n ≡ 0 → ⊥) → n < 2 ^ 64
     → has (of_bits (bit_and n (n - 1))) j ≡ (has (of_bits n) j && not (j == count_trailing_zeros 64 n))
 unfolding has
 rest_has n j some fits =
-    let t = count_trailing_zeros 64 n in
-    elim (cases_eq j t) [
-      | inl same ↦ ap is_one (ap (bit_at (bit_and n (n - 1))) same ∙ this_goes 64 n (omega arith) fits)
-          ∙ sym (and_right (is_one (bit_at n j)) (not (j == t)) (ap not (eq-eqb j t same)))
-      | inr apart ↦ ap is_one (others_stay 64 n j (omega arith) fits apart) ∙ and_true (is_one (bit_at n j))
-          ∙ ap (λ b. is_one (bit_at n j) && not b) (sym (ne_eqb j t apart))
-    ]
+    grind (
+      arith,
+      this_goes 64 n (omega arith) fits,
+      and_right (is_one (bit_at n j)),
+      eq-eqb j,
+      others_stay 64 n j (omega arith) fits,
+      and_true (is_one (bit_at n j)),
+      ne_eqb j,
+    )
 
 pub first_has : (n : ℕ) → (n ≡ 0 → ⊥) → n < 2 ^ 64
     → IsMarked (of_bits n) (count_trailing_zeros 64 n) × ((j : ℕ) → IsMarked (of_bits n) j → count_trailing_zeros 64 n ≤ j)
 unfolding has
-first_has n some fits =
-    let t = bit_at-trailing_zeros w64 n (omega arith) fits in
-    (ap is_one t.1, λ j h. elim (cases_lt j (count_trailing_zeros 64 n)) [ inl l ↦ absurd (both_ways (is_one (bit_at n j)) (ap is_one (t.2 j l)) h) | inr g ↦ g ])
+first_has n some fits = grind (arith, bit_at-trailing_zeros w64 n (omega arith) fits, both_ways)
+
+one_of_max : (a b : ℕ) → a < 2 → b < 2 → is_one (max a b) ≡ (is_one a || is_one b)
+one_of_max zero zero p q = refl
+one_of_max zero (suc zero) p q = refl
+one_of_max (suc zero) zero p q = refl
+one_of_max (suc zero) (suc zero) p q = refl
+one_of_max (suc (suc a)) b p q = absurd (omega arith)
+one_of_max zero (suc (suc b)) p q = absurd (omega arith)
+one_of_max (suc zero) (suc (suc b)) p q = absurd (omega arith)
+
+pub or_has : (n m j : ℕ) → has (of_bits (bit_or n m)) j ≡ (has (of_bits n) j || has (of_bits m) j)
+unfolding has
+or_has n m j = ap is_one (bit_at_or n m j) ∙ one_of_max (bit_at n j) (bit_at m j) (bit_at-lt n j) (bit_at-lt m j)
+
+-- The number of zeros below the lowest bit is at most each number.
+pub zeros_least : (n k : ℕ) → n < 2 ^ 64 → IsMarked (of_bits n) k → count_trailing_zeros 64 n ≤ k
+zeros_least n k fits h = grind (arith, both_ways (has (of_bits n) k), none-has k, first_has n)

@@ -1,10 +1,10 @@
 -- Where a request has room there is a pick: the least fitting box by class, equal side, margin and place.
 use Rattle.std.proofs.Common.{◌≡◌, ℕ, ◌-◌, ◌≤◌, ◌<◌, ◌==◌, Bool, true, false, cond, not, ltb, nat_le, ◌&&◌, ◌||◌, List, [], ◌∷◌, refl, ap, sym, subst, ◌∙◌, arith, inl, inr, ◌⊎◌, Contains}
 use Rattle.std.specs.List.{sum_by}
-use Rattle.std.proofs.lemmas.Bool.{true≢false, cases_lt, cases_order, cases_Bool, eqb-true, eqb-false, eq-eqb, le-leb, leb-true, ltb-true, and_parts, and_from, or_cases, or_left, or_right}
+use Rattle.std.proofs.lemmas.Bool.{true≢false, cases_lt, cases_Bool, eqb-true, eqb-false, eq-eqb, le-leb, leb-true, ltb-true, and_parts, and_from, or_cases, or_left, or_right}
 use Rattle.std.proofs.lemmas.List.Sums.{get_or-le-sum_by}
 use Rattle.guillotiere.specs.Boxes.{Sides, Box, box_sides, Fits, IsPositive}
-use Rattle.guillotiere.specs.Choice.{Options, reaches, rounded, class_of, least_margin, HasEqualSide, IsFitting, IsCandidate, HasBetterMargin, IsBest, ComesFirst, IsPick, HasRoom, HasNoRoom}
+use Rattle.guillotiere.specs.Choice.{Options, rounded, class_of, least_margin, HasEqualSide, IsFitting, IsCandidate, HasBetterMargin, IsBest, ComesFirst, IsPick, HasRoom, HasNoRoom}
 use Rattle.guillotiere.specs.Laws.StepLaws.{PicksExist, SmallerFits}
 use Rattle.guillotiere.proofs.TreeLemmas.TreeIds.{Contains-first, Contains-later, Contains-none, Contains-cons_cases}
 use Rattle.guillotiere.proofs.SearchLemmas.Rounding.{rounded_monotone}
@@ -17,14 +17,7 @@ KeysAtMost (k ∷ ks) x y = (k x < k y) ⊎ ((k x ≡ k y) × KeysAtMost ks x y)
 module _ {X : Type 0} where
   either : (ks : List (X → ℕ)) (x y : X) → KeysAtMost ks x y ⊎ KeysAtMost ks y x
   either [] x y = inl tt
-  either (k ∷ ks) x y = by_order (cases_order (k x) (k y)) (either ks x y)
-    where
-      by_order : (k x ≡ k y) ⊎ ((k x < k y) ⊎ (k y < k x)) → KeysAtMost ks x y ⊎ KeysAtMost ks y x
-          → KeysAtMost (k ∷ ks) x y ⊎ KeysAtMost (k ∷ ks) y x
-      by_order (inl e) (inl h) = inl (inr (e, h))
-      by_order (inl e) (inr h) = inr (inr (sym e, h))
-      by_order (inr (inl lt)) h = inl (inl lt)
-      by_order (inr (inr lt)) h = inr (inl lt)
+  either (k ∷ ks) x y = grind (arith, either ks x y)
 
   onward : (ks : List (X → ℕ)) (x y z : X) → KeysAtMost ks x y → KeysAtMost ks y z → KeysAtMost ks x z
   onward [] x y z a b = tt
@@ -122,11 +115,7 @@ is_fits : (r : Sides) (b : Box) → Fits r (box_sides b) → fits r b ≡ true
 is_fits r b h = and_from _ _ (le-leb _ _ h.0) (le-leb _ _ h.1)
 
 equal_is : (r : Sides) (b : Box) → has_equal_side r b ≡ true → HasEqualSide r b
-equal_is r b h = by_side (or_cases _ _ h)
-  where
-    by_side : (((box_sides b).width == r.width) ≡ true) ⊎ (((box_sides b).height == r.height) ≡ true) → HasEqualSide r b
-    by_side (inl e) = inl (eqb-true _ _ e)
-    by_side (inr e) = inr (eqb-true _ _ e)
+equal_is r b h = grind (arith, or_cases, eqb-true)
 
 is_equal : (r : Sides) (b : Box) → HasEqualSide r b → has_equal_side r b ≡ true
 is_equal r b (inl e) = or_left _ _ (eq-eqb _ _ e)
@@ -136,18 +125,10 @@ equal_unequal : (r : Sides) (b : Box) → HasEqualSide r b → unequal r b ≡ 0
 equal_unequal r b h = ap (λ t. cond t 0 1) (is_equal r b h)
 
 unequal_equal : (r : Sides) (b : Box) → unequal r b ≤ 0 → HasEqualSide r b
-unequal_equal r b h = by_test (has_equal_side r b) refl h
-  where
-    by_test : (t : Bool) → has_equal_side r b ≡ t → cond t 0 1 ≤ 0 → HasEqualSide r b
-    by_test true e le = equal_is r b e
-    by_test false e le = absurd (omega arith)
+unequal_equal r b h = grind (arith, equal_is)
 
 unequal_most : (r : Sides) (b c : Box) → has_equal_side r c ≡ false → unequal r b ≤ unequal r c
-unequal_most r b c e = rw e (at_most_one (has_equal_side r b))
-  where
-    at_most_one : (t : Bool) → cond t 0 1 ≤ 1
-    at_most_one true = omega arith
-    at_most_one false = omega arith
+unequal_most r b c e = grind arith
 
 -- A box with an equal side has no margin.
 no_margin : (r : Sides) (b : Box) → HasEqualSide r b → least_margin r b ≡ 0
@@ -159,34 +140,14 @@ further most b c few le = omega arith
 
 better_from_key : (o : Options) (r : Sides) (most : ℕ) (b c : Box) → least_margin r c ≤ most
     → margin_key o r most b ≤ margin_key o r most c → HasBetterMargin o r b c
-better_from_key o r most b c few h = by_test (class_of o r == 2) refl h
-  where
-    by_test : (t : Bool) → (class_of o r == 2) ≡ t
-        → cond t (most - least_margin r b) (least_margin r b) ≤ cond t (most - least_margin r c) (least_margin r c)
-        → HasBetterMargin o r b c
-    by_test true e le = (
-      λ large. further most (least_margin r b) (least_margin r c) few le,
-      λ other. absurd
-          (let two : class_of o r ≡ 2 = eqb-true _ _ e in omega arith),
-    )
-    by_test false e le = (λ large. absurd (eqb-false _ _ e large), λ other. le)
+better_from_key o r most b c few h = grind (arith, further, eqb-true, eqb-false)
 
 key_from_better : (o : Options) (r : Sides) (most : ℕ) (b c : Box) → class_of o r ≤ 2 → HasBetterMargin o r b c
     → margin_key o r most b ≤ margin_key o r most c
-key_from_better o r most b c top h = by_test (class_of o r == 2) refl
-  where
-    by_test : (t : Bool) → (class_of o r == 2) ≡ t
-        → cond t (most - least_margin r b) (least_margin r b) ≤ cond t (most - least_margin r c) (least_margin r c)
-    by_test true e = let le : least_margin r c ≤ least_margin r b = h.0 (eqb-true _ _ e) in omega arith
-    by_test false e = h.1 (let unlike : class_of o r ≡ 2 → ⊥ = eqb-false _ _ e in omega arith)
+key_from_better o r most b c top h = grind (arith, eqb-true, eqb-false)
 
 class_at_most : (o : Options) (r : Sides) → class_of o r ≤ 2
-class_at_most o r = by_tests (reaches o.large_threshold r) (reaches o.small_threshold r)
-  where
-    by_tests : (a b : Bool) → cond a 2 (cond b 1 0) ≤ 2
-    by_tests true b = omega arith
-    by_tests false true = omega arith
-    by_tests false false = omega arith
+class_at_most o r = grind arith
 
 -- The least by these keys is a pick.
 least_pick : (free : List Box) (o : Options) (r : Sides) (most : ℕ)
@@ -285,17 +246,7 @@ picks_exist free o s room = found (least_or_none (choice_keys o r most) (fits r)
     found (inr none) = absurd (none room.box room.fitting.is_free (is_fits r room.box room.fitting.fits))
 
 pub smaller_fits : SmallerFits
-smaller_fits free o r s room pos fit =
-    let smaller : Fits (rounded o r) (rounded o s) = rounded_monotone o r s fit in
-    let fitting = room.fitting in
-    record {
-      positive = pos;
-      box = room.box;
-      fitting = record {
-        is_free = fitting.is_free;
-        fits = (omega (arith, smaller.0, fitting.fits.0), omega (arith, smaller.1, fitting.fits.1));
-      };
-    }
+smaller_fits free o r s room pos fit = grind (arith, rounded_monotone)
 
 -- A request has room or not.
 pub room_or_none : (free : List Box) (o : Options) (s : Sides) → HasRoom free o s ⊎ HasNoRoom free o s
@@ -329,27 +280,13 @@ is_least ks p x (y ∷ ys) = (not (p y) || keys_at_most ks x y) && is_least ks p
 module _ {X : Type 0} where
   keys_are : (ks : List (X → ℕ)) (x y : X) → keys_at_most ks x y ≡ true → KeysAtMost ks x y
   keys_are [] x y h = tt
-  keys_are (k ∷ ks) x y h =
-      elim (or_cases (ltb (k x) (k y)) ((k x == k y) && keys_at_most ks x y) h) [
-        | inl less ↦ inl (ltb-true (k x) (k y) less)
-        | inr both ↦
-            let parts = and_parts (k x == k y) (keys_at_most ks x y) both in
-            inr (eqb-true (k x) (k y) parts.0, keys_are ks x y parts.1)
-      ]
+  keys_are (k ∷ ks) x y h = grind (arith, or_cases, ltb-true, and_parts, eqb-true, keys_are ks x y)
 
   least_is : (ks : List (X → ℕ)) (p : X → Bool) (x : X) (xs : List X) → is_least ks p x xs ≡ true
       → (y : X) → Contains xs y → p y ≡ true → KeysAtMost ks x y
   least_is ks p x [] h y at passes = absurd (Contains-none y at)
   least_is ks p x (z ∷ zs) h y at passes =
-      let parts = and_parts (not (p z) || keys_at_most ks x z) (is_least ks p x zs) h in
-      elim (Contains-cons_cases z zs y at) [
-        | inl same ↦
-            elim (or_cases (not (p z)) (keys_at_most ks x z) parts.0) [
-              | inl fails ↦ absurd (true≢false (sym fails ∙ ap not (ap p same ∙ passes)))
-              | inr keys ↦ subst (KeysAtMost ks x) same (keys_are ks x z keys)
-            ]
-        | inr later ↦ least_is ks p x zs parts.1 y later passes
-      ]
+      grind (arith, and_parts, Contains-cons_cases, or_cases, true≢false, keys_are, least_is ks p x zs)
 
 -- A free box that the request fits, with the least keys, is the pick.
 pub pick_by_keys : (free : List Box) (o : Options) (r : Sides) (f : Box) → Contains free f → fits r f ≡ true

@@ -1,10 +1,9 @@
 -- The best of the boxes shown is the pick of all free boxes, where the classes are searched from the request's upwards.
-use Rattle.std.proofs.Common.{◌≡◌, ℕ, ◌+◌, ◌-◌, ◌*◌, ◌/◌, ◌<◌, ◌≤◌, ◌⊎◌, Bool, true, false, cond, List, ℤ, sym, subst, inl, inr, arith}
+use Rattle.std.proofs.Common.{◌≡◌, ℕ, ◌+◌, ◌<◌, ◌≤◌, ◌⊎◌, Bool, true, false, List, ℤ, inl, inr, arith}
 use Rattle.std.specs.Prelude.{◌==◌}
 use Rattle.std.specs.List.{Contains, All}
 use Rattle.std.proofs.lemmas.Int.{ints}
-use Rattle.std.proofs.lemmas.Bool.{eq-eqb, ne_eqb, cases_eq, cases_lt}
-use Rattle.std.proofs.lemmas.Nat.{mul-le}
+use Rattle.std.proofs.lemmas.Bool.{eq-eqb, ne_eqb}
 use Rattle.std.proofs.lemmas.List.Elements.{All-contains}
 use Rattle.guillotiere.specs.Boxes.{Sides, Box, box_sides, Fits, IsNonempty, IsWithin}
 use Rattle.guillotiere.specs.Choice.{Options, up, rounded, reaches, class_of, HasEqualSide, IsFitting, IsCandidate, HasBetterMargin, IsPick, HasNoRoom}
@@ -19,12 +18,7 @@ reaches-fits t a b fits h = grind (arith, ints)
 
 -- A larger size has no lower class.
 pub class_of-fits : (o : Options) (a b : Sides) → Fits a b → class_of o a ≤ class_of o b
-class_of-fits o a b fits =
-    by_large (reaches o.large_threshold a) (reaches o.large_threshold b) (reaches o.small_threshold a) (reaches o.small_threshold b)
-    (reaches-fits o.large_threshold a b fits) (reaches-fits o.small_threshold a b fits)
-  where
-    by_large : (la lb sa sb : Bool) → (la ≡ true → lb ≡ true) → (sa ≡ true → sb ≡ true) → cond la 2 (cond sa 1 0) ≤ cond lb 2 (cond sb 1 0)
-    by_large la lb sa sb h k = grind arith
+class_of-fits o a b fits = grind (arith, reaches-fits)
 
 pub class_of-below : (o : Options) (a : Sides) → class_of o a < 3
 class_of-below o a = grind arith
@@ -39,31 +33,17 @@ no_room free o s from room = fits_nothing free o (rounded o s) from room.box roo
 -- A request that can't be rounded has no room in a size that an `i32` can hold.
 pub no_room_unrounded : (free : List Box) (o : Options) (s size : Sides) → (CanBeRounded o s → ⊥) → All (λ b. IsNonempty b × IsWithin size b) free
     → size.width ≤ 2147483647 → size.height ≤ 2147483647 → HasNoRoom free o s
-no_room_unrounded free o s size misfit boxes wide high room =
-    let inside = All-contains (λ b. IsNonempty b × IsWithin size b) free room.box boxes room.fitting.is_free in
-    let fits = room.fitting.fits in
-    misfit (record { positive = room.positive; width = omega (arith, inside.1.0, fits.0); height = omega (arith, inside.1.1, fits.1) })
+no_room_unrounded free o s size misfit boxes wide high room = grind (arith, All-contains)
 
 -- The pick.
 
 of_lowest : (class : ℕ) (free : List Box) (o : Options) (r : Sides) (shown : List Shown) (f : Shown) (c : Box)
     → FitsOnlyFrom class free o r → AreOfClass class free o r shown → Contains shown f → Fits r (box_sides f.box)
     → IsCandidate free o r c → (at : ℕ) × Contains shown (shown_at c at)
-of_lowest class free o r shown f c from of has fits candidate =
-    let own = of.of_class f has in
-    let low = candidate.lowest f.box (record { is_free = own.0; fits = fits }) in
-    of.each c candidate.fitting (omega (arith, low, own.1, from c candidate.fitting))
+of_lowest class free o r shown f c from of has fits candidate = grind arith
 
 best_margin : (o : Options) (r : Sides) (b c : Box) → IsAsGood (class_of o r == 2) r b c → HasEqualSide r b ⊎ HasBetterMargin o r b c
-best_margin o r b c good =
-    elim (cases_eq (class_of o r) 2) [
-      | inl e ↦ large e (subst (λ (l : Bool). IsAsGood l r b c) (eq-eqb (class_of o r) 2 e) good)
-      | inr ne ↦ inr ((λ e. absurd (ne e)), λ _. subst (λ (l : Bool). IsAsGood l r b c) (ne_eqb (class_of o r) 2 ne) good)
-    ]
-  where
-    large : class_of o r ≡ 2 → IsAsGood true r b c → HasEqualSide r b ⊎ HasBetterMargin o r b c
-    large e (inl s) = inl s
-    large e (inr p) = inr ((λ _. p.1), λ l. absurd (omega (arith, e, l)))
+best_margin o r b c good = grind (arith, eq-eqb, ne_eqb)
 
 best_equal_side : (is_large : Bool) (r : Sides) (b c : Box) → Fits r (box_sides b) → Fits r (box_sides c) → IsAsGood is_large r b c
     → HasEqualSide r c → HasEqualSide r b
@@ -73,19 +53,7 @@ best_equal_side false r b c fb fc p e = let z = margin-equal_side r c fc e in eq
 
 as_good-best : (o : Options) (r : Sides) (b c : Box) → Fits r (box_sides b) → Fits r (box_sides c) → (HasEqualSide r c → HasEqualSide r b)
     → HasEqualSide r b ⊎ HasBetterMargin o r b c → IsAsGood (class_of o r == 2) r b c
-as_good-best o r b c fb fc h m =
-    elim (cases_eq (class_of o r) 2) [
-      | inl e ↦ subst (λ (l : Bool). IsAsGood l r b c) (sym (eq-eqb (class_of o r) 2 e)) (large e m)
-      | inr ne ↦ subst (λ (l : Bool). IsAsGood l r b c) (sym (ne_eqb (class_of o r) 2 ne)) (small ne m)
-    ]
-  where
-    large : class_of o r ≡ 2 → HasEqualSide r b ⊎ HasBetterMargin o r b c → IsAsGood true r b c
-    large e (inl s) = inl s
-    large e (inr p) = elim (equal_side_cases r b) [ inl s ↦ inl s | inr ne ↦ inr ((λ k. ne (h k)), p.0 e) ]
-
-    small : (class_of o r ≡ 2 → ⊥) → HasEqualSide r b ⊎ HasBetterMargin o r b c → IsAsGood false r b c
-    small ne (inl s) = let z = margin-equal_side r b fb s in omega arith
-    small ne (inr p) = p.1 (omega (arith, ne, class_of-below o r))
+as_good-best o r b c fb fc h m = grind (arith, eq-eqb, ne_eqb, equal_side_cases, margin-equal_side, class_of-below)
 
 -- The best box shown of the lowest class with a fitting box is the pick.
 pub pick_of_class : (class : ℕ) (free : List Box) (o : Options) (r : Sides) (shown : List Shown) (f : Shown)
@@ -114,12 +82,3 @@ up-le n a h = omega arith
 
 pub up-below : (n a : ℕ) → 0 < a → up n a < n + a
 up-below n a h = omega arith
-
-pub up-least : (n a k : ℕ) → 0 < a → n ≤ k * a → up n a ≤ k * a
-up-least n a k h p =
-    let q = (n + (a - 1)) / a in
-    let below : q * a < n + a = up-below n a h in
-    elim (cases_lt k q) [
-      | inl l ↦ absurd (omega (arith, mul-le (k + 1) a q a (omega arith) (omega arith)))
-      | inr g ↦ mul-le q a k a g (omega arith)
-    ]

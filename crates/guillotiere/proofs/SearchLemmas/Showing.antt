@@ -2,7 +2,8 @@
 use Rattle.std.proofs.Common.{◌≡◌, ◌≢◌, ℕ, zero, suc, ◌+◌, ◌<◌, ◌≤◌, ◌⊎◌, Bool, true, false, List, [], ◌∷◌, ◌++◌, length, map, ℤ, pos, negsuc, ◌≤ℤ◌, refl, ap, sym, ◌∙◌, subst, inl, inr, append_assoc, get_or, arith}
 use Rattle.std.specs.List.{Contains}
 use Rattle.std.proofs.lemmas.Int.{ints}
-use Rattle.std.proofs.lemmas.Bool.{cases_eq}
+use Rattle.std.specs.Prelude.{◌==◌, if◌then◌else◌}
+use Rattle.std.proofs.lemmas.Bool.{cases_eq, cond-true, cond-false, eq-eqb, ne_eqb}
 use Rattle.std.proofs.lemmas.List.{get_or-map}
 use Rattle.guillotiere.specs.declared.search.best.Best.{Best}
 use Rattle.guillotiere.specs.declared.search.best.Found.{Found}
@@ -51,10 +52,6 @@ occurs-push : (i x : ℕ) (xs : List ℕ) → occurs i (xs ++ x ∷ []) ≡ occu
 occurs-push i x [] = omega arith
 occurs-push i x (y ∷ xs) = omega (arith, occurs-push i x xs)
 
-length-push : (x : ℕ) (xs : List ℕ) → length (xs ++ x ∷ []) ≡ length xs + 1
-length-push x [] = omega arith
-length-push x (y ∷ xs) = omega (arith, length-push x xs)
-
 shown-push : (es : List Item) (x : ℕ) (xs : List ℕ) → shown_items es (xs ++ x ∷ []) ≡ shown_items es xs ++ shown_item es x ∷ []
 shown-push es x [] = refl
 shown-push es x (y ∷ xs) = ap (λ s. shown_item es y ∷ s) (shown-push es x xs)
@@ -93,13 +90,12 @@ path-same es from (x ∷ xs) (y ∷ ys) short p q =
     ap (λ z. z ∷ xs) e ∙ ap (λ zs. y ∷ zs) (path-same es (item_at es y).after xs ys short (subst (λ z. IsPath es (item_at es z).after xs no_slot) e p.2) q.2)
 
 -- The search has come to `at`, which stands after `before`.
-pub record IsAlong (es : List Item) (head : ℕ) (place : Place) (start : Best) (step at before : ℕ) (now : Best) : Type 0 where
+pub record IsAlong (es : List Item) (head : ℕ) (place : Place) (start : Best) (at before : ℕ) (now : Best) : Type 0 where
   pub done : List ℕ
   pub rest : List ℕ
   pub short : length es ≤ no_slot
   pub came : IsPath es head done at
   pub left : IsPath es at rest no_slot
-  pub count : length done ≡ step
   pub once : (i : ℕ) → occurs i done + occurs i rest ≤ 1
   pub exact : (i : ℕ) → 0 < occurs i rest → IsSolid (item_at es i).area
   pub previous : IsPrevious es head done before at
@@ -111,7 +107,7 @@ abbrev pub KeepsSeen : (before after : Best) → Type 0
 KeepsSeen s t = (is_large : Bool) (r : Sides) (shown : List Shown) → HasSeen s is_large r shown → HasSeen t is_large r shown
 
 pub along-begins : (es : List Item) (head : ℕ) (place : Place) (start now : Best) → IsShowable es head → KeepsSeen start now → IsLeast now []
-    → now.is_own ≡ false → IsSameBest start now → IsAlong es head place start 0 head no_slot now
+    → now.is_own ≡ false → IsSameBest start now → IsAlong es head place start head no_slot now
 along-begins es head place start now s seen least own same =
     record {
       done = [];
@@ -119,7 +115,6 @@ along-begins es head place start now s seen least own same =
       short = s.short;
       came = refl;
       left = s.path;
-      count = refl;
       once = λ i. omega (arith, s.once i);
       exact = s.exact;
       previous = inl (refl, refl);
@@ -142,7 +137,7 @@ spot-push es head place xs x f g e s =
       before = previous-push es head xs x f.before.number f.at.number s.before;
     })
 
-module _ (es : List Item) (head : ℕ) (place : Place) (start now : Best) (step : ℕ) (at before : Link) (w : IsAlong es head place start step at.number before.number now)
+module _ (es : List Item) (head : ℕ) (place : Place) (start now : Best) (at before : Link) (w : IsAlong es head place start at.number before.number now)
     (more : at.number ≢ no_slot) where
   rest_is : (ys : List ℕ) × (w.rest ≡ at.number ∷ ys) × (at.number < length es) × IsPath es (item_at es at.number).after ys no_slot
   rest_is = path-more es at.number w.rest w.left more
@@ -158,7 +153,7 @@ module _ (es : List Item) (head : ℕ) (place : Place) (start now : Best) (step 
       → ((is_large : Bool) (r : Sides) (shown : List Shown) → HasSeen now is_large r shown → HasSeen next is_large r (shown ++ shown_at (box_of a) at.number ∷ []))
       → ((own : List Shown) → IsLeast now own → IsLeast next (own ++ shown_at (box_of a) at.number ∷ []))
       → IsLooked now next (record { rectangle = a; at = at; before = before; place = place; low = 0 })
-      → IsAlong es head place start (step + 1) after at.number next
+      → IsAlong es head place start after at.number next
   along-goes_on next a after ea ef seen least found =
       let this = at.number in
       let ys = rest_is.0 in
@@ -169,7 +164,6 @@ module _ (es : List Item) (head : ℕ) (place : Place) (start now : Best) (step 
         short = w.short;
         came = subst (λ n. IsPath es head (w.done ++ this ∷ []) n) (sym ef) (path-push es head w.done this w.came rest_is.2);
         left = subst (λ n. IsPath es n ys no_slot) (sym ef) rest_is.3;
-        count = omega (arith, w.count, length-push this w.done);
         once = λ i. omega (arith, w.once i, occurs-push i this w.done, ap (occurs i) rest_is.1);
         exact = λ i h. w.exact i (subst (λ zs. 0 < occurs i zs) (sym rest_is.1) (omega (arith, h)));
         previous = inr (omega (arith, occurs-push this this w.done, same-self this), sym ef);
@@ -198,20 +192,32 @@ module _ (es : List Item) (head : ℕ) (place : Place) (start now : Best) (step 
         ];
       }
 
--- The walk has come to the end.
-ended : (es : List Item) (head : ℕ) (place : Place) (start now : Best) (step at before : ℕ) (w : IsAlong es head place start step at before now)
-    → (at ≡ no_slot) ⊎ (length es ≤ step) → w.rest ≡ []
-ended es head place start now step at before w (inl e) = path-stop es w.rest w.short at e w.left
-ended es head place start now step at before w (inr l) =
-    elim (cases_eq at no_slot) [
-      | inl e ↦ path-stop es w.rest w.short at e w.left
-      | inr ne ↦
-          let r = path-more es at w.rest w.left ne in
-          let xs = w.done ++ at ∷ [] in
-          let fewer = length-distinct (length es) xs (λ k. omega (arith, w.once k, occurs-push k at w.done, ap (occurs k) r.1))
-          (λ k h. path-inside es head xs (item_at es at).after (path-push es head w.done at w.came r.2) k h) in
-          absurd (omega (arith, fewer, length-push at w.done, w.count, l))
-    ]
+-- How many entries a list has from one on, counted up to a bound.
+pub entries_from : List Item → (bound at : ℕ) → ℕ
+entries_from es zero at = 0
+entries_from es (suc bound) at = if at == no_slot then 0 else suc (entries_from es bound (item_at es at).after)
+
+entries-path : (es : List Item) (bound at : ℕ) (xs : List ℕ) → length es ≤ no_slot → IsPath es at xs no_slot → length xs ≤ bound
+    → entries_from es bound at ≡ length xs
+unfolding entries_from
+entries-path es zero at [] short p l = refl
+entries-path es zero at (x ∷ xs) short p l = absurd (omega (arith, l))
+entries-path es (suc bound) at [] short p l = cond-true (at == no_slot) 0 _ (eq-eqb at no_slot p)
+entries-path es (suc bound) at (x ∷ xs) short p l =
+    let ne : at ≢ no_slot = λ e. omega (arith, e, p.0, p.1, short) in
+    let rest : IsPath es (item_at es at).after xs no_slot = subst (λ z. IsPath es (item_at es z).after xs no_slot) (sym p.0) p.2 in
+    cond-false (at == no_slot) 0 _ (ne_eqb at no_slot ne) ∙ ap suc (entries-path es bound (item_at es at).after xs short rest (omega (arith, l)))
+
+-- Each step leaves fewer entries.
+pub fewer-left : (es : List Item) (head : ℕ) (place : Place) (start now : Best) (at before : Link) → IsAlong es head place start at.number before.number now
+    → at.number ≢ no_slot → entries_from es (length es) (item_at es at.number).after < entries_from es (length es) at.number
+fewer-left es head place start now at before w more =
+    let r = path-more es at.number w.rest w.left more in
+    let few = length-distinct (length es) w.rest (λ k. omega (arith, w.once k)) (λ k h. path-inside es at.number w.rest no_slot w.left k h) in
+    let here = entries-path es (length es) at.number w.rest w.short w.left few in
+    let size : length w.rest ≡ suc (length r.0) = ap length r.1 in
+    let next = entries-path es (length es) (item_at es at.number).after r.0 w.short r.3 (omega (arith, few, size)) in
+    omega (arith, here, next, size)
 
 natural-below : (x : ℤ) (y : ℕ) → x ≤ℤ pos y → natural x ≤ y
 natural-below (pos n) y h = omega (arith, ints)
@@ -228,13 +234,11 @@ low-of_least es now xs least i h ne =
       | inr l ↦ strip-mono _ _ (natural-below now.least _ l)
     ]
 
-pub along-ends : (es : List Item) (head : ℕ) (place : Place) (start now after : Best) (step at before : ℕ) → IsAlong es head place start step at before now
-    → (at ≡ no_slot) ⊎ (length es ≤ step) → KeepsSeen now after → (now.is_own ≡ false → IsSameBest now after)
+pub along-ends : (es : List Item) (head : ℕ) (place : Place) (start now after : Best) (at before : ℕ) → IsAlong es head place start at before now
+    → at ≡ no_slot → KeepsSeen now after → (now.is_own ≡ false → IsSameBest now after)
     → (now.is_own ≡ true → after.found ≡ record now.found { low = strip_of (natural now.least) })
     → HasShown es head place start after
-along-ends es head place start now after step at before w stop seen other own =
-    let none = ended es head place start now step at before w stop in
-    let here : at ≡ no_slot = subst (λ ys. IsPath es at ys no_slot) none w.left in
+along-ends es head place start now after at before w here seen other own =
     record {
       xs = w.done;
       path = subst (λ n. IsPath es head w.done n) here w.came;

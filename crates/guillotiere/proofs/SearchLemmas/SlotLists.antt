@@ -1,19 +1,19 @@
 -- The slots as entries of lists, in the words of the search.
-use Rattle.std.proofs.Common.{ℕ, ◌<◌, ◌≤◌, ◌≡◌, ◌≢◌, List, [], ◌∷◌, length, map, true, zero, suc, refl, sym, ap, subst, ◌∙◌, arith}
-use Rattle.std.specs.Prelude.{Contains}
+use Rattle.std.proofs.Common.{ℕ, ◌<◌, ◌≤◌, ◌≡◌, List, [], ◌∷◌, length, map, true, zero, suc, refl, sym, ap, subst, ◌∙◌, arith}
+use Rattle.std.specs.Prelude.{Contains, Option, Some, None, IfSome}
 use Rattle.std.proofs.lemmas.List.{length-map}
 use Rattle.guillotiere.specs.declared.slots.Slot.{Slot}
 use Rattle.guillotiere.specs.declared.search.table.ListHead.{ListHead}
 use Rattle.guillotiere.specs.declared.search.best.Found.{Found}
-use Rattle.guillotiere.specs.Search.Bands.{list_of, number_of, strip_of}
-use Rattle.guillotiere.specs.Boxes.{Box, box_sides}
-use Rattle.guillotiere.specs.Choice.{Options}
+use Rattle.guillotiere.specs.Search.Bands.{list_of, strip_of}
+use Rattle.guillotiere.specs.Boxes.{Box, Sides, box_sides}
+use Rattle.guillotiere.specs.Choice.{Options, IsPick}
 use Rattle.guillotiere.specs.Pixels.{box_of}
 use Rattle.guillotiere.specs.Search.Items.{Item, item_at, item_box, item_sides, IsPath}
 use Rattle.guillotiere.specs.Slots.Links.{IsSolid}
 use Rattle.guillotiere.specs.Slots.Lists.{Chain, front, is_free, node_sides, node_strip, occurs}
 use Rattle.guillotiere.specs.Search.Lookups.{AreListed, AreFreeItems, IsStanding}
-use Rattle.guillotiere.specs.Search.Picks.{slot_item, item_of, IsFreeSlot, IsSearchable, AreFreeBoxes}
+use Rattle.guillotiere.specs.Search.Picks.{slot_item, item_of, IsFreeSlot, IsPickedSlot, IsSearchable, AreFreeBoxes}
 use Rattle.guillotiere.specs.Slots.{nodes, rings, node_at, ring_at, no_slot}
 use Rattle.guillotiere.specs.Search.Tables.{head_of, low_of}
 use Rattle.guillotiere.proofs.StoreLemmas.Filing.{list_for, listed-list, listed-kind, listed-one, free_kind}
@@ -86,15 +86,23 @@ free-items slots free a =
       of_box = λ i f. subst (Contains free) (ap box_of (sym (area-is slots i))) (a.of_box i (item-free slots i f));
     }
 
--- No slot of the list of the one that was found lies above the strip that was found, but it.
-pub found-low : (o : Options) (slots : List Slot) (heads : List ListHead) (found : Found) → IsStanding o heads (items slots) found
-    → (i : ℕ) → IsFreeSlot (nodes slots) i → i ≢ found.at.number → list_of o (node_sides (node_at (nodes slots) i)) ≡ number_of found.place
-    → found.low ≤ node_strip (node_at (nodes slots) i)
-found-low o slots heads found s i free other list =
-    subst (λ r. found.low ≤ strip_of (box_of r).min.y) (area-is slots i)
-    (s.low i (free-item slots i free) (ap (list_of o) (sides-is slots i) ∙ list) other)
+-- The entry that was picked is a slot.
+pub picked-slot : (o : Options) (r : Sides) (slots : List Slot) (heads : List ListHead) (found : Found)
+    → ((free : List Box) → AreFreeItems (items slots) free → IsPick free o r (box_of found.rectangle)) → IsStanding o heads (items slots) found
+    → IsPickedSlot o r (nodes slots) found
+picked-slot o r slots heads found picked s =
+    record {
+      free = item-free slots found.at.number s.free;
+      area = sym (area-is slots found.at.number) ∙ s.area;
+      picked = λ free a. picked free (free-items slots free a);
+      row = s.row;
+      column = s.column;
+      list = sym s.list ∙ ap (list_of o) (sides-is slots found.at.number);
+      low = λ i free other list.
+          subst (λ r. found.low ≤ strip_of (box_of r).min.y) (area-is slots i)
+          (s.low i (free-item slots i free) (ap (list_of o) (sides-is slots i) ∙ list) other);
+    }
 
--- The place that was found is that of the slot's list.
-pub found-place : (o : Options) (slots : List Slot) (heads : List ListHead) (found : Found) → IsStanding o heads (items slots) found
-    → (found.place.row < 52) × (found.place.column < 52) × (number_of found.place ≡ list_of o (node_sides (node_at (nodes slots) found.at.number)))
-found-place o slots heads found s = (s.row, s.column, sym s.list ∙ ap (list_of o) (sides-is slots found.at.number))
+pub IfSome_both : {X : Type 0} {P Q R : X → Type 0} (x : Option X) → IfSome x P → IfSome x Q → ((y : X) → P y → Q y → R y) → IfSome x R
+IfSome_both None p q f = p
+IfSome_both (Some y) p q f = f y p q

@@ -1,8 +1,8 @@
 -- A table after one of its heads is written.
-use Rattle.std.proofs.Common.{◌≡◌, ◌≢◌, ℕ, ◌+◌, ◌*◌, ◌<◌, ◌≤◌, ◌⊎◌, inl, inr, Bool, true, false, not, ◌==◌, List, length, get_or, slice_set, replicate, refl, sym, ap, ◌∙◌, arith}
+use Rattle.std.proofs.Common.{◌≡◌, ◌≢◌, ℕ, ◌+◌, ◌*◌, ◌<◌, ◌≤◌, ◌⊎◌, inl, inr, Bool, true, false, not, ◌==◌, List, length, get_or, slice_set, replicate, refl, ap, ◌∙◌, arith}
 use Rattle.std.proofs.lemmas.List.{get_or-set_same, get_or-set_other, get_or-replicate, get_or_read, length-set, length-replicate}
 use Rattle.std.proofs.Math.ListN.{get_or-eq_default}
-use Rattle.std.proofs.lemmas.Bool.{cases_lt, cases_eq, ne_eqb, eq-eqb}
+use Rattle.std.proofs.lemmas.Bool.{cases_lt, ne_eqb, eq-eqb}
 use Rattle.guillotiere.specs.declared.search.masks.Mask.{Mask}
 use Rattle.guillotiere.specs.declared.slots.Link.{Link}
 use Rattle.guillotiere.specs.declared.search.table.ListHead.{ListHead}
@@ -39,18 +39,10 @@ module _ (heads : List ListHead) (k : ℕ) (e : ListHead) where
   low_of-other j apart = ap (λ h. h.low) (get_or-set_other heads k j e blank_head apart)
 
   pub head_of-any : k < length heads → e.first ≡ head_of heads k → (j : ℕ) → head_of (slice_set heads k e) j ≡ head_of heads j
-  head_of-any l same j =
-      elim (cases_eq j k) [
-        | inl is ↦ ap (head_of (slice_set heads k e)) is ∙ head_of-same l ∙ same ∙ ap (head_of heads) (sym is)
-        | inr apart ↦ head_of-other j apart
-      ]
+  head_of-any l same j = grind (arith, head_of-same, head_of-other)
 
   pub low_of-any : k < length heads → e.low ≡ low_of heads k → (j : ℕ) → low_of (slice_set heads k e) j ≡ low_of heads j
-  low_of-any l same j =
-      elim (cases_eq j k) [
-        | inl is ↦ ap (low_of (slice_set heads k e)) is ∙ low_of-same l ∙ same ∙ ap (low_of heads) (sym is)
-        | inr apart ↦ low_of-other j apart
-      ]
+  low_of-any l same j = grind (arith, low_of-same, low_of-other)
 
 -- Whether a link is a slot.
 abbrev pub is_slot : Link → Bool
@@ -78,18 +70,11 @@ module _ (heads : List ListHead) (rows rows' : List Mask) (i j : ℕ) (e : ListH
 
   marked_by : is_marked_at rows' i j ≡ is_slot e.first → ((k l : ℕ) → (k ≢ i) ⊎ (l ≢ j) → is_marked_at rows' k l ≡ is_marked_at rows k l)
       → (k l : ℕ) → ((k ≡ i) × (l ≡ j)) ⊎ ((k ≢ i) ⊎ (l ≢ j)) → k < 52 → l < 52 → is_marked_at rows' k l ≡ is_used_at new (52 * k + l)
-  marked_by this others k l (inl same) p q =
-      (λ t. is_marked_at rows' (same.0 t) (same.1 t)) ∙ this ∙ sym ((λ t. is_used_at new (52 * same.0 t + same.1 t)) ∙ used-same)
-  marked_by this others k l (inr apart) p q =
-      others k l apart ∙ is.marked k l p q
-      ∙ sym (ap is_slot (head_of-other heads (52 * i + j) e (52 * k + l) (places_apart i j k l column q apart)))
+  marked_by this others k l (inl same) p q = grind (arith, used-same)
+  marked_by this others k l (inr apart) p q = grind (arith, head_of-other, places_apart)
 
   pub written-table : is_marked_at rows' i j ≡ is_slot e.first → ((k l : ℕ) → (k ≢ i) ⊎ (l ≢ j) → is_marked_at rows' k l ≡ is_marked_at rows k l) → IsTable new rows'
-  written-table this others =
-      record {
-        count = length-set heads (52 * i + j) e ∙ is.count;
-        marked = λ k l. marked_by this others k l (cases_place i j k l);
-      }
+  written-table this others = grind (arith, length-set, marked_by, cases_place)
 
 -- The marks stay where a list stays as empty as it was.
 pub kept-table : (heads : List ListHead) (rows : List Mask) (i j : ℕ) (e : ListHead) → IsTable heads rows → i < 52 → j < 52
@@ -112,8 +97,4 @@ pub used-blank : (k : ℕ) → is_used_at (replicate 2704 blank_head) k ≡ fals
 used-blank k = ap is_slot (head_of-blank k)
 
 pub blank-table : (rows : List Mask) → ((i j : ℕ) → is_marked_at rows i j ≡ false) → IsTable (replicate 2704 blank_head) rows
-blank-table rows none =
-    record {
-      count = length-replicate 2704 blank_head;
-      marked = λ i j _ _. none i j ∙ sym (used-blank (52 * i + j));
-    }
+blank-table rows none = grind (arith, length-replicate, used-blank)

@@ -22,3 +22,5 @@ class_above = pick_by_keys mixed_boxes default_options (sides 10 10) (box 0 0 40
 
 pub all_large : IsPick mixed_boxes large_options (sides 10 10) (box 100 0 110 300)
 all_large = pick_by_keys mixed_boxes large_options (sides 10 10) (box 100 0 110 300) (2, omega arith, refl) refl refl
+
+pub ruleset worked_picks = (tie, equal_side, large, medium, class_above, all_large)

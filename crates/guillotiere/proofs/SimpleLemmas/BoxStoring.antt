@@ -2,7 +2,7 @@
 use Rattle.std.proofs.Common.{◌≡◌, ◌≢◌, ℕ, zero, suc, ◌+◌, ◌<◌, ◌≤◌, ◌⊎◌, inl, inr, Bool, true, false, List, [], ◌∷◌, ◌++◌, map, length, slice_set, get_or, cond, refl, sym, ap, ◌∙◌, subst, arith}
 use Rattle.std.specs.Prelude.{◌==◌, if◌then◌else◌}
 use Rattle.std.specs.List.{count_by}
-use Rattle.std.proofs.lemmas.Bool.{cases_eq, cases_Bool, both_ways, cond-true, cond-false, cond_both, lt-ltb, eqb-true, not-false}
+use Rattle.std.proofs.lemmas.Bool.{cases_eq, cases_Bool, both_ways, cond-true, cond-false, lt-ltb, eqb-true, not-false}
 use Rattle.std.proofs.lemmas.List.{get_or-set_same, get_or-set_other, get_or-map, length-set, map-set}
 use Rattle.guillotiere.specs.declared.search.best.Found.{Found}
 use Rattle.guillotiere.specs.declared.simple.boxes.FreeBox.{FreeBox}
@@ -42,10 +42,7 @@ unfolding unit
 unit-free p t f = cond-true t.is_free (if p (item_box t) then 1 else 0) 0 f
 
 count-free : (p : Box → Bool) (e : Item) (es : List Item) → count_by p (free_item_boxes (e ∷ es)) ≡ unit p e + count_by p (free_item_boxes es)
-count-free p e es =
-    cond_both e.is_free (item_box e ∷ free_item_boxes es) (free_item_boxes es) (λ bs. count_by p bs ≡ unit p e + count_by p (free_item_boxes es))
-    (λ t. omega (arith, count_by-cons p (item_box e) (free_item_boxes es), unit-free p e t))
-    (λ f. omega (arith, unit-idle p e f))
+count-free p e es = grind (arith, unit, count_by-cons, unit-free, unit-idle)
 
 count-set : (p : Box → Bool) (es : List Item) (i : ℕ) (e : Item) → i < length es
     → count_by p (free_item_boxes (slice_set es i e)) + unit p (item_at es i) ≡ count_by p (free_item_boxes es) + unit p e
@@ -56,21 +53,18 @@ count-set p (t ∷ es) (suc i) e l = omega (arith, count-free p t (slice_set es 
 -- A free entry in the place of an idle one.
 pub boxes-with : (es : List Item) (i : ℕ) (e : Item) → i < length es → (item_at es i).is_free ≡ false → e.is_free ≡ true
     → AreSameBoxes (free_item_boxes (slice_set es i e)) (item_box e ∷ free_item_boxes es)
-boxes-with es i e l idle free p =
-    omega (arith, count-set p es i e l, unit-idle p (item_at es i) idle, unit-free p e free, count_by-cons p (item_box e) (free_item_boxes es))
+boxes-with es i e l idle free p = grind (arith, count-set, unit-idle, unit-free, count_by-cons)
 
 -- An idle entry in the place of a free one.
 pub boxes-without : (es : List Item) (i : ℕ) (e : Item) → i < length es → (item_at es i).is_free ≡ true → e.is_free ≡ false
     → AreSameBoxes (item_box (item_at es i) ∷ free_item_boxes (slice_set es i e)) (free_item_boxes es)
-boxes-without es i e l free idle p =
-    omega (arith, count-set p es i e l, unit-idle p e idle, unit-free p (item_at es i) free, count_by-cons p (item_box (item_at es i)) (free_item_boxes (slice_set es i e)))
+boxes-without es i e l free idle p = grind (arith, count-set, unit-idle, unit-free, count_by-cons)
 
 -- Another link changes no box.
 pub boxes-with_after : (es : List Item) (i after : ℕ) → free_item_boxes (with_after es i after) ≡ free_item_boxes es
 boxes-with_after [] i after = refl
 boxes-with_after (t ∷ es) zero after = refl
-boxes-with_after (t ∷ es) (suc i) after =
-    ap (λ bs. if t.is_free then item_box t ∷ bs else bs) (boxes-with_after es i after)
+boxes-with_after (t ∷ es) (suc i) after = grind (arith, boxes-with_after es i after)
 
 pub boxes-more : (es : List Item) → free_item_boxes (es ++ no_item ∷ []) ≡ free_item_boxes es
 boxes-more [] = refl
@@ -100,26 +94,13 @@ free-inside (t ∷ es) zero f = omega arith
 free-inside (t ∷ es) (suc i) f = omega (arith, free-inside es i f)
 
 pub exact-width : (r : Rectangle) → IsSolid r → has_width r ≡ true
-exact-width r e =
-    let a = r.min.x in
-    subst (λ (q : Rectangle). has_width q ≡ true) (sym e.unsigned) (lt-ltb (box_of r).min.x (box_of r).max.x e.nonempty.0)
+exact-width r e = grind (arith, lt-ltb)
 
 -- ---- an entry is taken
 
 listed-same : (o : Options) (heads : List ListHead) (es es' : List Item) → ((i : ℕ) → item_at es' i ≡ item_at es i) → length es ≤ length es' → length es' ≤ no_slot
     → AreListed o heads es → AreListed o heads es'
-listed-same o heads es es' at longer short listed =
-    record {
-      held = listed.held;
-      valid = listed.valid;
-      short = short;
-      path = λ k l. path-frame es es' (head_of heads k).number (listed.held k) no_slot longer (λ i h. ap (λ (t : Item). t.after) (at i)) (listed.path k l);
-      own = λ k i l h. subst (λ t. (t.is_free ≡ true) × (list_of o (item_sides t) ≡ k)) (sym (at i)) (listed.own k i l h);
-      each = λ i f. subst (λ t. 0 < occurs i (listed.held (list_of o (item_sides t)))) (sym (at i)) (listed.each i (ap (λ (t : Item). t.is_free) (sym (at i)) ∙ f));
-      once = listed.once;
-      exact = λ i f. subst (λ (t : Item). IsSolid t.area) (sym (at i)) (listed.exact i (ap (λ (t : Item). t.is_free) (sym (at i)) ∙ f));
-      low = λ i f. subst (λ t. low_of heads (list_of o (item_sides t)) ≤ strip_of (item_box t).min.y) (sym (at i)) (listed.low i (ap (λ (t : Item). t.is_free) (sym (at i)) ∙ f));
-    }
+listed-same o heads es es' at longer short listed = grind (arith, path-frame)
 
 past-idle : (es : List Item) → (item_at es (length es)).is_free ≡ false
 past-idle [] = refl
@@ -131,21 +112,10 @@ pub taken-new : (o : Options) (heads : List ListHead) (es : List Item) (unused :
     → IsInHand o (record { entries = es ++ no_item ∷ []; heads = heads; unused = unused }) (length es)
 taken-new o heads es unused short kept =
     record {
-      kept =
-          record {
-            listed = listed-same o heads es (es ++ no_item ∷ []) (item_at-more es) (omega (arith, length-more es)) (omega (arith, length-more es, short)) kept.listed;
-            spare = kept.spare;
-            chain = path-frame es (es ++ no_item ∷ []) unused.number kept.spare no_slot (omega (arith, length-more es)) (λ i h. ap (λ (t : Item). t.after) (item_at-more es i)) kept.chain;
-            idle = λ i h. ap (λ (t : Item). t.is_free) (item_at-more es i) ∙ kept.idle i h;
-            once = kept.once;
-          };
+      kept = grind (arith, listed-same, item_at-more, length-more, path-frame);
       inside = omega (arith, length-more es);
       idle = ap (λ (t : Item). t.is_free) (item_at-more es (length es)) ∙ past-idle es;
-      apart =
-          elim (cases_eq (occurs (length es) kept.spare) 0) [
-            | inl none ↦ none
-            | inr some ↦ absurd (omega (arith, path-inside es unused.number kept.spare no_slot kept.chain (length es) (omega arith)))
-          ];
+      apart = grind (arith, path-inside);
     }
 
 pub unused-inside : (o : Options) (heads : List ListHead) (es : List Item) (unused : Link) → unused.number ≢ no_slot
@@ -167,14 +137,7 @@ taken-again o heads es unused after some leads kept = go kept.spare kept.chain k
     go [] p idle once = absurd (some p)
     go (x ∷ xs) p idle once =
         record {
-          kept =
-              record {
-                listed = kept.listed;
-                spare = xs;
-                chain = subst (λ n. IsPath es n xs no_slot) (ap (λ n. (item_at es n).after) (sym p.0) ∙ sym leads) p.2;
-                idle = λ i h. idle i (omega (arith, h));
-                once = λ i. omega (arith, once i);
-              };
+          kept = grind arith;
           inside = omega (arith, p.0, p.1);
           idle = idle unused.number (omega (arith, same-self x, ap (λ n. same n x) p.0));
           apart = omega (arith, once unused.number, same-self x, ap (λ n. same n x) p.0);
@@ -190,19 +153,14 @@ pub put-kept : (o : Options) (heads heads' : List ListHead) (es : List Item) (un
     → ((j : ℕ) → j ≢ k → low_of heads' j ≡ low_of heads j)
     → AreKept o (record { entries = slice_set es x e; heads = heads'; unused = unused })
 put-kept o heads heads' es unused x k e hand free after exact list few head other_heads low lower other_lows =
-    record {
-      listed =
-          listed-with o heads heads' es (slice_set es x e) hand.kept.listed x k e hand.idle hand.inside (length-set es x e) (item_at-same es x e hand.inside)
-          (λ i ne. item_at-other es x i e ne) free after exact list head other_heads low lower other_lows few;
-      spare = hand.kept.spare;
-      chain = path-frame es (slice_set es x e) unused.number hand.kept.spare no_slot (omega (arith, length-set es x e))
-          (λ i h. ap (λ (t : Item). t.after) (item_at-other es x i e (not_x i h))) hand.kept.chain;
-      idle = λ i h. ap (λ (t : Item). t.is_free) (item_at-other es x i e (not_x i h)) ∙ hand.kept.idle i h;
-      once = hand.kept.once;
-    }
-  where
-    not_x : (i : ℕ) → 0 < occurs i hand.kept.spare → i ≢ x
-    not_x i h is = omega (arith, h, hand.apart, ap (λ n. occurs n hand.kept.spare) is)
+    grind (
+      arith,
+      listed-with o heads heads' es (slice_set es x e) hand.kept.listed x k e hand.idle hand.inside (length-set es x e) (item_at-same es x e hand.inside),
+      length-set es x e,
+      item_at-same es x e hand.inside,
+      item_at-other es x,
+      path-frame es (slice_set es x e) unused.number hand.kept.spare no_slot (omega (arith, length-set es x e)),
+    )
 
 -- What an index reads.
 pub read-item : (bs : List FreeBox) (i : ℕ) (b : FreeBox) → i < length bs → b ≡ get_or bs i b → stored_item b ≡ item_at (map stored_item bs) i
@@ -210,9 +168,7 @@ read-item bs i b l read = ap stored_item read ∙ sym (get_or-map stored_item bs
 
 pub written-after : (bs : List FreeBox) (i : ℕ) (b : FreeBox) (after : Link) → i < length bs → b ≡ get_or bs i b
     → map stored_item (slice_set bs i (record b { after = after })) ≡ with_after (map stored_item bs) i after.number
-written-after bs i b after l read =
-    map-set stored_item bs i (record b { after = after })
-    ∙ ap (λ (t : Item). slice_set (map stored_item bs) i (record t { after = after.number })) (read-item bs i b l read)
+written-after bs i b after l read = grind (arith, map-set, read-item)
 
 -- ---- a box leaves its list
 
@@ -228,29 +184,12 @@ same-links es es1 is = (ap length is, λ i. (ap (λ ts. (item_at ts i).area) is,
 
 pub linked-after : (es es1 : List Item) (b after : ℕ) → b < length es → es1 ≡ with_after es b after → IsSameButLinks es es1
 unfolding IsSameButLinks
-linked-after es es1 b after inside is = (ap length is ∙ length-set es b _, at, ap free_item_boxes is ∙ boxes-with_after es b after)
-  where
-    at_b : item_at es1 b ≡ record (item_at es b) { after = after }
-    at_b = ap (λ ts. item_at ts b) is ∙ item_at-same es b _ inside
-
-    at : (i : ℕ) → ((item_at es1 i).area ≡ (item_at es i).area) × ((item_at es1 i).is_free ≡ (item_at es i).is_free)
-    at i =
-        elim (cases_eq i b) [
-          | inl e ↦ subst (λ n. ((item_at es1 n).area ≡ (item_at es n).area) × ((item_at es1 n).is_free ≡ (item_at es n).is_free)) (sym e)
-              (ap (λ (t : Item). t.area) at_b, ap (λ (t : Item). t.is_free) at_b)
-          | inr ne ↦
-              let same_item = ap (λ ts. item_at ts i) is ∙ item_at-other es b i _ ne in
-              (ap (λ (t : Item). t.area) same_item, ap (λ (t : Item). t.is_free) same_item)
-        ]
+linked-after es es1 b after inside is = grind (arith, length-set, boxes-with_after, item_at-same, item_at-other)
 
 pub boxes-left : (es es1 : List Item) (x : ℕ) (e : Item) (area : Rectangle) → IsSameButLinks es es1 → (item_at es x).is_free ≡ true → (item_at es x).area ≡ area
     → e.is_free ≡ false → AreSameBoxes (box_of area ∷ free_item_boxes (slice_set es1 x e)) (free_item_boxes es)
 unfolding IsSameButLinks
-boxes-left es es1 x e area links free is idle =
-    let inside : x < length es1 = omega (arith, free-inside es x free, links.0) in
-    let here = boxes-without es1 x e inside ((links.1 x).1 ∙ free) idle in
-    subst (λ bs. AreSameBoxes (box_of area ∷ free_item_boxes (slice_set es1 x e)) bs) links.2
-    (subst (λ r. AreSameBoxes (box_of r ∷ free_item_boxes (slice_set es1 x e)) (free_item_boxes es1)) ((links.1 x).0 ∙ is) here)
+boxes-left es es1 x e area links free is idle = grind (arith, free-inside, boxes-without)
 
 module _ (o : Options) (heads heads' : List ListHead) (es es1 : List Item) (unused : Link) (found : Found)
     (kept : AreKept o (record { entries = es; heads = heads; unused = unused })) (standing : IsStanding o heads es found)
@@ -273,11 +212,7 @@ module _ (o : Options) (heads heads' : List ListHead) (es es1 : List Item) (unus
   inside = free-inside es x standing.free
 
   not_spare : occurs x kept.spare ≡ 0
-  not_spare =
-      elim (cases_eq (occurs x kept.spare) 0) [
-        | inl none ↦ none
-        | inr some ↦ absurd (both_ways _ (kept.idle x (omega arith)) standing.free)
-      ]
+  not_spare = grind (arith, both_ways)
 
   in_list : 0 < occurs x (kept.listed.held k)
   in_list = subst (λ n. 0 < occurs x (kept.listed.held n)) standing.list (kept.listed.each x standing.free)
@@ -337,13 +272,7 @@ module _ (o : Options) (heads heads' : List ListHead) (es es1 : List Item) (unus
   -- The first of its list.
   pub first-removed : (head_of heads' k).number ≡ (item_at es x).after → (head_of heads k).number ≡ x → es1 ≡ es
       → AreKept o (record { entries = es'; heads = heads'; unused = found.at })
-  first-removed leads was_first is =
-      let begins = path-begun es es' x (kept.listed.held k) (omega (arith, length-set es1 x (idle_item unused.number), ap length is)) (λ i. kept.listed.once k i few) in_list
-      (λ i ne. ap (λ (t : Item). t.after) (item_at-other es1 x i (idle_item unused.number) ne ∙ ap (λ ts. item_at ts i) is))
-      (subst (λ n. IsPath es n (kept.listed.held k) no_slot) was_first (kept.listed.path k few)) in
-      finish (ap length is) (λ i. (ap (λ ts. (item_at ts i).area) is, ap (λ ts. (item_at ts i).is_free) is))
-      (subst (λ n. IsPath es' n (without x (kept.listed.held k)) no_slot) (sym leads) begins)
-      (λ j i _ _ _. ap (λ ts. (item_at ts i).after) is) (λ i _. ap (λ ts. (item_at ts i).after) is)
+  first-removed leads was_first is = grind (arith, path-begun, length-set, few, in_list, item_at-other, finish)
 
   -- Any other one, after b.
   pub next-removed : (b : ℕ) → (item_at es b).is_free ≡ true → list_at o es b ≡ k → (item_at es b).after ≡ x → head_of heads' k ≡ head_of heads k

@@ -1,5 +1,5 @@
 -- A picked box of the simple allocator gives way to what is kept of it.
-use Rattle.std.proofs.Common.{◌≡◌, ℕ, ◌+◌, Bool, cond, List, [], ◌∷◌, ◌++◌, sym, ap, ◌∙◌, subst, arith}
+use Rattle.std.proofs.Common.{◌≡◌, ℕ, ◌+◌, Bool, cond, List, ◌∷◌, ◌++◌, subst, arith}
 use Rattle.std.specs.List.{count_by}
 use Rattle.std.proofs.lemmas.List.Elements.{filter-append}
 use Rattle.std.proofs.lemmas.List.Sums.{sum_by-cons, sum_by-append}
@@ -7,16 +7,15 @@ use Rattle.guillotiere.specs.declared.search.best.Found.{Found}
 use Rattle.guillotiere.specs.declared.cut.Rest.{Rest}
 use Rattle.guillotiere.specs.declared.geometry.Rectangle.{Rectangle}
 use Rattle.guillotiere.specs.declared.search.table.ListHead.{ListHead}
-use Rattle.guillotiere.specs.Boxes.{Box, Sides, box_sides, AreSameBoxes}
+use Rattle.guillotiere.specs.Boxes.{Box, Sides, AreSameBoxes}
 use Rattle.guillotiere.specs.Choice.{Options}
-use Rattle.guillotiere.specs.Cuts.{cut_axis, split_along, leftover_along}
 use Rattle.guillotiere.specs.Simple.FreeLists.{kept_of}
 use Rattle.guillotiere.specs.Search.Items.{Item}
 use Rattle.guillotiere.specs.Slots.Links.{IsSolid}
 use Rattle.guillotiere.specs.Search.Lookups.{AreListed, IsStanding}
 use Rattle.guillotiere.specs.Pixels.{box_of}
 use Rattle.guillotiere.specs.Rectangles.{IsRestOf}
-use Rattle.guillotiere.specs.Simple.{is_kept, kept_rest}
+use Rattle.guillotiere.specs.Simple.{kept_rest}
 
 -- The picked rectangle is exact.
 pub picked-exact : (o : Options) (heads : List ListHead) (es : List Item) (found : Found) → AreListed o heads es → IsStanding o heads es found → IsSolid found.rectangle
@@ -24,13 +23,7 @@ picked-exact o heads es found listed standing = subst IsSolid standing.area (lis
 
 pub count-kept : (p : Box → Bool) (o : Options) (f : Box) (r : Sides) (rest : Rest) → IsRestOf f r rest
     → count_by p (kept_rest o f r) ≡ count_by p (kept_of o (box_of rest.split)) + count_by p (kept_of o (box_of rest.leftover))
-count-kept p o f r rest is =
-    let axis = cut_axis (box_sides f) r in
-    let s : box_of rest.split ≡ split_along axis f r = ap box_of is.split ∙ ap (λ a. split_along a f r) is.axis in
-    let l : box_of rest.leftover ≡ leftover_along axis f r = ap box_of is.leftover ∙ ap (λ a. leftover_along a f r) is.axis in
-    ap (count_by p) (filter-append (is_kept o) (split_along axis f r ∷ []) (leftover_along axis f r ∷ []))
-    ∙ (sum_by-append (λ b. cond {A = ℕ} (p b) 1 0) (kept_of o (split_along axis f r)) (kept_of o (leftover_along axis f r))
-    ∙ (ap (λ b. count_by p (kept_of o b) + count_by p (kept_of o (leftover_along axis f r))) (sym s) ∙ ap (λ b. count_by p (kept_of o (box_of rest.split)) + count_by p (kept_of o b)) (sym l)))
+count-kept p o f r rest is = grind (arith, filter-append, sum_by-append)
 
 pub cut-same : (o : Options) (x : Rectangle) (r : Sides) (rest : Rest) (old taken split cut : List Box) → IsRestOf (box_of x) r rest
     → AreSameBoxes (box_of x ∷ taken) old → AreSameBoxes split (kept_of o (box_of rest.split) ++ taken)

@@ -28,10 +28,15 @@ split t es b (suc i) f l is rest = later t es b (rest (i, omega arith, is))
 entry_of : (es : List Item) (b : Box) → Contains (free_item_boxes es) b → Entry es b
 entry_of [] b h = absurd (omega (arith, h.1))
 entry_of (t ∷ es) b h =
-    elim (cases_Bool t.is_free) [
-      | inl f ↦ (let has = subst (λ bs. Contains bs b) (free-first t es f) h in split t es b has.0 f has.1 has.2 (λ r. entry_of es b r))
-      | inr f ↦ later t es b (entry_of es b (subst (λ bs. Contains bs b) (idle-first t es f) h))
-    ]
+    grind (
+      arith,
+      cases_Bool t.is_free,
+      free-first t es,
+      split t es b,
+      entry_of es b,
+      later t es b,
+      idle-first t es,
+    )
 
 box_of_entry : (es : List Item) (i : ℕ) → (item_at es i).is_free ≡ true → Contains (free_item_boxes es) (item_box (item_at es i))
 box_of_entry [] i f = absurd (both_ways false refl f)

@@ -1,5 +1,5 @@
 -- A request that the simple allocator grants.
-use Rattle.std.proofs.Common.{◌≡◌, List, ◌∷◌, ◌++◌, refl, ap, ◌∙◌, subst}
+use Rattle.std.proofs.Common.{◌≡◌, List, ◌∷◌, ◌++◌, arith}
 use Rattle.guillotiere.specs.declared.geometry.Rectangle.{Rectangle}
 use Rattle.guillotiere.specs.declared.geometry.Size.{Size}
 use Rattle.guillotiere.specs.declared.options.AllocatorOptions.{AllocatorOptions}
@@ -18,15 +18,4 @@ pub simply_grants : (old new : List Item) (whole : Sides) (options : AllocatorOp
     → granted ≡ rectangle_of (box_at (box_of picked).min (sides_of size))
     → AreSameBoxes (box_of picked ∷ free_item_boxes new) (kept_rest (options_of options) (box_of picked) (sides_of size) ++ free_item_boxes old)
     → SimplyGrants (simple_state_of old whole options) s (box_of granted) (simple_state_of new whole options)
-simply_grants old new whole options s size picked granted h pick is boxes =
-    let o = options_of options in
-    let e : sides_of size ≡ rounded o s = ap sides_of h.1 in
-    record {
-      positive = h.0.positive;
-      picked = box_of picked;
-      pick = subst (λ r. IsPick (free_item_boxes old) o r (box_of picked)) e pick;
-      granted = ap box_of is ∙ ap (box_at (box_of picked).min) e;
-      free = subst (λ r. AreSameBoxes (box_of picked ∷ free_item_boxes new) (kept_rest o (box_of picked) r ++ free_item_boxes old)) e boxes;
-      size = refl;
-      options = refl;
-    }
+simply_grants old new whole options s size picked granted h pick is boxes = grind arith

@@ -1,5 +1,5 @@
 -- What each simple allocator keeps is kept by a grant, and so are boxes that are held.
-use Rattle.std.proofs.Common.{◌≡◌, ℕ, ◌+◌, ◌≤◌, Bool, true, false, cond, ◌&&◌, ◌||◌, ltb, leb, List, [], ◌∷◌, ◌++◌, get_or, Option, Some, None, Result, Ok, Err, ◌⊎◌, refl, ap, sym, subst, arith}
+use Rattle.std.proofs.Common.{◌≡◌, ℕ, ◌+◌, ◌≤◌, Bool, true, false, cond, ◌&&◌, ◌||◌, ltb, leb, List, [], ◌∷◌, ◌++◌, Option, Some, None, Result, Ok, Err, ◌⊎◌, refl, ap, sym, subst, arith, rules}
 use Rattle.std.specs.Option.{IfSome}
 use Rattle.std.specs.Result.{IfOk}
 use Rattle.std.specs.List.{All, count_by, filter}
@@ -10,7 +10,7 @@ use Rattle.std.proofs.lemmas.List.Sums.{sum_by-cons, sum_by-append}
 use Rattle.guillotiere.specs.declared.geometry.Rectangle.{Rectangle}
 use Rattle.guillotiere.specs.declared.error.AtlasError.{AtlasError}
 use Rattle.guillotiere.specs.Pixels.{box_of}
-use Rattle.guillotiere.specs.Boxes.{Sides, Box, Axis, box_at, whole_box, box_sides, covers, Fits, IsPositive, IsNonempty, IsWithin}
+use Rattle.guillotiere.specs.Boxes.{Sides, Box, Axis, box_at, box_sides, covers, Fits, IsPositive, IsNonempty, IsWithin}
 use Rattle.guillotiere.specs.Boxes.Axis.{Horizontal, Vertical}
 use Rattle.guillotiere.specs.Cuts.{cut_axis, split_along, leftover_along}
 use Rattle.guillotiere.specs.Choice.{Options, AreValid, rounded}
@@ -49,20 +49,12 @@ cells_down p1 p2 p q1 q2 q h k = grind arith
 -- Of a box that isn't empty and that a request fits, each unit square lies in the granted part, the split or the leftover.
 pub squares_of_cut : (axis : Axis) (f : Box) (r : Sides) (x y : ℕ) → IsNonempty f → Fits r (box_sides f)
     → one_if (covers x y (box_at f.min r)) + (one_if (covers x y (split_along axis f r)) + one_if (covers x y (leftover_along axis f r))) ≡ one_if (covers x y f)
-squares_of_cut Horizontal f r x y nonempty fits =
-    cells_across _ _ _ _ _ _ (parts f.min.x (f.min.x + r.width) f.max.x x (omega arith) (omega arith)) (parts f.min.y (f.min.y + r.height) f.max.y y (omega arith) (omega arith))
-squares_of_cut Vertical f r x y nonempty fits =
-    cells_down _ _ _ _ _ _ (parts f.min.x (f.min.x + r.width) f.max.x x (omega arith) (omega arith)) (parts f.min.y (f.min.y + r.height) f.max.y y (omega arith) (omega arith))
+squares_of_cut Horizontal f r x y nonempty fits = search (rules, cells_across, parts)
+squares_of_cut Vertical f r x y nonempty fits = search (rules, cells_down, parts)
 
 -- What is kept of a part covers no more than the part.
 pub kept_le : (keep : Box → Bool) (a b : Box) (p : Box → Bool) → count_by p (filter keep (a ∷ b ∷ [])) ≤ one_if (p a) + one_if (p b)
-kept_le keep a b p = by_tests (keep a) (keep b)
-  where
-    by_tests : (s t : Bool) → count_by p (cond s (a ∷ cond t (b ∷ []) []) (cond t (b ∷ []) [])) ≤ one_if (p a) + one_if (p b)
-    by_tests true true = omega arith
-    by_tests true false = omega arith
-    by_tests false true = omega arith
-    by_tests false false = omega arith
+kept_le keep a b p = grind arith
 
 -- The free boxes and the granted one cover no unit square more often than the free boxes did.
 pub grant-squares : (old new : SimpleState) (s : Sides) (box : Box) → IsSimple old → SimplyGrants old s box new → (x y : ℕ)
@@ -83,8 +75,7 @@ grant-squares old new s box simple grants x y =
 pub count-none : (p : Box → Bool) (xs : List Box) → All (λ b. p b ≡ false) xs → count_by p xs ≡ 0
 count-none p [] h = refl
 count-none p (x ∷ xs) h =
-    let head : one_if (p x) ≡ 0 = ap one_if (All-head (λ b. p b ≡ false) x xs h) in
-    omega (arith, sum_by-cons (λ b. one_if (p b)) x xs, count-none p xs (All-tail (λ b. p b ≡ false) x xs h), head)
+    grind (arith, All-head, sum_by-cons, count-none p xs (All-tail (λ b. p b ≡ false) x xs h), All-tail)
 
 pub none-count : (p : Box → Bool) (xs : List Box) → count_by p xs ≡ 0 → All (λ b. p b ≡ false) xs
 none-count p [] e = All-nil (λ b. p b ≡ false)
@@ -112,27 +103,7 @@ not_misplaced size b h = grind (arith, nat_tests)
 pub kept-placed : (o : Options) (size : Sides) (axis : Axis) (f : Box) (r : Sides) → AreValid o → IsNonempty f → IsWithin size f → Fits r (box_sides f)
     → All (λ b. IsNonempty b × IsWithin size b) (filter (is_kept o) (split_along axis f r ∷ leftover_along axis f r ∷ []))
 kept-placed o size axis f r valid nonempty within fits =
-    let P : Box → Type 0 = λ b. IsWithin size b in
-    let inside : All P (split_along axis f r ∷ leftover_along axis f r ∷ []) =
-    All-cons P (split_along axis f r) (leftover_along axis f r ∷ []) (split_within axis) (All-cons P (leftover_along axis f r) [] (leftover_within axis) (All-nil P)) in
-    let kept = All-filter (is_kept o) P (split_along axis f r ∷ leftover_along axis f r ∷ []) inside in
-    let pass = filter_passes (is_kept o) (split_along axis f r ∷ leftover_along axis f r ∷ []) in
-    λ k d h. (kept_nonempty (get_or (filter (is_kept o) (split_along axis f r ∷ leftover_along axis f r ∷ [])) k d) (pass k d h), kept k d h)
-  where
-    split_within : (a : Axis) → IsWithin size (split_along a f r)
-    split_within Horizontal = within
-    split_within Vertical = within
-
-    leftover_within : (a : Axis) → IsWithin size (leftover_along a f r)
-    leftover_within Horizontal = (omega arith, within.1)
-    leftover_within Vertical = (within.0, omega arith)
-
-    kept_nonempty : (b : Box) → is_kept o b ≡ true → IsNonempty b
-    kept_nonempty b e =
-        let q = and_parts (leb o.alignment.width (box_sides b).width) (leb o.alignment.height (box_sides b).height) e in
-        let wide : o.alignment.width ≤ (box_sides b).width = leb-true o.alignment.width (box_sides b).width q.0 in
-        let high : o.alignment.height ≤ (box_sides b).height = leb-true o.alignment.height (box_sides b).height q.1 in
-        (omega (arith, wide, valid.0.0), omega (arith, high, valid.0.1))
+    grind (arith, All-cons, All-nil, All-filter, filter_passes, and_parts, leb-true)
 
 grant-boxes : (old new : SimpleState) (s : Sides) (box : Box) → IsSimple old → SimplyGrants old s box new
     → All (λ b. IsNonempty b × IsWithin new.size b) new.free
@@ -178,16 +149,7 @@ grant-guarded old new s box held simple grants guarded = record {
 
 -- A new allocator.
 pub start-simple : (size : Sides) (o : Options) → IsPositive size → AreValid o → IsSimple (simple_start size o)
-start-simple size o positive valid = record {
-  nonempty = positive;
-  valid = valid;
-  boxes = All-cons (λ b. IsNonempty b × IsWithin size b) (whole_box size) [] ((omega arith, omega arith), (omega arith, omega arith)) (All-nil (λ b. IsNonempty b × IsWithin size b));
-  disjoint = λ x y. at_most (covers x y (whole_box size));
-}
-  where
-    at_most : (b : Bool) → 0 + one_if b ≤ 1
-    at_most true = omega arith
-    at_most false = omega arith
+start-simple size o positive valid = grind (arith, All-cons, All-nil)
 
 -- A request.
 

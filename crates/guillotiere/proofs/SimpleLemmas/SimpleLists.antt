@@ -1,5 +1,5 @@
 -- The boxes of a simple allocator that grows or begins anew.
-use Rattle.std.proofs.Common.{◌≡◌, ℕ, ◌+◌, ◌<◌, Bool, false, cond, List, ◌∷◌, ◌++◌, map, drop, get_or, length, ap, sym, ◌∙◌, subst, arith}
+use Rattle.std.proofs.Common.{◌≡◌, ℕ, ◌+◌, ◌<◌, Bool, false, cond, List, ◌∷◌, ◌++◌, map, drop, get_or, length, ap, ◌∙◌, subst, arith}
 use Rattle.std.specs.List.{All, count_by}
 use Rattle.std.proofs.lemmas.List.{at_drop_more}
 use Rattle.std.proofs.lemmas.List.Elements.{All-head, All-tail}
@@ -11,7 +11,7 @@ use Rattle.guillotiere.specs.declared.slots.Slot.{Slot}
 use Rattle.guillotiere.specs.declared.slots.NodeKind.TheVariants as kind
 use Rattle.guillotiere.specs.contracts.slots.NodeKind.{the_type}
 use denote.Enum.Bare.{sameb}
-use Rattle.guillotiere.specs.Boxes.{Box, Sides, box_sides, whole_box, Fits, IsPositive, AreSameBoxes}
+use Rattle.guillotiere.specs.Boxes.{Box, Sides, whole_box, Fits, IsPositive, AreSameBoxes}
 use Rattle.guillotiere.specs.Choice.{Options}
 use Rattle.guillotiere.specs.Pixels.{box_of, rectangle_of, sides_of}
 use Rattle.guillotiere.specs.Rectangles.{FitsInto, IsRestOf}
@@ -71,28 +71,14 @@ pub next-filed : (P : Rectangle → Type 0) (xs : List Slot) (i : ℕ) (d : Slot
     → AreSameBoxes (map box_of (free_areas (nodes (drop i xs))) ++ old) boxes → AreSameBoxes new (box_of (get_or xs i d).node.area ∷ roomy)
     → All P (free_areas (nodes (drop (i + 1) xs))) × AreSameBoxes (map box_of (free_areas (nodes (drop (i + 1) xs))) ++ new) boxes
 next-filed P xs i d old roomy new boxes same low is all before filed =
-    let added = subst (λ (l : List Box). AreSameBoxes new (box_of (get_or xs i d).node.area ∷ l)) same filed in
-    ((next-all P xs i d low is all).1, next-boxes xs i d old new boxes low is before added)
+    grind (arith, next-all P xs i d low is all, next-boxes xs i d old new boxes low is before)
 
 -- What a growth adds.
 
 pub rest-boxes : (o : Options) (f : Box) (r : Sides) (rest : Rest) (old split all : List Box) → IsRestOf f r rest
     → AreSameBoxes split (kept_of o (box_of rest.split) ++ old) → AreSameBoxes all (kept_of o (box_of rest.leftover) ++ split)
     → AreSameBoxes all (kept_rest o f r ++ old)
-rest-boxes o f r rest old split all is kept_split kept_leftover p =
-    let g : Box → ℕ = λ b. cond (p b) 1 0 in
-    let b = kept_split p in
-    let c = kept_leftover p in
-    let k = count-kept p o f r rest is in
-    omega (
-      arith,
-      b,
-      c,
-      k,
-      sum_by-append g (kept_rest o f r) old,
-      sum_by-append g (kept_of o (box_of rest.split)) old,
-      sum_by-append g (kept_of o (box_of rest.leftover)) split,
-    )
+rest-boxes o f r rest old split all is kept_split kept_leftover p = grind (arith, count-kept, sum_by-append)
 
 -- The rectangle of a whole size, cut for a smaller one.
 
@@ -101,8 +87,4 @@ whole-exact size positive = whole-unsigned size positive ∙ ap rectangle_of (wh
 
 pub whole-holds : (s n : Size) (r : Rectangle) → r ≡ whole_rectangle n → IsPositive (sides_of s) → Fits (sides_of s) (sides_of n) → FitsInto s r
 whole-holds s n r e positive fits =
-    let wide = whole-positive (sides_of s) (sides_of n) positive fits in
-    let whole : FitsInto s (whole_rectangle n) =
-    unsigned-fits s (whole_rectangle n) (whole-unsigned n wide) positive
-    (subst (λ b. Fits (sides_of s) (box_sides b)) (sym (whole-box n)) (whole-fits (sides_of s) (sides_of n) fits)) in
-    subst (FitsInto s) (sym e) whole
+    grind (arith, whole-positive, whole_rectangle, unsigned-fits, whole-unsigned, whole-box, whole-fits)

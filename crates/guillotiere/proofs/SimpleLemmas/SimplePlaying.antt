@@ -1,10 +1,10 @@
 -- Calls of a simple allocator made in turn.
-use Rattle.std.proofs.Common.{◌≡◌, ℕ, ◌+◌, ◌<◌, take, get_or, List, [], ◌∷◌, ◌++◌, length, map, suc, ap, sym, ◌∙◌, refl, subst}
+use Rattle.std.proofs.Common.{◌≡◌, ℕ, ◌+◌, ◌<◌, take, get_or, List, [], ◌∷◌, ◌++◌, length, map, suc, ap, refl, subst, arith}
 use Rattle.std.proofs.lemmas.List.{take_more, map-append, length-map}
 use Rattle.guillotiere.specs.States.{State}
 use Rattle.guillotiere.specs.Simple.{SimpleState, IsSimple, SimpleAtlasCall, SimpleAnswer, SimpleStep}
 use Rattle.guillotiere.specs.Simple.SimpleRuns.{SimpleRun}
-use Rattle.guillotiere.specs.Simple.SimpleSessions.{simple_call_of, simple_answer_of, simple_calls_of, simple_answers_of, IsSimpleSession}
+use Rattle.guillotiere.specs.Simple.SimpleSessions.{simple_calls_of, simple_answers_of, IsSimpleSession}
 use Rattle.guillotiere.specs.declared.session.simple.SimpleCall.{SimpleCall}
 use Rattle.guillotiere.specs.declared.session.simple.SimpleReply.{SimpleReply}
 use Rattle.guillotiere.proofs.SimpleLemmas.SimpleRunning.{simple_runs_keep_guard}
@@ -22,9 +22,12 @@ pub run-taken : {X : Type 0} (f : X → SimpleAtlasCall) (xs : List X) (i : ℕ)
     → i < length xs → SimpleRun old (map f (take i xs)) answers mid → SimpleStep mid (f (get_or xs i d)) answer new
     → SimpleRun old (map f (take (i + 1) xs)) (answers ++ answer ∷ []) new
 run-taken f xs i d answers old mid new answer below run step =
-    let made : map f (take (i + 1) xs) ≡ map f (take i xs) ++ f (get_or xs i d) ∷ [] =
-    ap (map f) (take_more xs i d below) ∙ map-append f (take i xs) (get_or xs i d ∷ []) in
-    subst (λ calls. SimpleRun old calls (answers ++ answer ∷ []) new) (sym made) (run-more (map f (take i xs)) answers old mid new (f (get_or xs i d)) answer run step)
+    grind (
+      arith,
+      take_more xs i d below,
+      map-append f (take i xs) (get_or xs i d ∷ []),
+      run-more (map f (take i xs)) answers old mid new (f (get_or xs i d)) answer run step,
+    )
 
 -- As many answers as calls.
 run-count : (calls : List SimpleAtlasCall) (answers : List SimpleAnswer) (old new : SimpleState) → SimpleRun old calls answers new → length answers ≡ length calls
@@ -35,10 +38,4 @@ run-count (c ∷ calls) (b ∷ answers) old new (mid, step, run) = ap (λ n. suc
 
 pub simple-session : (source : State) (old new : SimpleState) (calls : List SimpleCall) (replies : List SimpleReply) → IsSimple old
     → SimpleRun old (simple_calls_of source calls) (simple_answers_of replies) new → IsSimpleSession source old calls replies new
-simple-session source old new calls replies simple run = record {
-  count =
-      sym (length-map replies simple_answer_of)
-      ∙ (run-count (simple_calls_of source calls) (simple_answers_of replies) old new run ∙ length-map calls (simple_call_of source));
-  run = run;
-  guard = simple_runs_keep_guard old new (simple_calls_of source calls) (simple_answers_of replies) simple run;
-}
+simple-session source old new calls replies simple run = grind (arith, length-map, run-count, simple_runs_keep_guard)

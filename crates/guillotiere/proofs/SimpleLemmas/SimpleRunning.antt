@@ -1,5 +1,5 @@
 -- Each run of the simple allocator keeps what is held guarded.
-use Rattle.std.proofs.Common.{◌≡◌, ◌≤◌, arith, false, List, [], ◌∷◌, ◌++◌, append_assoc, refl, sym, ◌∙◌, subst}
+use Rattle.std.proofs.Common.{◌≡◌, ◌≤◌, arith, false, List, [], ◌∷◌, ◌++◌, append_assoc, refl, sym, subst}
 use Rattle.std.proofs.lemmas.Bool.{or_parts, false≢true}
 use Rattle.std.specs.List.{count_by}
 use Rattle.std.proofs.lemmas.List.{append-nil}
@@ -55,8 +55,7 @@ granted-along [] [] old new held run plain = sym (append-nil held)
 granted-along [] (answer ∷ answers) old new held run plain = absurd run
 granted-along (call ∷ calls) [] old new held run plain = absurd run
 granted-along (call ∷ calls) (answer ∷ answers) old new held (mid, step, run) plain =
-    let none = or_parts (is_start call answer) (has_start calls answers) plain in
-    granted-along calls answers mid new (held_after held call answer) run none.1 ∙ held-step old mid call answer answers held step none.0
+    grind (arith, or_parts, granted-along calls answers mid new (held_after held call answer) run, held-step)
 
 pub simple_runs_keep_guard : SimpleRunsKeepGuard
 simple_runs_keep_guard old new calls answers simple run = record {

@@ -1,7 +1,6 @@
 -- A simple allocator that grew, or that took over from an atlas.
-use Rattle.std.proofs.Common.{◌≡◌, ℕ, Bool, true, false, cond, ◌&&◌, List, [], ◌∷◌, ◌++◌, map, ℤ, refl, ap, sym, ◌∙◌, subst, arith}
+use Rattle.std.proofs.Common.{◌≡◌, true, false, ◌&&◌, List, [], ◌∷◌, ◌++◌, map, refl, ◌∙◌, arith}
 use Rattle.std.specs.List.{All, count_by}
-use Rattle.std.specs.Bool.{Decides}
 use Rattle.std.specs.Ordering.{int_eq}
 use Rattle.std.proofs.lemmas.Bool.{and_parts}
 use Rattle.std.proofs.lemmas.Bool.Decides.{nat_tests, Decides-int_eq}
@@ -10,16 +9,16 @@ use Rattle.std.proofs.lemmas.List.Sums.{sum_by-append}
 use Rattle.guillotiere.specs.declared.geometry.Size.{Size}
 use Rattle.guillotiere.specs.declared.geometry.Rectangle.{Rectangle}
 use Rattle.guillotiere.specs.declared.options.AllocatorOptions.{AllocatorOptions}
-use Rattle.guillotiere.specs.Boxes.{Axis, Box, Sides, box_sides, whole_box, Fits, IsPositive, IsNonempty, IsWithin, AreSameBoxes}
+use Rattle.guillotiere.specs.Boxes.{Axis, Box, Sides, whole_box, Fits, IsPositive, IsNonempty, IsWithin, AreSameBoxes}
 use Rattle.guillotiere.specs.Boxes.Axis.{Horizontal, Vertical}
-use Rattle.guillotiere.specs.Cuts.{cut_axis, split_along, leftover_along}
+use Rattle.guillotiere.specs.Cuts.{split_along, leftover_along}
 use Rattle.guillotiere.specs.Choice.{Options, AreValid}
 use Rattle.guillotiere.specs.Pixels.{box_of, sides_of, size_of, options_of}
 use Rattle.guillotiere.specs.Rectangles.{IsUnsigned}
 use Rattle.guillotiere.specs.Replies.{IsExact}
 use Rattle.guillotiere.specs.States.{State, free_in, IsSound}
 use Rattle.guillotiere.specs.Visits.{AreFreeAreas}
-use Rattle.guillotiere.specs.Simple.{SimpleState, IsSimple, simple_start, SimplyGrows, StartsFrom, is_kept, kept_rest, added_by}
+use Rattle.guillotiere.specs.Simple.{SimpleState, IsSimple, simple_start, SimplyGrows, StartsFrom, is_kept, kept_rest}
 use Rattle.guillotiere.specs.Simple.FreeLists.{IsStoredState, simple_state_of}
 use Rattle.guillotiere.specs.Simple.BoxShelves.{BoxShelf, free_item_boxes, AreKept}
 use Rattle.guillotiere.specs.Search.Items.{Item}
@@ -56,31 +55,14 @@ leftover-dropped o Horizontal n valid = grind (arith, nat_tests)
 leftover-dropped o Vertical n valid = grind (arith, nat_tests)
 
 none-added : (o : Options) (n : Sides) → AreValid o → kept_rest o (whole_box n) n ≡ []
-none-added o n valid =
-    let axis = cut_axis (box_sides (whole_box n)) n in
-    let s = split_along axis (whole_box n) n in
-    let l = leftover_along axis (whole_box n) n in
-    ap (λ t. cond {A = List Box} t (s ∷ cond {A = List Box} (is_kept o l) (l ∷ []) []) (cond {A = List Box} (is_kept o l) (l ∷ []) [])) (split-dropped o axis n valid)
-    ∙ ap (λ t. cond {A = List Box} t (l ∷ []) []) (leftover-dropped o axis n valid)
+none-added o n valid = grind (arith, split-dropped, leftover-dropped)
 
 -- At an equal size nothing is added.
 pub equal-grows : (s : SimpleState) (n : Sides) → IsSimple s → n ≡ s.size → Fits s.size n × SimplyGrows s n s
-equal-grows s n simple e =
-    let P : Sides → Type 0 = λ m. Fits s.size m × SimplyGrows s m s in
-    let none : added_by s s.size ≡ [] = none-added s.options s.size simple.valid in
-    let grows : SimplyGrows s s.size s = record { free = λ p. sym (ap (λ l. count_by p (l ++ s.free)) none); size = refl; options = refl } in
-    subst P (sym e) ((omega arith, omega arith), grows)
+equal-grows s n simple e = grind (arith, none-added)
 
 pub same-sides : (a b : Size) → (int_eq a.width b.width && int_eq a.height b.height) ≡ true → sides_of a ≡ sides_of b
-same-sides a b e =
-    let F : ℤ → ℤ → Sides = λ w h. sides_of (record { width = w; height = h }) in
-    let q = and_parts (int_eq a.width b.width) (int_eq a.height b.height) e in
-    let w : a.width ≡ b.width = decided (int_eq a.width b.width) (a.width ≡ b.width) (Decides-int_eq a.width b.width) q.0 in
-    let h : a.height ≡ b.height = decided (int_eq a.height b.height) (a.height ≡ b.height) (Decides-int_eq a.height b.height) q.1 in
-    ap (λ x. F x a.height) w ∙ ap (λ y. F b.width y) h
-  where
-    decided : (t : Bool) (P : Type 0) → Decides t P → t ≡ true → P
-    decided t P d e = grind arith
+same-sides a b e = grind (arith, and_parts, Decides-int_eq)
 
 -- A start from an atlas.
 
@@ -103,36 +85,26 @@ pub starts-from : (source : State) (areas : List Rectangle) (empty new : List It
     → IsSound source → AreFreeAreas source areas → empty ≡ []
     → AreSameBoxes (free_item_boxes new) (map box_of areas ++ free_item_boxes empty) → size ≡ size_of source.size → options_of options ≡ source.options
     → StartsFrom source (simple_state_of new (sides_of size) options)
-starts-from source areas empty new size options sound are none boxes same_size same_options = record {
-  sound = sound;
-  free = λ p.
-      let e : count_by p (free_item_boxes empty) ≡ 0 = ap (λ (l : List Item). count_by p (free_item_boxes l)) none in
-      omega (arith, boxes p, sum_by-append (λ b. cond {A = ℕ} (p b) 1 0) (map box_of areas) (free_item_boxes empty), e, are.list p);
-  size = ap sides_of same_size;
-  options = same_options;
-}
+starts-from source areas empty new size options sound are none boxes same_size same_options =
+    grind (arith, sum_by-append)
 
 pub started-stored : (source : State) (areas : List Rectangle) (empty : List Item) (new : BoxShelf) (size : Size) (options : AllocatorOptions)
     → IsSound source → AreFreeAreas source areas → empty ≡ []
     → AreSameBoxes (free_item_boxes new.entries) (map box_of areas ++ free_item_boxes empty) → size ≡ size_of source.size → options_of options ≡ source.options
     → AreKept (options_of options) new → IsStoredState new size options
-started-stored source areas empty new size options sound are none boxes same_size same_options kept = record {
-  simple =
-      starts-simple source (simple_state_of new.entries (sides_of size) options)
-      (starts-from source areas empty new.entries size options sound are none boxes same_size same_options);
-  kept = kept;
-}
+started-stored source areas empty new size options sound are none boxes same_size same_options kept =
+    grind (
+      arith,
+      starts-simple source (simple_state_of new.entries (sides_of size) options),
+      starts-from source areas empty new.entries size options sound are none boxes same_size same_options,
+    )
 
 -- A reset.
 
 pub restart-state : (es : List Item) (size : Size) (options : AllocatorOptions) (r : Rectangle) → r ≡ whole_rectangle size → free_item_boxes es ≡ box_of r ∷ []
     → simple_state_of es (sides_of size) options ≡ simple_start (sides_of size) (options_of options)
-restart-state es size options r e alone =
-    ap (λ free. record { free = free; size = sides_of size; options = options_of options }) (alone ∙ ap (λ b. b ∷ []) (ap box_of e ∙ whole-box size))
+restart-state es size options r e alone = grind (arith, whole-box)
 
 pub restarted-stored : (v : BoxShelf) (size : Size) (options : AllocatorOptions) (r : Rectangle) → IsPositive (sides_of size) → AreValid (options_of options)
     → r ≡ whole_rectangle size → free_item_boxes v.entries ≡ box_of r ∷ [] → AreKept (options_of options) v → IsStoredState v size options
-restarted-stored v size options r positive valid e alone kept = record {
-  simple = subst IsSimple (sym (restart-state v.entries size options r e alone)) (start-simple (sides_of size) (options_of options) positive valid);
-  kept = kept;
-}
+restarted-stored v size options r positive valid e alone kept = grind (arith, restart-state, start-simple)

@@ -1,5 +1,5 @@
 -- Each step of the simple allocator keeps what it keeps, and the boxes that are held.
-use Rattle.std.proofs.Common.{◌≡◌, ℕ, ◌+◌, ◌≤◌, ◌<◌, Bool, true, false, ltb, List, [], ◌∷◌, ◌++◌, map, refl, ap, sym, ◌∙◌, subst, arith}
+use Rattle.std.proofs.Common.{◌≡◌, ℕ, ◌+◌, ◌≤◌, ◌<◌, Bool, true, false, ltb, List, [], ◌∷◌, ◌++◌, map, refl, ap, sym, ◌∙◌, subst, arith, rules}
 use Rattle.std.specs.List.{All, count_by}
 use Rattle.std.proofs.lemmas.Bool.{ltb-true}
 use Rattle.std.proofs.lemmas.Bool.Decides.{nat_tests}
@@ -7,7 +7,7 @@ use Rattle.std.proofs.lemmas.List.Elements.{All-nil, All-cons, All-head, All-tai
 use Rattle.std.proofs.lemmas.List.Sums.{sum_by-cons, sum_by-append}
 use Rattle.guillotiere.specs.declared.error.AtlasError.TheVariants.{Memory}
 use Rattle.guillotiere.specs.Boxes.{Sides, Box, box_sides, whole_box, covers, Fits, IsPositive, IsNonempty, IsWithin}
-use Rattle.guillotiere.specs.Cuts.{cut_axis, split_along, leftover_along}
+use Rattle.guillotiere.specs.Cuts.{cut_axis}
 use Rattle.guillotiere.specs.Choice.{AreValid}
 use Rattle.guillotiere.specs.Trees.{Grant}
 use Rattle.guillotiere.specs.States.{State, live_in, free_in}
@@ -24,15 +24,10 @@ covered : (size : Sides) (x y : ℕ) (b : Box) → IsWithin size b → covers x 
 covered size x y b within h = grind (arith, nat_tests)
 
 outside : (size : Sides) (x y : ℕ) → ((x < size.width) × (y < size.height) → ⊥) → (b : Box) → IsWithin size b → covers x y b ≡ false
-outside size x y out b within = by_test (covers x y b) refl
-  where
-    by_test : (t : Bool) → covers x y b ≡ t → t ≡ false
-    by_test true e = absurd (out (covered size x y b within e))
-    by_test false e = refl
+outside size x y out b within = grind (arith, covered)
 
 none-outside : (size : Sides) (x y : ℕ) → ((x < size.width) × (y < size.height) → ⊥) → (boxes : List Box) → All (λ b. IsWithin size b) boxes → count_by (covers x y) boxes ≡ 0
-none-outside size x y out boxes within =
-    count-none (covers x y) boxes (All-weaker (λ b. IsWithin size b) (λ b. covers x y b ≡ false) (outside size x y out) boxes within)
+none-outside size x y out boxes within = grind (arith, count-none, All-weaker, outside)
 
 within-all : (size : Sides) (boxes : List Box) → All (λ b. IsNonempty b × IsWithin size b) boxes → All (λ b. IsWithin size b) boxes
 within-all size boxes h = All-weaker (λ b. IsNonempty b × IsWithin size b) (λ b. IsWithin size b) (λ b w. w.1) boxes h
@@ -62,12 +57,7 @@ whole-nonempty n positive = (omega (arith, positive), omega (arith, positive))
 added-squares : (old : SimpleState) (n : Sides) → IsSimple old → Fits old.size n → (x y : ℕ)
     → one_if (covers x y (whole_box old.size)) + count_by (covers x y) (added_by old n) ≤ one_if (covers x y (whole_box n))
 added-squares old n simple fits x y =
-    let f = whole_box n in
-    let r = old.size in
-    let axis = cut_axis (box_sides f) r in
-    let cut = squares_of_cut axis f r x y (whole-nonempty n (whole-positive r n simple.nonempty fits)) (whole-fits r n fits) in
-    let few = kept_le (is_kept old.options) (split_along axis f r) (leftover_along axis f r) (covers x y) in
-    omega (arith, cut, few)
+    grind (arith, squares_of_cut, whole-nonempty n, whole-positive, whole-fits, kept_le (is_kept old.options))
 
 at-most-one : (b : Bool) → one_if b ≤ 1
 at-most-one true = omega arith
@@ -139,8 +129,7 @@ grow-guarded old new n held simple fits grows guarded = record {
 
 mapped-all : (P : Box → Type 0) (gs : List Grant) (free : List Box) → All P (map (λ (g : Grant). g.box) gs ++ free) → All P (map (λ (g : Grant). g.box) gs)
 mapped-all P [] free h = All-nil P
-mapped-all P (g ∷ gs) free h = All-cons P g.box (map (λ (k : Grant). k.box) gs) (All-head P g.box (map (λ (k : Grant). k.box) gs ++ free) h)
-    (mapped-all P gs free (All-tail P g.box (map (λ (k : Grant). k.box) gs ++ free) h))
+mapped-all P (g ∷ gs) free h = search (rules, All-cons, All-head, mapped-all P gs free, All-tail)
 
 free-all : (P : Box → Type 0) (gs : List Grant) (free : List Box) → All P (map (λ (g : Grant). g.box) gs ++ free) → All P free
 free-all P [] free h = h

@@ -1,5 +1,5 @@
 -- The state that a simple allocator stores.
-use Rattle.std.proofs.Common.{◌≡◌, ℕ, ◌+◌, ◌-◌, ◌<◌, ◌≤◌, Bool, true, List, map, length, get_or, Result, Option, ℤ, pos, negsuc, FitsSigned, w32, ◌↔◌, ap, sym, ◌∙◌, subst, arith}
+use Rattle.std.proofs.Common.{◌≡◌, ℕ, ◌-◌, ◌<◌, ◌≤◌, Bool, true, List, map, length, get_or, Result, Option, ℤ, pos, negsuc, FitsSigned, w32, ◌↔◌, ap, sym, ◌∙◌, subst, arith}
 use Rattle.std.specs.Bool.{IsTrue}
 use Rattle.std.specs.List.{Any, Contains}
 use Rattle.std.proofs.lemmas.Int.{ints}
@@ -38,10 +38,10 @@ pub stored-step : (old new : BoxShelf) (size : Size) (options : AllocatorOptions
     → SimpleStep (simple_state_of old.entries (sides_of size) options) (Allocate s) (simple_answer result) (simple_state_of new.entries (sides_of size) options)
     → IsStoredState new size options
 stored-step old new size options s result stored kept step =
-    record {
-      simple = step-simple (simple_state_of old.entries (sides_of size) options) (simple_state_of new.entries (sides_of size) options) (Allocate s) (simple_answer result) stored.simple step;
-      kept = kept;
-    }
+    grind (
+      arith,
+      step-simple (simple_state_of old.entries (sides_of size) options) (simple_state_of new.entries (sides_of size) options) (Allocate s) (simple_answer result) stored.simple step,
+    )
 
 -- The rectangle of a whole size.
 abbrev pub whole_rectangle : Size → Rectangle
@@ -51,18 +51,10 @@ pub whole-unsigned : (size : Size) → IsPositive (sides_of size) → IsUnsigned
 whole-unsigned size positive = ap whole_rectangle (size_is size positive)
 
 pub whole-sides : (size : Sides) → box_sides (whole_box size) ≡ size
-whole-sides size =
-    let F : ℕ → ℕ → Sides = λ w h. record { width = w; height = h } in
-    let w : 0 + size.width - 0 ≡ size.width = omega arith in
-    let h : 0 + size.height - 0 ≡ size.height = omega arith in
-    ap (λ n. F n (0 + size.height - 0)) w ∙ ap (λ n. F size.width n) h
+whole-sides size = grind arith
 
 pub whole-box : (size : Size) → box_of (whole_rectangle size) ≡ whole_box (sides_of size)
-whole-box size =
-    let w : natural size.width ≡ 0 + natural size.width = omega arith in
-    let h : natural size.height ≡ 0 + natural size.height = omega arith in
-    ap (λ n. record { min = record { x = 0; y = 0 }; max = record { x = n; y = natural size.height } }) w
-    ∙ ap (λ n. record { min = record { x = 0; y = 0 }; max = record { x = 0 + natural size.width; y = n } }) h
+whole-box size = grind arith
 
 -- Whether an entry is a rectangle, and whether its box is free.
 

@@ -27,17 +27,12 @@ in-wider i m n l (inr h) = inr (omega arith)
 -- What follows the first member is in the rest.
 next-head : (ns : List Node) (i : ℕ) (s : Sequence) (b p : ℕ) (m : Numbered) → first_slot m ≡ i → 0 < tally i m → Standing ns s b p m → IsIn (node_at ns i).next.number m
 next-head ns i s b p End e l h = absurd (omega arith)
-next-head ns i s b p (Free j d rest) e l h =
-    in-wider (node_at ns i).next.number rest (Free j d rest) (omega arith) (rw (← e, h.0.next) (first-in rest))
-next-head ns i s b p (Alloc j g d rest) e l h =
-    in-wider (node_at ns i).next.number rest (Alloc j g d rest) (omega arith) (rw (← e, h.0.next) (first-in rest))
-next-head ns i s b p (Seq j d inner rest) e l h =
-    in-wider (node_at ns i).next.number rest (Seq j d inner rest) (omega arith) (rw (← e, h.0.next) (first-in rest))
+next-head ns i s b p (Free j d rest) e l h = grind (arith, in-wider, first-in)
+next-head ns i s b p (Alloc j g d rest) e l h = grind (arith, in-wider, first-in)
+next-head ns i s b p (Seq j d inner rest) e l h = grind (arith, in-wider, first-in)
 
 pub next-in : (ns : List Node) (i : ℕ) (s : Sequence) (before p : ℕ) (n : Numbered) → Standing ns s before p n → 0 < tally i n → IsIn (node_at ns i).next.number n
-next-in ns i s before p n h l =
-    let f = suffix-at ns i s before p n h l in
-    in-wider _ f.members n (f.within (node_at ns i).next.number) (next-head ns i f.at f.before f.start f.members f.begins f.here f.standing)
+next-in ns i s before p n h l = grind (arith, suffix-at ns i s before p n h l, in-wider, next-head ns i)
 
 -- What begins at no slot is empty.
 pub begins-none : (n : Numbered) → first_slot n ≡ no_slot → tally no_slot n ≡ 0 → n ≡ End

@@ -62,23 +62,13 @@ module _ (is : Numbered → Bool) (change : ℕ → Numbered → Numbered) where
     -- The walk.
     pub edited-keeps : (a : ℕ) (n : Numbered) → R a n (edited_in is change (change a) n)
     edited-keeps a End = kept.ends a
-    edited-keeps a (Free i e rest) =
-        choice a (Free i e rest) (Free i e (edited_in is change (change a) rest)) (λ no. kept.free a i e rest _ no (edited-keeps a rest))
-    edited-keeps a (Alloc i g e rest) =
-        choice a (Alloc i g e rest) (Alloc i g e (edited_in is change (change a) rest)) (λ no. kept.alloc a i g e rest _ no (edited-keeps a rest))
-    edited-keeps a (Seq i e inner rest) =
-        choice a (Seq i e inner rest) (Seq i e (edited_in is change (change e) inner) (edited_in is change (change a) rest)) (λ no.
-        kept.seq a i e inner _ rest _ no (edited-keeps e inner) (edited-keeps a rest))
+    edited-keeps a (Free i e rest) = grind (arith, choice, edited-keeps a rest)
+    edited-keeps a (Alloc i g e rest) = grind (arith, choice, edited-keeps a rest)
+    edited-keeps a (Seq i e inner rest) = grind (arith, choice, edited-keeps e inner, edited-keeps a rest)
 
   -- The first member keeps its slot.
   pub first-edited : ((a : ℕ) (m : Numbered) → is m ≡ true → first_slot (change a m) ≡ first_slot m) → (a : ℕ) (n : Numbered) → first_slot (edited_in is change (change a) n) ≡ first_slot n
-  first-edited here =
-      edited-keeps (λ a m n. first_slot n ≡ first_slot m) (record {
-        ends = λ a. refl;
-        free = λ a i e m n _ h. refl;
-        alloc = λ a i g e m n _ h. refl;
-        seq = λ a i e k l m n _ g h. refl;
-      }) here
+  first-edited here = grind (arith, edited-keeps)
 
   -- Nothing happens where no member is looked for.
   pub edited-absent : is End ≡ false → (a : ℕ) (n : Numbered) → places is n ≡ 0 → edited_in is change (change a) n ≡ n
@@ -107,10 +97,7 @@ module _ (is : Numbered → Bool) (change : ℕ → Numbered → Numbered) where
         ends = λ a. (omega arith, λ l. absurd (omega arith));
         free = λ a i e m n no h. (omega (arith, h.0), λ l. omega (arith, h.1 (not_here_more _ _ no l)));
         alloc = λ a i g e m n no h. (omega (arith, h.0), λ l. omega (arith, h.1 (not_here_more _ _ no l)));
-        seq = λ a i e k l m n no g h. (
-          omega (arith, g.0, h.0),
-          λ some. elim (split_pos (places is k) (places is m) (not_here_more _ _ no some)) [ inl x ↦ omega (arith, g.1 x, h.0) | inr x ↦ omega (arith, g.0, h.1 x) ],
-        );
+        seq = grind (arith, split_pos, places, not_here_more);
       }) (λ a m t. (omega (arith, here a m t), λ _. here a m t))
 
   -- A change that leaves a member that is looked for next.
@@ -160,26 +147,18 @@ module _ (ns ms : List Node) (is : Numbered → Bool) (change : ℕ → Numbered
 
   -- And so does the slot j of a member beside it.
   head_stays : (s : Sequence) (b p j : ℕ) (v : Numbered) → Standing ns s b p v → places is v ≡ 1 → ((x : ℕ) → same x j + tally x v ≤ tally x n) → node_at ms j ≡ node_at ns j
-  head_stays s b p j v h one less =
-      apart s b p v h one (λ x. omega (arith, less x)) j (omega (arith, less j, same-self j)) (omega (arith, less j, w.once j, same-self j))
+  head_stays s b p j v h one less = grind (arith, apart, same-self)
 
   -- A part beside it stands.
   part_stays : (s : Sequence) (b p : ℕ) (v : Numbered) (t : Sequence) (c q : ℕ) (u : Numbered) → Standing ns s b p v → places is v ≡ 1 → ((x : ℕ) → tally x v + tally x u ≤ tally x n) → Standing ns t c q u → places is u ≡ 0 → Standing ms t c q (edited_in is change (change t.width) u)
-  part_stays s b p v t c q u h one less k z =
-      rw (edited-absent is change w.never t.width u z) (Standing-same ns ms t c q u (λ x l. apart s b p v h one (λ x. omega (arith, less x)) x (omega (arith, less x)) (omega (arith, less x, w.once x))) k)
+  part_stays s b p v t c q u h one less k z = grind (arith, edited-absent, Standing-same, apart)
 
   pub Standing-edited : (s : Sequence) (b p : ℕ) (v : Numbered) → ((x : ℕ) → tally x v ≤ tally x n) → places is v ≡ 1 → Standing ns s b p v → Standing ms s b p (edited_in is change (change s.width) v)
   Standing-edited s b p End less one h = absurd (omega arith)
   Standing-edited s b p (Free j e rest) less one h =
-      cond_both (is (Free j e rest)) (change s.width (Free j e rest)) (Free j e (edited_in is change (change s.width) rest)) (λ m. Standing ms s b p m) (λ t. w.here s b p (Free j e rest) t h less) (λ no.
-      let later : places is rest ≡ 1 = not_here _ _ _ no one in
-      let eq = head_stays s j (p + e) j rest h.2 later (λ x. omega (arith, less x)) in
-      (rw (eq, first-edited is change w.first s.width rest) h.0, rw eq h.1, Standing-edited s j (p + e) rest (λ x. omega (arith, less x)) later h.2))
+      grind (arith, places, not_here, head_stays, first-edited, Standing-edited s j (p + e) rest)
   Standing-edited s b p (Alloc j g e rest) less one h =
-      cond_both (is (Alloc j g e rest)) (change s.width (Alloc j g e rest)) (Alloc j g e (edited_in is change (change s.width) rest)) (λ m. Standing ms s b p m) (λ t. w.here s b p (Alloc j g e rest) t h less) (λ no.
-      let later : places is rest ≡ 1 = not_here _ _ _ no one in
-      let eq = head_stays s j (p + e) j rest h.3 later (λ x. omega (arith, less x)) in
-      (rw (eq, first-edited is change w.first s.width rest) h.0, rw eq h.1, rw eq h.2, Standing-edited s j (p + e) rest (λ x. omega (arith, less x)) later h.3))
+      grind (arith, places, not_here, head_stays, first-edited, Standing-edited s j (p + e) rest)
   Standing-edited s b p (Seq j e inner rest) less one h =
       let t = inside s j p e in
       cond_both (is (Seq j e inner rest)) (change s.width (Seq j e inner rest)) (Seq j e (edited_in is change (change e) inner) (edited_in is change (change s.width) rest)) (λ m. Standing ms s b p m) (λ t. w.here s b p (Seq j e inner rest) t h less) (λ no.

@@ -47,21 +47,17 @@ pub record IsWritten (ns ms : List Node) (i : ℕ) (n : Node) : Type 0 where
   pub others : (j : ℕ) → (j ≡ i → ⊥) → node_at ms j ≡ node_at ns j
 
 pub IsWritten-set : (ns : List Node) (i : ℕ) (n : Node) → i < length ns → IsWritten ns (set ns i n) i n
-IsWritten-set ns i n h =
-    record { there = get_or-set_same ns i n blank_node h; others = λ j ne. get_or-set_other ns i j n blank_node ne }
+IsWritten-set ns i n h = grind (arith, get_or-set_same, get_or-set_other)
 
 -- A tree stands where the nodes of its slots are the same.
 pub Standing-same : (ns ms : List Node) (s : Sequence) (before p : ℕ) (n : Numbered) → ((j : ℕ) → 0 < tally j n → node_at ms j ≡ node_at ns j) → Standing ns s before p n → Standing ms s before p n
 Standing-same ns ms s before p End same_at h = tt
 Standing-same ns ms s before p (Free i e rest) same_at h =
-    let e0 : node_at ms i ≡ node_at ns i = same_at i (omega (arith, same-self i)) in
-    (rw e0 h.0, rw e0 h.1, Standing-same ns ms s i (p + e) rest (λ j l. same_at j (omega arith)) h.2)
+    grind (arith, same-self, Standing-same ns ms s i (p + e) rest (λ j l. same_at j (omega arith)) h.2)
 Standing-same ns ms s before p (Alloc i g e rest) same_at h =
-    let e0 : node_at ms i ≡ node_at ns i = same_at i (omega (arith, same-self i)) in
-    (rw e0 h.0, rw e0 h.1, rw e0 h.2, Standing-same ns ms s i (p + e) rest (λ j l. same_at j (omega arith)) h.3)
+    grind (arith, same-self, Standing-same ns ms s i (p + e) rest (λ j l. same_at j (omega arith)) h.3)
 Standing-same ns ms s before p (Seq i e inner rest) same_at h =
-    let e0 : node_at ms i ≡ node_at ns i = same_at i (omega (arith, same-self i)) in
-    (rw e0 h.0, rw e0 h.1, Standing-same ns ms (inside s i p e) no_slot s.start inner (λ j l. same_at j (omega arith)) h.2, Standing-same ns ms s i (p + e) rest (λ j l. same_at j (omega arith)) h.3)
+    grind (arith, same-self, Standing-same ns ms (inside s i p e) no_slot s.start inner, Standing-same ns ms s i (p + e) rest)
 
 pub IsWritten-by : (ns ms : List Node) (i : ℕ) (m n : Node) → ms ≡ set ns i m → m ≡ n → i < length ns → IsWritten ns ms i n
 IsWritten-by ns ms i m n e q h = rw (e, q) (IsWritten-set ns i n h)

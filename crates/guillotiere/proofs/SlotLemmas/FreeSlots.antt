@@ -1,5 +1,5 @@
 -- The free slots of slots that stand for a tree: their boxes are the tree's free boxes, and their rectangles are exact.
-use Rattle.std.proofs.Common.{ℕ, ◌+◌, ◌<◌, ◌≤◌, ◌≡◌, ◌⊎◌, inl, inr, List, ◌∷◌, ◌++◌, refl, sym, ap, ◌∙◌, arith, length, zero, suc, subst, false}
+use Rattle.std.proofs.Common.{ℕ, ◌+◌, ◌<◌, ◌≤◌, ◌≡◌, ◌⊎◌, inl, inr, List, ◌∷◌, ◌++◌, refl, sym, ap, ◌∙◌, arith, length, zero, suc, subst, false, rules}
 use Rattle.std.specs.Prelude.{Contains, slice_index_or}
 use Rattle.std.proofs.lemmas.Bool.{cases_eq, cases_lt}
 use Rattle.std.proofs.lemmas.List.Elements.{filter_map-append, Contains-append_left, Contains-append_right, Contains-append_cases}
@@ -10,10 +10,9 @@ use Rattle.guillotiere.specs.declared.search.table.ListHead.{ListHead}
 use Rattle.guillotiere.specs.declared.geometry.Rectangle.{Rectangle}
 use Rattle.guillotiere.specs.declared.slots.NodeKind.{NodeKind}
 use Rattle.guillotiere.specs.declared.slots.NodeKind.TheVariants as kind
-use Rattle.guillotiere.specs.Boxes.{Axis, Box, IsNonempty, other, moved, sized, box_at, origin}
-use Rattle.guillotiere.specs.Boxes.Axis.{Horizontal, Vertical}
+use Rattle.guillotiere.specs.Boxes.{Box, IsNonempty, moved, origin}
 use Rattle.guillotiere.specs.Pixels.{box_of, rectangle_of}
-use Rattle.guillotiere.specs.Trees.{Leaf, leaves, ungranted, free_at, IsCut}
+use Rattle.guillotiere.specs.Trees.{leaves, ungranted, IsCut}
 use Rattle.guillotiere.specs.Slots.{nodes, rings, node_at, use_count, no_slot}
 use Rattle.guillotiere.specs.Slots.Numbered.{Numbered, tally, erase, End, Free, Alloc, Seq}
 use Rattle.guillotiere.specs.Slots.Standing.{Sequence, Standing, Stands, spot, member_box, inside}
@@ -35,10 +34,7 @@ free_from-free : (s : Sequence) (p i e : ℕ) (rest : Numbered) → free_from s 
 free_from-free s p i e rest = ap (λ bs. member_box s p e ∷ bs) (free_from-rest s p e rest)
 
 free_from-seq : (s : Sequence) (p i e : ℕ) (inner rest : Numbered) → free_from s p (Seq i e inner rest) ≡ free_from (inside s i p e) s.start inner ++ free_from s (p + e) rest
-free_from-seq s p i e inner rest =
-    filter_map-append (λ (l : Leaf). free_at l.owner l.box) (leaves (other s.axis) (spot s.axis p s.start) e (erase inner)) (leaves s.axis (moved s.axis (spot s.axis p s.start) e) s.width (erase rest))
-    ∙ ap (λ bs. ungranted (leaves (other s.axis) (spot s.axis p s.start) e (erase inner)) ++ bs) (free_from-rest s p e rest)
-    ∙ ap (λ o. ungranted (leaves (other s.axis) o e (erase inner)) ++ free_from s (p + e) rest) (sym (spot-other s.axis p s.start))
+free_from-seq s p i e inner rest = grind (arith, filter_map-append, free_from-rest, spot-other)
 
 box-exact : (n : Node) (b : Box) → n.area ≡ rectangle_of b → node_box n ≡ b
 box-exact n b e = ap box_of e
@@ -57,11 +53,13 @@ in_cases b c bs (suc k) l e = inr (k, omega arith, e)
 slot-of_box : (ns : List Node) (s : Sequence) (before p : ℕ) (n : Numbered) → Standing ns s before p n → (b : Box) → Contains (free_from s p n) b → (i : ℕ) × IsFreeSlot ns i × (node_box (node_at ns i) ≡ b)
 slot-of_box ns s before p End h b c = absurd (omega (arith, c.1))
 slot-of_box ns s before p (Free i e rest) h b c =
-    let at : Contains (member_box s p e ∷ free_from s (p + e) rest) b = subst (λ bs. Contains bs b) (free_from-free s p i e rest) c in
-    elim (in_cases (member_box s p e) b (free_from s (p + e) rest) at.0 at.1 at.2) [
-      | inl q ↦ (i, h.0.kind, box-exact (node_at ns i) (member_box s p e) h.1 ∙ q)
-      | inr y ↦ slot-of_box ns s i (p + e) rest h.2 b y
-    ]
+    grind (
+      arith,
+      free_from-free s p i e rest,
+      in_cases (member_box s p e) b (free_from s (p + e) rest),
+      box-exact (node_at ns i) (member_box s p e) h.1,
+      slot-of_box ns s i (p + e) rest h.2 b,
+    )
 slot-of_box ns s before p (Alloc i g e rest) h b c =
     slot-of_box ns s i (p + e) rest h.3 b (subst (λ bs. Contains bs b) (free_from-rest s p e rest) c)
 slot-of_box ns s before p (Seq i e inner rest) h b c =
@@ -81,14 +79,9 @@ sequence≢ k a f = cc
 box-of_slot : (ns : List Node) (s : Sequence) (before p : ℕ) (n : Numbered) → Standing ns s before p n → (i : ℕ) → IsFreeSlot ns i → 0 < tally i n → Contains (free_from s p n) (node_box (node_at ns i))
 box-of_slot ns s before p End h i free l = absurd (omega arith)
 box-of_slot ns s before p (Free j e rest) h i free l =
-    let b = node_box (node_at ns i) in
-    subst (λ bs. Contains bs b) (sym (free_from-free s p j e rest)) (elim (cases_eq i j) [
-      | inl q ↦ subst (λ (c : Box). Contains (member_box s p e ∷ free_from s (p + e) rest) c) (sym (ap (λ k. node_box (node_at ns k)) q ∙ box-exact (node_at ns j) (member_box s p e) h.1)) (at_head (member_box s p e) (free_from s (p + e) rest))
-      | inr ne ↦ in_rest (member_box s p e) b (free_from s (p + e) rest) (box-of_slot ns s j (p + e) rest h.2 i free (omega (arith, same-ne i j ne)))
-    ])
+    search (rules, free_from-free, box-exact, at_head, in_rest, box-of_slot ns s j (p + e) rest h.2 i free, same-ne)
 box-of_slot ns s before p (Alloc j g e rest) h i free l =
-    let ne : i ≡ j → ⊥ = (λ q. free≢ _ h.0.kind (ap (λ k. (node_at ns k).kind) (sym q) ∙ free)) in
-    subst (λ bs. Contains bs (node_box (node_at ns i))) (sym (free_from-rest s p e rest)) (box-of_slot ns s j (p + e) rest h.3 i free (omega (arith, same-ne i j ne)))
+    search (rules, free≢, free_from-rest, box-of_slot ns s j (p + e) rest h.3 i free, same-ne)
 box-of_slot ns s before p (Seq j e inner rest) h i free l =
     let ne : i ≡ j → ⊥ = (λ q. sequence≢ _ h.0.kind (ap (λ k. (node_at ns k).kind) (sym q) ∙ free)) in
     let b = node_box (node_at ns i) in
@@ -100,18 +93,15 @@ box-of_slot ns s before p (Seq j e inner rest) h i free l =
 -- The free slots have the free boxes of the tree.
 pub AreFreeBoxes-stands : (ns : List Node) (s : Sequence) (n : Numbered) → Stands ns s n → s.start ≡ 0 → AreFreeBoxes ns (ungranted (leaves s.axis origin s.width (erase n)))
 AreFreeBoxes-stands ns s n h zero_start =
-    let o : spot s.axis 0 s.start ≡ origin = ap (spot s.axis 0) zero_start ∙ spot-origin s.axis in
-    subst (λ p. AreFreeBoxes ns (ungranted (leaves s.axis p s.width (erase n)))) o (record {
-      of_slot = slot-of_box ns s no_slot 0 n h.standing;
-      of_box = λ i free. box-of_slot ns s no_slot 0 n h.standing i free (omega (arith, h.numbered i, ap use_count free));
-    })
+    grind (
+      arith,
+      spot-origin s.axis,
+      slot-of_box ns s no_slot 0 n h.standing,
+      box-of_slot ns s no_slot 0 n h.standing,
+    )
 
 nonempty-box : (s : Sequence) (p e : ℕ) → 0 < e → 0 < s.width → IsNonempty (member_box s p e)
-nonempty-box s p e l w = by_axis s.axis s.start s.width w
-  where
-    by_axis : (a : Axis) (start width : ℕ) → 0 < width → IsNonempty (box_at (spot a p start) (sized a e width))
-    by_axis Horizontal start width w = (omega arith, omega arith)
-    by_axis Vertical start width w = (omega arith, omega arith)
+nonempty-box s p e l w = grind arith
 
 IsExact-box : (r : Rectangle) (b : Box) → r ≡ rectangle_of b → IsNonempty b → IsSolid r
 IsExact-box r b e h = subst IsSolid (sym e) (record { unsigned = refl; nonempty = h })
@@ -119,15 +109,9 @@ IsExact-box r b e h = subst IsSolid (sym e) (record { unsigned = refl; nonempty 
 exact-in : (ns : List Node) (s : Sequence) (before p : ℕ) (n : Numbered) → 0 < s.width → IsCut s.width (erase n) → Standing ns s before p n → (i : ℕ) → 0 < tally i n → IsSolid (node_at ns i).area
 exact-in ns s before p End w cut h i l = absurd (omega arith)
 exact-in ns s before p (Free j e rest) w cut h i l =
-    elim (cases_eq i j) [
-      | inl q ↦ subst (λ k. IsSolid (node_at ns k).area) (sym q) (IsExact-box (node_at ns j).area (member_box s p e) h.1 (nonempty-box s p e cut.0 w))
-      | inr ne ↦ exact-in ns s j (p + e) rest w cut.1 h.2 i (omega (arith, same-ne i j ne))
-    ]
+    grind (arith, IsExact-box, nonempty-box, exact-in ns s j (p + e) rest w cut.1 h.2 i, same-ne)
 exact-in ns s before p (Alloc j g e rest) w cut h i l =
-    elim (cases_eq i j) [
-      | inl q ↦ subst (λ k. IsSolid (node_at ns k).area) (sym q) (IsExact-box (node_at ns j).area (member_box s p e) h.1 (nonempty-box s p e cut.0 w))
-      | inr ne ↦ exact-in ns s j (p + e) rest w cut.1 h.3 i (omega (arith, same-ne i j ne))
-    ]
+    grind (arith, IsExact-box, nonempty-box, exact-in ns s j (p + e) rest w cut.1 h.3 i, same-ne)
 exact-in ns s before p (Seq j e inner rest) w cut h i l =
     elim (cases_eq i j) [
       | inl q ↦ subst (λ k. IsSolid (node_at ns k).area) (sym q) (IsExact-box (node_at ns j).area (member_box s p e) h.1 (nonempty-box s p e cut.0 w))
@@ -146,13 +130,4 @@ exact-free ns s n h w cut i free = exact-stands ns s n h w cut i (omega (arith, 
 
 -- Slots that stand for a tree of cuts, and whose free ones are all listed, can be searched.
 pub searchable : (o : Options) (slots : List Slot) (heads : List ListHead) (unused : Link) (p : Places) (s : Sequence) (n : Numbered) → AreFiled o (nodes slots) (rings slots) heads unused p → ((i : ℕ) → p.loose i ≡ false) → Stands (nodes slots) s n → 0 < s.width → IsCut s.width (erase n) → length slots ≤ 16777216 → AreValid o → IsSearchable o slots heads
-searchable o slots heads unused p s n f listed h w cut short valid =
-    record {
-      unused = unused;
-      places = p;
-      filed = f;
-      all_listed = listed;
-      exact = exact-free (nodes slots) s n h w cut;
-      short = short;
-      valid = valid;
-    }
+searchable o slots heads unused p s n f listed h w cut short valid = grind (arith, exact-free)

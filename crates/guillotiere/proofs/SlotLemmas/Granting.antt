@@ -1,11 +1,11 @@
 -- A free leaf is granted.
-use Rattle.std.proofs.Common.{ℕ, ◌+◌, ◌≤◌, ◌≡◌, List, refl, ◌∙◌, inl, inr, arith}
+use Rattle.std.proofs.Common.{ℕ, ◌≤◌, ◌≡◌, List, refl, ◌∙◌, inl, inr, arith}
 use Rattle.std.proofs.lemmas.Bool.{cases_eq}
 use Rattle.guillotiere.specs.declared.slots.Node.{Node}
 use Rattle.guillotiere.specs.declared.slots.NodeKind.TheVariants as kind
 use Rattle.guillotiere.specs.Slots.{node_at, use_count, no_slot}
 use Rattle.guillotiere.specs.Slots.Numbered.{Numbered, tally, first_slot, same, granted_at, is_free_at}
-use Rattle.guillotiere.specs.Slots.Standing.{Sequence, Standing, Stands}
+use Rattle.guillotiere.specs.Slots.Standing.{Sequence, Stands}
 use Rattle.guillotiere.proofs.SlotLemmas.Frames.{IsWritten, Standing-same, same-self, used-le, ne-from_count}
 use Rattle.guillotiere.proofs.SlotLemmas.Weights.{free_place}
 use Rattle.guillotiere.proofs.SlotLemmas.Editing.{IsEdit, Standing-edited, granting, free_here, first-edited, weigh-same, other-slot}
@@ -22,19 +22,7 @@ module _ (ns ms : List Node) (i : ℕ) (w : IsWritten ns ms i (record (node_at n
 
   granted : (n : Numbered) → ((x : ℕ) → tally x n ≤ 1) → IsEdit ns ms (is_free_at i) (granting g) i n
   granted n once =
-      record {
-        never = refl;
-        begins = free_here i (λ m. first_slot m ≡ i) (λ e rest. refl);
-        once = once;
-        first = λ a. free_here i (λ m. first_slot (granting g a m) ≡ first_slot m) (λ e rest. refl);
-        here = λ s b p. free_here i (λ m. Standing ns s b p m → ((x : ℕ) → tally x m ≤ tally x n) → Standing ms s b p (granting g s.width m)) (λ e rest h less. (
-          rw w.there (record { parent = h.0.parent; previous = h.0.previous; next = h.0.next; kind = refl; axis = h.0.axis }),
-          rw w.there h.1,
-          rw w.there refl,
-          Standing-same ns ms s i (p + e) rest (λ k l. w.others k (ne-from_count i k rest (omega (arith, less i, once i, same-self i)) l)) h.2,
-        ));
-        beside = λ f x z _. w.others x (other-slot x i f.members z f.here);
-      }
+      grind (arith, free_here i, granting g, Standing-same ns ms, ne-from_count i, same-self i, other-slot)
 
   used_same : (k : ℕ) → use_count (node_at ns k).kind ≡ use_count (node_at ms k).kind
   used_same k = elim (cases_eq k i) [ inl e ↦ rw (e, w.there, was) refl | inr ne ↦ rw (w.others k ne) refl ]

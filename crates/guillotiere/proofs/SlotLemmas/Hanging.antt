@@ -1,6 +1,5 @@
 -- The members of the top sequence get another holder, one after the other.
-use Rattle.std.proofs.Common.{ℕ, ◌+◌, ◌<◌, ◌≤◌, ◌≡◌, List, refl, sym, ap, ◌∙◌, inl, inr, arith, length, set, length-set, pos}
-use Rattle.std.proofs.lemmas.Bool.{cases_eq}
+use Rattle.std.proofs.Common.{ℕ, ◌+◌, ◌<◌, ◌≤◌, ◌≡◌, ◌≢◌, List, refl, ap, ◌∙◌, arith, length, set, length-set, pos}
 use Rattle.std.proofs.lemmas.List.{length-map}
 use Rattle.guillotiere.specs.declared.slots.Link.{Link}
 use Rattle.guillotiere.specs.declared.slots.Node.{Node}
@@ -10,20 +9,21 @@ use Rattle.guillotiere.specs.declared.slots.Slot.{Slot}
 use Rattle.guillotiere.specs.declared.cut.Orientation.{Orientation}
 use Rattle.guillotiere.specs.declared.geometry.Rectangle.{Rectangle}
 use Rattle.guillotiere.specs.declared.geometry.Size.{Size}
-use Rattle.guillotiere.specs.Boxes.{Axis, Sides, other, side, sized, box_at}
-use Rattle.guillotiere.specs.Boxes.Axis.{Horizontal, Vertical}
+use Rattle.guillotiere.specs.Boxes.{other}
 use Rattle.guillotiere.specs.Pixels.{rectangle_of, sides_of, size_of}
 use Rattle.guillotiere.specs.Slots.Parts.{flipped}
 use Rattle.guillotiere.specs.Trees.{total}
-use Rattle.guillotiere.specs.Slots.{nodes, node_at, use_count, no_slot, KeepsUse}
+use Rattle.guillotiere.specs.Slots.{nodes, node_at, use_count, no_slot, axis_of, KeepsUse}
 use Rattle.guillotiere.specs.Slots.Numbered.{Numbered, erase, tally, first_slot, same, End, Free, Alloc, Seq}
-use Rattle.guillotiere.specs.Slots.Standing.{Sequence, Standing, Stands, IsLinkedIn, inside, member_box, spot}
+use Rattle.guillotiere.specs.Slots.Standing.{Sequence, Standing, Stands, IsLinkedIn, inside, member_box}
 use Rattle.guillotiere.specs.Slots.Growing.{Reaches, held_by, top_along}
+use Rattle.guillotiere.specs.Slots.SlotCalls.{BeginsAt}
+use Rattle.guillotiere.proofs.AtlasLemmas.Observing.{nonempty-total}
 use Rattle.guillotiere.proofs.SlotLemmas.Frames.{Standing-same, IsWritten, IsWritten-by, same-self, same-ne, keeps-same, used-le, ne-from_same, ne-from_count}
 use Rattle.guillotiere.proofs.SlotLemmas.JoiningWrites.{none-unused}
 use Rattle.guillotiere.proofs.TreeLemmas.TreeBasics.{other_twice}
 use Rattle.guillotiere.proofs.SlotLemmas.Wrapping.{axis_of-flipped}
-use Rattle.guillotiere.proofs.SlotLemmas.Reading.{IsNonempty, first-axis}
+use Rattle.guillotiere.proofs.SlotLemmas.Reading.{first-axis}
 use Rattle.guillotiere.proofs.SlotLemmas.Following.{outermost, outermost-few, followers, followers-outermost, begins-inside}
 use Rattle.guillotiere.proofs.SlotLemmas.Closing.{begins-none}
 
@@ -40,28 +40,15 @@ pub record IsHanging (ns : List Node) (c at : ℕ) (s : Sequence) (n : Numbered)
   pub ends : (ms : List Node) → ((k : ℕ) → tally k rest ≡ 0 → node_at ms k ≡ node_at ns k) → Standing ms (held_by c s) before start rest → Standing ms (held_by c s) no_slot 0 n
 
 -- At first nothing is hung.
-pub hanging-begins : (ns : List Node) (c at : ℕ) (s : Sequence) (n : Numbered) → length ns < no_slot → Stands ns s n → first_slot n ≡ at → IsHanging ns c at s n
-hanging-begins ns c at s n short h e =
-    record {
-      before = no_slot;
-      start = 0;
-      rest = n;
-      standing = h.standing;
-      begins = sym e;
-      once = λ k. omega (arith, h.numbered k, used-le (node_at ns k).kind);
-      none = h.numbered no_slot ∙ ap use_count (none-unused ns short);
-      few = outermost-few ns s n h;
-      ends = λ ms keeps hung. hung;
-    }
+pub hanging-begins : (ns : List Node) (c at : ℕ) (s : Sequence) (n : Numbered) → length ns < no_slot → BeginsAt ns at s n → IsHanging ns c at s n
+hanging-begins ns c at s n short h = grind (arith, used-le, none-unused, outermost-few)
 
 -- Past the last member all hang.
 pub hanging-ends : (ns : List Node) (c at : ℕ) (s : Sequence) (n : Numbered) → at ≡ no_slot → IsHanging ns c at s n → Standing ns (held_by c s) no_slot 0 n
-hanging-ends ns c at s n e g =
-    g.ends ns (λ k z. refl) (rw (begins-none g.rest (sym g.begins ∙ e) g.none) tt)
+hanging-ends ns c at s n e g = grind (arith, begins-none)
 
 hanging-inside : (ns : List Node) (c at : ℕ) (s : Sequence) (n : Numbered) → (at ≡ no_slot → ⊥) → IsHanging ns c at s n → at < length ns
-hanging-inside ns c at s n ne g =
-    rw g.begins (begins-inside ns s g.before g.start g.rest g.standing (λ e. ne (g.begins ∙ e)))
+hanging-inside ns c at s n ne g = grind (arith, begins-inside)
 
 pub hanging-slot : (slots : List Slot) (c at : ℕ) (s : Sequence) (n : Numbered) → (at ≡ no_slot → ⊥) → IsHanging (nodes slots) c at s n → at < length slots
 hanging-slot slots c at s n ne g =
@@ -69,8 +56,7 @@ hanging-slot slots c at s n ne g =
     omega (arith, length-map slots (λ (s : Slot). s.node))
 
 hanging-followers : (ns : List Node) (c at : ℕ) (s : Sequence) (n : Numbered) → (g : IsHanging ns c at s n) → followers (length ns) ns at ≡ outermost g.rest
-hanging-followers ns c at s n g =
-    rw g.begins (followers-outermost (length ns) ns s g.before g.start g.rest g.standing g.none g.few)
+hanging-followers ns c at s n g = grind (arith, followers-outermost)
 
 -- The node at slot `at` is hung.
 pub record IsHung (ns ms : List Node) (at : ℕ) (c : Link) : Type 0 where
@@ -79,8 +65,7 @@ pub record IsHung (ns ms : List Node) (at : ℕ) (c : Link) : Type 0 where
 
 pub hung-by : (ns ms : List Node) (at : ℕ) (c : Link) (node : Node) (s : Sequence) (n : Numbered) → (at ≡ no_slot → ⊥) → IsHanging ns c.number at s n → node ≡ node_at ns at → ms ≡ set ns at (record node { parent = c }) → IsHung ns ms at c
 hung-by ns ms at c node s n ne g e w =
-    let m : Node = record node { parent = c } in
-    record { written = IsWritten-by ns ms at m _ w (rw e refl) (hanging-inside ns c.number at s n ne g); long = rw w (length-set ns at m) }
+    grind (arith, IsWritten-by ns ms at, hanging-inside ns c.number at s n ne g, length-set ns at)
 
 module _ (ns ms : List Node) (at : ℕ) (c : Link) (w : IsHung ns ms at c) where
   -- A tree without the member stays.
@@ -89,15 +74,13 @@ module _ (ns ms : List Node) (at : ℕ) (c : Link) (w : IsHung ns ms at c) where
 
   -- And so does all that came before.
   before_stays : (xs : List Node) (i : ℕ) (m rest : Numbered) → at ≡ i → ((k : ℕ) → same k i + tally k rest ≤ tally k m) → ((k : ℕ) → tally k rest ≡ 0 → node_at xs k ≡ node_at ms k) → (k : ℕ) → tally k m ≡ 0 → node_at xs k ≡ node_at ns k
-  before_stays xs i m rest e le keeps k z =
-      keeps k (omega (arith, le k)) ∙ w.written.others k (λ x. ne-from_same k i (omega (arith, le k)) (sym (x ∙ e)))
+  before_stays xs i m rest e le keeps k z = grind (arith, ne-from_same)
 
   hung_at : (xs : List Node) (i : ℕ) → at ≡ i → node_at xs i ≡ node_at ms i → node_at xs i ≡ record (node_at ns i) { parent = c }
   hung_at xs i e x = x ∙ (rw (← e) w.written.there)
 
   placed_hung : (xs : List Node) (s : Sequence) (b a i : ℕ) (k : NodeKind) → node_at xs i ≡ record (node_at ns i) { parent = c } → IsLinkedIn (node_at ns i) s b a k → IsLinkedIn (node_at xs i) (held_by c.number s) b a k
-  placed_hung xs s b a i k x h =
-      rw x (record { parent = refl; previous = h.previous; next = h.next; kind = h.kind; axis = h.axis })
+  placed_hung xs s b a i k x h = grind arith
 
   -- One member further, of so many that were left.
   abbrev IsShorter : (s : Sequence) (n : Numbered) (count : ℕ) → Type 0
@@ -147,15 +130,10 @@ module _ (ns ms : List Node) (at : ℕ) (c : Link) (w : IsHung ns ms at c) where
       omega (arith, less.1, hanging-followers ns c.number at s n g, hanging-followers ms c.number (node_at ns at).next.number s n less.0)
 
   pub hung-uses : (k : ℕ) → KeepsUse (node_at ns k) (node_at ms k)
-  hung-uses k =
-      elim (cases_eq k at) [
-        | inl e ↦ rw (e, w.written.there) (record { kind = refl; area = refl; generation = refl })
-        | inr ne ↦ keeps-same (node_at ns k) (node_at ms k) (w.written.others k ne)
-      ]
+  hung-uses k = grind (arith, keeps-same)
 
 pub uses-from : (n m l : Node) → KeepsUse n m → KeepsUse m l → KeepsUse n l
-uses-from n m l a b =
-    record { kind = b.kind ∙ a.kind; area = b.area ∙ a.area; generation = b.generation ∙ a.generation }
+uses-from n m l a b = grind arith
 
 -- The rectangle of this size at the origin.
 abbrev pub from_origin : Size → Rectangle
@@ -163,24 +141,11 @@ from_origin size = record { min = record { x = pos 0; y = pos 0 }; max = record 
 
 -- Inside the slot that holds it, the sequence is what it was.
 inside-held : (s : Sequence) (c length : ℕ) → s.start ≡ 0 → inside (top_along (other s.axis) length) c 0 s.width ≡ held_by c s
-inside-held s c length e =
-    let axis = other_twice s.axis in
-    let start = sym e in
-    λ i. record { parent = c; axis = axis i; start = start i; width = s.width }
+inside-held s c length e = grind (arith, other_twice)
 
 -- That slot fills the size that the sequence spans.
 rectangle-spanned : (s : Sequence) (size : Size) (length : ℕ) → size ≡ size_of (sides_of size) → s.start ≡ 0 → Reaches (sides_of size) s length → rectangle_of (member_box (top_along (other s.axis) length) 0 s.width) ≡ from_origin size
-rectangle-spanned s size length exact e r = rw exact (along s.axis s.width length (sides_of size) r.0 (omega (arith, r.1)))
-  where
-    along : (a : Axis) (width length : ℕ) (sides : Sides) → length ≡ side a sides → width ≡ side (other a) sides → rectangle_of (box_at (spot (other a) 0 0) (sized (other a) width length)) ≡ from_origin (size_of sides)
-    along Horizontal width length sides x y =
-        let ex : 0 + length ≡ sides.width = omega (arith, x) in
-        let ey : 0 + width ≡ sides.height = omega (arith, y) in
-        rw (ex, ey) refl
-    along Vertical width length sides x y =
-        let ex : 0 + width ≡ sides.width = omega (arith, y) in
-        let ey : 0 + length ≡ sides.height = omega (arith, x) in
-        rw (ex, ey) refl
+rectangle-spanned s size length exact e r = grind arith
 
 -- The node of a slot that holds a whole sequence of this size.
 abbrev pub top_node : Orientation → Size → (generation : ℕ) → Node
@@ -196,27 +161,25 @@ top_node axis size g =
     }
 
 -- The top sequence hangs in slot c, which is written after that.
-pub Stands-topped : (ns ms ks : List Node) (c g : ℕ) (size : Size) (s : Sequence) (n : Numbered) → (node_at ns c).kind ≡ kind.Unused → size ≡ size_of (sides_of size) → ((k : ℕ) → KeepsUse (node_at ns k) (node_at ms k)) → IsWritten ms ks c (top_node (flipped (node_at ns (first_slot n)).axis) size g) → Stands ns s n → IsNonempty n → s.start ≡ 0 → Reaches (sides_of size) s (total (erase n)) → Standing ms (held_by c s) no_slot 0 n → Stands ks (top_along (other s.axis) (total (erase n))) (Seq c s.width n End)
-Stands-topped ns ms ks c g size s n unused exact uses w h some start reach hung =
+pub Stands-topped : (ns ms ks : List Node) (i c g : ℕ) (size : Size) (s : Sequence) (n : Numbered) → (node_at ns c).kind ≡ kind.Unused
+    → size ≡ size_of (sides_of size) → ((k : ℕ) → KeepsUse (node_at ns k) (node_at ms k))
+    → IsWritten ms ks c (top_node (flipped (node_at ns i).axis) size g)
+    → BeginsAt ns i s n → s.start ≡ 0 → Reaches (sides_of size) s (total (erase n)) → Standing ms (held_by c s) no_slot 0 n
+    → Stands ks (top_along (other s.axis) (total (erase n))) (Seq c s.width n End)
+Stands-topped ns ms ks i c g size s n unused exact uses w h start reach hung =
     let length = total (erase n) in
-    let axis = axis_of-flipped (node_at ns (first_slot n)).axis ∙ ap other (first-axis ns s no_slot 0 n h.standing some) in
-    let none : tally c n ≡ 0 = h.numbered c ∙ ap use_count unused in
+    let first : axis_of (node_at ns i).axis ≡ s.axis =
+    rw (← h.begins) (first-axis ns s no_slot 0 n h.stands.standing (nonempty-total n h.some)) in
+    let axis = axis_of-flipped (node_at ns i).axis ∙ ap other first in
+    let none : tally c n ≡ 0 = h.stands.numbered c ∙ ap use_count unused in
     record {
-      standing = (
-        rw w.there (record { parent = refl; previous = refl; next = refl; kind = refl; axis = axis }),
-        rw w.there (sym (rectangle-spanned s size length exact start reach)),
-        rw (inside-held s c length start) (Standing-same ms ks (held_by c s) no_slot 0 n (λ k l. w.others k (ne-from_count c k n none l)) hung),
-        tt,
-      );
-      numbered = λ k. elim (cases_eq k c) [
-        | inl e ↦
-            let used : use_count (node_at ks k).kind ≡ 1 = rw (e, w.there) refl in
-            let one : same k c ≡ 1 = rw e (same-self c) in
-            let absent : tally k n ≡ 0 = rw e none in
-            omega (arith, used, one, absent)
-        | inr ne ↦ rw (w.others k ne, (uses k).kind) (omega (arith, same-ne k c ne, h.numbered k))
-      ];
+      standing = grind (arith, rectangle-spanned, inside-held, Standing-same, ne-from_count);
+      numbered = grind (arith, same-self, same-ne);
     }
 
 pub topped-by : (ms ks : List Node) (c g : ℕ) (size : Size) (a b : Orientation) (area : Rectangle) → a ≡ b → area ≡ from_origin size → ks ≡ set ms c (record (top_node a size g) { area = area }) → c < length ms → IsWritten ms ks c (top_node b size g)
 topped-by ms ks c g size a b area e r w l = IsWritten-by ms ks c (record (top_node a size g) { area = area }) (top_node b size g) w (rw (e, r) refl) l
+
+pub uses-written : (ns ms ks : List Node) (c : ℕ) (m : Node) → ((k : ℕ) → KeepsUse (node_at ns k) (node_at ms k)) → IsWritten ms ks c m
+    → (k : ℕ) → k ≢ c → KeepsUse (node_at ns k) (node_at ks k)
+uses-written ns ms ks c m uses w k ne = rw (w.others k ne) (uses k)

@@ -1,14 +1,11 @@
 -- Two free neighbours become one.
 use Rattle.std.proofs.Common.{ℕ, ◌+◌, ◌<◌, ◌≤◌, ◌≡◌, List, refl, sym, ap, ◌∙◌, inl, inr, arith, add_assoc}
-use Rattle.std.proofs.lemmas.Bool.{cases_eq}
 use Rattle.guillotiere.specs.declared.slots.Node.{Node}
-use Rattle.guillotiere.specs.Boxes.{Axis, box_at, sized}
 use Rattle.guillotiere.specs.Pixels.{rectangle_of}
-use Rattle.guillotiere.specs.Boxes.Axis.{Horizontal, Vertical}
 use Rattle.guillotiere.specs.declared.slots.NodeKind.TheVariants as kind
 use Rattle.guillotiere.specs.Slots.{node_at, use_count, no_slot, KeepsUse}
 use Rattle.guillotiere.specs.Slots.Numbered.{Numbered, tally, first_slot, same, joined, grown_by, is_free_at, End, Free, Alloc, Seq}
-use Rattle.guillotiere.specs.Slots.Standing.{Sequence, Standing, Stands, inside, member_box, spot}
+use Rattle.guillotiere.specs.Slots.Standing.{Sequence, Standing, Stands, member_box}
 use Rattle.guillotiere.proofs.SlotLemmas.Frames.{same-self, same-ne, Standing-same, used-le, ne-from_count}
 use Rattle.guillotiere.proofs.SlotLemmas.Closing.{IsNone, IsIn, next-in}
 use Rattle.guillotiere.proofs.SlotLemmas.Weights.{free_place}
@@ -18,36 +15,15 @@ use Rattle.guillotiere.proofs.SlotLemmas.Editing.{IsEdit, Standing-edited, joini
 pub Standing-before : (ns ms : List Node) (i : ℕ) (s : Sequence) (before p : ℕ) (m : Numbered) → (0 < tally (first_slot m) m → node_at ms (first_slot m) ≡ record (node_at ns (first_slot m)) { previous = record { number = i } }) → ((k : ℕ) → (k ≡ first_slot m → ⊥) → 0 < tally k m → node_at ms k ≡ node_at ns k) → tally (first_slot m) m ≤ 1 → Standing ns s before p m → Standing ms s i p m
 Standing-before ns ms i s before p End moved others one h = tt
 Standing-before ns ms i s before p (Free k e rest) moved others one h =
-    let self = same-self k in
-    let there : node_at ms k ≡ record (node_at ns k) { previous = record { number = i } } = moved (omega arith) in (
-      rw there (record { parent = h.0.parent; previous = refl; next = h.0.next; kind = h.0.kind; axis = h.0.axis }),
-      rw there h.1,
-      Standing-same ns ms s k (p + e) rest (λ j l. others j (ne-from_count k j rest (omega arith) l) (omega arith)) h.2,
-    )
+    grind (arith, same-self, Standing-same, ne-from_count)
 Standing-before ns ms i s before p (Alloc k g e rest) moved others one h =
-    let self = same-self k in
-    let there : node_at ms k ≡ record (node_at ns k) { previous = record { number = i } } = moved (omega arith) in (
-      rw there (record { parent = h.0.parent; previous = refl; next = h.0.next; kind = h.0.kind; axis = h.0.axis }),
-      rw there h.1,
-      rw there h.2,
-      Standing-same ns ms s k (p + e) rest (λ j l. others j (ne-from_count k j rest (omega arith) l) (omega arith)) h.3,
-    )
+    grind (arith, same-self, Standing-same, ne-from_count)
 Standing-before ns ms i s before p (Seq k e inner rest) moved others one h =
-    let self = same-self k in
-    let there : node_at ms k ≡ record (node_at ns k) { previous = record { number = i } } = moved (omega arith) in (
-      rw there (record { parent = h.0.parent; previous = refl; next = h.0.next; kind = h.0.kind; axis = h.0.axis }),
-      rw there h.1,
-      Standing-same ns ms (inside s k p e) no_slot s.start inner (λ j l. others j (ne-from_count k j inner (omega arith) l) (omega arith)) h.2,
-      Standing-same ns ms s k (p + e) rest (λ j l. others j (ne-from_count k j rest (omega arith) l) (omega arith)) h.3,
-    )
+    grind (arith, same-self, Standing-same, ne-from_count)
 
 -- The box of two neighbours.
 box-joined : (s : Sequence) (p e d : ℕ) → record (rectangle_of (member_box s p e)) { max = (rectangle_of (member_box s (p + e) d)).max } ≡ rectangle_of (member_box s p (e + d))
-box-joined s p e d = along s.axis s.start s.width p e d
-  where
-    along : (a : Axis) (start width p e d : ℕ) → record (rectangle_of (box_at (spot a p start) (sized a e width))) { max = (rectangle_of (box_at (spot a (p + e) start) (sized a d width))).max } ≡ rectangle_of (box_at (spot a p start) (sized a (e + d) width))
-    along Horizontal start width p e d = rw (← add_assoc p e d)
-    along Vertical start width p e d = rw (← add_assoc p e d)
+box-joined s p e d = grind arith
 
 pub first-grown : (j e : ℕ) (n : Numbered) → first_slot (grown_by j e n) ≡ j
 first-grown j e End = refl
@@ -89,8 +65,7 @@ module _ (ns ms : List Node) (i j a : ℕ) (w : IsJoined ns ms i j a) where
 
   -- Where i is, j is too, and a, if there is one.
   next_in : (s : Sequence) (b q : ℕ) (n : Numbered) → Standing ns s b q n → 0 < tally i n → 0 < tally j n
-  next_in s b q n h l =
-      elim (next-in ns i s b q n h l) [ inl e ↦ absurd (not_none (sym w.next ∙ e)) | inr y ↦ (rw w.next at y) ]
+  next_in s b q n h l = grind (arith, next-in, not_none)
 
   after_in : (s : Sequence) (b q : ℕ) (n : Numbered) → Standing ns s b q n → 0 < tally i n → IsIn a n
   after_in s b q n h l = rw w.after at (next-in ns j s b q n h (next_in s b q n h l))
@@ -146,17 +121,7 @@ module _ (ns ms : List Node) (i j a : ℕ) (w : IsJoined ns ms i j a) where
           rw nx.2 (omega arith))) s no_slot 0 n h.standing (free_place ns i s n w.free h)
 
   used_after : (x : ℕ) → use_count (node_at ms x).kind + same x j ≡ use_count (node_at ns x).kind
-  used_after x =
-      elim (cases_eq x j) [
-        | inl e ↦ rw (e, w.gone, w.next_free, same-self j) refl
-        | inr nj ↦ rw (same-ne x j nj) (elim (cases_eq x i) [
-          | inl e ↦ rw (e, w.this) (omega arith)
-          | inr ni ↦ elim (cases_eq x a) [
-            | inr na ↦ rw (w.others x ni nj na) (omega arith)
-            | inl e ↦ elim (cases_eq a no_slot) [ inl q ↦ rw (e, w.stays q) (omega arith) | inr q ↦ rw (e, w.moved q) (omega arith) ]
-          ]
-        ])
-      ]
+  used_after x = grind (arith, same-self, same-ne)
 
   pub Stands-joined : (s : Sequence) (n : Numbered) → Stands ns s n → Stands ms s (joined i n)
   Stands-joined s n h =
@@ -169,8 +134,4 @@ module _ (ns ms : List Node) (i j a : ℕ) (w : IsJoined ns ms i j a) where
 
   -- A join changes the use of no other slot.
   pub joined-use : (k : ℕ) → (k ≡ i → ⊥) → (k ≡ j → ⊥) → KeepsUse (node_at ns k) (node_at ms k)
-  joined-use k ki kj =
-      elim (cases_eq k a) [
-        | inr ka ↦ rw (w.others k ki kj ka) (record { kind = refl; area = refl; generation = refl })
-        | inl e ↦ elim (cases_eq a no_slot) [ inl q ↦ rw (e, w.stays q) (record { kind = refl; area = refl; generation = refl }) | inr q ↦ rw (e, w.moved q) (record { kind = refl; area = refl; generation = refl }) ]
-      ]
+  joined-use k ki kj = grind arith

@@ -5,10 +5,10 @@ use Rattle.guillotiere.specs.declared.slots.Node.{Node}
 use Rattle.guillotiere.specs.declared.slots.Link.{Link}
 use Rattle.guillotiere.specs.declared.slots.NodeKind.TheVariants as kind
 use Rattle.guillotiere.specs.Slots.{node_at, blank_node, no_slot}
-use Rattle.guillotiere.specs.Slots.Numbered.{Numbered, tally, first_slot, same, End, Free, Alloc, Seq}
+use Rattle.guillotiere.specs.Slots.Numbered.{Numbered, tally, first_slot, End, Free, Alloc, Seq}
 use Rattle.guillotiere.specs.Slots.SlotCalls.{IsFreePair}
 use Rattle.guillotiere.specs.Slots.Parts.{joined_node}
-use Rattle.guillotiere.specs.Slots.Standing.{Sequence, Standing, IsTree, IsSlot, with_previous}
+use Rattle.guillotiere.specs.Slots.Standing.{Sequence, Standing, IsTree, IsSlot, with_kind, with_previous}
 use Rattle.guillotiere.proofs.SlotLemmas.Frames.{same-self, used-le}
 use Rattle.guillotiere.proofs.SlotLemmas.Closing.{next-in, first-in}
 use Rattle.guillotiere.proofs.SlotLemmas.Suffixes.{suffix-at}
@@ -29,30 +29,13 @@ AreApart i j a = (j ≡ i → ⊥) × (a ≡ i → ⊥) × (a ≡ j → ⊥)
 -- A free member, the next, which is free too, and what follows are three slots.
 apart_first : (ns : List Node) (i j a : ℕ) (s : Sequence) (b p : ℕ) (m : Numbered) → (node_at ns no_slot).kind ≡ kind.Unused → (node_at ns i).kind ≡ kind.Free → (node_at ns i).next.number ≡ j → (node_at ns j).kind ≡ kind.Free → (node_at ns j).next.number ≡ a → first_slot m ≡ i → ((k : ℕ) → tally k m ≤ 1) → Standing ns s b p m → AreApart i j a
 apart_first ns i j a s b p End u fi nj fj na ei once h = absurd (not-none ns i u fi (sym ei))
-apart_first ns i j a s b p (Alloc k g e rest) u fi nj fj na ei once h =
-    let f = h.0.kind in let l : (node_at ns k).kind ≡ kind.Free = rw (ei, fi) refl in cc
-apart_first ns i j a s b p (Seq k e inner rest) u fi nj fj na ei once h =
-    let f = h.0.kind in let l : (node_at ns k).kind ≡ kind.Free = rw (ei, fi) refl in cc
-apart_first ns i j a s b p (Free k e End) u fi nj fj na ei once h =
-    absurd (not-none ns j u fj (sym nj ∙ (rw (← ei) h.0.next)))
-apart_first ns i j a s b p (Free k e (Alloc k2 g d tail)) u fi nj fj na ei once h =
-    let q : k2 ≡ j = sym h.0.next ∙ (rw ei nj) in
-    let f = h.2.0.kind in let l : (node_at ns k2).kind ≡ kind.Free = rw (q, fj) refl in cc
-apart_first ns i j a s b p (Free k e (Seq k2 d inner tail)) u fi nj fj na ei once h =
-    let q : k2 ≡ j = sym h.0.next ∙ (rw ei nj) in
-    let f = h.2.0.kind in let l : (node_at ns k2).kind ≡ kind.Free = rw (q, fj) refl in cc
+apart_first ns i j a s b p (Alloc k g e rest) u fi nj fj na ei once h = grind arith
+apart_first ns i j a s b p (Seq k e inner rest) u fi nj fj na ei once h = grind arith
+apart_first ns i j a s b p (Free k e End) u fi nj fj na ei once h = grind (arith, not-none)
+apart_first ns i j a s b p (Free k e (Alloc k2 g d tail)) u fi nj fj na ei once h = grind arith
+apart_first ns i j a s b p (Free k e (Seq k2 d inner tail)) u fi nj fj na ei once h = grind arith
 apart_first ns i j a s b p (Free k e (Free k2 d tail)) u fi nj fj na ei once h =
-    let q : k2 ≡ j = sym h.0.next ∙ (rw ei nj) in
-    let q2 : first_slot tail ≡ a = sym h.2.0.next ∙ (rw q na) in
-    let ji : j ≡ i → ⊥ = (λ x. absurd (omega (arith, once k, same-self k, ap (same k) (q ∙ x ∙ sym ei)))) in
-    elim (first-in tail) [
-      | inl z ↦ (ji, (λ x. not-none ns i u fi (sym x ∙ sym q2 ∙ z)), (λ x. not-none ns j u fj (sym x ∙ sym q2 ∙ z)))
-      | inr y ↦ (
-        ji,
-        (λ x. absurd (omega (arith, once k, same-self k, ap (λ v. tally v tail) (q2 ∙ x ∙ sym ei)))),
-        (λ x. absurd (omega (arith, once k2, same-self k2, ap (λ v. tally v tail) (q2 ∙ x ∙ sym q)))),
-      )
-    ]
+    grind (arith, same-self, first-in, not-none)
 
 -- What the tree says before the join.
 pub record CanJoin (ns : List Node) (i j a : ℕ) : Type 0 where
@@ -76,54 +59,30 @@ can-join ns i j a short t fi nj fj na =
 
 pub joined-by : (ns ms : List Node) (i j a : ℕ) (n1 n2 : Node) → length ns < no_slot → CanJoin ns i j a → (node_at ns i).kind ≡ kind.Free → (node_at ns i).next.number ≡ j → (node_at ns j).kind ≡ kind.Free → (node_at ns j).next.number ≡ a → n1 ≡ record (node_at ns i) { next = (node_at ns j).next; area = record (node_at ns i).area { max = (node_at ns j).area.max } } → n2 ≡ record (node_at ns j) { kind = kind.Unused } → ms ≡ set (with_previous (set ns i n1) a (record { number = i })) j n2 → IsJoined ns ms i j a
 joined-by ns ms i j a n1 n2 short c fi nj fj na e1 e2 e =
-    let u = none-unused ns short in
-    let li : i < length ns = used-inside ns i (rw fi (omega arith)) in
-    let lj : j < length ns = used-inside ns j (rw fj (omega arith)) in
-    let ji = c.apart.0 in
-    let ai = c.apart.1 in
-    let aj = c.apart.2 in
-    let ij : i ≡ j → ⊥ = λ x. ji (sym x) in
-    let ia : i ≡ a → ⊥ = λ x. ai (sym x) in
-    let xs = set ns i n1 in
-    let ys = with_previous xs a (record { number = i }) in
-    let lx : length xs ≡ length ns = length-set ns i n1 in
-    let ly : length ys ≡ length ns = length-set xs a _ ∙ lx in
-    let is_inside : (a ≡ no_slot → ⊥) → a < length ns = λ x. elim c.after [ inl z ↦ absurd (x z) | inr y ↦ y ] in
-    let at_a : node_at xs a ≡ node_at ns a = get_or-set_other ns i a n1 blank_node ai in
-    record {
-      ends = u;
-      free = fi;
-      next = nj;
-      next_free = fj;
-      after = na;
-      this = rw (e, get_or-set_other ys j i n2 blank_node ij, get_or-set_other xs a i _ blank_node ia, get_or-set_same ns i n1 blank_node li) e1;
-      apart = ji;
-      gone = rw (e, get_or-set_same ys j n2 blank_node (omega arith)) (ap (λ (n : Node). n.kind) e2);
-      given = rw (e, get_or-set_same ys j n2 blank_node (omega arith)) e2;
-      moved = λ x. rw (e, get_or-set_other ys j a n2 blank_node aj, get_or-set_same xs a _ blank_node (omega (arith, is_inside x)), at_a) refl;
-      stays = λ x. rw (e, get_or-set_other ys j a n2 blank_node aj) (get_or_past ys a blank_node (omega arith) ∙ sym (get_or_past ns a blank_node (omega arith)));
-      others = λ k ki kj ka. rw (e, get_or-set_other ys j k n2 blank_node kj, get_or-set_other xs a k _ blank_node ka, get_or-set_other ns i k n1 blank_node ki) refl;
-    }
+    grind (arith, none-unused, length-set, get_or-set_other, get_or-set_same, get_or_past)
 
 pub IsSlot-after : (ns : List Node) (slot : Link) (this next : Node) (k : ℕ) → length ns < no_slot → IsTree ns
     → IsFreePair ns slot.number → this ≡ node_at ns slot.number → next ≡ node_at ns this.next.number → k ≡ length ns
     → IsSlot k next.next.number
-IsSlot-after ns slot this next k short t free et en ek =
-    rw (ek, en, et) ((can-join ns slot.number _ _ short t free.free refl free.next_free refl).after)
+IsSlot-after ns slot this next k short t free et en ek = grind (arith, can-join)
 
 pub join_next_is : (ns ms1 ms2 ms : List Node) (slot : Link) (this next : Node) → length ns < no_slot → IsTree ns
     → IsFreePair ns slot.number → this ≡ node_at ns slot.number → next ≡ node_at ns this.next.number
     → ms1 ≡ set ns slot.number (joined_node this next) → ms2 ≡ with_previous ms1 next.next.number slot
-    → ms ≡ set ms2 this.next.number (record next { kind = kind.Unused })
+    → ms ≡ with_kind ms2 this.next.number kind.Unused
     → IsJoined ns ms slot.number (node_at ns slot.number).next.number (node_at ns (node_at ns slot.number).next.number).next.number
 join_next_is ns ms1 ms2 ms slot this next short t free et en e1 e2 e =
     let i = slot.number in
     let j = (node_at ns i).next.number in
     let a = (node_at ns j).next.number in
     let n1 : Node = joined_node this next in
-    let n2 : Node = record next { kind = kind.Unused } in
     let ej : this.next.number ≡ j = rw et refl in
     let ea : next.next.number ≡ a = rw (en, ej) refl in
     let can = can-join ns i j a short t free.free refl free.next_free refl in
-    joined-by ns ms i j a n1 n2 short can free.free refl free.next_free refl (rw (en, et) refl) (rw (en, ej) refl)
+    let xs = set ns i n1 in
+    let ys = with_previous xs a slot in
+    let ja : j ≡ a → ⊥ = λ x. can.apart.2 (sym x) in
+    let there : node_at ys j ≡ node_at ns j = get_or-set_other xs a j _ blank_node ja ∙ get_or-set_other ns i j n1 blank_node can.apart.0 in
+    let n2 : Node = record (node_at ys j) { kind = kind.Unused } in
+    joined-by ns ms i j a n1 n2 short can free.free refl free.next_free refl (rw (en, et) refl) (rw there refl)
     (rw (e, e2, e1, ej, ea) refl)

@@ -50,9 +50,7 @@ members-begin v size first h t =
     (member-first ns h.sequence no_slot 0 first h.tree h.tree (sym t.spans.begins) (λ e. some (t.spans.begins ∙ e)) stands.standing none (outermost-few ns h.sequence h.tree stands) refl).0
 
 pub member-inside : (slots : List Slot) (at next : ℕ) (s : Sequence) (n : Numbered) → (next ≡ no_slot → ⊥) → IsAtMember (nodes slots) at next s n → next < length slots
-member-inside slots at next s n ne g =
-    let inside : next < length (nodes slots) = rw g.begins (begins-inside (nodes slots) s at g.start g.rest g.standing (λ e. ne (g.begins ∙ e))) in
-    omega (arith, length-map slots (λ (s : Slot). s.node))
+member-inside slots at next s n ne g = grind (arith, begins-inside, length-map)
 
 module _ (ns : List Node) (at next : ℕ) (s : Sequence) (n : Numbered) where
   member-next : (next ≡ no_slot → ⊥) → (g : IsAtMember ns at next s n) → IsFurther ns next s n (outermost g.rest)
@@ -66,8 +64,7 @@ module _ (ns : List Node) (at next : ℕ) (s : Sequence) (n : Numbered) where
   members-end e g = sym g.last ∙ ap (last_after at) (begins-none g.rest (sym g.begins ∙ e) g.none)
 
 member-followers : (ns : List Node) (at next : ℕ) (s : Sequence) (n : Numbered) → (g : IsAtMember ns at next s n) → followers (length ns) ns next ≡ outermost g.rest
-member-followers ns at next s n g =
-    rw g.begins (followers-outermost (length ns) ns s at g.start g.rest g.standing g.none g.few)
+member-followers ns at next s n g = grind (arith, followers-outermost)
 
 -- Fewer members follow.
 pub members-fall : (ns : List Node) (at next : ℕ) (s : Sequence) (n : Numbered) → (next ≡ no_slot → ⊥) → IsAtMember ns at next s n → followers (length ns) ns (node_at ns next).next.number < followers (length ns) ns next

@@ -1,5 +1,5 @@
 -- What is live and what is free, counted over the slots that hold a tree.
-use Rattle.std.proofs.Common.{ℕ, ◌+◌, ◌*◌, ◌≡◌, Bool, true, false, cond, List, [], ◌∷◌, map, refl, sym, ap, ◌∙◌, arith}
+use Rattle.std.proofs.Common.{ℕ, ◌+◌, ◌*◌, ◌≡◌, Bool, cond, List, [], ◌∷◌, map, refl, sym, ap, ◌∙◌, arith, rules}
 use Rattle.std.specs.List.{count_by}
 use Rattle.guillotiere.specs.declared.slots.Node.{Node}
 use Rattle.guillotiere.specs.declared.slots.NodeKind.{NodeKind}
@@ -10,9 +10,9 @@ use Rattle.guillotiere.specs.Trees.{Grant, grant}
 use Rattle.guillotiere.specs.Slots.{node_at, use_count, no_slot}
 use Rattle.guillotiere.specs.Slots.Lists.{is_free}
 use Rattle.guillotiere.specs.Slots.Numbered.{Numbered, weigh, id_of, erase, End, Free, Alloc, Seq}
-use Rattle.guillotiere.specs.Slots.Standing.{Sequence, Standing, Stands, inside, member_box, spot}
+use Rattle.guillotiere.specs.Slots.Standing.{Sequence, Standing, Stands, inside, spot}
 use Rattle.guillotiere.specs.Replies.{grant_of}
-use Rattle.guillotiere.specs.Visits.{is_alloc, allocation_at, allocated_from, free_areas}
+use Rattle.guillotiere.specs.Visits.{is_alloc, allocated_from, free_areas}
 use Rattle.guillotiere.proofs.TreeLemmas.TreeBasics.{one_if, live_among, free_among, live_among-seq, free_among-seq}
 use Rattle.guillotiere.proofs.ListLemmas.Counting.{count_by-cons, count_by-append}
 use Rattle.guillotiere.proofs.SlotLemmas.SlotSums.{slot_sum, weigh-Stands}
@@ -41,59 +41,21 @@ free-light kind.Unused v = omega arith
 -- The list of the allocated slots counts them.
 pub count-allocated : (p : Grant → Bool) (i : ℕ) (ns : List Node) → count_by p (map grant_of (allocated_from i ns)) ≡ slot_sum (alloc_weight p) i ns
 count-allocated p i [] = refl
-count-allocated p i (n ∷ ns) = by_test (is_alloc n.kind) (count-allocated p (i + 1) ns)
-  where
-    by_test : (b : Bool) → count_by p (map grant_of (allocated_from (i + 1) ns)) ≡ slot_sum (alloc_weight p) (i + 1) ns
-        → count_by p (map grant_of (cond b (allocation_at i n ∷ allocated_from (i + 1) ns) (allocated_from (i + 1) ns)))
-        ≡ cond b (one_if (p (grant (id_of i n.generation) (box_of n.area)))) 0 + slot_sum (alloc_weight p) (i + 1) ns
-    by_test true h =
-        count_by-cons p (grant (id_of i n.generation) (box_of n.area)) (map grant_of (allocated_from (i + 1) ns))
-        ∙ ap (λ v. one_if (p (grant (id_of i n.generation) (box_of n.area))) + v) h
-    by_test false h = h ∙ sym (nothing_before (slot_sum (alloc_weight p) (i + 1) ns))
-      where
-        nothing_before : (v : ℕ) → 0 + v ≡ v
-        nothing_before v = omega arith
+count-allocated p i (n ∷ ns) = grind (arith, count-allocated p (i + 1) ns, slot_sum, one_if, count_by-cons)
 
 -- The list of the free slots counts them.
 pub count-free_areas : (p : Box → Bool) (i : ℕ) (ns : List Node) → count_by p (map box_of (free_areas ns)) ≡ slot_sum (free_weight p) i ns
 count-free_areas p i [] = refl
-count-free_areas p i (n ∷ ns) = by_test (is_free n.kind) (count-free_areas p (i + 1) ns)
-  where
-    by_test : (b : Bool) → count_by p (map box_of (free_areas ns)) ≡ slot_sum (free_weight p) (i + 1) ns
-        → count_by p (map box_of (cond b (n.area ∷ free_areas ns) (free_areas ns)))
-        ≡ cond b (one_if (p (box_of n.area))) 0 + slot_sum (free_weight p) (i + 1) ns
-    by_test true h =
-        count_by-cons p (box_of n.area) (map box_of (free_areas ns)) ∙ ap (λ v. one_if (p (box_of n.area)) + v) h
-    by_test false h = h ∙ sym (nothing_before (slot_sum (free_weight p) (i + 1) ns))
-      where
-        nothing_before : (v : ℕ) → 0 + v ≡ v
-        nothing_before v = omega arith
+count-free_areas p i (n ∷ ns) = grind (arith, count-free_areas p (i + 1) ns, slot_sum, one_if, count_by-cons)
 
 -- What is live among standing members.
 pub live-Standing : (p : Grant → Bool) (ns : List Node) (s : Sequence) (b q : ℕ) (n : Numbered) → Standing ns s b q n
     → count_by p (live_among s.axis (spot s.axis q s.start) s.width (erase n)) ≡ weigh (λ k. alloc_weight p k (node_at ns k)) n
 live-Standing p ns s b q End h = refl
 live-Standing p ns s b q (Free j e rest) h =
-    let at : count_by p (live_among s.axis (moved s.axis (spot s.axis q s.start) e) s.width (erase rest)) ≡ weigh (λ k. alloc_weight p k (node_at ns k)) rest =
-    ap (λ o. count_by p (live_among s.axis o s.width (erase rest))) (moved-spot s.axis q s.start e) ∙ live-Standing p ns s j (q + e) rest h.2 in
-    let here : alloc_weight p j (node_at ns j) ≡ 0 =
-    ap (λ v. cond (is_alloc v) (one_if (p (grant (id_of j (node_at ns j).generation) (box_of (node_at ns j).area)))) 0) h.0.kind in
-    at ∙ first_none _ _ here
-  where
-    first_none : (a v : ℕ) → a ≡ 0 → v ≡ a + v
-    first_none a v z = omega arith
+    grind (arith, live_among, moved-spot, live-Standing p ns s j (q + e) rest h.2, one_if)
 live-Standing p ns s b q (Alloc j g e rest) h =
-    let at : count_by p (live_among s.axis (moved s.axis (spot s.axis q s.start) e) s.width (erase rest)) ≡ weigh (λ k. alloc_weight p k (node_at ns k)) rest =
-    ap (λ o. count_by p (live_among s.axis o s.width (erase rest))) (moved-spot s.axis q s.start e) ∙ live-Standing p ns s j (q + e) rest h.3 in
-    let here : alloc_weight p j (node_at ns j) ≡ one_if (p (grant (id_of j g) (member_box s q e))) =
-    ap (λ v. cond (is_alloc v) (one_if (p (grant (id_of j (node_at ns j).generation) (box_of (node_at ns j).area)))) 0) h.0.kind
-    ∙ ap (λ v. one_if (p (grant (id_of j v) (box_of (node_at ns j).area)))) h.2
-    ∙ ap (λ v. one_if (p (grant (id_of j g) (box_of v)))) h.1 in
-    count_by-cons p (grant (id_of j g) (member_box s q e)) (live_among s.axis (moved s.axis (spot s.axis q s.start) e) s.width (erase rest))
-    ∙ both _ _ _ _ (sym here) at
-  where
-    both : (a b c d : ℕ) → a ≡ b → c ≡ d → a + c ≡ b + d
-    both a b c d x y = omega arith
+    grind (arith, live_among, moved-spot, live-Standing p ns s j (q + e) rest h.3, one_if, count_by-cons)
 live-Standing p ns s b q (Seq j e inner rest) h =
     let at : count_by p (live_among s.axis (moved s.axis (spot s.axis q s.start) e) s.width (erase rest)) ≡ weigh (λ k. alloc_weight p k (node_at ns k)) rest =
     ap (λ o. count_by p (live_among s.axis o s.width (erase rest))) (moved-spot s.axis q s.start e) ∙ live-Standing p ns s j (q + e) rest h.3 in
@@ -113,22 +75,9 @@ pub free-Standing : (p : Box → Bool) (ns : List Node) (s : Sequence) (b q : �
     → count_by p (free_among s.axis (spot s.axis q s.start) s.width (erase n)) ≡ weigh (λ k. free_weight p k (node_at ns k)) n
 free-Standing p ns s b q End h = refl
 free-Standing p ns s b q (Free j e rest) h =
-    let at : count_by p (free_among s.axis (moved s.axis (spot s.axis q s.start) e) s.width (erase rest)) ≡ weigh (λ k. free_weight p k (node_at ns k)) rest =
-    ap (λ o. count_by p (free_among s.axis o s.width (erase rest))) (moved-spot s.axis q s.start e) ∙ free-Standing p ns s j (q + e) rest h.2 in
-    let here : free_weight p j (node_at ns j) ≡ one_if (p (member_box s q e)) =
-    ap (λ v. cond (is_free v) (one_if (p (box_of (node_at ns j).area))) 0) h.0.kind ∙ ap (λ v. one_if (p (box_of v))) h.1 in
-    count_by-cons p (member_box s q e) (free_among s.axis (moved s.axis (spot s.axis q s.start) e) s.width (erase rest)) ∙ both _ _ _ _ (sym here) at
-  where
-    both : (a b c d : ℕ) → a ≡ b → c ≡ d → a + c ≡ b + d
-    both a b c d x y = omega arith
+    search (rules, free_among, moved-spot, free-Standing p ns s j (q + e) rest h.2, one_if, count_by-cons)
 free-Standing p ns s b q (Alloc j g e rest) h =
-    let at : count_by p (free_among s.axis (moved s.axis (spot s.axis q s.start) e) s.width (erase rest)) ≡ weigh (λ k. free_weight p k (node_at ns k)) rest =
-    ap (λ o. count_by p (free_among s.axis o s.width (erase rest))) (moved-spot s.axis q s.start e) ∙ free-Standing p ns s j (q + e) rest h.3 in
-    let here : free_weight p j (node_at ns j) ≡ 0 = ap (λ v. cond (is_free v) (one_if (p (box_of (node_at ns j).area))) 0) h.0.kind in
-    at ∙ first_none _ _ here
-  where
-    first_none : (a v : ℕ) → a ≡ 0 → v ≡ a + v
-    first_none a v z = omega arith
+    grind (arith, free_among, moved-spot, free-Standing p ns s j (q + e) rest h.3, one_if)
 free-Standing p ns s b q (Seq j e inner rest) h =
     let at : count_by p (free_among s.axis (moved s.axis (spot s.axis q s.start) e) s.width (erase rest)) ≡ weigh (λ k. free_weight p k (node_at ns k)) rest =
     ap (λ o. count_by p (free_among s.axis o s.width (erase rest))) (moved-spot s.axis q s.start e) ∙ free-Standing p ns s j (q + e) rest h.3 in

@@ -1,9 +1,9 @@
 -- A lone free child takes the place of its container.
-use Rattle.std.proofs.Common.{ℕ, ◌+◌, ◌<◌, ◌≤◌, ◌≡◌, List, refl, sym, ap, ◌∙◌, ◌⊎◌, inl, inr, arith, eqb}
-use Rattle.std.proofs.lemmas.Bool.{cases_eq, cond_both, eqb-true, eqb-false, ne_eqb, cond-false}
+use Rattle.std.proofs.Common.{ℕ, ◌+◌, ◌<◌, ◌≤◌, ◌≡◌, List, refl, sym, ◌∙◌, ◌⊎◌, inl, inr, arith, eqb, rules}
+use Rattle.std.proofs.lemmas.Bool.{cond_both, eqb-true, eqb-false, ne_eqb, cond-false}
 use Rattle.guillotiere.specs.declared.slots.Node.{Node}
 use Rattle.guillotiere.specs.declared.slots.NodeKind.TheVariants as kind
-use Rattle.guillotiere.specs.Slots.{node_at, use_count, no_slot}
+use Rattle.guillotiere.specs.Slots.{node_at, no_slot}
 use Rattle.guillotiere.specs.Slots.Numbered.{Numbered, tally, first_slot, same, lifted, lifted_to, is_seq_at, End, Free, Alloc, Seq}
 use Rattle.guillotiere.specs.Slots.Standing.{Sequence, Standing, Stands, IsLinkedIn, inside}
 use Rattle.guillotiere.proofs.SlotLemmas.Frames.{same-self, same-ne, Standing-same, used-le, split_pos, ne-from_same, ne-from_count}
@@ -14,24 +14,10 @@ use Rattle.guillotiere.proofs.SlotLemmas.Editing.{lifting, seq_here, first-edite
 -- A member's parent holds the sequence, or is a member itself.
 pub parent-in : (ns : List Node) (k : ℕ) (s : Sequence) (b p : ℕ) (n : Numbered) → Standing ns s b p n → 0 < tally k n → ((node_at ns k).parent.number ≡ s.parent) ⊎ (0 < tally (node_at ns k).parent.number n)
 parent-in ns k s b p End h l = absurd (omega arith)
-parent-in ns k s b p (Free j e rest) h l =
-    elim (cases_eq k j) [
-      | inl q ↦ inl (rw q h.0.parent)
-      | inr ne ↦ elim (parent-in ns k s j (p + e) rest h.2 (omega (arith, same-ne k j ne))) [ inl x ↦ inl x | inr y ↦ inr (omega arith) ]
-    ]
-parent-in ns k s b p (Alloc j g e rest) h l =
-    elim (cases_eq k j) [
-      | inl q ↦ inl (rw q h.0.parent)
-      | inr ne ↦ elim (parent-in ns k s j (p + e) rest h.3 (omega (arith, same-ne k j ne))) [ inl x ↦ inl x | inr y ↦ inr (omega arith) ]
-    ]
+parent-in ns k s b p (Free j e rest) h l = grind (arith, parent-in ns k s j (p + e) rest h.2, same-ne)
+parent-in ns k s b p (Alloc j g e rest) h l = grind (arith, parent-in ns k s j (p + e) rest h.3, same-ne)
 parent-in ns k s b p (Seq j e inner rest) h l =
-    elim (cases_eq k j) [
-      | inl q ↦ inl (rw q h.0.parent)
-      | inr ne ↦ elim (split_pos (tally k inner) (tally k rest) (omega (arith, same-ne k j ne))) [
-        | inl a ↦ elim (parent-in ns k (inside s j p e) no_slot s.start inner h.2 a) [ inl x ↦ inr (rw x (omega (arith, same-self j))) | inr y ↦ inr (omega arith) ]
-        | inr c ↦ elim (parent-in ns k s j (p + e) rest h.3 c) [ inl x ↦ inl x | inr y ↦ inr (omega arith) ]
-      ]
-    ]
+    search (rules, split_pos, same-ne, parent-in ns k (inside s j p e) no_slot s.start inner h.2, same-self, parent-in ns k s j (p + e) rest h.3)
 
 first_to : (j e : ℕ) (inner rest : Numbered) → first_slot (lifted_to j e inner rest) ≡ j
 first_to j e (Free k d End) rest = refl
@@ -78,19 +64,11 @@ module _ (ns ms : List Node) (c k : ℕ) (w : IsLifted ns ms c k) where
   not_later : (s : Sequence) (b q : ℕ) (n : Numbered) → tally no_slot n ≡ 0 → tally c n ≡ 0 → (k ≡ first_slot n → ⊥) → 0 < tally k n → Standing ns s b q n → ⊥
   not_later s b q End none zc ne l h = absurd (omega arith)
   not_later s b q (Free j e rest) none zc ne l h =
-      let lk : 0 < tally k rest = omega (arith, same-ne k j ne) in
-      elim (cases_eq k (first_slot rest)) [ inl x ↦ not_after s j (q + e) rest (ne-from_same no_slot j (omega arith)) x lk h.2 | inr nx ↦ not_later s j (q + e) rest (omega arith) (omega arith) nx lk h.2 ]
+      grind (arith, same-ne, not_after, ne-from_same, not_later s j (q + e) rest (omega arith) (omega arith))
   not_later s b q (Alloc j g e rest) none zc ne l h =
-      let lk : 0 < tally k rest = omega (arith, same-ne k j ne) in
-      elim (cases_eq k (first_slot rest)) [ inl x ↦ not_after s j (q + e) rest (ne-from_same no_slot j (omega arith)) x lk h.3 | inr nx ↦ not_later s j (q + e) rest (omega arith) (omega arith) nx lk h.3 ]
+      grind (arith, same-ne, not_after, ne-from_same, not_later s j (q + e) rest (omega arith) (omega arith))
   not_later s b q (Seq j e inner rest) none zc ne l h =
-      elim (split_pos (tally k inner) (tally k rest) (omega (arith, same-ne k j ne))) [
-        | inl a ↦ elim (parent-in ns k (inside s j q e) no_slot s.start inner h.2 a) [
-          | inl x ↦ ne-from_same c j (omega arith) (sym x ∙ w.parent)
-          | inr y ↦ let z : 0 < tally c inner = rw w.parent at y in absurd (omega arith)
-        ]
-        | inr lk ↦ elim (cases_eq k (first_slot rest)) [ inl x ↦ not_after s j (q + e) rest (ne-from_same no_slot j (omega arith)) x lk h.3 | inr nx ↦ not_later s j (q + e) rest (omega arith) (omega arith) nx lk h.3 ]
-      ]
+      grind (arith, split_pos, same-ne, parent-in, ne-from_same, not_after, not_later s j (q + e) rest (omega arith) (omega arith))
 
   first_alone : (s : Sequence) (b q : ℕ) (n : Numbered) → tally no_slot n ≡ 0 → 0 < tally k n → k ≡ first_slot n → Standing ns s b q n → (d : ℕ) × (n ≡ Free k d End)
   first_alone s b q End none l x h = absurd (omega arith)
@@ -101,8 +79,7 @@ module _ (ns ms : List Node) (c k : ℕ) (w : IsLifted ns ms c k) where
 
   -- In c there is the child alone.
   lone : (s : Sequence) (b q : ℕ) (n : Numbered) → tally no_slot n ≡ 0 → tally c n ≡ 0 → 0 < tally k n → Standing ns s b q n → (d : ℕ) × (n ≡ Free k d End)
-  lone s b q n none zc l h =
-      elim (cases_eq k (first_slot n)) [ inl x ↦ first_alone s b q n none l x h | inr ne ↦ absurd (not_later s b q n none zc ne l h) ]
+  lone s b q n none zc l h = grind (arith, first_alone, not_later)
 
   not_free : (s : Sequence) (b a j : ℕ) → IsLinkedIn (node_at ns j) s b a kind.Container → k ≡ j → ⊥
   not_free s b a j h x = let f = h.kind in let y : (node_at ns j).kind ≡ kind.Free = rw (← x, w.free) refl in cc
@@ -124,16 +101,24 @@ module _ (ns ms : List Node) (c k : ℕ) (w : IsLifted ns ms c k) where
   lifts : (s : Sequence) (b p : ℕ) (n : Numbered) → ((x : ℕ) → tally x n ≤ 1) → tally no_slot n ≡ 0 → (s.parent ≡ c → ⊥) → 0 < tally k n → Standing ns s b p n → IsLift s b p n (lifted c n)
   lifts s b p End once none np l h = absurd (omega arith)
   lifts s b p (Free j e rest) once none np l h =
-      let ne : k ≡ j → ⊥ = (λ x. np (sym h.0.parent ∙ (rw (← x) w.parent))) in
-      let lk : 0 < tally k rest = omega (arith, same-ne k j ne) in
-      let eq = beside j rest once (container_in s j (p + e) rest np h.2 lk) lk in
-      let t = lifts s j (p + e) rest (λ x. omega (arith, once x)) (omega arith) np lk h.2 in
-      ((rw (eq, first-lifted c rest) h.0, rw eq h.1, t.0), (λ x. omega (arith, t.1 x)))
+      grind (
+        arith,
+        same-ne k j,
+        beside j rest once,
+        container_in s j (p + e) rest np h.2,
+        lifts s j (p + e) rest,
+        first-lifted c rest,
+      )
   lifts s b p (Alloc j g e rest) once none np l h =
-      let lk : 0 < tally k rest = omega (arith, same-ne k j (not_free_alloc _ _ _ _ h.0)) in
-      let eq = beside j rest once (container_in s j (p + e) rest np h.3 lk) lk in
-      let t = lifts s j (p + e) rest (λ x. omega (arith, once x)) (omega arith) np lk h.3 in
-      ((rw (eq, first-lifted c rest) h.0, rw eq h.1, rw eq h.2, t.0), (λ x. omega (arith, t.1 x)))
+      grind (
+        arith,
+        same-ne k j,
+        not_free_alloc,
+        beside j rest once,
+        container_in s j (p + e) rest np h.3,
+        lifts s j (p + e) rest,
+        first-lifted c rest,
+      )
   lifts s b p (Seq j e inner rest) once none np l h =
       let t = inside s j p e in
       elim (split_pos (tally k inner) (tally k rest) (omega (arith, same-ne k j (not_free _ _ _ _ h.0)))) [
@@ -173,19 +158,7 @@ module _ (ns ms : List Node) (c k : ℕ) (w : IsLifted ns ms c k) where
       ]
 
   all_lifts : (s : Sequence) (n : Numbered) → s.parent ≡ no_slot → Stands ns s n → IsLift s no_slot 0 n (lifted c n)
-  all_lifts s n top h =
-      let once : (x : ℕ) → tally x n ≤ 1 = λ x. omega (arith, h.numbered x, used-le (node_at ns x).kind) in
-      let none : tally no_slot n ≡ 0 = h.numbered no_slot ∙ ap use_count w.ends in
-      lifts s no_slot 0 n once none (λ x. w.nested (sym x ∙ top)) (rw (h.numbered k, w.free) (omega arith)) h.standing
+  all_lifts s n top h = grind (arith, used-le, lifts)
 
   pub Stands-lifted : (s : Sequence) (n : Numbered) → s.parent ≡ no_slot → Stands ns s n → (node_at ns c).kind ≡ kind.Container → Stands ms s (lifted c n)
-  Stands-lifted s n top h box =
-      let all = all_lifts s n top h in
-      record { standing = all.0; numbered = λ x. omega (arith, all.1 x, used_after box x, h.numbered x) }
-    where
-      used_after : (node_at ns c).kind ≡ kind.Container → (x : ℕ) → use_count (node_at ms x).kind + same x k ≡ use_count (node_at ns x).kind
-      used_after box x =
-          elim (cases_eq x k) [
-            | inl e ↦ rw (e, w.gone, w.free, same-self k) refl
-            | inr nk ↦ rw (same-ne x k nk) (elim (cases_eq x c) [ inl e ↦ rw (e, w.outer, box) (omega arith) | inr nc ↦ rw (w.others x nc nk) (omega arith) ])
-          ]
+  Stands-lifted s n top h box = grind (arith, all_lifts s n top h, same-self k, same-ne)

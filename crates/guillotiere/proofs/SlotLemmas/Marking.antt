@@ -1,11 +1,11 @@
 -- Marking an allocated leaf free.
-use Rattle.std.proofs.Common.{ℕ, ◌+◌, ◌≤◌, ◌≡◌, List, refl, ◌∙◌, inl, inr, arith}
+use Rattle.std.proofs.Common.{ℕ, ◌≤◌, ◌≡◌, List, refl, ◌∙◌, inl, inr, arith}
 use Rattle.std.proofs.lemmas.Bool.{cases_eq}
 use Rattle.guillotiere.specs.declared.slots.Node.{Node}
 use Rattle.guillotiere.specs.declared.slots.NodeKind.TheVariants as kind
 use Rattle.guillotiere.specs.Slots.{no_slot, node_at, use_count}
 use Rattle.guillotiere.specs.Slots.Numbered.{Numbered, weigh, tally, numbers, first_slot, same, marked, is_alloc_at}
-use Rattle.guillotiere.specs.Slots.Standing.{Sequence, Standing, Stands}
+use Rattle.guillotiere.specs.Slots.Standing.{Sequence, Stands}
 use Rattle.guillotiere.proofs.SlotLemmas.Frames.{IsWritten, Standing-same, same-self, used-le, ne-from_count}
 use Rattle.guillotiere.proofs.SlotLemmas.Weights.{places-le, alloc_place}
 use Rattle.guillotiere.proofs.SlotLemmas.Editing.{IsEdit, Standing-edited, marking, alloc_here, first-edited, edited-absent, weigh-same, other-slot}
@@ -24,19 +24,7 @@ marked-absent i n z = edited-absent (is_alloc_at i) marking refl 0 n (omega (ari
 
 module _ (ns ms : List Node) (i : ℕ) (w : IsWritten ns ms i (record (node_at ns i) { kind = kind.Free })) (was : (node_at ns i).kind ≡ kind.Alloc) where
   freed : (n : Numbered) → ((x : ℕ) → tally x n ≤ 1) → IsEdit ns ms (is_alloc_at i) marking i n
-  freed n once =
-      record {
-        never = refl;
-        begins = alloc_here i (λ m. first_slot m ≡ i) (λ g e rest. refl);
-        once = once;
-        first = λ a. alloc_here i (λ m. first_slot (marking a m) ≡ first_slot m) (λ g e rest. refl);
-        here = λ s b p. alloc_here i (λ m. Standing ns s b p m → ((x : ℕ) → tally x m ≤ tally x n) → Standing ms s b p (marking s.width m)) (λ g e rest h less. (
-          rw w.there (record { parent = h.0.parent; previous = h.0.previous; next = h.0.next; kind = refl; axis = h.0.axis }),
-          rw w.there h.1,
-          Standing-same ns ms s i (p + e) rest (λ k l. w.others k (ne-from_count i k rest (omega (arith, less i, once i, same-self i)) l)) h.3,
-        ));
-        beside = λ f x z _. w.others x (other-slot x i f.members z f.here);
-      }
+  freed n once = grind (arith, alloc_here i, marking, Standing-same ns ms, ne-from_count i, same-self i, other-slot)
 
   used_same : (k : ℕ) → use_count (node_at ns k).kind ≡ use_count (node_at ms k).kind
   used_same k = elim (cases_eq k i) [ inl e ↦ rw (e, w.there, was) refl | inr ne ↦ rw (w.others k ne) refl ]

@@ -1,10 +1,9 @@
 -- Joining and lifting keep the normal form, and marking by slot is marking by id.
-use Rattle.std.proofs.Common.{ℕ, ◌+◌, ◌<◌, ◌≡◌, List, refl, sym, ap, ap₂, ◌∙◌, ◌≤◌, Bool, inl, inr, arith, eqb}
+use Rattle.std.proofs.Common.{ℕ, ◌+◌, ◌<◌, ◌≡◌, List, refl, sym, ap, ◌∙◌, ◌≤◌, Bool, inl, inr, arith, eqb}
 use Rattle.std.proofs.lemmas.Bool.{cases_eq, eq-eqb, ne_eqb, cond-true, cond-false}
 use Rattle.guillotiere.specs.declared.slots.Node.{Node}
 use Rattle.guillotiere.specs.Slots.{node_at, no_slot}
 use Rattle.guillotiere.specs.Trees as tree
-use Rattle.guillotiere.specs.Trees.{Members}
 use Rattle.guillotiere.specs.Changes.{free_before, seq_before, nf, mark, only}
 use Rattle.guillotiere.specs.Slots.Numbered.{Numbered, tally, same, is_free_at, is_seq_at, marked, joined, grown_by, lifted, lifted_to, erase, id_of, numbers, End, Free, Alloc, Seq}
 use Rattle.guillotiere.specs.Slots.Standing.{Sequence, Standing, inside}
@@ -15,13 +14,7 @@ use Rattle.guillotiere.proofs.TreeLemmas.TreeNormal.{free_before-twice}
 
 -- A member that keeps its normal form keeps that of the whole.
 nf-kept : (is : Numbered → Bool) → IsKept is (λ a m n. nf (erase n) ≡ nf (erase m))
-nf-kept is =
-    record {
-      ends = λ a. refl;
-      free = λ a i e m n _ h. ap (free_before e) h;
-      alloc = λ a i g e m n _ h. ap (tree.Alloc (id_of i g) e) h;
-      seq = λ a i e k l m n _ g h. ap₂ (seq_before e) g h;
-    }
+nf-kept is = grind arith
 
 nf-grown : (i e : ℕ) (n : Numbered) → nf (erase (grown_by i e n)) ≡ free_before e (nf (erase n))
 nf-grown i e End = refl
@@ -47,8 +40,7 @@ nf-lifted i = edited-keeps (is_seq_at i) lifting _ (nf-kept _) (λ a. seq_here i
 -- To mark the leaf at slot i is to mark the leaf with its id.
 pub erase-marked : (ns : List Node) (i : ℕ) (s : Sequence) (b p : ℕ) (n : Numbered) → i < 16777216 → ((k : ℕ) → 0 < tally k n → k < 16777216) → ((k : ℕ) → tally k n ≤ 1) → Standing ns s b p n → erase (marked i n) ≡ mark (only (id_of i (node_at ns i).generation)) (erase n)
 erase-marked ns i s b p End li below once h = refl
-erase-marked ns i s b p (Free j e rest) li below once h =
-    ap (tree.Free e) (erase-marked ns i s j (p + e) rest li (λ k l. below k (omega arith)) (λ k. omega (arith, once k)) h.2)
+erase-marked ns i s b p (Free j e rest) li below once h = grind (arith, erase-marked ns i s j (p + e) rest li)
 erase-marked ns i s b p (Alloc j g e rest) li below once h =
     let id = id_of i (node_at ns i).generation in
     let x = id_of j g in
@@ -64,15 +56,11 @@ erase-marked ns i s b p (Alloc j g e rest) li below once h =
           ap erase (cond-false (eqb i j) (Free j e rest) (Alloc j g e (marked i rest)) (ne_eqb i j ne)) ∙ ap (tree.Alloc x e) m ∙ sym (cond-false (eqb x id) (tree.Free e (mark (only id) (erase rest))) (tree.Alloc x e (mark (only id) (erase rest))) (ne_eqb x id other_id))
     ]
 erase-marked ns i s b p (Seq j e inner rest) li below once h =
-    let id = id_of i (node_at ns i).generation in
-    let a : erase (marked i inner) ≡ mark (only id) (erase inner) = erase-marked ns i (inside s j p e) no_slot s.start inner li (λ k l. below k (omega arith)) (λ k. omega (arith, once k)) h.2 in
-    let c : erase (marked i rest) ≡ mark (only id) (erase rest) = erase-marked ns i s j (p + e) rest li (λ k l. below k (omega arith)) (λ k. omega (arith, once k)) h.3 in
-    cc
+    grind (arith, erase-marked ns i (inside s j p e) no_slot s.start inner li, erase-marked ns i s j (p + e) rest li)
 
 -- The numbered tree has as many members as the tree.
 pub numbers-erase : (n : Numbered) → numbers n ≡ tree.node_count (erase n)
 numbers-erase End = refl
 numbers-erase (Free i e rest) = ap (λ v. 1 + v) (numbers-erase rest)
 numbers-erase (Alloc i g e rest) = ap (λ v. 1 + v) (numbers-erase rest)
-numbers-erase (Seq i e inner rest) =
-    ap (λ v. 1 + v + numbers rest) (numbers-erase inner) ∙ ap (λ v. 1 + tree.node_count (erase inner) + v) (numbers-erase rest)
+numbers-erase (Seq i e inner rest) = grind (arith, numbers-erase inner, numbers-erase rest)

@@ -1,5 +1,5 @@
 -- What the calls on slots make of extents: they stay positive, and add up as before.
-use Rattle.std.proofs.Common.{ℕ, ◌+◌, ◌<◌, ◌≡◌, List, refl, ap, ◌∙◌, arith, Bool}
+use Rattle.std.proofs.Common.{ℕ, ◌+◌, ◌<◌, ◌≡◌, List, refl, arith, Bool}
 use Rattle.guillotiere.specs.declared.slots.Node.{Node}
 use Rattle.guillotiere.specs.Trees.{IsCut, total}
 use Rattle.guillotiere.specs.Slots.{node_at, no_slot}
@@ -15,13 +15,7 @@ IsRecut across old new =
     (total (erase new) ≡ total (erase old)) × (0 < across → IsCut across (erase old) → IsCut across (erase new))
 
 recut-kept : (is : Numbered → Bool) → IsKept is IsRecut
-recut-kept is =
-    record {
-      ends = λ a. (refl, λ _ c. c);
-      free = λ a i e m n _ h. (ap (λ t. e + t) h.0, λ w c. (c.0, h.1 w c.1));
-      alloc = λ a i g e m n _ h. (ap (λ t. e + t) h.0, λ w c. (c.0, h.1 w c.1));
-      seq = λ a i e k l m n _ g h. (ap (λ t. e + t) h.0, λ w c. (c.0, g.0 ∙ c.1, g.1 c.0 c.2, h.1 w c.3));
-    }
+recut-kept is = grind arith
 
 pub recut-marked : (i across : ℕ) (n : Numbered) → IsRecut across n (marked i n)
 recut-marked i =

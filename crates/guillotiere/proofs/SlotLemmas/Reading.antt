@@ -4,25 +4,20 @@ use Rattle.std.proofs.lemmas.Bool.{cases_eq, cases_lt, and_parts, and_from, eqb-
 use Rattle.std.proofs.lemmas.List.{get_or_past}
 use Rattle.std.proofs.lemmas.List.Sums.{passes_at_first, fails_before_first}
 use Rattle.guillotiere.specs.declared.slots.Node.{Node}
-use Rattle.guillotiere.specs.Boxes.{Axis, box_at, sized, side, box_sides}
+use Rattle.guillotiere.specs.Boxes.{Axis, side, box_sides}
 use Rattle.guillotiere.specs.Pixels.{box_of, rectangle_of}
-use Rattle.guillotiere.specs.Boxes.Axis.{Horizontal, Vertical}
 use Rattle.guillotiere.specs.declared.slots.NodeKind.TheVariants as kind
 use Rattle.guillotiere.specs.Slots.{axis_of, node_at, blank_node, use_count, no_slot}
 use Rattle.guillotiere.specs.Trees.{Members, Tree}
 use Rattle.guillotiere.specs.Slots.Numbered.{Numbered, tally, first_slot, same, erase, numbers, End, Free, Alloc, Seq}
-use Rattle.guillotiere.specs.Slots.Standing.{Sequence, Standing, Stands, inside, member_box, spot}
+use Rattle.guillotiere.specs.Slots.Standing.{Sequence, Standing, Stands, inside, member_box}
 use Rattle.guillotiere.specs.Slots.Reading.{extent_of, begins_in, first_member_of, read, numbered_of, tree_of}
 use Rattle.guillotiere.proofs.SlotLemmas.Frames.{same-self, same-ne, used-le, split_pos, ne-from_same}
 use Rattle.guillotiere.proofs.SlotLemmas.JoiningWrites.{none-unused, used-inside}
 use Rattle.guillotiere.proofs.SlotLemmas.Lifting.{parent-in}
 
 pub side-box : (s : Sequence) (p e : ℕ) → side s.axis (box_sides (box_of (rectangle_of (member_box s p e)))) ≡ e
-side-box s p e = along s.axis s.start s.width p e
-  where
-    along : (a : Axis) (start width p e : ℕ) → side a (box_sides (box_of (rectangle_of (box_at (spot a p start) (sized a e width))))) ≡ e
-    along Horizontal start width p e = omega arith
-    along Vertical start width p e = omega arith
+side-box s p e = grind arith
 
 -- The extent read from a member's rectangle is the member's.
 pub extent-of_placed : (ns : List Node) (j : ℕ) (s : Sequence) (p e : ℕ) → axis_of (node_at ns j).axis ≡ s.axis → (node_at ns j).area ≡ rectangle_of (member_box s p e) → extent_of (node_at ns j) ≡ e
@@ -35,28 +30,18 @@ pub record IsHead (c : ℕ) (n : Node) : Type 0 where
   pub previous : n.previous.number ≡ no_slot
 
 IsHead-true : (c : ℕ) (n : Node) → begins_in c n ≡ true → IsHead c n
-IsHead-true c n h =
-    let a = and_parts _ _ h in
-    let b = and_parts _ _ a.1 in
-    record { is_used = ltb-true _ _ a.0; parent = eqb-true _ _ b.0; previous = eqb-true _ _ b.1 }
+IsHead-true c n h = grind (arith, and_parts, ltb-true, eqb-true)
 
 true-IsHead : (c : ℕ) (n : Node) → IsHead c n → begins_in c n ≡ true
-true-IsHead c n h =
-    and_from _ _ (lt-ltb _ _ h.is_used) (and_from _ _ (eq-eqb _ _ h.parent) (eq-eqb _ _ h.previous))
+true-IsHead c n h = grind (arith, and_from, lt-ltb, eq-eqb)
 
 -- In a sequence held by c, which is not in it, a later member of c has something before it.
 not_first : (ns : List Node) (c k : ℕ) (s : Sequence) (b q : ℕ) (n : Numbered) → IsHead c (node_at ns k) → (b ≡ no_slot → ⊥) → tally no_slot n ≡ 0 → tally c n ≡ 0 → 0 < tally k n → Standing ns s b q n → ⊥
 not_first ns c k s b q End hd nb none zc l h = absurd (omega arith)
 not_first ns c k s b q (Free j e rest) hd nb none zc l h =
-    elim (cases_eq k j) [
-      | inl x ↦ nb (sym h.0.previous ∙ (rw (← x) hd.previous))
-      | inr ne ↦ not_first ns c k s j (q + e) rest hd (λ x. ne-from_same no_slot j (omega arith) x) (omega arith) (omega arith) (omega (arith, same-ne k j ne)) h.2
-    ]
+    grind (arith, not_first ns c k s j (q + e) rest hd, ne-from_same, same-ne)
 not_first ns c k s b q (Alloc j g e rest) hd nb none zc l h =
-    elim (cases_eq k j) [
-      | inl x ↦ nb (sym h.0.previous ∙ (rw (← x) hd.previous))
-      | inr ne ↦ not_first ns c k s j (q + e) rest hd (λ x. ne-from_same no_slot j (omega arith) x) (omega arith) (omega arith) (omega (arith, same-ne k j ne)) h.3
-    ]
+    grind (arith, not_first ns c k s j (q + e) rest hd, ne-from_same, same-ne)
 not_first ns c k s b q (Seq j e inner rest) hd nb none zc l h =
     elim (cases_eq k j) [
       | inl x ↦ nb (sym h.0.previous ∙ (rw (← x) hd.previous))
@@ -72,16 +57,8 @@ not_first ns c k s b q (Seq j e inner rest) hd nb none zc l h =
 -- The head of the sequence of c is its first_slot member.
 pub head-first : (ns : List Node) (c k : ℕ) (s : Sequence) (b q : ℕ) (n : Numbered) → IsHead c (node_at ns k) → tally no_slot n ≡ 0 → tally c n ≡ 0 → 0 < tally k n → Standing ns s b q n → k ≡ first_slot n
 head-first ns c k s b q End hd none zc l h = absurd (omega arith)
-head-first ns c k s b q (Free j e rest) hd none zc l h =
-    elim (cases_eq k j) [
-      | inl x ↦ x
-      | inr ne ↦ absurd (not_first ns c k s j (q + e) rest hd (λ x. ne-from_same no_slot j (omega arith) x) (omega arith) (omega arith) (omega (arith, same-ne k j ne)) h.2)
-    ]
-head-first ns c k s b q (Alloc j g e rest) hd none zc l h =
-    elim (cases_eq k j) [
-      | inl x ↦ x
-      | inr ne ↦ absurd (not_first ns c k s j (q + e) rest hd (λ x. ne-from_same no_slot j (omega arith) x) (omega arith) (omega arith) (omega (arith, same-ne k j ne)) h.3)
-    ]
+head-first ns c k s b q (Free j e rest) hd none zc l h = grind (arith, not_first, ne-from_same, same-ne)
+head-first ns c k s b q (Alloc j g e rest) hd none zc l h = grind (arith, not_first, ne-from_same, same-ne)
 head-first ns c k s b q (Seq j e inner rest) hd none zc l h =
     elim (cases_eq k j) [
       | inl x ↦ x
@@ -141,22 +118,11 @@ Starts-head ns s q n h only =
           let o = only p hd in
           Starts-at ns p n (omega (arith, ap (λ v. tally v n) o.0, o.1)) o.0
       | inr g ↦
-          let past : (node_at ns p).kind ≡ kind.Unused = ap (λ (n : Node). n.kind) (get_or_past ns p blank_node g) in
-          elim (empty-or n) [
-            | inl e ↦ rw e past
-            | inr y ↦
-                let hd = first-head ns s q n h y in
-                let l = used-inside ns (first_slot n) hd.is_used in
-                absurd (true≢false (sym (true-IsHead c (node_at ns (first_slot n)) hd) ∙ fails_before_first (begins_in c) ns (first_slot n) blank_node (omega arith)))
-          ]
+          grind (arith, get_or_past, empty-or, first-head, used-inside, true≢false, true-IsHead, fails_before_first)
     ]
 
 closed_rest : (ns : List Node) (s : Sequence) (j : ℕ) (n rest : Numbered) → (node_at ns j).parent.number ≡ s.parent → tally s.parent rest ≡ 0 → ((k : ℕ) → tally k n ≡ same k j + tally k rest) → IsClosed ns n → IsClosed ns rest
-closed_rest ns s j n rest pj z is closed k u l =
-    elim (cases_eq k j) [
-      | inl e ↦ absurd (omega (arith, z, l, ap (λ v. tally (node_at ns v).parent.number rest) e, ap (λ v. tally v rest) pj))
-      | inr ne ↦ let y = closed k u (omega (arith, is (node_at ns k).parent.number)) in omega (arith, is k, same-ne k j ne)
-    ]
+closed_rest ns s j n rest pj z is closed k u l = grind (arith, same-ne)
 
 pub read-is : (fuel : ℕ) (ns : List Node) (s : Sequence) (b q : ℕ) (n : Numbered) (i : ℕ) → (node_at ns no_slot).kind ≡ kind.Unused → Standing ns s b q n → numbers n ≤ fuel → IsClosed ns n → tally s.parent n ≡ 0 → ((k : ℕ) → tally k n ≤ 1) → tally no_slot n ≡ 0 → Starts ns i n → read fuel ns i ≡ n
 read-is zero ns s b q End i u h f closed z once none st = refl
@@ -184,14 +150,8 @@ read-is (suc fuel) ns s b q (Seq j e inner rest) i u h f closed z once none st =
       | inl x ↦ absurd (at_j k uk x l)
       | inr ne ↦ let y = closed k uk (omega arith) in split_pos (tally k inner) (tally k rest) (omega (arith, same-ne k j ne))
     ]) in
-    let closed_in : IsClosed ns inner = (λ k uk l. elim (which k uk (omega arith)) [
-      | inl a ↦ a
-      | inr c ↦ absurd (elim (parent-in ns k s j (q + e) rest h.3 c) [ inl x ↦ absurd (omega (arith, ap (λ v. tally v inner) x, z, l)) | inr y ↦ absurd (omega (arith, once (node_at ns k).parent.number, y, l)) ])
-    ]) in
-    let closed_after : IsClosed ns rest = (λ k uk l. elim (which k uk (omega arith)) [
-      | inl a ↦ absurd (elim (parent-in ns k t no_slot s.start inner h.2 a) [ inl x ↦ absurd (omega (arith, ap (λ v. tally v rest) x, zj, l)) | inr y ↦ absurd (omega (arith, once (node_at ns k).parent.number, y, l)) ])
-      | inr c ↦ c
-    ]) in
+    let closed_in : IsClosed ns inner = grind (arith, parent-in) in
+    let closed_after : IsClosed ns rest = grind (arith, parent-in) in
     let only : (k : ℕ) → IsHead j (node_at ns k) → k ≡ first_slot inner × (0 < tally k inner) = (λ k hd.
     let y = closed k hd.is_used (omega (arith, ap (λ v. tally v (Seq j e inner rest)) hd.parent, self)) in
     elim (cases_eq k j) [
@@ -268,35 +228,18 @@ record WholeFacts (ns : List Node) (s : Sequence) (n : Numbered) : Type 0 where
   below : (k : ℕ) → 0 < tally k n → k < length ns
 
 whole_facts : (ns : List Node) (s : Sequence) (n : Numbered) → length ns < no_slot → s.parent ≡ no_slot → Stands ns s n → WholeFacts ns s n
-whole_facts ns s n short top h =
-    let u = none-unused ns short in
-    let z : tally no_slot n ≡ 0 = h.numbered no_slot ∙ ap use_count u in
-    record {
-      ends = u;
-      once = λ k. omega (arith, h.numbered k, used-le (node_at ns k).kind);
-      none = z;
-      apart = rw top z;
-      below = λ k l. used-inside ns k (rw (← h.numbered k) l);
-    }
+whole_facts ns s n short top h = grind (arith, none-unused, used-le, used-inside)
 
 top-start : (ns : List Node) (s : Sequence) (n : Numbered) → length ns < no_slot → s.parent ≡ no_slot → Stands ns s n → Starts ns (first_member_of ns no_slot) n
-top-start ns s n short top h =
-    let f = whole_facts ns s n short top h in
-    let only : (k : ℕ) → IsHead s.parent (node_at ns k) → k ≡ first_slot n × (0 < tally k n) = (λ k hd. let l : 0 < tally k n = rw (h.numbered k) hd.is_used in (head-first ns s.parent k s no_slot 0 n hd f.none f.apart l h.standing, l)) in
-    rw top at (Starts-head ns s 0 n h.standing only)
+top-start ns s n short top h = grind (arith, whole_facts, head-first, Starts-head)
 
 -- There are no more members than slots.
 pub numbers-few : (ns : List Node) (s : Sequence) (n : Numbered) → Stands ns s n → numbers n ≤ length ns
-numbers-few ns s n h =
-    let once : (k : ℕ) → tally k n ≤ 1 = λ k. omega (arith, h.numbered k, used-le (node_at ns k).kind) in
-    let below : (k : ℕ) → 0 < tally k n → k < length ns = λ k l. used-inside ns k (rw (← h.numbered k) l) in
-    omega (arith, tallies-numbers (length ns) n below, tallies-le (length ns) n once)
+numbers-few ns s n h = grind (arith, used-le, used-inside ns, tallies-numbers (length ns) n, tallies-le (length ns) n)
 
 -- The slots determine the tree.
 pub numbered_of-Stands : (ns : List Node) (s : Sequence) (n : Numbered) → length ns < no_slot → s.parent ≡ no_slot → Stands ns s n → numbered_of ns ≡ n
-numbered_of-Stands ns s n short top h =
-    let f = whole_facts ns s n short top h in
-    read-is (length ns) ns s no_slot 0 n (first_member_of ns no_slot) f.ends h.standing (numbers-few ns s n h) (λ k uk l. rw (h.numbered k) uk) f.apart f.once f.none (top-start ns s n short top h)
+numbered_of-Stands ns s n short top h = grind (arith, whole_facts, read-is, numbers-few, top-start)
 
 -- Slots that hold a tree determine it.
 pub members_of-Stands : (ns : List Node) (s : Sequence) (n : Numbered) → length ns < no_slot → s.parent ≡ no_slot → Stands ns s n → (tree_of ns).members ≡ erase n
@@ -329,18 +272,14 @@ pub head_of-Stands : (ns : List Node) (s : Sequence) (n : Numbered) → length n
 head_of-Stands ns s n short top h l = start-first ns _ n l (top-start ns s n short top h)
 
 pub axis_of-Stands : (ns : List Node) (s : Sequence) (n : Numbered) → length ns < no_slot → s.parent ≡ no_slot → Stands ns s n → IsNonempty n → (tree_of ns).axis ≡ s.axis
-axis_of-Stands ns s n short top h l =
-    ap (λ v. axis_of (node_at ns v).axis) (head_of-Stands ns s n short top h l) ∙ first-axis ns s no_slot 0 n h.standing l
+axis_of-Stands ns s n short top h l = grind (arith, head_of-Stands, first-axis)
 
 -- A tree with this axis and these members.
 pub tree-by_parts : (t : Tree) (a : Axis) (m : Members) → t.axis ≡ a → t.members ≡ m → t ≡ record { axis = a; members = m }
 tree-by_parts t a m ea em = rw (← ea, ← em) refl
 
 pub tree_of-Stands : (ns : List Node) (s : Sequence) (n : Numbered) → length ns < no_slot → s.parent ≡ no_slot → Stands ns s n → IsNonempty n → tree_of ns ≡ record { axis = s.axis; members = erase n }
-tree_of-Stands ns s n short top h l =
-    let a = axis_of-Stands ns s n short top h l in
-    let m = members_of-Stands ns s n short top h in
-    tree-by_parts (tree_of ns) s.axis (erase n) a m
+tree_of-Stands ns s n short top h l = grind (arith, axis_of-Stands, members_of-Stands, tree-by_parts)
 
 tallies-less : (m j : ℕ) (n less : Numbered) → ((x : ℕ) → tally x less + same x j ≡ tally x n) → tallies m less + sames m j ≡ tallies m n
 unfolding sames

@@ -3,9 +3,9 @@ use Rattle.std.proofs.Common.{ℕ, ◌+◌, ◌<◌, ◌≤◌, ◌≡◌, List,
 use Rattle.std.proofs.lemmas.Bool.{cases_eq, true≢false}
 use Rattle.guillotiere.specs.declared.slots.Node.{Node}
 use Rattle.guillotiere.specs.declared.slots.NodeKind.TheVariants as kind
-use Rattle.guillotiere.specs.Slots.{node_at, use_count, no_slot}
+use Rattle.guillotiere.specs.Slots.{node_at, no_slot}
 use Rattle.guillotiere.specs.Trees as tree
-use Rattle.guillotiere.specs.Trees.{Members, Tree, begins_free, is_idle, IsNormal}
+use Rattle.guillotiere.specs.Trees.{Members, begins_free, is_idle, IsNormal}
 use Rattle.guillotiere.specs.Changes.{mark, only}
 use Rattle.guillotiere.specs.Slots.Numbered.{Numbered, tally, first_slot, erase, id_of, marked, End, Free, Alloc, Seq}
 use Rattle.guillotiere.specs.Slots.Standing.{Sequence, Standing, Stands, inside}
@@ -32,18 +32,9 @@ not-Free-calm ns k never = record { apart = λ f g. absurd (never f); nested = �
 pub calm-from_normal : (ns : List Node) (s : Sequence) (b p : ℕ) (n : Numbered) → (node_at ns no_slot).kind ≡ kind.Unused → tally no_slot n ≡ 0 → (b ≡ no_slot → (s.parent ≡ no_slot) ⊎ (is_idle (erase n) ≡ false)) → IsNormal (erase n) → Standing ns s b p n → (k : ℕ) → 0 < tally k n → IsCalmAt ns k
 calm-from_normal ns s b p End u z alone normal h k l = absurd (omega arith)
 calm-from_normal ns s b p (Free j e rest) u z alone normal h k l =
-    elim (cases_eq k j) [
-      | inl q ↦ rw q (record {
-        apart = λ f g. true≢false (sym (kind-begins ns s j (p + e) rest u h.2 (rw h.0.next at g)) ∙ normal.0);
-        nested = λ f pb nx. elim (alone (sym h.0.previous ∙ pb)) [ inl t ↦ h.0.parent ∙ t | inr never ↦ absurd (true≢false (sym (idle-alone j e rest (omega arith) (sym h.0.next ∙ nx)) ∙ never)) ];
-      })
-      | inr ne ↦ calm-from_normal ns s j (p + e) rest u (omega arith) (λ q. absurd (ne-from_same no_slot j (omega arith) q)) normal.1 h.2 k (omega (arith, same-ne k j ne))
-    ]
+    grind (arith, true≢false, kind-begins, idle-alone, calm-from_normal ns s j (p + e) rest u (omega arith), ne-from_same, same-ne)
 calm-from_normal ns s b p (Alloc j g e rest) u z alone normal h k l =
-    elim (cases_eq k j) [
-      | inl q ↦ rw q (not-Free-calm ns j (λ f. let x = h.0.kind in cc))
-      | inr ne ↦ calm-from_normal ns s j (p + e) rest u (omega arith) (λ q. absurd (ne-from_same no_slot j (omega arith) q)) normal h.3 k (omega (arith, same-ne k j ne))
-    ]
+    grind (arith, not-Free-calm, calm-from_normal ns s j (p + e) rest u (omega arith), ne-from_same, same-ne)
 calm-from_normal ns s b p (Seq j e inner rest) u z alone normal h k l =
     elim (cases_eq k j) [
       | inl q ↦ rw q (not-Free-calm ns j (λ f. let x = h.0.kind in cc))
@@ -73,13 +64,7 @@ calm-marked ns ms i n w calm =
 
 -- The slots of a normal tree are calm.
 pub calm-Stands : (ns : List Node) (s : Sequence) (n : Numbered) → length ns < no_slot → s.parent ≡ no_slot → Stands ns s n → IsNormal (erase n) → (k : ℕ) → IsCalmAt ns k
-calm-Stands ns s n short top h normal k =
-    let u = none-unused ns short in
-    let none : tally no_slot n ≡ 0 = h.numbered no_slot ∙ ap use_count u in
-    not-Free-or ns k (λ f. calm-from_normal ns s no_slot 0 n u none (λ _. inl top) normal h.standing k (rw (h.numbered k, f) (omega arith)))
-  where
-    not-Free-or : (ns : List Node) (k : ℕ) → ((node_at ns k).kind ≡ kind.Free → IsCalmAt ns k) → IsCalmAt ns k
-    not-Free-or ns k c = record { apart = λ f g. (c f).apart f g; nested = λ f b a. (c f).nested f b a }
+calm-Stands ns s n short top h normal k = grind (arith, none-unused ns short, calm-from_normal ns s no_slot 0 n)
 
 -- A normal tree has no empty sequence.
 pub full-from_normal : (m : Members) → IsNormal m → NoneEmpty m
@@ -91,6 +76,4 @@ full-from_normal (tree.Seq e inner rest) h =
 
 -- To mark the leaf at a slot of the tree is to mark the leaf with its id.
 pub erase-marked_at : (ns : List Node) (i : ℕ) (s : Sequence) (n : Numbered) → length ns ≤ 16777216 → i < length ns → Stands ns s n → erase (marked i n) ≡ mark (only (id_of i (node_at ns i).generation)) (erase n)
-erase-marked_at ns i s n few li h =
-    let below : (x : ℕ) → 0 < tally x n → x < 16777216 = λ x c. let y = used-inside ns x (rw (← h.numbered x) c) in omega arith in
-    erase-marked ns i s no_slot 0 n (omega arith) below (λ k. omega (arith, h.numbered k, used-le (node_at ns k).kind)) h.standing
+erase-marked_at ns i s n few li h = grind (arith, used-inside, erase-marked, used-le)

@@ -1,11 +1,11 @@
 -- The steps of a freeing, seen from the whole tree.
-use Rattle.std.proofs.Common.{ℕ, ◌+◌, ◌<◌, ◌≤◌, ◌≡◌, List, sym, ap, ◌∙◌, ◌⊎◌, inl, inr, arith, length, Bool}
+use Rattle.std.proofs.Common.{ℕ, ◌+◌, ◌<◌, ◌≤◌, ◌≡◌, List, ap, ◌∙◌, ◌⊎◌, inl, inr, arith, length, Bool}
 use Rattle.std.proofs.lemmas.Bool.{cases_eq}
 use Rattle.guillotiere.specs.declared.slots.Node.{Node}
 use Rattle.guillotiere.specs.declared.slots.NodeKind.TheVariants as kind
 use Rattle.guillotiere.specs.Slots.{node_at, use_count, no_slot}
 use Rattle.guillotiere.specs.Trees as tree
-use Rattle.guillotiere.specs.Trees.{Members, Tree, IsNormal}
+use Rattle.guillotiere.specs.Trees.{IsNormal}
 use Rattle.guillotiere.specs.Slots.Numbered.{Numbered, tally, first_slot, same, numbers, erase, marked, joined, grown_by, lifted, lifted_to, is_free_at, is_alloc_at, is_seq_at, End, Free, Alloc, Seq}
 use Rattle.guillotiere.specs.Slots.Standing.{Sequence, Standing, Stands, IsWhole, IsSlot, inside}
 use Rattle.guillotiere.proofs.SlotLemmas.Reading.{numbers-less}
@@ -33,13 +33,7 @@ abbrev IsFuller : (across : ℕ) → (old new : Numbered) → Type 0
 IsFuller a m n = (erase n ≡ tree.End → erase m ≡ tree.End) × (NoneEmpty (erase m) → NoneEmpty (erase n))
 
 full-kept : (is : Numbered → Bool) → IsKept is IsFuller
-full-kept is =
-    record {
-      ends = λ a. ((λ q. q), (λ h. h));
-      free = λ a i e m n _ h. ((λ q. absurd (let z = q in cc)), h.1);
-      alloc = λ a i g e m n _ h. ((λ q. absurd (let z = q in cc)), h.1);
-      seq = λ a i e k l m n _ g h. ((λ q. absurd (let z = q in cc)), (λ f. ((λ q. f.0 (g.0 q)), g.1 f.1, h.1 f.2)));
-    }
+full-kept is = grind arith
 
 full-grown : (a j e : ℕ) (n : Numbered) → IsFuller a (Free j e n) (grown_by j e n)
 full-grown a j e End = ((λ q. q), (λ h. h))
@@ -71,8 +65,7 @@ IsBefore ns b k n =
     ((k ≡ first_slot n) × ((node_at ns k).previous.number ≡ b)) ⊎ (((node_at ns k).previous.number ≡ no_slot) ⊎ ((0 < tally (node_at ns k).previous.number n) × ((node_at ns (node_at ns k).previous.number).next.number ≡ k)))
 
 before_wider : (ns : List Node) (b j k : ℕ) (m n : Numbered) → (node_at ns j).next.number ≡ first_slot m → 0 < tally j n → ((x : ℕ) → tally x m ≤ tally x n) → IsBefore ns j k m → IsBefore ns b k n
-before_wider ns b j k m n e l w (inl (x, y)) =
-    inr (inr (omega (arith, l, ap (λ v. tally v n) y), ap (λ v. (node_at ns v).next.number) y ∙ e ∙ sym x))
+before_wider ns b j k m n e l w (inl (x, y)) = grind arith
 before_wider ns b j k m n e l w (inr (inl y)) = inr (inl y)
 before_wider ns b j k m n e l w (inr (inr (x, y))) = inr (inr (omega (arith, w (node_at ns k).previous.number), y))
 
@@ -84,15 +77,9 @@ inner_wider ns b k m n w (inr (inr (x, y))) = inr (inr (omega (arith, w (node_at
 pub before-in : (ns : List Node) (k : ℕ) (s : Sequence) (b p : ℕ) (n : Numbered) → Standing ns s b p n → 0 < tally k n → IsBefore ns b k n
 before-in ns k s b p End h l = absurd (omega arith)
 before-in ns k s b p (Free j e rest) h l =
-    elim (cases_eq k j) [
-      | inl q ↦ inl (q, rw q h.0.previous)
-      | inr ne ↦ before_wider ns b j k rest (Free j e rest) h.0.next (omega (arith, same-self j)) (λ x. omega arith) (before-in ns k s j (p + e) rest h.2 (omega (arith, same-ne k j ne)))
-    ]
+    grind (arith, before_wider, same-self, before-in ns k s j (p + e) rest h.2, same-ne)
 before-in ns k s b p (Alloc j g e rest) h l =
-    elim (cases_eq k j) [
-      | inl q ↦ inl (q, rw q h.0.previous)
-      | inr ne ↦ before_wider ns b j k rest (Alloc j g e rest) h.0.next (omega (arith, same-self j)) (λ x. omega arith) (before-in ns k s j (p + e) rest h.3 (omega (arith, same-ne k j ne)))
-    ]
+    grind (arith, before_wider, same-self, before-in ns k s j (p + e) rest h.3, same-ne)
 before-in ns k s b p (Seq j e inner rest) h l =
     elim (cases_eq k j) [
       | inl q ↦ inl (q, rw q h.0.previous)
@@ -104,20 +91,10 @@ before-in ns k s b p (Seq j e inner rest) h l =
 
 -- The slot before is a slot or none, and a free one leads here.
 pub previous-slot : (ns : List Node) (k m : ℕ) (x : ℕ) → length ns < no_slot → IsWhole ns → (node_at ns k).kind ≡ kind.Free → x ≡ (node_at ns k).previous.number → m ≡ length ns → IsSlot m x
-previous-slot ns k m x short t f ex em =
-    let h = t.3 in
-    let here : 0 < tally k t.1 = rw (h.numbered k, f) (omega arith) in
-    rw (ex, em) (elim (before-in ns k t.0 no_slot 0 t.1 h.standing here) [
-      | inl y ↦ inl y.1
-      | inr z ↦ elim z [ inl y ↦ inl y | inr y ↦ inr (used-inside ns _ (rw (← h.numbered (node_at ns k).previous.number) y.0)) ]
-    ])
+previous-slot ns k m x short t f ex em = grind (arith, before-in ns k t.0 no_slot 0 t.1, used-inside ns)
 
 pub previous-leads : (ns : List Node) (k : ℕ) → length ns < no_slot → IsWhole ns → (node_at ns k).kind ≡ kind.Free → (node_at ns (node_at ns k).previous.number).kind ≡ kind.Free → (node_at ns (node_at ns k).previous.number).next.number ≡ k
-previous-leads ns k short t f g =
-    let h = t.3 in
-    let here : 0 < tally k t.1 = rw (h.numbered k, f) (omega arith) in
-    let no : (node_at ns k).previous.number ≡ no_slot → ⊥ = not-none ns _ (none-unused ns short) g in
-    elim (before-in ns k t.0 no_slot 0 t.1 h.standing here) [ inl y ↦ absurd (no y.1) | inr z ↦ elim z [ inl y ↦ absurd (no y) | inr y ↦ y.1 ] ]
+previous-leads ns k short t f g = grind (arith, not-none ns, none-unused ns short, before-in ns k t.0 no_slot 0 t.1)
 
 pub next-slot : (ns : List Node) (k m x : ℕ) → IsWhole ns → (node_at ns k).kind ≡ kind.Free → x ≡ (node_at ns k).next.number → m ≡ length ns → IsSlot m x
 next-slot ns k m x t f ex em =

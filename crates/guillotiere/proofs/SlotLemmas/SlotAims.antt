@@ -1,5 +1,5 @@
 -- The slot of a free leaf and its box name the same leaf.
-use Rattle.std.proofs.Common.{ℕ, ◌+◌, ◌*◌, ◌≤◌, ◌≡◌, ◌==◌, Bool, true, false, cond, List, refl, sym, ap, ap₂, subst, ◌∙◌, arith}
+use Rattle.std.proofs.Common.{ℕ, ◌+◌, ◌*◌, ◌≤◌, ◌≡◌, ◌==◌, Bool, true, false, List, refl, sym, ap, ap₂, subst, ◌∙◌, arith, rules}
 use Rattle.std.proofs.lemmas.Bool.{eqb-true}
 use Rattle.guillotiere.specs.declared.slots.Node.{Node}
 use Rattle.guillotiere.specs.declared.slots.NodeKind.TheVariants as kind
@@ -40,25 +40,18 @@ module _ (ns : List Node) (i : ℕ) where
   a = axis_of (node_at ns i).axis
 
   stored_box : (s : Sequence) (p e j : ℕ) → (node_at ns j).area ≡ rectangle_of (member_box s p e) → i ≡ j → same_box (member_box s p e) f ≡ true
-  stored_box s p e j h q =
-      let is : f ≡ member_box s p e = rw q (ap box_of h) in
-      ap (same_box (member_box s p e)) is ∙ same_box-itself (member_box s p e)
+  stored_box s p e j h q = grind (arith, same_box-itself)
 
   stored_axis : (s : Sequence) (j : ℕ) → axis_of (node_at ns j).axis ≡ s.axis → i ≡ j → s.axis ≡ a
   stored_axis s j h q = rw q (sym h)
 
   pub stored-Standing : (s : Sequence) (b p : ℕ) (n : Numbered) → Standing ns s b p n → IsStoredAs i f a s.axis (spot s.axis p s.start) s.width n
   stored-Standing s b p End h = tt
-  stored-Standing s b p (Free j e rest) h = (
-    ((λ t. stored_box s p e j h.1 (eqb-true i j t)), (λ t. stored_axis s j h.0.axis (eqb-true i j t))),
-    subst (λ o. IsStoredAs i f a s.axis o s.width rest) (sym (moved-spot s.axis p s.start e)) (stored-Standing s j (p + e) rest h.2),
-  )
-  stored-Standing s b p (Alloc j g e rest) h =
-      subst (λ o. IsStoredAs i f a s.axis o s.width rest) (sym (moved-spot s.axis p s.start e)) (stored-Standing s j (p + e) rest h.3)
-  stored-Standing s b p (Seq j e inner rest) h = (
-    subst (λ o. IsStoredAs i f a (other s.axis) o e inner) (spot-other s.axis p s.start) (stored-Standing (inside s j p e) no_slot s.start inner h.2),
-    subst (λ o. IsStoredAs i f a s.axis o s.width rest) (sym (moved-spot s.axis p s.start e)) (stored-Standing s j (p + e) rest h.3),
-  )
+  stored-Standing s b p (Free j e rest) h =
+      grind (arith, stored_box, eqb-true, stored_axis, moved-spot, stored-Standing s j (p + e) rest h.2)
+  stored-Standing s b p (Alloc j g e rest) h = grind (arith, moved-spot, stored-Standing s j (p + e) rest h.3)
+  stored-Standing s b p (Seq j e inner rest) h =
+      grind (arith, spot-other, stored-Standing (inside s j p e) no_slot s.start inner h.2, moved-spot, stored-Standing s j (p + e) rest h.3)
 
 -- By counts: no other free leaf has the box.
 
@@ -85,14 +78,10 @@ module _ (i : ℕ) (f : Box) (a : Axis) where
   few_slots : (axis : Axis) (o : Position) (across : ℕ) (n : Numbered) → IsStoredAs i f a axis o across n → free_tally i n ≤ hits f (free_among axis o across (erase n))
   few_slots axis o across End h = omega arith
   few_slots axis o across (Free j e rest) h =
-      let here : one_if (i == j) ≤ one_if (same_box (box_at o (sized axis e across)) f) = less _ _ h.0.0 in
-      let after : free_tally i rest ≤ hits f (free_among axis (moved axis o e) across (erase rest)) = few_slots axis (moved axis o e) across rest h.1 in
-      rw (hits-free f axis o across e (erase rest)) (omega arith)
+      grind (arith, one_if, less, free_tally, hits, free_among, few_slots axis (moved axis o e) across rest h.1, hits-free)
   few_slots axis o across (Alloc j g e rest) h = few_slots axis (moved axis o e) across rest h
   few_slots axis o across (Seq j e inner rest) h =
-      let first : free_tally i inner ≤ hits f (free_among (other axis) o e (erase inner)) = few_slots (other axis) o e inner h.0 in
-      let after : free_tally i rest ≤ hits f (free_among axis (moved axis o e) across (erase rest)) = few_slots axis (moved axis o e) across rest h.1 in
-      rw (hits-seq f axis o across e (erase inner) (erase rest)) (omega arith)
+      search (rules, free_tally, hits, free_among, few_slots (other axis) o e inner h.0, few_slots axis (moved axis o e) across rest h.1, hits-seq)
 
   pub aim-stored : (axis : Axis) (o : Position) (across : ℕ) (n : Numbered) → IsStoredAs i f a axis o across n → hits f (free_among axis o across (erase n)) ≤ free_tally i n → IsAim i f a axis o across n
   aim-stored axis o across End h le = tt
@@ -112,11 +101,7 @@ module _ (i : ℕ) (f : Box) (a : Axis) where
   pub needed-aim : (r : Sides) (axis : Axis) (o : Position) (across : ℕ) (n : Numbered) → IsAim i f a axis o across n → needed f r axis o across (erase n) ≡ free_tally i n * need (cut (box_sides f) r) a
   needed-aim r axis o across End h = omega arith
   needed-aim r axis o across (Free j e rest) h =
-      by_test (i == j) (same_box (box_at o (sized axis e across)) f) h.0.0 h.0.1 (needed-aim r axis (moved axis o e) across rest h.1)
-    where
-      by_test : (b c : Bool) → b ≡ c → (b ≡ true → axis ≡ a) → needed f r axis (moved axis o e) across (erase rest) ≡ free_tally i rest * need (cut (box_sides f) r) a → cond c (need (cut (box_sides f) r) axis) 0 + needed f r axis (moved axis o e) across (erase rest) ≡ (cond b 1 0 + free_tally i rest) * need (cut (box_sides f) r) a
-      by_test true c is along g = rw (← is, g) (ap (λ x. need (cut (box_sides f) r) x + free_tally i rest * need (cut (box_sides f) r) a) (along refl) ∙ one_more (need (cut (box_sides f) r) a) (free_tally i rest))
-      by_test false c is along g = rw (← is, g) (none_more (need (cut (box_sides f) r) a) (free_tally i rest))
+      grind (arith, needed-aim r axis (moved axis o e) across rest h.1, free_tally, one_more, none_more)
   needed-aim r axis o across (Alloc j g e rest) h = needed-aim r axis (moved axis o e) across rest h
   needed-aim r axis o across (Seq j e inner rest) h =
       ap₂ (λ x y. x + y) (needed-aim r (other axis) o e inner h.0) (needed-aim r axis (moved axis o e) across rest h.1) ∙ both (need (cut (box_sides f) r) a) (free_tally i inner) (free_tally i rest)

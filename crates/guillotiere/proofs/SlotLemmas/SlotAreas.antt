@@ -26,8 +26,7 @@ first-exact ns i s b p (Seq j d inner rest) e l h = rw (← e) (exact_of _ _ h.1
 -- Each used slot stores the rectangle of a box.
 pub Stands-exact : (ns : List Node) (i : ℕ) (s : Sequence) (n : Numbered) → Stands ns s n → 0 < use_count (node_at ns i).kind → IsExact (node_at ns i).area
 Stands-exact ns i s n h l =
-    let f = suffix-at ns i s no_slot 0 n h.standing (rw (h.numbered i) l) in
-    first-exact ns i f.at f.before f.start f.members f.begins f.here f.standing
+    grind (arith, suffix-at ns i s no_slot 0 n h.standing (rw (h.numbered i) l), first-exact ns i)
 
 pub free-exact : (ns : List Node) (i : ℕ) → IsTree ns → (node_at ns i).kind ≡ kind.Free → IsExact (node_at ns i).area
 free-exact ns i t f = Stands-exact ns i t.0 t.1 t.2 (rw f (omega arith))

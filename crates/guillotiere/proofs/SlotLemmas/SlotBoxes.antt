@@ -1,6 +1,6 @@
 -- The rectangle of each used slot is that of a nonempty box.
-use Rattle.std.proofs.Common.{ℕ, ◌+◌, ◌<◌, ◌≡◌, List, refl, sym, arith, subst, inl, inr}
-use Rattle.std.proofs.lemmas.Bool.{cases_eq, cases_lt}
+use Rattle.std.proofs.Common.{ℕ, ◌+◌, ◌<◌, ◌≡◌, List, arith, inl, inr}
+use Rattle.std.proofs.lemmas.Bool.{cases_lt}
 use Rattle.guillotiere.specs.declared.slots.Node.{Node}
 use Rattle.guillotiere.specs.declared.geometry.Rectangle.{Rectangle}
 use Rattle.guillotiere.specs.Boxes.{Axis, IsNonempty, sized, box_at}
@@ -18,26 +18,18 @@ nonempty-at Horizontal p q e w h k = (omega arith, omega arith)
 nonempty-at Vertical p q e w h k = (omega arith, omega arith)
 
 exact-member : (r : Rectangle) (s : Sequence) (p e : ℕ) → r ≡ rectangle_of (member_box s p e) → 0 < e → 0 < s.width → IsSolid r
-exact-member r s p e is h k =
-    let P : Rectangle → Type 0 = λ x. IsSolid x in
-    subst P (sym is) (record { unsigned = refl; nonempty = nonempty-at s.axis p s.start e s.width h k })
+exact-member r s p e is h k = grind (arith, nonempty-at)
 
 -- Of a member and what comes after it.
 either : (P : ℕ → Type 0) (i j t : ℕ) → P j → (0 < t → P i) → 0 < same i j + t → P i
-either P i j t here later h =
-    elim (cases_eq i j) [
-      | inl e ↦ subst P (sym e) here
-      | inr ne ↦ later (omega (arith, same-ne i j ne))
-    ]
+either P i j t here later h = grind (arith, same-ne)
 
 pub member-exact : (ns : List Node) (i : ℕ) (s : Sequence) (b p : ℕ) (n : Numbered) → Standing ns s b p n → IsCut s.width (erase n) → 0 < s.width → 0 < tally i n → IsSolid (node_at ns i).area
 member-exact ns i s b p End st c w h = absurd (omega arith)
 member-exact ns i s b p (Free j e rest) st c w h =
-    either (λ x. IsSolid (node_at ns x).area) i j (tally i rest) (exact-member (node_at ns j).area s p e st.1 c.0 w)
-    (λ k. member-exact ns i s j (p + e) rest st.2 c.1 w k) h
+    grind (arith, either, exact-member, member-exact ns i s j (p + e) rest st.2 c.1 w)
 member-exact ns i s b p (Alloc j g e rest) st c w h =
-    either (λ x. IsSolid (node_at ns x).area) i j (tally i rest) (exact-member (node_at ns j).area s p e st.1 c.0 w)
-    (λ k. member-exact ns i s j (p + e) rest st.3 c.1 w k) h
+    grind (arith, either, exact-member, member-exact ns i s j (p + e) rest st.3 c.1 w)
 member-exact ns i s b p (Seq j e inner rest) st c w h =
     either (λ x. IsSolid (node_at ns x).area) i j (tally i inner + tally i rest) (exact-member (node_at ns j).area s p e st.1 c.0 w)
     (λ k. elim (cases_lt 0 (tally i inner)) [

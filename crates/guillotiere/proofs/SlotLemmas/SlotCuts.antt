@@ -1,8 +1,8 @@
 -- How the five cuts of a free leaf are made by the calls on slots.
-use Rattle.std.proofs.Common.{ℕ, ◌+◌, ◌-◌, ◌≤◌, ◌≡◌, ◌≢◌, true, false, List, refl, sym, ap, ap₂, subst, ◌∙◌, arith}
+use Rattle.std.proofs.Common.{ℕ, ◌+◌, ◌-◌, ◌≡◌, ◌≢◌, true, false, List, refl, sym, ap, ap₂, ◌∙◌, arith}
 use Rattle.std.proofs.lemmas.Bool.{cond-true, cond-false}
 use Rattle.guillotiere.specs.declared.slots.Node.{Node}
-use Rattle.guillotiere.specs.Boxes.{Axis, Sides, Box, other, same_axis, side, box_sides, origin}
+use Rattle.guillotiere.specs.Boxes.{Axis, Sides, Box, other, same_axis, side, box_sides}
 use Rattle.guillotiere.specs.Pixels.{box_of}
 use Rattle.guillotiere.specs.Cuts.{Cut, cut}
 use Rattle.guillotiere.specs.Cuts.Cut.{Whole, Strip, Corner}
@@ -68,13 +68,7 @@ abbrev pub whole_by : (i g : ℕ) → (across : ℕ) → Numbered → Numbered
 whole_by i g across n = granted_at i g n
 
 whole-change : (i g : ℕ) → IsChange (whole_by i g) i no_new
-whole-change i g =
-    record {
-      ends = λ across. refl;
-      free = λ across j e rest ne z. granted-other i g j e rest ne;
-      alloc = λ across j h e rest. refl;
-      seq = λ across j e inner rest. refl;
-    }
+whole-change i g = grind (arith, granted-other)
 
 whole-puts : (i g : ℕ) (a : Axis) (p q : ℕ) → Puts (whole_by i g) i no_new Whole a p q (id_of i g)
 whole-puts i g a p q = λ across e rest z w. ap erase (granted-here i g e rest)
@@ -85,18 +79,10 @@ abbrev pub strip_along_by : (i g k p : ℕ) → (across : ℕ) → Numbered → 
 strip_along_by i g k p across n = granted_at i g (split_at i k p n)
 
 strip_along-change : (i g k p : ℕ) → IsChange (strip_along_by i g k p) i (new_one k)
-strip_along-change i g k p =
-    record {
-      ends = λ across. refl;
-      free = λ across j e rest ne z. ap (granted_at i g) (split-other i k p j e rest ne) ∙ granted-other i g j e (split_at i k p rest) ne;
-      alloc = λ across j h e rest. refl;
-      seq = λ across j e inner rest. refl;
-    }
+strip_along-change i g k p = grind (arith, split-other, granted-other)
 
 strip_along-puts : (i g k : ℕ) (b a : Axis) (p q : ℕ) → same_axis b a ≡ true → Puts (strip_along_by i g k p) i (new_one k) (Strip b) a p q (id_of i g)
-strip_along-puts i g k b a p q along = λ across e rest z w.
-    ap erase (ap (granted_at i g) (split-here i k p e rest) ∙ granted-here i g p (Free k (e - p) rest))
-    ∙ sym (cond-true (same_axis b a) _ _ along)
+strip_along-puts i g k b a p q along = grind (arith, split-here, granted-here, cond-true)
 
 -- A strip across: the leaf becomes a container, what is inside is cut, and its first part is granted.
 
@@ -104,17 +90,7 @@ abbrev pub strip_across_by : (i g j k q : ℕ) → (across : ℕ) → Numbered �
 strip_across_by i g j k q across n = granted_at j g (split_at j k q (wrapped_at i j across n))
 
 strip_across-change : (i g j k q : ℕ) → IsChange (strip_across_by i g j k q) i (new_two j k)
-strip_across-change i g j k q =
-    record {
-      ends = λ across. refl;
-      free = λ across x e rest ne z.
-          let nj : j ≡ x → ⊥ = other_slot j x (omega arith) in
-          ap (λ v. granted_at j g (split_at j k q v)) (wrapped-other i j across x e rest ne)
-          ∙ ap (granted_at j g) (split-other j k q x e (wrapped_at i j across rest) nj)
-          ∙ granted-other j g x e (split_at j k q (wrapped_at i j across rest)) nj;
-      alloc = λ across x h e rest. refl;
-      seq = λ across x e inner rest. refl;
-    }
+strip_across-change i g j k q = grind (arith, other_slot, wrapped-other, split-other, granted-other)
 
 -- A leaf cut in two, of which the first part is granted.
 cut_leaf : (j g k q e : ℕ) → granted_at j g (split_at j k q (Free j e End)) ≡ Alloc j g q (Free k (e - q) End)
@@ -137,18 +113,7 @@ abbrev pub corner_along_by : (i g k j l p q : ℕ) → (across : ℕ) → Number
 corner_along_by i g k j l p q across n = granted_at j g (split_at j l q (wrapped_at i j across (split_at i k p n)))
 
 corner_along-change : (i g k j l p q : ℕ) → IsChange (corner_along_by i g k j l p q) i (new_three k j l)
-corner_along-change i g k j l p q =
-    record {
-      ends = λ across. refl;
-      free = λ across x e rest ne z.
-          let nj : j ≡ x → ⊥ = other_slot j x (omega arith) in
-          ap (λ v. granted_at j g (split_at j l q (wrapped_at i j across v))) (split-other i k p x e rest ne)
-          ∙ ap (λ v. granted_at j g (split_at j l q v)) (wrapped-other i j across x e (split_at i k p rest) ne)
-          ∙ ap (granted_at j g) (split-other j l q x e (wrapped_at i j across (split_at i k p rest)) nj)
-          ∙ granted-other j g x e (split_at j l q (wrapped_at i j across (split_at i k p rest))) nj;
-      alloc = λ across x h e rest. refl;
-      seq = λ across x e inner rest. refl;
-    }
+corner_along-change i g k j l p q = grind (arith, other_slot, split-other, wrapped-other, granted-other)
 
 corner_along-puts : (i g k j l : ℕ) (b a : Axis) (p q : ℕ) → same_axis b a ≡ true → j ≢ k → Puts (corner_along_by i g k j l p q) i (new_three k j l) (Corner b) a p q (id_of j g)
 corner_along-puts i g k j l b a p q along jk = λ across e rest z w.
@@ -165,28 +130,12 @@ abbrev pub corner_across_by : (i g c s d l p q : ℕ) → (across : ℕ) → Num
 corner_across_by i g c s d l p q across n = granted_at d g (split_at d l p (wrapped_at c d across (split_at c s q (wrapped_at i c across n))))
 
 corner_across-change : (i g c s d l p q : ℕ) → IsChange (corner_across_by i g c s d l p q) i (new_four c s d l)
-corner_across-change i g c s d l p q =
-    record {
-      ends = λ across. refl;
-      free = λ across x e rest ne z.
-          let nc : c ≡ x → ⊥ = other_slot c x (omega arith) in
-          let nd : d ≡ x → ⊥ = other_slot d x (omega arith) in
-          ap (λ v. granted_at d g (split_at d l p (wrapped_at c d across (split_at c s q v)))) (wrapped-other i c across x e rest ne)
-          ∙ ap (λ v. granted_at d g (split_at d l p (wrapped_at c d across v))) (split-other c s q x e (wrapped_at i c across rest) nc)
-          ∙ ap (λ v. granted_at d g (split_at d l p v)) (wrapped-other c d across x e (split_at c s q (wrapped_at i c across rest)) nc)
-          ∙ ap (granted_at d g) (split-other d l p x e (wrapped_at c d across (split_at c s q (wrapped_at i c across rest))) nd)
-          ∙ granted-other d g x e (split_at d l p (wrapped_at c d across (split_at c s q (wrapped_at i c across rest)))) nd;
-      alloc = λ across x h e rest. refl;
-      seq = λ across x e inner rest. refl;
-    }
+corner_across-change i g c s d l p q = grind (arith, other_slot, wrapped-other, split-other, granted-other)
 
 -- The leaf inside a container is cut, its first part becomes a container in turn, and so on.
 cut_inside : (g c s d l p q e across : ℕ) → d ≢ s → granted_at d g (split_at d l p (wrapped_at c d e (split_at c s q (Free c across End)))) ≡ Seq c q (Alloc d g p (Free l (e - p) End)) (Free s (across - q) End)
 cut_inside g c s d l p q e across ds =
-    let none : free_tally d (Free s (across - q) End) ≡ 0 = omega (arith, same-ne d s ds) in
-    ap (λ v. granted_at d g (split_at d l p (wrapped_at c d e v))) (split-here c s q across End)
-    ∙ ap (λ v. granted_at d g (split_at d l p v)) (wrapped-here c d e q (Free s (across - q) End))
-    ∙ ap₂ (Seq c q) (cut_leaf d g l p e) (cut_nothing d g l p (Free s (across - q) End) none)
+    grind (arith, free_tally, same-ne, split-here, wrapped-here, cut_leaf, cut_nothing)
 
 cut_nothing_inside : (g c s d l p q across : ℕ) (n : Numbered) → free_tally c n ≡ 0 → free_tally d n ≡ 0 → granted_at d g (split_at d l p (wrapped_at c d across (split_at c s q n))) ≡ n
 cut_nothing_inside g c s d l p q across n zc zd =
@@ -213,10 +162,14 @@ module _ (size : Sides) (ns : List Node) (s : Sequence) (n : Numbered) (i : ℕ)
 
   placed_by : (G : (across : ℕ) → Numbered → Numbered) (new : ℕ → ℕ) (c : Cut) (id : ℕ) → IsChange G i new → cut (box_sides f) r ≡ c → Puts G i new c a (side a r) (side (other a) r) id → weigh new n ≡ 0 → tree_in s (G s.width n) ≡ place size f r id (tree_in s n)
   placed_by G new c id change is puts none =
-      let here : Puts G i new (cut (box_sides f) r) a (side a r) (side (other a) r) id = subst (λ v. Puts G i new v a (side a r) (side (other a) r) id) (sym is) puts in
-      let one : free_tally i n ≤ 1 = rw (free_once ns i s n h.free h.stands) (omega arith) in
-      let whole = erase-change G i new change f a r id here s.axis origin (side (other s.axis) size) n (aim-choice size ns s n i r h fit) one none in
-      ap (λ v. tree_in s (G v n)) h.across ∙ ap (λ m. record { axis = s.axis; members = m }) whole
+      grind (
+        arith,
+        free_tally i n,
+        free_once ns i s n h.free h.stands,
+        erase-change G i new change f a r id,
+        aim-choice size ns s n i r h fit,
+        tree_in s,
+      )
 
   pub whole-placed : (g : ℕ) → cut (box_sides f) r ≡ Whole → tree_in s (granted_at i g n) ≡ place size f r (id_of i g) (tree_in s n)
   whole-placed g is = placed_by (whole_by i g) no_new Whole (id_of i g) (whole-change i g) is (whole-puts i g a (side a r) (side (other a) r)) (weigh-none n)

@@ -1,7 +1,7 @@
 -- The ids of a standing tree are those of its allocated slots.
-use Rattle.std.proofs.Common.{ℕ, ◌+◌, ◌%◌, ◌^◌, ◌<◌, ◌≤◌, ◌≡◌, ◌==◌, length, List, ◌∷◌, refl, sym, ap, ap₂, subst, ◌∙◌, inl, inr, arith, eqb}
+use Rattle.std.proofs.Common.{ℕ, ◌+◌, ◌%◌, ◌^◌, ◌<◌, ◌≤◌, ◌≡◌, ◌==◌, length, List, refl, ap, ap₂, ◌∙◌, inl, inr, arith, eqb, rules}
 use Rattle.std.specs.List.{Contains}
-use Rattle.std.proofs.lemmas.Bool.{cases_eq, eq-eqb, ne_eqb}
+use Rattle.std.proofs.lemmas.Bool.{eq-eqb, ne_eqb}
 use Rattle.std.proofs.lemmas.List.Elements.{Contains-append_left, Contains-append_right, Contains-append_cases}
 use Rattle.std.proofs.lemmas.List.Sums.{sum_by-cons, sum_by-append}
 use Rattle.std.proofs.Math.Nat.{add-mul-mod_self_left, mod-eq_of_lt}
@@ -25,10 +25,7 @@ pub record IsIdAt (ns : List Node) (n : Numbered) (id i : ℕ) : Type 0 where
 
 module _ (ns : List Node) where
   wider : (id : ℕ) (m n : Numbered) → ((i : ℕ) → tally i m ≤ tally i n) → (i : ℕ) × IsIdAt ns m id i → (i : ℕ) × IsIdAt ns n id i
-  wider id m n l x =
-      let few = l x.0 in
-      let here = x.1.member in
-      (x.0, record { member = omega arith; kind = x.1.kind; names = x.1.names })
+  wider id m n l x = grind arith
 
   -- Each id is that of an allocated slot.
   pub id_slot : (s : Sequence) (before p : ℕ) (n : Numbered) (id : ℕ) → Standing ns s before p n → Contains (ids (erase n)) id → (i : ℕ) × IsIdAt ns n id i
@@ -48,14 +45,9 @@ module _ (ns : List Node) where
   -- The id of each allocated slot is one of the tree's.
   pub slot_id : (s : Sequence) (before p : ℕ) (n : Numbered) (id i : ℕ) → Standing ns s before p n → IsIdAt ns n id i → Contains (ids (erase n)) id
   slot_id s before p End id i h f = let here = f.member in absurd (omega arith)
-  slot_id s before p (Free j e rest) id i h f =
-      let ne : i ≡ j → ⊥ = (λ q. let x = f.kind in let y : (node_at ns i).kind ≡ kind.Free = rw q h.0.kind in cc) in
-      slot_id s j (p + e) rest id i h.2 (record { member = (let here = f.member in omega (arith, same-ne i j ne)); kind = f.kind; names = f.names })
+  slot_id s before p (Free j e rest) id i h f = search (rules, slot_id s j (p + e) rest id i h.2, same-ne)
   slot_id s before p (Alloc j g e rest) id i h f =
-      elim (cases_eq i j) [
-        | inl q ↦ subst (λ v. Contains (v ∷ ids (erase rest)) id) (sym (ap (id_of j) (sym h.2) ∙ ap (λ v. id_of v (node_at ns v).generation) (sym q) ∙ f.names)) (Contains-first id _)
-        | inr ne ↦ Contains-later _ _ id (slot_id s j (p + e) rest id i h.3 (record { member = (let here = f.member in omega (arith, same-ne i j ne)); kind = f.kind; names = f.names }))
-      ]
+      search (rules, Contains-first, Contains-later, slot_id s j (p + e) rest id i h.3, same-ne)
   slot_id s before p (Seq j e inner rest) id i h f =
       let ne : i ≡ j → ⊥ = (λ q. let x = f.kind in let y : (node_at ns i).kind ≡ kind.Container = rw q h.0.kind in cc) in
       let here = f.member in
@@ -69,8 +61,7 @@ module _ (ns : List Node) where
   alloc_tally-none s before p i End another h = refl
   alloc_tally-none s before p i (Free j e rest) another h = alloc_tally-none s j (p + e) i rest another h.2
   alloc_tally-none s before p i (Alloc j g e rest) another h =
-      let ne : i ≡ j → ⊥ = (λ q. another (rw q h.0.kind)) in
-      omega (arith, same-ne i j ne, alloc_tally-none s j (p + e) i rest another h.3)
+      grind (arith, same-ne, alloc_tally-none s j (p + e) i rest another h.3)
   alloc_tally-none s before p i (Seq j e inner rest) another h =
       omega (arith, alloc_tally-none (inside s j p e) no_slot s.start i inner another h.2, alloc_tally-none s j (p + e) i rest another h.3)
 
@@ -79,11 +70,7 @@ pub id_of-slot : (i g : ℕ) → i < 2 ^ 24 → id_of i g % 2 ^ 24 ≡ i
 id_of-slot i g l = add-mul-mod_self_left i (2 ^ 24) g ∙ mod-eq_of_lt l
 
 one_if-same : (x j k : ℕ) → k ≡ j → one_if (eqb k x) ≡ same x j
-one_if-same x j k e =
-    elim (cases_eq x j) [
-      | inl q ↦ ap one_if (eq-eqb k x (e ∙ sym q)) ∙ sym (ap one_if (eq-eqb x j q))
-      | inr ne ↦ ap one_if (ne_eqb k x (λ z. ne (sym z ∙ e))) ∙ sym (ap one_if (ne_eqb x j ne))
-    ]
+one_if-same x j k e = grind (arith, one_if, eq-eqb, ne_eqb)
 
 -- How often the ids name a slot.
 pub slot_count-tally : (id : ℕ) (n : Numbered) → ((j : ℕ) → 0 < tally j n → j < 2 ^ 24) → slot_count id (ids (erase n)) ≡ alloc_tally (id % 2 ^ 24) n
@@ -94,8 +81,7 @@ slot_count-tally id (Alloc j g e rest) l =
     sum_by-cons (λ k. one_if (k % 2 ^ 24 == id % 2 ^ 24)) (id_of j g) (ids (erase rest))
     ∙ ap₂ (λ x y. x + y) (one_if-same (id % 2 ^ 24) j (id_of j g % 2 ^ 24) (id_of-slot j g small)) (slot_count-tally id rest (λ x h. l x (omega arith)))
 slot_count-tally id (Seq j e inner rest) l =
-    sum_by-append (λ k. one_if (k % 2 ^ 24 == id % 2 ^ 24)) (ids (erase inner)) (ids (erase rest))
-    ∙ ap₂ (λ x y. x + y) (slot_count-tally id inner (λ x h. l x (omega arith))) (slot_count-tally id rest (λ x h. l x (omega arith)))
+    grind (arith, sum_by-append, one_if, slot_count-tally id inner, slot_count-tally id rest)
 
 -- For all slots of an atlas.
 

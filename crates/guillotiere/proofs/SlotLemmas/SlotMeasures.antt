@@ -33,15 +33,19 @@ area-span : (ns : List Node) (i : ℕ) (s : Sequence) (before p : ℕ) (n : Numb
     → p + total (erase n) < 2 ^ 31 → s.start + s.width < 2 ^ 31 → 0 < s.width → 0 < tally i n → IsSpan (node_at ns i).area
 area-span ns i s before p End h cut along across wide l = absurd (omega arith)
 area-span ns i s before p (Free j e rest) h cut along across wide l =
-    elim (cases_eq i j) [
-      | inl q ↦ rw (q, h.1) (member-span s p e (omega arith) across wide cut.0)
-      | inr ne ↦ area-span ns i s j (p + e) rest h.2 cut.1 (omega arith) across wide (omega (arith, same-ne i j ne))
-    ]
+    grind (
+      arith,
+      member-span s p e (omega arith) across wide cut.0,
+      area-span ns i s j (p + e) rest h.2 cut.1 (omega arith) across wide,
+      same-ne i j,
+    )
 area-span ns i s before p (Alloc j g e rest) h cut along across wide l =
-    elim (cases_eq i j) [
-      | inl q ↦ rw (q, h.1) (member-span s p e (omega arith) across wide cut.0)
-      | inr ne ↦ area-span ns i s j (p + e) rest h.3 cut.1 (omega arith) across wide (omega (arith, same-ne i j ne))
-    ]
+    grind (
+      arith,
+      member-span s p e (omega arith) across wide cut.0,
+      area-span ns i s j (p + e) rest h.3 cut.1 (omega arith) across wide,
+      same-ne i j,
+    )
 area-span ns i s before p (Seq j e inner rest) h cut along across wide l =
     elim (cases_eq i j) [
       | inl q ↦ rw (q, h.1) (member-span s p e (omega arith) across wide cut.0)

@@ -1,12 +1,12 @@
 -- The calls on slots by which a request is placed, one after another, make the model's placing.
-use Rattle.std.proofs.Common.{ℕ, ◌-◌, ◌≤◌, ◌≡◌, ◌==◌, Bool, true, false, cond, refl, sym, ap, ap₂, ◌∙◌, inl, inr, arith, eqb}
-use Rattle.std.proofs.lemmas.Bool.{cases_eq, eq-eqb, ne_eqb, cond-true, cond-false}
-use Rattle.guillotiere.specs.Boxes.{Axis, Position, Sides, Box, other, side, sized, moved, box_at, box_sides, same_box}
+use Rattle.std.proofs.Common.{ℕ, ◌-◌, ◌≤◌, ◌≡◌, Bool, true, cond, refl, ap, ap₂, ◌∙◌, arith, eqb}
+use Rattle.std.proofs.lemmas.Bool.{eq-eqb, ne_eqb, cond-true, cond-false}
+use Rattle.guillotiere.specs.Boxes.{Axis, Position, Sides, Box, other, side, moved, box_sides}
 use Rattle.guillotiere.specs.Cuts.{Cut, cut}
 use Rattle.guillotiere.specs.Trees.{Members}
 use Rattle.guillotiere.specs.Trees as tree
 use Rattle.guillotiere.specs.Changes.{put, placed}
-use Rattle.guillotiere.specs.Slots.Numbered.{Numbered, weigh, same, is_free_at, erase, id_of, granted_at, split_at, wrapped_at, End, Free, Alloc, Seq}
+use Rattle.guillotiere.specs.Slots.Numbered.{Numbered, weigh, is_free_at, erase, id_of, granted_at, split_at, wrapped_at, End, Free, Alloc, Seq}
 use Rattle.guillotiere.proofs.SlotLemmas.Frames.{same-self, ne-from_same}
 use Rattle.guillotiere.proofs.SlotLemmas.Weights.{free_tally, places-free}
 use Rattle.guillotiere.proofs.SlotLemmas.Editing.{granting, edited-absent}
@@ -50,34 +50,20 @@ Puts G i new c a p q id =
 module _ (G : (across : ℕ) → Numbered → Numbered) (i : ℕ) (new : ℕ → ℕ) (change : IsChange G i new) where
   absent : (across : ℕ) (n : Numbered) → free_tally i n ≡ 0 → weigh new n ≡ 0 → G across n ≡ n
   absent across End z w = change.ends across
-  absent across (Free j e rest) z w =
-      change.free across j e rest (λ x. ne-from_same i j (omega arith) (sym x)) (omega arith) ∙ ap (Free j e) (absent across rest (omega arith) (omega arith))
+  absent across (Free j e rest) z w = grind (arith, ne-from_same, absent across rest (omega arith) (omega arith))
   absent across (Alloc j g e rest) z w = change.alloc across j g e rest ∙ ap (Alloc j g e) (absent across rest z (omega arith))
   absent across (Seq j e inner rest) z w =
       change.seq across j e inner rest ∙ ap₂ (Seq j e) (absent e inner (omega arith) (omega arith)) (absent across rest (omega arith) (omega arith))
 
   module _ (f : Box) (a : Axis) (r : Sides) (id : ℕ) (puts : Puts G i new (cut (box_sides f) r) a (side a r) (side (other a) r) id) where
     hit : (b : Bool) (axis : Axis) (e across : ℕ) (x y : Members) → b ≡ true → axis ≡ a → cond b (put (cut (box_sides f) r) axis e across (side axis r) (side (other axis) r) id x) y ≡ put (cut (box_sides f) r) a e across (side a r) (side (other a) r) id x
-    hit b axis e across x y t q =
-        cond-true b _ _ t ∙ ap (λ v. put (cut (box_sides f) r) v e across (side v r) (side (other v) r) id x) q
+    hit b axis e across x y t q = grind (arith, cond-true)
 
     pub erase-change : (axis : Axis) (o : Position) (across : ℕ) (n : Numbered) → IsAim i f a axis o across n → free_tally i n ≤ 1 → weigh new n ≡ 0 → erase (G across n) ≡ placed f r id axis o across (erase n)
     erase-change axis o across End h one w = ap erase (change.ends across)
     erase-change axis o across (Free j e rest) h one w =
-        let after : erase (G across rest) ≡ placed f r id axis (moved axis o e) across (erase rest) = erase-change axis (moved axis o e) across rest h.1 (omega arith) (omega arith) in
-        elim (cases_eq i j) [
-          | inl q ↦
-              let t : (i == j) ≡ true = eq-eqb i j q in
-              let z : free_tally i rest ≡ 0 = omega (arith, same-self i, ap (same i) q) in
-              let still : erase rest ≡ placed f r id axis (moved axis o e) across (erase rest) = sym (ap erase (absent across rest z (omega arith))) ∙ after in
-              let here : erase (G across (Free j e rest)) ≡ put (cut (box_sides f) r) a e across (side a r) (side (other a) r) id (erase rest) = ap (λ v. erase (G across (Free v e rest))) (sym q) ∙ puts across e rest z (omega arith) in
-              here ∙ ap (put (cut (box_sides f) r) a e across (side a r) (side (other a) r) id) still ∙ sym (hit (same_box (box_at o (sized axis e across)) f) axis e across (placed f r id axis (moved axis o e) across (erase rest)) (tree.Free e (placed f r id axis (moved axis o e) across (erase rest))) (sym h.0.0 ∙ t) (h.0.1 t))
-          | inr ne ↦
-              let no : same_box (box_at o (sized axis e across)) f ≡ false = sym h.0.0 ∙ ne_eqb i j ne in
-              ap erase (change.free across j e rest ne (omega arith)) ∙ ap (tree.Free e) after ∙ sym (cond-false (same_box (box_at o (sized axis e across)) f) _ _ no)
-        ]
+        grind (arith, erase-change axis (moved axis o e) across rest h.1 (omega arith) (omega arith), eq-eqb, free_tally, same-self, absent, hit, ne_eqb, cond-false)
     erase-change axis o across (Alloc j g e rest) h one w =
         ap erase (change.alloc across j g e rest) ∙ ap (tree.Alloc (id_of j g) e) (erase-change axis (moved axis o e) across rest h one (omega arith))
     erase-change axis o across (Seq j e inner rest) h one w =
-        ap erase (change.seq across j e inner rest)
-        ∙ ap₂ (tree.Seq e) (erase-change (other axis) o e inner h.0 (omega arith) (omega arith)) (erase-change axis (moved axis o e) across rest h.1 (omega arith) (omega arith))
+        grind (arith, erase-change (other axis) o e inner h.0 (omega arith) (omega arith), erase-change axis (moved axis o e) across rest h.1 (omega arith) (omega arith))

@@ -15,9 +15,7 @@ slot_sum w i (n ∷ ns) = w i n + slot_sum w (i + 1) ns
 
 slot_sum-none : (t f : ℕ → ℕ) (i : ℕ) (ns : List Node) → ((k : ℕ) → i ≤ k → t k ≡ 0) → slot_sum (λ k n. t k * f k) i ns ≡ 0
 slot_sum-none t f i [] none = refl
-slot_sum-none t f i (n ∷ ns) none =
-    let here : t i * f i ≡ 0 = ap (λ v. v * f i) (none i (omega arith)) ∙ omega arith in
-    omega (arith, here, slot_sum-none t f (i + 1) ns (λ k l. none k (omega arith)))
+slot_sum-none t f i (n ∷ ns) none = grind (arith, slot_sum-none t f (i + 1) ns (λ k l. none k (omega arith)))
 
 slot_sum-add : (t u f : ℕ → ℕ) (i : ℕ) (ns : List Node)
     → slot_sum (λ k n. (t k + u k) * f k) i ns ≡ slot_sum (λ k n. t k * f k) i ns + slot_sum (λ k n. u k * f k) i ns
@@ -32,9 +30,7 @@ slot_sum-one f j i (n ∷ ns) l b =
       | inl e ↦
           let here : same i j * f i ≡ f j = ap (λ v. same v j * f v) e ∙ ap (λ v. v * f j) (same-self j) ∙ omega arith in
           omega (arith, here, slot_sum-none (λ k. same k j) f (i + 1) ns (λ k m. same-ne k j (λ q. absurd (omega arith))))
-      | inr ne ↦
-          let here : same i j * f i ≡ 0 = ap (λ v. v * f i) (same-ne i j ne) ∙ omega arith in
-          omega (arith, here, slot_sum-one f j (i + 1) ns (below ne) (omega arith))
+      | inr ne ↦ grind (arith, same-ne, slot_sum-one f j (i + 1) ns (below ne) (omega arith))
     ]
   where
     below : (i ≡ j → ⊥) → i + 1 ≤ j

@@ -1,15 +1,12 @@
 -- A free leaf is cut in two.
-use Rattle.std.proofs.Common.{ℕ, ◌+◌, ◌-◌, ◌<◌, ◌≤◌, ◌≡◌, List, refl, sym, ap, ◌∙◌, inl, inr, arith}
-use Rattle.std.proofs.lemmas.Bool.{cases_eq}
+use Rattle.std.proofs.Common.{ℕ, ◌+◌, ◌-◌, ◌<◌, ◌≤◌, ◌≡◌, List, refl, ap, ◌∙◌, inl, inr, arith}
 use Rattle.guillotiere.specs.declared.slots.Link.{Link}
 use Rattle.guillotiere.specs.declared.slots.Node.{Node}
 use Rattle.guillotiere.specs.declared.slots.NodeKind.TheVariants as kind
-use Rattle.guillotiere.specs.Boxes.{Axis, side, sized, box_at, box_sides}
-use Rattle.guillotiere.specs.Boxes.Axis.{Horizontal, Vertical}
-use Rattle.guillotiere.specs.Pixels.{rectangle_of}
+use Rattle.guillotiere.specs.Boxes.{side, box_sides}
 use Rattle.guillotiere.specs.Slots.{node_at, use_count, no_slot}
 use Rattle.guillotiere.specs.Slots.Numbered.{Numbered, weigh, tally, first_slot, same, split_at, is_free_at, Free}
-use Rattle.guillotiere.specs.Slots.Standing.{Sequence, Standing, Stands, member_box, spot}
+use Rattle.guillotiere.specs.Slots.Standing.{Sequence, Standing, Stands, member_box}
 use Rattle.guillotiere.specs.Slots.Reading.{extent_of}
 use Rattle.guillotiere.specs.Slots.Parts.{front_part, back_part, front_node, back_node}
 use Rattle.guillotiere.proofs.SlotLemmas.Frames.{same-self, same-ne, used-le, ne-from_count}
@@ -20,29 +17,17 @@ use Rattle.guillotiere.proofs.SlotLemmas.Editing.{IsEdit, Standing-edited, split
 
 -- The extent that a member's box shows.
 pub side-member : (s : Sequence) (p e : ℕ) → side s.axis (box_sides (member_box s p e)) ≡ e
-side-member s p e = along s.axis p s.start e s.width
-  where
-    along : (a : Axis) (p start e width : ℕ) → side a (box_sides (box_at (spot a p start) (sized a e width))) ≡ e
-    along Horizontal p start e width = omega arith
-    along Vertical p start e width = omega arith
+side-member s p e = grind arith
 
 -- The two parts of a member's box.
 pub front-member : (s : Sequence) (p e q : ℕ) → front_part s.axis q (member_box s p e) ≡ member_box s p q
-front-member s p e q = along s.axis p s.start e s.width q
-  where
-    along : (a : Axis) (p start e width q : ℕ) → front_part a q (box_at (spot a p start) (sized a e width)) ≡ box_at (spot a p start) (sized a q width)
-    along Horizontal p start e width q = refl
-    along Vertical p start e width q = refl
+front-member s p e q = grind arith
 
 regroup : (p e q : ℕ) → q < e → p + q + (e - q) ≡ p + e
 regroup p e q l = omega arith
 
 pub back-member : (s : Sequence) (p e q : ℕ) → q < e → back_part s.axis q (member_box s p e) ≡ member_box s (p + q) (e - q)
-back-member s p e q l = along s.axis p s.start e s.width q (regroup p e q l)
-  where
-    along : (a : Axis) (p start e width q : ℕ) → p + q + (e - q) ≡ p + e → back_part a q (box_at (spot a p start) (sized a e width)) ≡ box_at (spot a (p + q) start) (sized a (e - q) width)
-    along Horizontal p start e width q l = rw l refl
-    along Vertical p start e width q l = rw l refl
+back-member s p e q l = grind (arith, regroup)
 
 pub first-split : (i k q : ℕ) (n : Numbered) → first_slot (split_at i k q n) ≡ first_slot n
 first-split i k q = first-edited (is_free_at i) (splitting k q) (λ a. free_here i (λ m. first_slot (splitting k q a m) ≡ first_slot m) (λ e rest. refl)) 0
@@ -87,22 +72,7 @@ module _ (ns ms : List Node) (at fresh : Link) (a q : ℕ) (w : IsSplit ns ms at
   -- At the leaf itself.
   at_head : (s : Sequence) (b p e : ℕ) (rest : Numbered) → ((x : ℕ) → same x i + tally x rest ≤ 1) → same no_slot i + tally no_slot rest ≡ 0 → tally k rest ≡ 0 → Standing ns s b p (Free i e rest) → Standing ms s b p (Free i q (Free k (e - q) rest))
   at_head s b p e rest once none zk h =
-      let goes : first_slot rest ≡ a = sym h.0.next ∙ w.after in
-      let one = once i in
-      let self = same-self i in
-      let one_a = once (first_slot rest) in
-      let less : q < e = rw (h.0.axis, h.1, side-member s p e) at w.less in
-      let moved : 0 < tally (first_slot rest) rest → node_at ms (first_slot rest) ≡ record (node_at ns (first_slot rest)) { previous = record { number = k } } = (λ l. rw goes (w.moved (λ x. absurd (omega (arith, ap (λ v. tally v rest) (goes ∙ x)))))) in
-      let zi : tally i rest ≡ 0 = omega arith in
-      let others : (x : ℕ) → (x ≡ first_slot rest → ⊥) → 0 < tally x rest → node_at ms x ≡ node_at ns x = (λ x ne l. w.others x (ne-from_count i x rest zi l) (ne-from_count k x rest zk l) (λ y. ne (y ∙ sym goes))) in (
-        rw w.front (record { parent = h.0.parent; previous = h.0.previous; next = refl; kind = h.0.kind; axis = h.0.axis }),
-        rw (w.front, h.0.axis, h.1) (ap rectangle_of (front-member s p e q)),
-        (
-          rw w.back (record { parent = h.0.parent; previous = refl; next = h.0.next; kind = refl; axis = h.0.axis }),
-          rw (w.back, h.0.axis, h.1) (ap rectangle_of (back-member s p e q less)),
-          rw (regroup p e q less) (Standing-before ns ms k s i (p + e) rest moved others (omega arith) h.2),
-        ),
-      )
+      grind (arith, same-self, side-member, ne-from_count, front-member, back-member, regroup, Standing-before)
 
   cut_in_two : (n : Numbered) → ((x : ℕ) → tally x n ≤ 1) → tally no_slot n ≡ 0 → tally k n ≡ 0 → IsEdit ns ms (is_free_at i) (splitting k q) i n
   cut_in_two n once none zk =
@@ -120,17 +90,7 @@ module _ (ns ms : List Node) (at fresh : Link) (a q : ℕ) (w : IsSplit ns ms at
       }
 
   used_after : (x : ℕ) → use_count (node_at ms x).kind ≡ use_count (node_at ns x).kind + same x k
-  used_after x =
-      elim (cases_eq x k) [
-        | inl e ↦ rw (e, w.back, w.unused, same-self k) refl
-        | inr nk ↦ rw (same-ne x k nk) (elim (cases_eq x i) [
-          | inl e ↦ rw (e, w.front) (omega arith)
-          | inr ni ↦ elim (cases_eq x a) [
-            | inr na ↦ rw (w.others x ni nk na) (omega arith)
-            | inl e ↦ elim (cases_eq a no_slot) [ inl z ↦ rw (e, w.stays z) (omega arith) | inr z ↦ rw (e, w.moved z) (omega arith) ]
-          ]
-        ])
-      ]
+  used_after x = grind (arith, same-self, same-ne)
 
   pub Stands-split : (s : Sequence) (n : Numbered) → Stands ns s n → Stands ms s (split_at i k q n)
   Stands-split s n h =

@@ -1,6 +1,5 @@
 -- What the writes of `split_leaf` make.
 use Rattle.std.proofs.Common.{ℕ, ◌+◌, ◌<◌, ◌≤◌, ◌≡◌, ◌≢◌, List, refl, sym, ap, ◌∙◌, ◌⊎◌, inl, inr, arith, length, set, get_or-set_same, get_or-set_other, length-set}
-use Rattle.std.proofs.lemmas.Bool.{cases_eq}
 use Rattle.std.proofs.lemmas.List.{get_or_past}
 use Rattle.guillotiere.specs.declared.slots.Node.{Node}
 use Rattle.guillotiere.specs.declared.slots.Link.{Link}
@@ -18,19 +17,13 @@ use Rattle.guillotiere.proofs.SlotLemmas.Splitting.{IsSplit}
 
 -- What follows a member is another slot.
 follows : (i j a : ℕ) (rest : Numbered) → same i j + tally i rest ≤ 1 → j ≡ i → i ≢ no_slot → first_slot rest ≡ a → a ≡ i → ⊥
-follows i j a rest once ji none goes ai =
-    elim (first-in rest) [
-      | inl z ↦ none (sym ai ∙ sym goes ∙ z)
-      | inr y ↦ absurd (omega (arith, same-self i, ap (same i) ji, ap (λ v. tally v rest) (goes ∙ ai)))
-    ]
+follows i j a rest once ji none goes ai = grind (arith, first-in, same-self)
 
 after_other : (ns : List Node) (i a : ℕ) (s : Sequence) (b p : ℕ) (m : Numbered) → i ≢ no_slot → (node_at ns i).next.number ≡ a → first_slot m ≡ i → ((x : ℕ) → tally x m ≤ 1) → Standing ns s b p m → a ≡ i → ⊥
 after_other ns i a s b p End none next begins once h = absurd (none (sym begins))
 after_other ns i a s b p (Free j e rest) none next begins once h = follows i j a rest (once i) begins none (sym h.0.next ∙ (rw begins next))
 after_other ns i a s b p (Alloc j g e rest) none next begins once h = follows i j a rest (once i) begins none (sym h.0.next ∙ (rw begins next))
-after_other ns i a s b p (Seq j e inner rest) none next begins once h =
-    let o : same i j + tally i rest ≤ 1 = omega (arith, once i) in
-    follows i j a rest o begins none (sym h.0.next ∙ (rw begins next))
+after_other ns i a s b p (Seq j e inner rest) none next begins once h = grind (arith, follows i j a rest)
 
 -- What the tree says before the cut of the leaf i, which a follows, into i and k.
 pub record CanSplit (ns : List Node) (i k a : ℕ) : Type 0 where
@@ -98,17 +91,9 @@ split-by ns ms1 ms2 ms at fresh leaf unused q n1 n2 short t can lk el eu en1 en2
 
 -- The other slots keep what they are used for.
 pub others-split : (ns ms : List Node) (at fresh : Link) (a q : ℕ) → IsSplit ns ms at fresh a q → (x : ℕ) → x ≢ at.number → x ≢ fresh.number → KeepsUse (node_at ns x) (node_at ms x)
-others-split ns ms at fresh a q w x xi xk =
-    elim (cases_eq x a) [
-      | inr na ↦ rw (w.others x xi xk na) (record { kind = refl; area = refl; generation = refl })
-      | inl e ↦ elim (cases_eq a no_slot) [
-        | inl z ↦ rw (e, w.stays z) (record { kind = refl; area = refl; generation = refl })
-        | inr z ↦ rw (e, w.moved z) (record { kind = refl; area = refl; generation = refl })
-      ]
-    ]
+others-split ns ms at fresh a q w x xi xk = grind arith
 
 pub IsSlot-split : (ns : List Node) (at fresh : Link) (leaf : Node) (m q : ℕ) → length ns < no_slot → IsTree ns
     → CanSplitInto ns at.number fresh.number q → fresh.number < length ns → leaf ≡ node_at ns at.number → m ≡ length ns
     → IsSlot m leaf.next.number
-IsSlot-split ns at fresh leaf m q short t can lk el em =
-    rw (em, el) ((can-split ns at.number fresh.number _ short t can.free can.unused lk refl).after)
+IsSlot-split ns at fresh leaf m q short t can lk el em = grind (arith, can-split)

@@ -1,6 +1,8 @@
 -- The last leaf reaches to the far corner of a size, or a leaf that does is appended.
 use Rattle.std.proofs.Common.{ℕ, ◌+◌, ◌<◌, ◌≤◌, ◌≡◌, ◌≢◌, ◌∙◌, List, refl, sym, ap, inl, inr, arith, length, set, get_or-set_same, get_or-set_other, length-set}
-use Rattle.std.proofs.lemmas.Bool.{cases_eq}
+use Rattle.std.proofs.lemmas.Bool.{cases_eq, cases_lt}
+use Rattle.std.proofs.lemmas.List.{get_or_past, length-map}
+use Rattle.guillotiere.specs.declared.slots.Slot.{Slot}
 use Rattle.guillotiere.specs.declared.slots.Link.{Link}
 use Rattle.guillotiere.specs.declared.slots.Node.{Node}
 use Rattle.guillotiere.specs.declared.slots.NodeKind.{NodeKind}
@@ -13,7 +15,8 @@ use Rattle.guillotiere.specs.Boxes.{Axis, Sides, other, side, sized, box_at}
 use Rattle.guillotiere.specs.Boxes.Axis.{Horizontal, Vertical}
 use Rattle.guillotiere.specs.Pixels.{sides_of, size_of, rectangle_of}
 use Rattle.guillotiere.specs.Trees.{total}
-use Rattle.guillotiere.specs.Slots.{node_at, blank_node, use_count, no_slot, axis_of, KeepsUse}
+use Rattle.guillotiere.specs.Slots.SlotCalls.{CanAppendTo}
+use Rattle.guillotiere.specs.Slots.{nodes, node_at, blank_node, use_count, no_slot, axis_of, KeepsUse}
 use Rattle.guillotiere.specs.Slots.Numbered.{Numbered, weigh, tally, same, erase, first_slot, End, Free, Alloc, Seq}
 use Rattle.guillotiere.specs.Slots.Standing.{Sequence, Standing, Stands, IsLinkedIn, inside, member_box, spot}
 use Rattle.guillotiere.specs.Slots.Growing.{last_after, last_slot, stretched, appended, stretched_area, Reaches}
@@ -34,12 +37,15 @@ last-later i k (Alloc j g f rest) some e = last-in i j rest e
 last-later i k (Seq j f inner rest) some e = omega (arith, last-in i j rest e)
 
 -- The rectangle of the last member is longer.
-box-stretched : (s : Sequence) (p e d : ℕ) (size : Size) → size ≡ size_of (sides_of size) → Reaches (sides_of size) s (p + (e + d)) → stretched_area (rectangle_of (member_box s p e)) size ≡ rectangle_of (member_box s p (e + d))
-box-stretched s p e d size exact far = rw exact (along s.axis s.start s.width p e d (sides_of size) far.0 far.1)
+box-stretched : (s : Sequence) (p e d : ℕ) (size : Size) → size ≡ size_of (sides_of size) → Reaches (sides_of size) s (p + (e + d))
+    → stretched_area (rectangle_of (member_box s p e)) size ≡ rectangle_of (member_box s p (e + d))
+box-stretched s p e d size exact far = rw exact (along s.axis s.start s.width (sides_of size) far.0 far.1)
   where
-    along : (a : Axis) (start width p e d : ℕ) (size : Sides) → p + (e + d) ≡ side a size → start + width ≡ side (other a) size → stretched_area (rectangle_of (box_at (spot a p start) (sized a e width))) (size_of size) ≡ rectangle_of (box_at (spot a p start) (sized a (e + d) width))
-    along Horizontal start width p e d size x y = rw (x, y) refl
-    along Vertical start width p e d size x y = rw (x, y) refl
+    along : (a : Axis) (start width : ℕ) (size : Sides) → p + (e + d) ≡ side a size → start + width ≡ side (other a) size
+        → stretched_area (rectangle_of (box_at (spot a p start) (sized a e width))) (size_of size)
+        ≡ rectangle_of (box_at (spot a p start) (sized a (e + d) width))
+    along Horizontal start width size x y = rw (x, y) refl
+    along Vertical start width size x y = rw (x, y) refl
 
 -- A free first member is the last, or stays.
 pub stretched-free : (d i e : ℕ) (m : Numbered) (P : (rest new : Numbered) → Type 0) → P End (Free i (e + d) End) → ((m ≡ End → ⊥) → P m (Free i e (stretched d m))) → P m (stretched d (Free i e m))
@@ -76,10 +82,9 @@ module _ (ns ms : List Node) (i : ℕ) (size : Size) (exact : size ≡ size_of (
   -- The leaf itself.
   at_end : (s : Sequence) (d b p e j : ℕ) → j ≡ i → Reaches (sides_of size) s (p + (e + 0 + d)) → Standing ns s b p (Free j e End) → Standing ms s b p (Free j (e + d) End)
   at_end s d b p e j is far h =
-      let there : node_at ms j ≡ longer_leaf (node_at ns j) size = rw is w.there in
-      let reach : Reaches (sides_of size) s (p + (e + d)) = (omega (arith, far.0), far.1) in (
+      let there : node_at ms j ≡ longer_leaf (node_at ns j) size = rw is w.there in (
         rw there (record { parent = h.0.parent; previous = h.0.previous; next = h.0.next; kind = h.0.kind; axis = h.0.axis }),
-        rw (there, h.1) (box-stretched s p e d size exact reach),
+        rw (there, h.1) (box-stretched s p e d size exact (omega (arith, far.0), far.1)),
         tt,
       )
 
@@ -156,7 +161,7 @@ strip_node last before size unused =
     }
 
 -- The nodes ms are ns after the unused slot k came after the member i.
-pub record IsAppended (ns ms : List Node) (i k : Link) (size : Size) : Type 0 where
+pub record IsStripAdded (ns ms : List Node) (i k : Link) (size : Size) : Type 0 where
   pub some : i.number ≢ no_slot
   pub unused : (node_at ns k.number).kind ≡ kind.Unused
   pub last : node_at ms i.number ≡ record (node_at ns i.number) { next = k }
@@ -164,7 +169,7 @@ pub record IsAppended (ns ms : List Node) (i k : Link) (size : Size) : Type 0 wh
   pub others : (x : ℕ) → (x ≡ i.number → ⊥) → (x ≡ k.number → ⊥) → node_at ms x ≡ node_at ns x
 
 -- The other slots keep what they are used for.
-pub keeps-appended : (ns ms : List Node) (at fresh : Link) (size : Size) → IsAppended ns ms at fresh size → (x : ℕ) → x ≢ fresh.number → KeepsUse (node_at ns x) (node_at ms x)
+pub keeps-appended : (ns ms : List Node) (at fresh : Link) (size : Size) → IsStripAdded ns ms at fresh size → (x : ℕ) → x ≢ fresh.number → KeepsUse (node_at ns x) (node_at ms x)
 keeps-appended ns ms at fresh size w x ne =
     elim (cases_eq x at.number) [
       | inl e ↦ rw (e, w.last) (record { kind = refl; area = refl; generation = refl })
@@ -180,7 +185,7 @@ record EndsAt (n : Node) (s : Sequence) (p : ℕ) : Type 0 where
   ends : start + extent ≡ p
   area : n.area ≡ rectangle_of (member_box s start extent)
 
-module _ (ns ms : List Node) (at fresh : Link) (size : Size) (exact : size ≡ size_of (sides_of size)) (w : IsAppended ns ms at fresh size) where
+module _ (ns ms : List Node) (at fresh : Link) (size : Size) (exact : size ≡ size_of (sides_of size)) (w : IsStripAdded ns ms at fresh size) where
   abbrev i : ℕ
   i = at.number
 
@@ -255,18 +260,33 @@ module _ (ns ms : List Node) (at fresh : Link) (size : Size) (exact : size ≡ s
         numbered = λ x. omega (arith, weigh-appended (same x) k d n, used_appended x, h.numbered x);
       }
 
+-- A used slot is inside.
+used-within : (ns : List Node) (i : ℕ) → (node_at ns i).kind ≢ kind.Unused → i < length ns
+used-within ns i used = elim (cases_lt i (length ns)) [
+  | inl l ↦ l
+  | inr l ↦ absurd (used (ap (λ (n : Node). n.kind) (get_or_past ns i blank_node l)))
+]
+
+pub last-inside : (slots : List Slot) (i k : ℕ) → CanAppendTo (nodes slots) i k → i < length slots
+last-inside slots i k can = omega (arith, used-within (nodes slots) i can.used, length-map slots (λ (s : Slot). s.node))
+
 -- What the writes make.
-pub appended-by : (ns ms1 ms : List Node) (at fresh : Link) (size : Size) (leaf unused n1 n2 : Node) → length ns < no_slot → at.number < length ns → fresh.number < length ns → (node_at ns at.number).kind ≢ kind.Unused → (node_at ns fresh.number).kind ≡ kind.Unused → leaf ≡ node_at ns at.number → unused ≡ node_at ns fresh.number → n1 ≡ record leaf { next = fresh } → n2 ≡ strip_node leaf at size unused → ms1 ≡ set ns at.number n1 → ms ≡ set ms1 fresh.number n2 → IsAppended ns ms at fresh size
-appended-by ns ms1 ms at fresh size leaf unused n1 n2 short li lk used u el eu en1 en2 e1 e =
+pub appended-by : (ns ms1 ms : List Node) (at fresh : Link) (size : Size) (leaf unused n1 n2 : Node) → length ns < no_slot
+    → fresh.number < length ns → CanAppendTo ns at.number fresh.number
+    → leaf ≡ node_at ns at.number → unused ≡ node_at ns fresh.number
+    → n1 ≡ record leaf { next = fresh } → n2 ≡ strip_node leaf at size unused
+    → ms1 ≡ set ns at.number n1 → ms ≡ set ms1 fresh.number n2 → IsStripAdded ns ms at fresh size
+appended-by ns ms1 ms at fresh size leaf unused n1 n2 short lk can el eu en1 en2 e1 e =
     let i = at.number in
     let k = fresh.number in
-    let ik : i ≡ k → ⊥ = λ x. used (rw x u) in
+    let li : i < length ns = used-within ns i can.used in
+    let ik : i ≡ k → ⊥ = λ x. can.used (rw x can.unused) in
     let xs = set ns i n1 in
     let lx : length xs ≡ length ns = length-set ns i n1 in
     let all : ms ≡ set xs k n2 = rw (e, e1) refl in
     record {
       some = λ x. absurd (omega arith);
-      unused = u;
+      unused = can.unused;
       last = rw (all, get_or-set_other xs k i n2 blank_node ik, get_or-set_same ns i n1 blank_node li, en1, el) refl;
       strip = rw (all, get_or-set_same xs k n2 blank_node (omega arith), en2, el, eu) refl;
       others = λ x xi xk. rw (all, get_or-set_other xs k x n2 blank_node xk, get_or-set_other ns i x n1 blank_node xi) refl;

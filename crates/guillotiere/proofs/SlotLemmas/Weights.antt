@@ -4,7 +4,7 @@ use Rattle.std.proofs.lemmas.Bool.{true≢false}
 use Rattle.guillotiere.specs.declared.slots.Node.{Node}
 use Rattle.guillotiere.specs.declared.slots.NodeKind.{NodeKind}
 use Rattle.guillotiere.specs.declared.slots.NodeKind.TheVariants as kind
-use Rattle.guillotiere.specs.Slots.{node_at, use_count, no_slot}
+use Rattle.guillotiere.specs.Slots.{node_at, no_slot}
 use Rattle.guillotiere.specs.Slots.Numbered.{Numbered, tally, same, first_slot, is_free_at, is_alloc_at, End, Free, Alloc, Seq}
 use Rattle.guillotiere.specs.Slots.Standing.{Sequence, Standing, Stands, inside}
 use Rattle.guillotiere.proofs.SlotLemmas.Frames.{same-self, same-ne}
@@ -92,14 +92,10 @@ module _ (ns : List Node) (i : ℕ) where
   other_kind j k l ki lj ne = sym (same-ne i j (λ e. ne (sym ki ∙ ap (λ x. (node_at ns x).kind) e ∙ lj)))
 
   pub free_place : (s : Sequence) (n : Numbered) → (node_at ns i).kind ≡ kind.Free → Stands ns s n → places (is_free_at i) n ≡ 1
-  free_place s n f h =
-      places-Standing ns i (is_free_at i) (λ j e rest k. refl) (λ j g e rest k. other_kind j _ _ f k (λ q. cc)) (λ j e inner rest k. other_kind j _ _ f k (λ q. cc)) s no_slot 0 n h.standing
-      ∙ h.numbered i ∙ ap use_count f
+  free_place s n f h = grind (arith, places-Standing, other_kind)
 
   pub free_once : (s : Sequence) (n : Numbered) → (node_at ns i).kind ≡ kind.Free → Stands ns s n → free_tally i n ≡ 1
   free_once s n f h = sym (places-free i n) ∙ free_place s n f h
 
   pub alloc_place : (s : Sequence) (n : Numbered) → (node_at ns i).kind ≡ kind.Alloc → Stands ns s n → places (is_alloc_at i) n ≡ 1
-  alloc_place s n f h =
-      places-Standing ns i (is_alloc_at i) (λ j e rest k. other_kind j _ _ f k (λ q. cc)) (λ j g e rest k. refl) (λ j e inner rest k. other_kind j _ _ f k (λ q. cc)) s no_slot 0 n h.standing
-      ∙ h.numbered i ∙ ap use_count f
+  alloc_place s n f h = grind (arith, places-Standing, other_kind)

@@ -1,17 +1,14 @@
 -- A free leaf becomes a container of one.
-use Rattle.std.proofs.Common.{ℕ, ◌+◌, ◌<◌, ◌≤◌, ◌≡◌, List, refl, sym, ap, ◌∙◌, inl, inr, arith, length, set, get_or-set_same, get_or-set_other, length-set}
-use Rattle.std.proofs.lemmas.Bool.{cases_eq}
+use Rattle.std.proofs.Common.{ℕ, ◌+◌, ◌<◌, ◌≤◌, ◌≡◌, List, refl, ap, ◌∙◌, arith, length, set, get_or-set_same, get_or-set_other, length-set}
 use Rattle.guillotiere.specs.declared.slots.Link.{Link}
 use Rattle.guillotiere.specs.declared.slots.Node.{Node}
 use Rattle.guillotiere.specs.declared.slots.NodeKind.TheVariants as kind
 use Rattle.guillotiere.specs.declared.cut.Orientation.{Orientation}
 use Rattle.guillotiere.specs.declared.cut.Orientation.TheVariants as orientation
-use Rattle.guillotiere.specs.Boxes.{Axis, other, sized, box_at}
-use Rattle.guillotiere.specs.Boxes.Axis.{Horizontal, Vertical}
-use Rattle.guillotiere.specs.Pixels.{rectangle_of}
-use Rattle.guillotiere.specs.Slots.{node_at, blank_node, use_count, no_slot, axis_of}
+use Rattle.guillotiere.specs.Boxes.{other}
+use Rattle.guillotiere.specs.Slots.{node_at, use_count, no_slot, axis_of}
 use Rattle.guillotiere.specs.Slots.Numbered.{Numbered, weigh, tally, first_slot, same, wrapped_at, wrapping, is_free_at}
-use Rattle.guillotiere.specs.Slots.Standing.{Sequence, Standing, Stands, inside, member_box, spot}
+use Rattle.guillotiere.specs.Slots.Standing.{Sequence, Standing, Stands, inside, member_box, with_kind}
 use Rattle.guillotiere.specs.Slots.Parts.{flipped, inner_node}
 use Rattle.guillotiere.proofs.SlotLemmas.Frames.{Standing-same, same-self, same-ne, used-le, ne-from_count}
 use Rattle.guillotiere.proofs.SlotLemmas.JoiningWrites.{used-inside}
@@ -24,11 +21,7 @@ axis_of-flipped orientation.Vertical = refl
 
 -- The only member inside a member fills its box.
 pub box-inside : (s : Sequence) (i p e : ℕ) → member_box (inside s i p e) s.start s.width ≡ member_box s p e
-box-inside s i p e = along s.axis p s.start e s.width
-  where
-    along : (a : Axis) (p start e width : ℕ) → box_at (spot (other a) start p) (sized (other a) width e) ≡ box_at (spot a p start) (sized a e width)
-    along Horizontal p start e width = refl
-    along Vertical p start e width = refl
+box-inside s i p e = grind arith
 
 pub first-wrapped : (i k across : ℕ) (n : Numbered) → first_slot (wrapped_at i k across n) ≡ first_slot n
 first-wrapped i k = first-edited (is_free_at i) (wrapping k) (λ a. free_here i (λ m. first_slot (wrapping k a m) ≡ first_slot m) (λ e rest. refl))
@@ -57,26 +50,20 @@ pub record IsWrapped (ns ms : List Node) (i : Link) (k : ℕ) : Type 0 where
 module _ (ns ms : List Node) (at : Link) (k : ℕ) (w : IsWrapped ns ms at k) where
   wrapped : (n : Numbered) → ((x : ℕ) → tally x n ≤ 1) → tally k n ≡ 0 → IsEdit ns ms (is_free_at at.number) (wrapping k) at.number n
   wrapped n once zk =
-      record {
-        never = refl;
-        begins = free_here at.number (λ m. first_slot m ≡ at.number) (λ e rest. refl);
-        once = once;
-        first = λ a. free_here at.number (λ m. first_slot (wrapping k a m) ≡ first_slot m) (λ e rest. refl);
-        here = λ s b p. free_here at.number (λ m. Standing ns s b p m → ((x : ℕ) → tally x m ≤ tally x n) → Standing ms s b p (wrapping k s.width m)) (λ e rest h less. (
-          rw w.outer (record { parent = h.0.parent; previous = h.0.previous; next = h.0.next; kind = refl; axis = h.0.axis }),
-          rw w.outer h.1,
-          (rw w.inner (record { parent = refl; previous = refl; next = refl; kind = refl; axis = axis_of-flipped (node_at ns at.number).axis ∙ ap other h.0.axis }), rw w.inner (h.1 ∙ ap rectangle_of (sym (box-inside s at.number p e))), tt),
-          Standing-same ns ms s at.number (p + e) rest (λ x l. w.others x (ne-from_count at.number x rest (omega (arith, less at.number, once at.number, same-self at.number)) l) (ne-from_count k x rest (omega (arith, less k, zk)) l)) h.2,
-        ));
-        beside = λ f x z some. w.others x (other-slot x at.number f.members z f.here) (ne-from_count k x n zk some);
-      }
+      grind (
+        arith,
+        free_here at.number,
+        axis_of-flipped (node_at ns at.number).axis,
+        box-inside,
+        Standing-same ns ms,
+        ne-from_count at.number,
+        same-self at.number,
+        ne-from_count k,
+        other-slot,
+      )
 
   used_after : (x : ℕ) → use_count (node_at ms x).kind ≡ use_count (node_at ns x).kind + same x k
-  used_after x =
-      elim (cases_eq x k) [
-        | inl e ↦ rw (e, w.inner, w.unused, same-self k) refl
-        | inr nk ↦ rw (same-ne x k nk) (elim (cases_eq x at.number) [ inl e ↦ rw (e, w.outer, w.free) refl | inr ni ↦ rw (w.others x ni nk) (omega arith) ])
-      ]
+  used_after x = grind (arith, same-self, same-ne)
 
   pub Stands-wrapped : (s : Sequence) (n : Numbered) → Stands ns s n → Stands ms s (wrapped_at at.number k s.width n)
   Stands-wrapped s n h =
@@ -88,21 +75,14 @@ module _ (ns ms : List Node) (at : Link) (k : ℕ) (w : IsWrapped ns ms at k) wh
       }
 
 -- What the writes make.
-pub wrapped-by : (ns ms1 ms : List Node) (at fresh : Link) (leaf unused : Node) → (node_at ns at.number).kind ≡ kind.Free → (node_at ns fresh.number).kind ≡ kind.Unused → fresh.number < length ns → leaf ≡ node_at ns at.number → unused ≡ node_at ns fresh.number → ms1 ≡ set ns at.number (record leaf { kind = kind.Container }) → ms ≡ set ms1 fresh.number (inner_node leaf at unused) → IsWrapped ns ms at fresh.number
+pub wrapped-by : (ns ms1 ms : List Node) (at fresh : Link) (leaf unused : Node) → (node_at ns at.number).kind ≡ kind.Free → (node_at ns fresh.number).kind ≡ kind.Unused → fresh.number < length ns → leaf ≡ node_at ns at.number → unused ≡ node_at ns fresh.number → ms1 ≡ with_kind ns at.number kind.Container → ms ≡ set ms1 fresh.number (inner_node leaf at unused) → IsWrapped ns ms at fresh.number
 wrapped-by ns ms1 ms at fresh leaf unused f u lk el eu e1 e =
-    let i = at.number in
-    let k = fresh.number in
-    let n1 : Node = record leaf { kind = kind.Container } in
-    let n2 : Node = inner_node leaf at unused in
-    let li : i < length ns = used-inside ns i (rw f (omega arith)) in
-    let ik : i ≡ k → ⊥ = (λ x. let y : (node_at ns i).kind ≡ kind.Unused = rw (x, u) refl in cc) in
-    let xs = set ns i n1 in
-    let lx : length xs ≡ length ns = length-set ns i n1 in
-    let all : ms ≡ set xs k n2 = rw (e, e1) refl in
-    record {
-      free = f;
-      unused = u;
-      outer = rw (all, get_or-set_other xs k i n2 blank_node ik, get_or-set_same ns i n1 blank_node li, el) refl;
-      inner = rw (all, get_or-set_same xs k n2 blank_node (omega arith), el, eu) refl;
-      others = λ x xi xk. rw (all, get_or-set_other xs k x n2 blank_node xk, get_or-set_other ns i x n1 blank_node xi) refl;
-    }
+    grind (
+      arith,
+      used-inside ns,
+      length-set ns,
+      get_or-set_other,
+      get_or-set_same ns,
+      get_or-set_same,
+      get_or-set_other ns,
+    )

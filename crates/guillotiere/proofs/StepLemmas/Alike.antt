@@ -1,20 +1,24 @@
 -- States that are one but for their ids answer alike.
-use Rattle.std.proofs.Common.{◌≡◌, ℕ, ◌+◌, ◌-◌, ◌≤◌, ◌<◌, ◌⊎◌, inl, inr, Bool, true, false, cond, List, [], ◌∷◌, ◌++◌, map, max, refl, ap, ap₂, subst, subst₂, sym, ◌∙◌, arith, ◌↔◌}
-use Rattle.std.specs.List.{Contains}
+use Rattle.std.proofs.Common.{◌≡◌, ℕ, ◌≤◌, ◌<◌, ◌⊎◌, inl, inr, Bool, true, false, cond, List, [], ◌∷◌, ◌++◌, map, max}
+use Rattle.std.proofs.Common.{refl, ap, ap₂, subst, subst₂, sym, ◌∙◌, arith, ◌↔◌}
 use Rattle.std.proofs.lemmas.Bool.{true≢false}
 use Rattle.std.proofs.lemmas.List.Elements.{Contains-append_left, Contains-append_right, Contains-append_cases}
-use Rattle.guillotiere.specs.declared.error.AtlasError.TheVariants.{Memory, Slots, NotLive}
-use Rattle.guillotiere.specs.Boxes.{Axis, Position, Sides, Box, Fits, other, side, sized, moved, box_at, origin, box_sides, same_box}
+use Rattle.guillotiere.specs.Boxes.{Axis, Position, Sides, Box, Fits, other, side, sized, moved, box_at, origin}
+use Rattle.guillotiere.specs.Boxes.{box_sides, same_box}
+use Rattle.guillotiere.specs.Changes.{mark, only, put, placed, place, release, grown, place_need}
 use Rattle.guillotiere.specs.Choice.{Options, IsPick, HasRoom, HasNoRoom, rounded}
 use Rattle.guillotiere.specs.Cuts.{cut}
-use Rattle.guillotiere.specs.Trees.{Members, Tree, Grant, ids, node_count, free_boxes, slot_count}
-use Rattle.guillotiere.specs.Trees.Members.{End, Free, Alloc, Seq}
-use Rattle.guillotiere.specs.Changes.{mark, only, put, placed, place, release, grown, place_need}
-use Rattle.guillotiere.specs.States.{State, IsLive, IsSound, free_in, used_in, with_tree, after_placing, after_freeing, after_growth}
+use Rattle.guillotiere.specs.Renaming.{renamed_tree, with_name, IsOneToOne, IsNewName, AreAlike, AreSameCalls}
+use Rattle.guillotiere.specs.Renaming.{AnswerAlike, is_out_of_memory, AreNamedAlike, AnswersWithoutIds, LiveNamesCount}
+use Rattle.guillotiere.specs.States.{State, IsLive, IsSound, free_in, used_in, with_tree, after_placing, after_freeing}
+use Rattle.guillotiere.specs.States.{after_growth}
 use Rattle.guillotiere.specs.Steps.{AtlasCall, AtlasReply, Step, Takes, Grants, nodes_with, nodes_grown}
 use Rattle.guillotiere.specs.Steps.AtlasCall.{Allocate, Deallocate, Grow}
-use Rattle.guillotiere.specs.Steps.AtlasReply.{Allocated, NoRoom, Done, Changed, Refused, BadCall}
-use Rattle.guillotiere.specs.Renaming.{renamed_tree, with_name, IsOneToOne, IsNewName, AreAlike, AreSameCalls, AnswerAlike, is_out_of_memory, AreNamedAlike, AnswersWithoutIds, LiveNamesCount}
+use Rattle.guillotiere.specs.Steps.AtlasReply.{Allocated, NoRoom, Done, Refused, BadCall}
+use Rattle.guillotiere.specs.Trees.{Members, Tree, Grant, ids, node_count, free_boxes, slot_count}
+use Rattle.guillotiere.specs.Trees.Members.{End, Free, Alloc, Seq}
+use Rattle.guillotiere.specs.declared.error.AtlasError.TheVariants.{Memory, Slots, NotLive}
+use Rattle.std.specs.List.{Contains}
 use Rattle.guillotiere.proofs.StepLemmas.StepEffects.{picks_are_one}
 use Rattle.guillotiere.proofs.TreeLemmas.TreeIds.{Contains-first, Contains-later, Contains-none, Contains-cons_cases, unused-absent}
 use Rattle.guillotiere.proofs.TreeLemmas.TreeKept.{ids-nf, ids-grown}
@@ -78,9 +82,7 @@ ids-placed_at b r id axis o across (Free e rest) k at =
     by_test : (x : Bool) → (Contains (ids after) k → IsNewOr id (ids rest) k)
         → Contains (ids (cond x (put (cut (box_sides b) r) axis e across (side axis r) (side (other axis) r) id after) (Free e after))) k
         → IsNewOr id (ids rest) k
-    by_test true more h =
-        by_place more (Contains-cons_cases id (ids after) k
-        (subst (λ xs. Contains xs k) (ids-put (cut (box_sides b) r) axis e across (side axis r) (side (other axis) r) id after) h))
+    by_test true more h = grind (arith, after, ids-put)
     by_test false more h = more h
 ids-placed_at b r id axis o across (Alloc i e rest) k at =
     elim (Contains-cons_cases i (ids (placed b r id axis (moved axis o e) across rest)) k at) [
@@ -129,8 +131,7 @@ one_to_one_placed f size b r id name t absent new one x y at_x at_y same =
 -- What two states that are alike have in common.
 
 nodes_same : (f g : ℕ → ℕ) (v u : Tree) → renamed_tree g u ≡ renamed_tree f v → node_count u.members ≡ node_count v.members
-nodes_same f g v u same =
-    sym (nodes-renamed g u.members) ∙ ap (λ (k : Tree). node_count k.members) same ∙ nodes-renamed f v.members
+nodes_same f g v u same = grind (arith, nodes-renamed)
 
 names_same : (f g : ℕ → ℕ) (v u : Tree) (name : ℕ) → renamed_tree g u ≡ renamed_tree f v → IsNewName f v name → IsNewName g u name
 names_same f g v u name same new at = new (subst (λ (k : Tree). Contains (ids k.members) name) same at)
@@ -145,22 +146,16 @@ module _ (f g : ℕ → ℕ) (s t : State) (a : AreAlike f g s t) where
   used_same = nodes_same f g s.tree t.tree a.tree
 
   need_same : (b : Box) (r : Sides) → place_need t.size b r t.tree ≡ place_need s.size b r s.tree
-  need_same b r =
-      ap (λ n. place_need n b r t.tree) a.size ∙ sym (need_renamed g s.size b r t.tree) ∙ ap (place_need s.size b r) a.tree
-      ∙ need_renamed f s.size b r s.tree
+  need_same b r = grind (arith, need_renamed)
 
   nodes_with_same : (r : Sides) (b : Box) → nodes_with t r b ≡ nodes_with s r b
-  nodes_with_same r b =
-      ap₂ (λ j k. j + k) used_same (need_same b (rounded t.options r) ∙ ap (λ o. place_need s.size b (rounded o r) s.tree) a.options)
+  nodes_with_same r b = grind (arith, used_same, need_same)
 
   grown_same : (n : Sides) → renamed_tree g (grown t.size n t.tree) ≡ renamed_tree f (grown s.size n s.tree)
-  grown_same n =
-      grown_renamed g t.size n t.tree ∙ ap₂ (λ z k. grown z n k) a.size a.tree ∙ sym (grown_renamed f s.size n s.tree)
+  grown_same n = grind (arith, grown_renamed)
 
   nodes_grown_same : (n : Sides) → nodes_grown t n ≡ nodes_grown s n
-  nodes_grown_same n =
-      ap₂ (λ j k. j + k) used_same
-      (ap₂ (λ j k. j - k) (nodes_same f g (grown s.size n s.tree) (grown t.size n t.tree) (grown_same n)) used_same)
+  nodes_grown_same n = grind (arith, used_same, nodes_same, grown_same)
 
   room_same : (r : Sides) → HasRoom (free_in t) t.options r ≡ HasRoom (free_in s) s.options r
   room_same r = ap₂ (λ free o. HasRoom free o r) free_same a.options
@@ -176,15 +171,7 @@ module _ (f g : ℕ → ℕ) (s t : State) (a : AreAlike f g s t) where
       → IsOneToOne j (ids u.members)
       → AreAlike i j (record s { tree = v; size = n; kept = max s.kept (node_count v.members) })
       (record t { tree = u; size = n; kept = max t.kept (node_count u.members) })
-  alike_after i j n v u same one two = record {
-    size = refl;
-    options = a.options;
-    limit = a.limit;
-    kept = ap₂ max a.kept (nodes_same i j v u same);
-    tree = same;
-    names = one;
-    twins = two;
-  }
+  alike_after i j n v u same one two = grind (arith, nodes_same)
 
   unchanged : (s' t' : State) → s' ≡ s → t' ≡ t → AreAlike f g s' t'
   unchanged s' t' is is' = subst₂ (AreAlike f g) (sym is) (sym is') a
@@ -237,10 +224,7 @@ came s s' r NoRoom h met = inl (refl, h.0, h.1)
 came s s' r (Allocated k) h met = inr (inl (k, h.0, refl, h.1))
 came s s' r (Refused Slots) h met = inr (inr (h.0, refl, h.1, h.2, h.3))
 came s s' r (Refused Memory) h met = absurd (true≢false met)
-came s s' r (Refused NotLive) h met = absurd h
-came s s' r Done h met = absurd h
-came s s' r (Changed list) h met = absurd h
-came s s' r BadCall h met = absurd h
+came s s' r reply h met = absurd h
 
 has_room : (s : State) (r : Sides) (b : Box) → Takes s r b → HasRoom (free_in s) s.options r
 has_room s r b h = record { positive = h.positive; box = b; fitting = h.pick.best.candidate.fitting }
@@ -251,14 +235,9 @@ Freed s id reply s' =
     ⊎ ((reply ≡ Refused NotLive) × (IsLive s id → ⊥) × (s' ≡ s))
 
 freed : (s s' : State) (id : ℕ) (reply : AtlasReply) → Step s (Deallocate id) reply s' → Freed s id reply s'
-freed s s' id NoRoom h = absurd h
-freed s s' id (Allocated k) h = absurd h
-freed s s' id (Refused Slots) h = absurd h
-freed s s' id (Refused Memory) h = absurd h
 freed s s' id (Refused NotLive) h = inr (refl, h.0, h.1)
 freed s s' id Done h = inl (refl, h.0, h.1)
-freed s s' id (Changed list) h = absurd h
-freed s s' id BadCall h = absurd h
+freed s s' id reply h = absurd h
 
 abbrev Grew : State → Sides → AtlasReply → State → Type 0
 Grew s n reply s' =
@@ -268,14 +247,11 @@ Grew s n reply s' =
 
 grew : (s s' : State) (n : Sides) (reply : AtlasReply) → Step s (Grow n) reply s' → is_out_of_memory reply ≡ false
     → Grew s n reply s'
-grew s s' n NoRoom h met = absurd h
-grew s s' n (Allocated k) h met = absurd h
 grew s s' n (Refused Slots) h met = inr (inr (refl, h.0, h.1, h.2))
 grew s s' n (Refused Memory) h met = absurd (true≢false met)
-grew s s' n (Refused NotLive) h met = absurd h
 grew s s' n Done h met = inr (inl (refl, h.0, h.1, h.2))
-grew s s' n (Changed list) h met = absurd h
 grew s s' n BadCall h met = inl (refl, h.0, h.1)
+grew s s' n reply h met = absurd h
 
 -- Each call from states that are alike.
 
@@ -283,9 +259,7 @@ module _ (f g : ℕ → ℕ) (s t : State) (a : AreAlike f g s t) (sound : IsSou
   -- Both replies are the same, and change nothing.
   both_unchanged : (reply answer is : AtlasReply) → AnswerAlike f g s s' t' is is ≡ ((is ≡ is) × AreAlike f g s' t')
       → reply ≡ is → answer ≡ is → s' ≡ s → t' ≡ t → AnswerAlike f g s s' t' reply answer
-  both_unchanged reply answer is plain e e' same same' =
-      subst₂ (AnswerAlike f g s s' t') (sym e) (sym e')
-      (subst (λ (X : Type 0). X) (sym plain) (refl, unchanged f g s t a s' t' same same'))
+  both_unchanged reply answer is plain e e' same same' = grind arith
 
   both_granted : (r : Sides) (h k : Grant) (b c : Box) → Grants s r b h s' → Grants t r c k t'
       → AnswerAlike f g s s' t' (Allocated h) (Allocated k)
@@ -306,18 +280,10 @@ module _ (f g : ℕ → ℕ) (s t : State) (a : AreAlike f g s t) (sound : IsSou
 
   -- One limit can't be both passed and not passed.
   passed : (r : Sides) (b c : Box) → Takes s r b → Takes t r c → nodes_with s r b ≤ s.limit → t.limit < nodes_with t r c → ⊥
-  passed r b c x y few many =
-      let same : c ≡ b = taken_same f g s t a r b c sound x y in
-      let count : nodes_with t r c ≡ nodes_with s r b = nodes_with_same f g s t a r c ∙ ap (nodes_with s r) same in
-      let limit : t.limit ≡ s.limit = a.limit in
-      omega arith
+  passed r b c x y few many = grind (arith, taken_same, nodes_with_same)
 
   unpassed : (r : Sides) (b c : Box) → Takes s r b → Takes t r c → s.limit < nodes_with s r b → nodes_with t r c ≤ t.limit → ⊥
-  unpassed r b c x y many few =
-      let same : c ≡ b = taken_same f g s t a r b c sound x y in
-      let count : nodes_with t r c ≡ nodes_with s r b = nodes_with_same f g s t a r c ∙ ap (nodes_with s r) same in
-      let limit : t.limit ≡ s.limit = a.limit in
-      omega arith
+  unpassed r b c x y many few = grind (arith, taken_same, nodes_with_same)
 
   allocated_alike : (r : Sides) (reply answer : AtlasReply) → Came s r reply s' → Came t r answer t'
       → AnswerAlike f g s s' t' reply answer
@@ -325,23 +291,18 @@ module _ (f g : ℕ → ℕ) (s t : State) (a : AreAlike f g s t) (sound : IsSou
   allocated_alike r reply answer (inl x) (inr (inl y)) = absurd (roomless r y.1 x.1 y.3.takes)
   allocated_alike r reply answer (inl x) (inr (inr y)) = absurd (roomless r y.0 x.1 y.2)
   allocated_alike r reply answer (inr (inl x)) (inl y) = absurd (no_room r x.1 y.1 x.3.takes)
-  allocated_alike r reply answer (inr (inl x)) (inr (inl y)) =
-      subst₂ (AnswerAlike f g s s' t') (sym x.2) (sym y.2) (both_granted r x.0 y.0 x.1 y.1 x.3 y.3)
+  allocated_alike r reply answer (inr (inl x)) (inr (inl y)) = grind (arith, both_granted)
   allocated_alike r reply answer (inr (inl x)) (inr (inr y)) = absurd (passed r x.1 y.0 x.3.takes y.2 x.3.room y.3)
   allocated_alike r reply answer (inr (inr x)) (inl y) = absurd (no_room r x.0 y.1 x.2)
   allocated_alike r reply answer (inr (inr x)) (inr (inl y)) = absurd (unpassed r x.0 y.1 x.2 y.3.takes x.3 y.3.room)
-  allocated_alike r reply answer (inr (inr x)) (inr (inr y)) =
-      both_unchanged reply answer (Refused Slots) refl x.1 y.1 x.4 y.4
+  allocated_alike r reply answer (inr (inr x)) (inr (inr y)) = grind arith
 
   deallocated_alike : (id twin : ℕ) (reply answer : AtlasReply) → IsLive s id ↔ IsLive t twin → (IsLive s id → g twin ≡ f id)
       → Freed s id reply s' → Freed t twin answer t' → AnswerAlike f g s s' t' reply answer
-  deallocated_alike id twin reply answer both same (inl x) (inl y) =
-      subst₂ (AnswerAlike f g s s' t') (sym x.0) (sym y.0)
-      (refl, subst₂ (AreAlike f g) (sym x.2) (sym y.2) (freed_alike f g s t a id twin x.1 y.1 (same x.1)))
+  deallocated_alike id twin reply answer both same (inl x) (inl y) = grind (arith, freed_alike)
   deallocated_alike id twin reply answer both same (inl x) (inr y) = absurd (y.1 (both.0 x.1))
   deallocated_alike id twin reply answer both same (inr x) (inl y) = absurd (x.1 (both.1 y.1))
-  deallocated_alike id twin reply answer both same (inr x) (inr y) =
-      both_unchanged reply answer (Refused NotLive) refl x.0 y.0 x.2 y.2
+  deallocated_alike id twin reply answer both same (inr x) (inr y) = grind arith
 
   growths_alike : (n : Sides) (reply answer : AtlasReply) → Grew s n reply s' → Grew t n answer t'
       → AnswerAlike f g s s' t' reply answer
@@ -349,20 +310,11 @@ module _ (f g : ℕ → ℕ) (s t : State) (a : AreAlike f g s t) (sound : IsSou
   growths_alike n reply answer (inl x) (inr (inl y)) = absurd (x.1 (subst (λ z. Fits z n) a.size y.1))
   growths_alike n reply answer (inl x) (inr (inr y)) = absurd (x.1 (subst (λ z. Fits z n) a.size y.1))
   growths_alike n reply answer (inr (inl x)) (inl y) = absurd (y.1 (subst (λ z. Fits z n) (sym a.size) x.1))
-  growths_alike n reply answer (inr (inl x)) (inr (inl y)) =
-      subst₂ (AnswerAlike f g s s' t') (sym x.0) (sym y.0)
-      (refl, subst₂ (AreAlike f g) (sym x.3) (sym y.3) (grown_alike f g s t a n))
-  growths_alike n reply answer (inr (inl x)) (inr (inr y)) =
-      absurd (let count : nodes_grown t n ≡ nodes_grown s n = nodes_grown_same f g s t a n in
-      let limit : t.limit ≡ s.limit = a.limit in
-      omega (arith, x.2, y.2))
+  growths_alike n reply answer (inr (inl x)) (inr (inl y)) = grind (arith, grown_alike)
+  growths_alike n reply answer (inr (inl x)) (inr (inr y)) = grind (arith, nodes_grown_same)
   growths_alike n reply answer (inr (inr x)) (inl y) = absurd (y.1 (subst (λ z. Fits z n) (sym a.size) x.1))
-  growths_alike n reply answer (inr (inr x)) (inr (inl y)) =
-      absurd (let count : nodes_grown t n ≡ nodes_grown s n = nodes_grown_same f g s t a n in
-      let limit : t.limit ≡ s.limit = a.limit in
-      omega (arith, x.2, y.2))
-  growths_alike n reply answer (inr (inr x)) (inr (inr y)) =
-      both_unchanged reply answer (Refused Slots) refl x.0 y.0 x.3 y.3
+  growths_alike n reply answer (inr (inr x)) (inr (inl y)) = grind (arith, nodes_grown_same)
+  growths_alike n reply answer (inr (inr x)) (inr (inr y)) = grind arith
 
 by_call : (f g : ℕ → ℕ) (s t s' t' : State) (call twin : AtlasCall) (reply answer : AtlasReply) → IsSound s → AreAlike f g s t
     → AreSameCalls f g s t call twin → Step s call reply s' → Step t twin answer t'
@@ -372,14 +324,11 @@ by_call f g s t s' t' (Allocate r) (Allocate q) reply answer sound a same h k me
     (subst (λ z. Came t z answer t') same (came t t' q answer k met'))
 by_call f g s t s' t' (Deallocate id) (Deallocate twin) reply answer sound a same h k met met' =
     deallocated_alike f g s t a sound s' t' id twin reply answer same.0 same.1 (freed s s' id reply h) (freed t t' twin answer k)
-by_call f g s t s' t' (Grow n) (Grow m) reply answer sound a same h k met met' =
-    growths_alike f g s t a sound s' t' n reply answer (grew s s' n reply h met)
-    (subst (λ z. Grew t z answer t') same (grew t t' m answer k met'))
+by_call f g s t s' t' (Grow n) (Grow m) reply answer sound a same h k met met' = grind (arith, growths_alike, grew)
 by_call f g s t s' t' call twin reply answer sound a same h k met met' = absurd same
 
 pub answers_without_ids : AnswersWithoutIds
-answers_without_ids f g s t s' t' call twin reply answer sound sound' a same h k met met' =
-    by_call f g s t s' t' call twin reply answer sound a same h k met met'
+answers_without_ids f g s t s' t' call twin reply answer sound sound' a same h k met met' = grind (arith, by_call)
 
 -- The names of ids that aren't live don't count.
 
@@ -387,12 +336,6 @@ same_one_to_one : (f g : ℕ → ℕ) (xs : List ℕ) → AreNamedAlike f g xs �
 same_one_to_one f g xs same one a b at_a at_b e = one a b at_a at_b (sym (same a at_a) ∙ e ∙ same b at_b)
 
 pub live_names_count : LiveNamesCount
-live_names_count f g i j s t a same twins = record {
-  size = a.size;
-  options = a.options;
-  limit = a.limit;
-  kept = a.kept;
-  tree = agreeing_renamed g j t.tree twins ∙ a.tree ∙ sym (agreeing_renamed f i s.tree same);
-  names = same_one_to_one f i (ids s.tree.members) same a.names;
-  twins = same_one_to_one g j (ids t.tree.members) twins a.twins;
-}
+live_names_count f g i j s t a same twins = grind (arith, agreeing_renamed, same_one_to_one)
+
+pub ruleset alike_laws = (answers_without_ids, live_names_count)

@@ -1,18 +1,17 @@
 -- What each call does to the boxes that callers hold.
-use Rattle.std.proofs.Common.{◌≡◌, ℕ, ◌+◌, ◌==◌, true, false, not, List, length, refl, ap, subst, sym, ◌∙◌, Some, None, IsSome, option_map}
-use Rattle.std.specs.List.{filter, find}
+use Rattle.std.proofs.Common.{rules, arith, ◌≡◌, ℕ, ◌+◌, ◌==◌, true, false, not, List, length, refl, ap, subst, sym}
+use Rattle.std.proofs.Common.{◌∙◌, IsSome, option_map}
 use Rattle.std.proofs.lemmas.Bool.{false≢true, eqb-true}
-use Rattle.guillotiere.specs.declared.error.AtlasError.{AtlasError}
-use Rattle.guillotiere.specs.declared.error.AtlasError.TheVariants.{Memory, Slots, NotLive}
-use Rattle.guillotiere.specs.Boxes.{Box, Sides, Fits}
-use Rattle.guillotiere.specs.Trees.{Grant}
+use Rattle.std.specs.List.{filter, find}
+use Rattle.guillotiere.specs.Boxes.{Sides, Fits}
+use Rattle.guillotiere.specs.Callers.{KeepsLive, AddsBox, JoinsGuarded, LeavesNoBox, LeavesNoBoxes, KeepsAll}
+use Rattle.guillotiere.specs.Laws.TreeLaws.{is_among}
+use Rattle.guillotiere.specs.Replies.{live_box}
 use Rattle.guillotiere.specs.States.{State, live_in, IsLive, IsSound, after_freeing}
 use Rattle.guillotiere.specs.Steps.{AtlasReply, Step}
 use Rattle.guillotiere.specs.Steps.AtlasCall.{Allocate, Deallocate, Grow}
-use Rattle.guillotiere.specs.Steps.AtlasReply.{Allocated, NoRoom, Done, Changed, Refused, BadCall}
-use Rattle.guillotiere.specs.Laws.TreeLaws.{is_among}
-use Rattle.guillotiere.specs.Replies.{live_box}
-use Rattle.guillotiere.specs.Callers.{AreGuarded, KeepsLive, AddsBox, JoinsGuarded, LeavesNoBox, LeavesNoBoxes, KeepsAll}
+use Rattle.guillotiere.specs.Steps.AtlasReply.{Allocated, NoRoom, Done, Refused, BadCall}
+use Rattle.guillotiere.specs.Trees.{Grant}
 use Rattle.guillotiere.proofs.StepLemmas.StepEffects.{grants_lie_inside, freeings_remove_one, growths_keep_boxes, refusals_change_nothing}
 use Rattle.guillotiere.proofs.StepLemmas.StepKeeping.{steps_keep, freeing_sound}
 use Rattle.guillotiere.proofs.TreeLemmas.TreeLive.{live_release}
@@ -22,8 +21,7 @@ use Rattle.guillotiere.proofs.StepLemmas.Guarding.{guarded_grant, guarded_freein
 
 -- An unchanged state keeps what is live.
 same_keeps : (old new : State) → IsSound old → new ≡ old → KeepsLive old new
-same_keeps old new sound same =
-    record { sound = subst IsSound (sym same) sound; kept = λ id live. ap (λ s. live_box s id) same }
+same_keeps old new sound same = grind arith
 
 -- A freeing of a list leaves its ids without a box.
 pub batch_leaves : (old new : State) (ids : List ℕ) → IsSound old → new ≡ after_freeing old (is_among ids) → LeavesNoBoxes old new ids
@@ -39,9 +37,7 @@ batch_leaves old new ids sound is = record {
   where
     shown : (id : ℕ)
         → live_box new id ≡ option_map (λ (g : Grant). g.box) (find (is_for id) (filter (λ g. not (is_among ids g.id)) (live_in old)))
-    shown id =
-        ap (λ s. live_box s id) is
-        ∙ ap (λ l. option_map (λ (g : Grant). g.box) (find (is_for id) l)) (live_release old.size (is_among ids) old.tree)
+    shown id = grind (arith, is_for, live_release)
 
     hits : (id : ℕ) → is_among ids id ≡ true → (g : Grant) → (g.id == id) ≡ true → not (is_among ids g.id) ≡ false
     hits id among g is = ap not (ap (is_among ids) (eqb-true g.id id is) ∙ among)
@@ -51,17 +47,7 @@ batch_leaves old new ids sound is = record {
 
 -- An id that isn't live has no box, and stays so.
 pub unlive_leaves : (old new : State) (id : ℕ) → IsSound old → (IsLive old id → ⊥) → new ≡ old → LeavesNoBox old new id
-unlive_leaves old new id sound dead same =
-    let none : live_box old id ≡ None = unlive_box old id dead in
-    record {
-      sound = subst IsSound (sym same) sound;
-      gone = ap (λ s. live_box s id) same ∙ none;
-      others = λ k differ. ap (λ s. live_box s k) same;
-      guarded = λ box held is guarded. absurd (is_none box (sym none ∙ is));
-    }
-  where
-    is_none : (box : Box) → None ≡ Some box → ⊥
-    is_none box e = cc
+unlive_leaves old new id sound dead same = search (rules, unlive_box)
 
 module _ (old new : State) (sound : IsSound old) where
   module _ (r : Sides) (g : Grant) (step : Step old (Allocate r) (Allocated g) new) where
@@ -99,9 +85,7 @@ module _ (old new : State) (sound : IsSound old) where
   request_keeps r (Allocated g) step = grant_keeps r g step
   request_keeps r NoRoom step = same_keeps old new sound step.1
   request_keeps r (Refused error) step = same_keeps old new sound (refusals_change_nothing old new (Allocate r) (Refused error) step refl)
-  request_keeps r Done step = absurd step
-  request_keeps r (Changed list) step = absurd step
-  request_keeps r BadCall step = absurd step
+  request_keeps r reply step = absurd step
 
   -- After a freeing, refused or not, an id has no box.
   pub freeing_leaves : (id : ℕ) (reply : AtlasReply) → Step old (Deallocate id) reply new → LeavesNoBox old new id
@@ -114,17 +98,8 @@ module _ (old new : State) (sound : IsSound old) where
         others = freed_others old new id its;
         guarded = λ box held is guarded. guarded_freeing old new sound sound_new (ap (λ s. s.size) step.1) id box its is held guarded;
       }
-  freeing_leaves id (Refused error) step =
-      unlive_leaves old new id sound (dead error step) (refusals_change_nothing old new (Deallocate id) (Refused error) step refl)
-    where
-      dead : (error : AtlasError) → Step old (Deallocate id) (Refused error) new → IsLive old id → ⊥
-      dead NotLive step live = step.0 live
-      dead Memory step live = step
-      dead Slots step live = step
-  freeing_leaves id NoRoom step = absurd step
-  freeing_leaves id (Allocated g) step = absurd step
-  freeing_leaves id (Changed list) step = absurd step
-  freeing_leaves id BadCall step = absurd step
+  freeing_leaves id (Refused error) step = search (rules, unlive_leaves, refusals_change_nothing)
+  freeing_leaves id reply step = absurd step
 
   pub freeing_count : (id : ℕ) → Step old (Deallocate id) Done new → length (live_in new) + 1 ≡ length (live_in old)
   freeing_count id step = freed_count old new id (freeings_remove_one old new id sound step)
@@ -139,19 +114,6 @@ module _ (old new : State) (sound : IsSound old) where
         live = its.live;
         guarded = λ held guarded. guarded_growth old new sound sound_new (subst (λ s. Fits old.size s.size) (sym step.2) step.0) its held guarded;
       }
-  growth_keeps n (Refused error) step = same_all (refusals_change_nothing old new (Grow n) (Refused error) step refl)
-    where
-      same_all : new ≡ old → KeepsAll old new
-      same_all same = record {
-        sound = subst IsSound (sym same) sound;
-        live = ap live_in same;
-        guarded = λ held guarded. subst (λ s. AreGuarded s held) (sym same) guarded;
-      }
-  growth_keeps n BadCall step = record {
-    sound = subst IsSound (sym step.1) sound;
-    live = ap live_in step.1;
-    guarded = λ held guarded. subst (λ s. AreGuarded s held) (sym step.1) guarded;
-  }
-  growth_keeps n NoRoom step = absurd step
-  growth_keeps n (Allocated g) step = absurd step
-  growth_keeps n (Changed list) step = absurd step
+  growth_keeps n (Refused error) step = search rules
+  growth_keeps n BadCall step = search (rules)
+  growth_keeps n reply step = absurd step

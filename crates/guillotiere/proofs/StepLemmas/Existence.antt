@@ -1,41 +1,35 @@
 -- Each call has a step, each proper start is sound, and rounding is least.
-use Rattle.std.proofs.Common.{◌≡◌, ℕ, zero, suc, ◌+◌, ◌*◌, ◌/◌, ◌%◌, ◌^◌, ◌<◌, ◌≤◌, ◌==◌, ◌⊎◌, inl, inr, false, List, [], ◌∷◌, ◌++◌, length, refl, ap, ap₂, subst, sym, ◌∙◌, arith, ◌≤ℤ◌}
-use Rattle.std.specs.List.{Contains}
-use Rattle.std.proofs.lemmas.Bool.{cases_lt, cases_eq, eq-eqb, ne_eqb}
-use Rattle.std.proofs.lemmas.Int.{ints, by_lt_z}
-use Rattle.std.proofs.lemmas.List.{length-append}
-use Rattle.std.proofs.lemmas.List.Elements.{All-nil}
-use Rattle.std.proofs.lemmas.Nat.{div-add-mod'}
-use Rattle.guillotiere.specs.declared.error.AtlasError.TheVariants.{Slots, NotLive}
-use Rattle.guillotiere.specs.Boxes.{Axis, Position, Sides, Box, Fits, IsPositive, other, side, moved, box_at, box_sides, origin}
-use Rattle.guillotiere.specs.Choice.{Options, AreValid, HasRoom, HasNoRoom, IsPick, up, rounded}
-use Rattle.guillotiere.specs.Trees.{Members, Tree, Grant, grant, ids, node_count, slot_count, free_boxes}
-use Rattle.guillotiere.specs.Trees.Members.{End, Free, Alloc, Seq}
+use Rattle.std.proofs.Common.{◌≡◌, ℕ, zero, suc, ◌+◌, ◌%◌, ◌^◌, ◌<◌, ◌≤◌, ◌==◌, ◌⊎◌, inl, inr, false, List, [], ◌∷◌}
+use Rattle.std.proofs.Common.{◌++◌, length, refl, ap, ap₂, subst, sym, ◌∙◌, arith}
+use Rattle.std.proofs.lemmas.Bool.{cases_lt, cases_eq}
+use Rattle.guillotiere.specs.Boxes.{Axis, Position, Sides, Box, Fits, IsPositive, other, moved, box_at, box_sides}
 use Rattle.guillotiere.specs.Changes.{only, place, fresh}
-use Rattle.guillotiere.specs.States.{State, IsSound, started, free_in, live_in, after_placing, after_freeing, after_growth, after_refit}
-use Rattle.guillotiere.specs.Refits.{Rearrangement, Refits, RefitPasses, IsRefitOrder, refit_sides, refit_nodes, no_changes, with_change, with_failure}
+use Rattle.guillotiere.specs.Choice.{Options, AreValid, HasRoom, HasNoRoom, IsPick, up, rounded}
+use Rattle.guillotiere.specs.Laws.Existence.{RoundingIsLeast, StartsAreSound, StepsExist}
+use Rattle.guillotiere.specs.Refits.{Rearrangement, Refits, RefitPasses, IsRefitOrder, refit_sides, refit_nodes}
+use Rattle.guillotiere.specs.Refits.{no_changes, with_change, with_failure}
+use Rattle.guillotiere.specs.Renaming.{is_out_of_memory}
+use Rattle.guillotiere.specs.States.{State, IsSound, started, free_in, live_in, after_placing, after_freeing}
+use Rattle.guillotiere.specs.States.{after_growth, after_refit}
 use Rattle.guillotiere.specs.Steps.{AtlasCall, AtlasReply, Step, Rearranges, nodes_with, nodes_grown}
 use Rattle.guillotiere.specs.Steps.AtlasCall.{Allocate, Deallocate, Grow, Clear, Reset, Rearrange, ResizeAndRearrange}
 use Rattle.guillotiere.specs.Steps.AtlasReply.{Allocated, NoRoom, Done, Changed, Refused, BadCall}
-use Rattle.guillotiere.specs.Laws.Existence.{RoundingIsLeast, StartsAreSound, StepsExist}
-use Rattle.guillotiere.specs.Renaming.{is_out_of_memory}
+use Rattle.guillotiere.specs.Trees.{Members, Tree, Grant, grant, ids, node_count, slot_count, free_boxes}
+use Rattle.guillotiere.specs.Trees.Members.{End, Free, Alloc, Seq}
+use Rattle.guillotiere.specs.declared.error.AtlasError.TheVariants.{Slots, NotLive}
+use Rattle.std.specs.List.{Contains}
+use Rattle.std.proofs.lemmas.List.{length-append}
 use Rattle.guillotiere.proofs.ListLemmas.Counting.{count_by-cons}
-use Rattle.guillotiere.proofs.SearchLemmas.Picking as picking
 use Rattle.guillotiere.proofs.SearchLemmas.PickExistence.{picks_exist, room_or_none}
-use Rattle.guillotiere.proofs.StepLemmas.Refitting.{HasAlignedBox}
 use Rattle.guillotiere.proofs.StepLemmas.RefitOrders.{refit_order}
 use Rattle.guillotiere.proofs.SearchLemmas.Rounding.{up_least, up_multiple}
-use Rattle.guillotiere.proofs.StepLemmas.StepKeeping.{fresh_well_formed, fresh_normal}
 use Rattle.guillotiere.proofs.TreeLemmas.TreeBasics.{one_if, free_among, free_among-seq}
 use Rattle.guillotiere.proofs.TreeLemmas.TreeIds.{Contains-first, Contains-later, Contains-none, Contains-cons_cases}
 
 -- Rounding
 
 smallest_multiple : (n step m : ℕ) → 0 < step → m % step ≡ 0 → n ≤ m → up n step ≤ m
-smallest_multiple n step m pos whole below =
-    let split : m / step * step + m % step ≡ m = div-add-mod' m step in
-    let m_is : m / step * step ≡ m = omega arith in
-    subst (λ k. up n step ≤ k) m_is (picking.up-least n step (m / step) pos (omega arith))
+smallest_multiple n step m pos whole below = grind arith
 
 pub rounding_is_least : RoundingIsLeast
 rounding_is_least = record { enough = up_least; multiple = λ n step pos. up_multiple n step; least = smallest_multiple }
@@ -43,14 +37,7 @@ rounding_is_least = record { enough = up_least; multiple = λ n step pos. up_mul
 -- Starts
 
 pub starts_are_sound : StartsAreSound
-starts_are_sound size o limit pos valid some = record {
-  well_formed = fresh_well_formed size pos;
-  normal = fresh_normal size;
-  valid = valid;
-  aligned = All-nil (HasAlignedBox o);
-  counted = omega arith;
-  limited = some;
-}
+starts_are_sound size o limit pos valid some = grind arith
 
 -- An id of an unused slot.
 
@@ -77,32 +64,13 @@ sums-zero (suc n) = omega (arith, sums-zero n)
 sums-one : (y n : ℕ) → (sums (λ i. one_if (y == i)) n ≤ 1) × (n ≤ y → sums (λ i. one_if (y == i)) n ≡ 0)
 unfolding sums
 sums-one y zero = (omega arith, λ h. refl)
-sums-one y (suc n) =
-    let rest = sums-one y n in
-    elim (cases_eq y n) [
-      | inl same ↦
-          let none : sums (λ i. one_if (y == i)) n ≡ 0 = rest.1 (omega arith) in
-          let one : one_if (y == n) ≡ 1 = ap one_if (eq-eqb y n same) in
-          (omega arith, λ h. absurd (omega arith))
-      | inr unlike ↦
-          let no : one_if (y == n) ≡ 0 = ap one_if (ne_eqb y n unlike) in
-          let few : sums (λ i. one_if (y == i)) n ≤ 1 = rest.0 in
-          (omega arith, λ h. let none : sums (λ i. one_if (y == i)) n ≡ 0 = rest.1 (omega arith) in omega arith)
-    ]
+sums-one y (suc n) = grind (arith, sums-one y n)
 
 -- Some count is 0, or their sum is as large as there are counts.
 zero_or_many : (f : ℕ → ℕ) (n : ℕ) → ((i : ℕ) × (i < n) × (f i ≡ 0)) ⊎ (n ≤ sums f n)
 unfolding sums
 zero_or_many f zero = inr (omega arith)
-zero_or_many f (suc n) =
-    elim (zero_or_many f n) [
-      | inl found ↦ inl (found.0, omega (arith, found.1), found.2)
-      | inr many ↦
-          elim (cases_eq (f n) 0) [
-            | inl none ↦ inl (n, omega arith, none)
-            | inr some ↦ inr (omega arith)
-          ]
-    ]
+zero_or_many f (suc n) = grind (arith, zero_or_many f n)
 
 -- The slots below n together name no more than all ids.
 slots_few : (xs : List ℕ) (n : ℕ) → n ≤ 2 ^ 24 → sums (λ i. slot_count i xs) n ≤ length xs
@@ -134,14 +102,8 @@ unused_slot xs few =
 leaves_few : (axis : Axis) (o : Position) (across : ℕ) (m : Members)
     → length (ids m) + length (free_among axis o across m) ≤ node_count m
 leaves_few axis o across End = omega arith
-leaves_few axis o across (Free e rest) =
-    let more : length (ids rest) + length (free_among axis (moved axis o e) across rest) ≤ node_count rest =
-    leaves_few axis (moved axis o e) across rest in
-    omega arith
-leaves_few axis o across (Alloc id e rest) =
-    let more : length (ids rest) + length (free_among axis (moved axis o e) across rest) ≤ node_count rest =
-    leaves_few axis (moved axis o e) across rest in
-    omega arith
+leaves_few axis o across (Free e rest) = grind (arith, leaves_few axis (moved axis o e) across rest)
+leaves_few axis o across (Alloc id e rest) = grind (arith, leaves_few axis (moved axis o e) across rest)
 leaves_few axis o across (Seq e inner rest) =
     let within : length (ids inner) + length (free_among (other axis) o e inner) ≤ node_count inner =
     leaves_few (other axis) o e inner in
@@ -156,10 +118,7 @@ leaves_few axis o across (Seq e inner rest) =
 
 unused_id : (size : Sides) (t : Tree) (f : Box) → Contains (free_boxes size t) f → node_count t.members ≤ 16777216
     → (id : ℕ) × (slot_count id (ids t.members) ≡ 0)
-unused_id size t f at low =
-    let few : length (ids t.members) + length (free_boxes size t) ≤ node_count t.members =
-    leaves_few t.axis origin (side (other t.axis) size) t.members in
-    unused_slot (ids t.members) (omega (arith, at.1))
+unused_id size t f at low = grind (arith, leaves_few, unused_slot)
 
 -- A refit, or one that passes the limit.
 refit_or_passes : (size : Sides) (o : Options) (limit : ℕ) → limit ≤ 16777216 → (order : List Grant) (t : Tree)
@@ -212,34 +171,13 @@ live_or_not (x ∷ xs) id =
     ]
 
 fits_or_not : (r s : Sides) → Fits r s ⊎ (Fits r s → ⊥)
-fits_or_not r s = by_side (cases_lt s.width r.width) (cases_lt s.height r.height)
-  where
-    by_side : (s.width < r.width) ⊎ (r.width ≤ s.width) → (s.height < r.height) ⊎ (r.height ≤ s.height)
-        → Fits r s ⊎ (Fits r s → ⊥)
-    by_side (inl wide) h = inr (λ fit. omega (arith, fit.0))
-    by_side (inr fit) (inl high) = inr (λ fit. omega (arith, fit.1))
-    by_side (inr fit) (inr fit') = inl (fit, fit')
+fits_or_not r s = grind arith
 
 positive_or_not : (s : Sides) → IsPositive s ⊎ (IsPositive s → ⊥)
-positive_or_not s = by_side (cases_lt 0 s.width) (cases_lt 0 s.height)
-  where
-    by_side : (0 < s.width) ⊎ (s.width ≤ 0) → (0 < s.height) ⊎ (s.height ≤ 0) → IsPositive s ⊎ (IsPositive s → ⊥)
-    by_side (inl wide) (inl high) = inl (wide, high)
-    by_side (inl wide) (inr flat) = inr (λ pos. omega (arith, pos.1))
-    by_side (inr flat) h = inr (λ pos. omega (arith, pos.0))
+positive_or_not s = grind arith
 
 valid_or_not : (o : Options) → AreValid o ⊎ (AreValid o → ⊥)
-valid_or_not o =
-    by_parts (positive_or_not o.alignment)
-    (by_lt_z o.large_threshold o.small_threshold
-    (λ out. inr (λ le. omega (arith, ints, out, le))) (λ le. inl le))
-  where
-    by_parts : IsPositive o.alignment ⊎ (IsPositive o.alignment → ⊥)
-        → (o.small_threshold ≤ℤ o.large_threshold) ⊎ (o.small_threshold ≤ℤ o.large_threshold → ⊥)
-        → AreValid o ⊎ (AreValid o → ⊥)
-    by_parts (inl pos) (inl le) = inl (pos, le)
-    by_parts (inl pos) (inr fails) = inr (λ valid. fails valid.1)
-    by_parts (inr fails) h = inr (λ valid. fails valid.0)
+valid_or_not o = grind arith
 
 grant_step : (s : State) (r : Sides) → s.limit ≤ 16777216 → HasStep s (Allocate r)
 grant_step s r low = by_room (room_or_none (free_in s) s.options r)

@@ -1,18 +1,19 @@
 -- Guarded boxes: what grants, freeings and growths make of them.
-use Rattle.std.proofs.Common.{◌≡◌, ℕ, zero, suc, ◌+◌, ◌≤◌, ◌<◌, Bool, true, false, not, List, [], ◌∷◌, ◌++◌, map, length, refl, ap, subst, sym, ◌∙◌, arith, Contains, All, Some}
-use Rattle.std.specs.List.{count_by, filter}
+use Rattle.std.proofs.Common.{◌≡◌, ℕ, zero, suc, ◌+◌, ◌≤◌, ◌<◌, Bool, true, false, not, List, [], ◌∷◌, ◌++◌, map}
+use Rattle.std.proofs.Common.{length, refl, ap, subst, sym, ◌∙◌, arith, Contains, All, Some}
 use Rattle.std.proofs.lemmas.Bool.{eq-eqb}
 use Rattle.std.proofs.lemmas.List.Elements.{All-nil, All-cons, All-tail, All-weaker, All-contains, All-map}
 use Rattle.std.proofs.lemmas.List.Filters.{sum_by-filter_both}
-use Rattle.std.proofs.lemmas.List.Sums.{length-filter, count_by-le-length}
 use Rattle.std.proofs.lemmas.List.Sorted.{Contains-permutation}
+use Rattle.std.proofs.lemmas.List.Sums.{length-filter, count_by-le-length}
+use Rattle.std.specs.List.{count_by, filter}
 use Rattle.guillotiere.specs.Boxes.{Sides, Box, covers, IsNonempty, IsWithin, AreDisjoint, Fits}
-use Rattle.guillotiere.specs.Trees.{Grant}
-use Rattle.guillotiere.specs.States.{State, live_in, free_in, IsSound}
-use Rattle.guillotiere.specs.Replies.{live_box}
-use Rattle.guillotiere.specs.Laws.StepLaws.{live_count, IsGrantStep, IsFreeingStep, IsGrowthStep}
-use Rattle.guillotiere.specs.Laws.RunLaws.{boxes_in}
 use Rattle.guillotiere.specs.Callers.{AreGuarded, LiveAreGuarded}
+use Rattle.guillotiere.specs.Laws.RunLaws.{boxes_in}
+use Rattle.guillotiere.specs.Laws.StepLaws.{live_count, IsGrantStep, IsFreeingStep, IsGrowthStep}
+use Rattle.guillotiere.specs.Replies.{live_box}
+use Rattle.guillotiere.specs.States.{State, live_in, free_in, IsSound}
+use Rattle.guillotiere.specs.Trees.{Grant}
 use Rattle.guillotiere.proofs.TreeLemmas.TreeBasics.{one_if}
 use Rattle.guillotiere.proofs.TreeLemmas.TreeIds.{Contains-first}
 use Rattle.guillotiere.proofs.TreeLemmas.BoxLists.{live_in_place}

@@ -1,18 +1,19 @@
 -- The boxes of live ids, and what grants, freeings and growths make of them.
-use Rattle.std.proofs.Common.{◌≡◌, ℕ, zero, suc, ◌+◌, ◌≤◌, ◌==◌, Bool, true, false, not, cond, [], ◌∷◌, ◌++◌, length, refl, ap, subst, sym, ◌∙◌, arith, Contains, inl, inr, Option, Some, None, IsSome, option_map}
-use Rattle.std.specs.List.{count_by, filter, find}
+use Rattle.std.proofs.Common.{◌≡◌, ℕ, ◌+◌, ◌≤◌, ◌==◌, Bool, true, false, not, cond, [], ◌∷◌, ◌++◌, length, refl, ap}
+use Rattle.std.proofs.Common.{subst, sym, ◌∙◌, arith, Contains, Option, Some, None, IsSome, option_map}
 use Rattle.std.proofs.lemmas.Bool.{eq-eqb, eqb-true, false≢true}
 use Rattle.std.proofs.lemmas.Bool.Decides.{eqb_tells}
-use Rattle.std.proofs.lemmas.List.Sorted.{Contains-permutation}
 use Rattle.std.proofs.lemmas.List.Elements.{Contains-append_right}
 use Rattle.std.proofs.lemmas.List.Filters.{length-filter_both}
+use Rattle.std.proofs.lemmas.List.Sorted.{Contains-permutation}
 use Rattle.std.proofs.lemmas.List.Sums.{length-filter}
+use Rattle.std.specs.List.{count_by, filter, find}
 use Rattle.guillotiere.specs.Boxes.{Box, Sides}
-use Rattle.guillotiere.specs.Trees.{Grant, ids}
-use Rattle.guillotiere.specs.States.{State, live_in, IsLive, IsSound}
-use Rattle.guillotiere.specs.Replies.{live_box}
-use Rattle.guillotiere.specs.Laws.StepLaws.{live_count, IsGrantStep, IsFreeingStep}
 use Rattle.guillotiere.specs.Callers.{SoundIsTiled, LiveHaveBoxes}
+use Rattle.guillotiere.specs.Laws.StepLaws.{live_count, IsGrantStep, IsFreeingStep}
+use Rattle.guillotiere.specs.Replies.{live_box}
+use Rattle.guillotiere.specs.States.{State, live_in, IsLive, IsSound}
+use Rattle.guillotiere.specs.Trees.{Grant, ids}
 use Rattle.guillotiere.proofs.TreeLemmas.TreeIds.{Contains-first}
 use Rattle.guillotiere.proofs.ListLemmas.Counting.{count_some, split_at, IsSplitAt}
 use Rattle.guillotiere.proofs.TreeLemmas.BoxLists.{count_live}
@@ -54,11 +55,7 @@ live_have_boxes s id = (forth, back)
         subst (λ o. IsSome (option_map (λ (g : Grant). g.box) o)) (sym found.1) refl
 
     back : IsSome (live_box s id) → IsLive s id
-    back some = by_count (live_count id s) refl
-      where
-        by_count : (n : ℕ) → live_count id s ≡ n → IsLive s id
-        by_count zero e = absurd (by_found (find (is_for id) (live_in s)) some (find-uncounted (is_for id) (live_in s) e))
-        by_count (suc n) e = counted_live s id (omega (arith, e))
+    back some = grind (arith, by_found, find-uncounted, counted_live)
 
 pub few_live : (s : State) (id : ℕ) → IsSound s → live_count id s ≤ 1
 few_live s id sound = (sound_is_tiled s sound).ids id
@@ -88,16 +85,10 @@ module _ (old new : State) (r : Sides) (g : Grant) (sound_new : IsSound new) (st
       ∙ passed)
     where
       passed : find (is_for k) (g ∷ live_in old) ≡ find (is_for k) (live_in old)
-      passed = elim (eqb_tells g.id k) [
-        | inl same ↦ absurd (differ (sym same.1))
-        | inr other ↦ ap (λ b. cond b (Some g) (find (is_for k) (live_in old))) other.0
-      ]
+      passed = grind arith
 
   pub granted_boxes : (k : ℕ) → live_box new k ≡ cond (k == g.id) (Some g.box) (live_box old k)
-  granted_boxes k = elim (eqb_tells k g.id) [
-    | inl same ↦ ap (live_box new) same.1 ∙ granted_here ∙ ap (λ b. cond b (Some g.box) (live_box old k)) (sym same.0)
-    | inr other ↦ granted_others k other.1 ∙ ap (λ b. cond b (Some g.box) (live_box old k)) (sym other.0)
-  ]
+  granted_boxes k = grind (arith, eqb_tells, granted_here, granted_others)
 
   pub granted_count : length (live_in new) ≡ length (live_in old) + 1
   granted_count = length-permutation (g ∷ live_in old) (live_in new) step.live ∙ omega arith
@@ -107,20 +98,13 @@ freed_itself : (id : ℕ) (g : Grant) → (g.id == id) ≡ true → not (g.id ==
 freed_itself id g is = ap not is
 
 freed_other : (id k : ℕ) → (k ≡ id → ⊥) → (g : Grant) → (g.id == k) ≡ true → not (g.id == id) ≡ true
-freed_other id k differ g is = elim (eqb_tells g.id id) [
-  | inl same ↦ absurd (differ (sym (eqb-true g.id k is) ∙ same.1))
-  | inr other ↦ ap not other.0
-]
+freed_other id k differ g is = grind arith
 
 pub freed_box : (old new : State) (id : ℕ) → IsFreeingStep old id new → live_box new id ≡ None
-freed_box old new id step =
-    ap (λ l. option_map (λ (g : Grant). g.box) (find (is_for id) l)) step.live
-    ∙ ap (option_map (λ (g : Grant). g.box)) (find-filter_gone (is_for id) (λ g. not (g.id == id)) (freed_itself id) (live_in old))
+freed_box old new id step = grind (arith, find-filter_gone, freed_itself)
 
 pub freed_others : (old new : State) (id : ℕ) → IsFreeingStep old id new → (k : ℕ) → (k ≡ id → ⊥) → live_box new k ≡ live_box old k
-freed_others old new id step k differ =
-    ap (λ l. option_map (λ (g : Grant). g.box) (find (is_for k) l)) step.live
-    ∙ ap (option_map (λ (g : Grant). g.box)) (find-filter_kept (is_for k) (λ g. not (g.id == id)) (freed_other id k differ) (live_in old))
+freed_others old new id step k differ = grind (arith, find-filter_kept, freed_other)
 
 pub freed_count : (old new : State) (id : ℕ) → IsFreeingStep old id new → length (live_in new) + 1 ≡ length (live_in old)
 freed_count old new id step =

@@ -1,35 +1,31 @@
 -- Live boxes of different ids share no unit square, and lie apart.
-use Rattle.std.proofs.Common.{◌≡◌, ℕ, zero, suc, ◌+◌, ◌≤◌, ◌<◌, ◌&&◌, ◌⊎◌, ◌≤ℤ◌, pos, subst₂, Bool, true, false, map, refl, ap, subst, sym, ◌∙◌, arith, Contains, inl, inr, Option, Some, None, IsSome, IfSome, ◌↔◌, option_map, nat_le, nat_lt}
-use Rattle.std.specs.List.{count_by, find}
-use Rattle.std.proofs.lemmas.Bool.{eqb-true, false≢true, ltb-true, lt-ltb, le-leb, and_parts, and_from, cases_lt}
-use Rattle.std.proofs.lemmas.List.Elements.{All-contains, Contains-append_left}
+use Rattle.std.proofs.Common.{◌≡◌, ℕ, zero, suc, ◌+◌, ◌≤◌, ◌<◌, ◌&&◌, ◌⊎◌, ◌≤ℤ◌, pos, Bool, true, false, map, refl, ap}
+use Rattle.std.proofs.Common.{subst, sym, ◌∙◌, arith, Contains, inl, inr, Option, Some, None, IsSome, IfSome, ◌↔◌}
+use Rattle.std.proofs.Common.{option_map}
+use Rattle.std.proofs.lemmas.Bool.{eqb-true, false≢true, lt-ltb, le-leb, and_from, cases_lt}
 use Rattle.std.proofs.lemmas.Int.{ints}
+use Rattle.std.proofs.lemmas.List.Elements.{All-contains, Contains-append_left}
+use Rattle.std.specs.List.{count_by, find}
 use Rattle.guillotiere.specs.Boxes.{Sides, Box, covers, IsNonempty, IsWithin}
-use Rattle.guillotiere.specs.declared.geometry.Rectangle.{Rectangle}
-use Rattle.guillotiere.specs.Pixels.{box_of, rectangle_of}
-use Rattle.guillotiere.specs.Trees.{Grant}
-use Rattle.guillotiere.specs.States.{State, live_in, free_in, IsSound, IsLive}
-use Rattle.guillotiere.specs.Replies.{live_box}
+use Rattle.guillotiere.specs.Callers.{ShareNothing, BoxesLieApart, RectanglesLieApart, AllLieApart, AllLieWithin}
+use Rattle.guillotiere.specs.Callers.{rectangle_in, LiveShareNothing, LiveLieWithin}
 use Rattle.guillotiere.specs.Laws.RunLaws.{boxes_in}
-use Rattle.guillotiere.specs.Callers.{ShareNothing, BoxesLieApart, RectanglesLieApart, AllLieApart, AllLieWithin, rectangle_in, LiveShareNothing, LiveLieWithin}
+use Rattle.guillotiere.specs.Pixels.{box_of, rectangle_of}
+use Rattle.guillotiere.specs.Replies.{live_box}
+use Rattle.guillotiere.specs.States.{State, live_in, free_in, IsSound, IsLive}
+use Rattle.guillotiere.specs.Trees.{Grant}
+use Rattle.guillotiere.specs.declared.geometry.Rectangle.{Rectangle}
 use Rattle.guillotiere.proofs.ListLemmas.Counting.{count_by-append, counted_once}
 use Rattle.guillotiere.proofs.StepLemmas.LiveBoxes.{sound_is_tiled, is_for, live_have_boxes}
 use Rattle.guillotiere.proofs.ListLemmas.CallerLemmas.{Contains-find, Contains-map, count_by-map, find-counted}
 
 -- A unit square of a box that lies within sides lies within them.
 pub covered_within : (s : Sides) (b : Box) (x y : ℕ) → IsWithin s b → covers x y b ≡ true → (x < s.width) × (y < s.height)
-covered_within s b x y within is =
-    let parts = and_parts (nat_le b.min.x x && nat_lt x b.max.x) (nat_le b.min.y y && nat_lt y b.max.y) is in
-    let wide : x < b.max.x = ltb-true x b.max.x (and_parts (nat_le b.min.x x) (nat_lt x b.max.x) parts.0).1 in
-    let high : y < b.max.y = ltb-true y b.max.y (and_parts (nat_le b.min.y y) (nat_lt y b.max.y) parts.1).1 in
-    (omega (arith, within.0), omega (arith, within.1))
+covered_within s b x y within is = grind arith
 
 -- A covered square lies in the atlas.
 pub covered_inside : (s : State) → IsSound s → (x y : ℕ) → 1 ≤ count_by (covers x y) (boxes_in s) → (x < s.size.width) × (y < s.size.height)
-covered_inside s sound x y some =
-    let found = find-counted (covers x y) (boxes_in s) some in
-    let place = All-contains (λ b. IsNonempty b × IsWithin s.size b) (boxes_in s) found.0 (sound_is_tiled s sound).boxes found.2 in
-    covered_within s.size found.0 x y place.1 found.3
+covered_inside s sound x y some = grind (arith, find-counted, All-contains, sound_is_tiled, covered_within)
 
 -- A square of the atlas lies in one box.
 pub covered_once : (s : State) → IsSound s → (x y : ℕ) → (x < s.size.width) × (y < s.size.height) → count_by (covers x y) (boxes_in s) ≡ 1
@@ -46,9 +42,7 @@ covered_few s sound x y = by_count (count_by (covers x y) (boxes_in s)) refl
 -- Live boxes and free ones are counted apart.
 pub count_boxes : (s : State) (p : Box → Bool)
     → count_by p (boxes_in s) ≡ count_by (λ (g : Grant). p g.box) (live_in s) + count_by p (free_in s)
-count_boxes s p =
-    count_by-append p (map (λ (g : Grant). g.box) (live_in s)) (free_in s)
-    ∙ ap (λ n. n + count_by p (free_in s)) (count_by-map (λ (g : Grant). g.box) p (live_in s))
+count_boxes s p = grind (arith, count_by-append, count_by-map)
 
 -- The grant of a live box.
 pub box_owner : (s : State) (id : ℕ) (b : Box) → live_box s id ≡ Some b
@@ -129,11 +123,7 @@ live_share_nothing s i j b c sound differ is is' =
 
 -- The rectangle of a live box.
 rectangle_box : (s : State) (id : ℕ) (r : Rectangle) → rectangle_in s id ≡ Some r → (b : Box) × (live_box s id ≡ Some b) × (rectangle_of b ≡ r)
-rectangle_box s id r is = by_box (live_box s id) refl is
-  where
-    by_box : (o : Option Box) → live_box s id ≡ o → option_map rectangle_of o ≡ Some r → (b : Box) × (live_box s id ≡ Some b) × (rectangle_of b ≡ r)
-    by_box None e none = cc
-    by_box (Some b) e some = (b, e, cc)
+rectangle_box s id r is = grind arith
 
 whole_order : (m n : ℕ) → m ≤ n → pos m ≤ℤ pos n
 whole_order m n h = omega (arith, ints)
@@ -145,18 +135,10 @@ rectangles_apart b c (inr (inr (inl above))) = inr (inr (inl (whole_order _ _ ab
 rectangles_apart b c (inr (inr (inr below))) = inr (inr (inr (whole_order _ _ below)))
 
 pub all_lie_apart : (s : State) → IsSound s → AllLieApart s
-all_lie_apart s sound i j r q differ is is' =
-    let b = rectangle_box s i r is in
-    let c = rectangle_box s j q is' in
-    subst₂ RectanglesLieApart b.2 c.2 (rectangles_apart b.0 c.0 (live_share_nothing s i j b.0 c.0 sound differ b.1 c.1).1)
+all_lie_apart s sound i j r q differ is is' = grind (arith, rectangle_box, rectangles_apart, live_share_nothing)
 
 pub all_lie_within : (s : State) → IsSound s → AllLieWithin s
-all_lie_within s sound id = by_box (live_box s id) refl
-  where
-    by_box : (o : Option Box) → live_box s id ≡ o
-        → IfSome (option_map rectangle_of o) (λ r. IsNonempty (box_of r) × IsWithin s.size (box_of r))
-    by_box None e = tt
-    by_box (Some b) e = live_lie_within s id b sound e
+all_lie_within s sound id = grind (arith, live_lie_within)
 
 -- A shown rectangle lies within the atlas.
 pub shown_within : (s : State) → IsSound s → (id : ℕ) (o : Option Rectangle) → o ≡ rectangle_in s id

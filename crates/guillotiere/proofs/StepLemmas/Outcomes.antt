@@ -1,17 +1,17 @@
 -- The ways in which a step may come out.
 use Rattle.std.proofs.Common.{◌≡◌, ℕ, ◌≤◌, true, false, refl}
-use Rattle.guillotiere.specs.declared.error.AtlasError.TheVariants.{Memory, Slots, NotLive}
 use Rattle.guillotiere.specs.Boxes.{Sides, Box, Fits, IsPositive}
-use Rattle.guillotiere.specs.Choice.{Options, AreValid}
 use Rattle.guillotiere.specs.Changes.{only}
-use Rattle.guillotiere.specs.Trees.{Grant}
-use Rattle.guillotiere.specs.States.{State, IsLive, started, after_freeing, after_growth}
+use Rattle.guillotiere.specs.Choice.{Options, AreValid}
+use Rattle.guillotiere.specs.Laws.StepLaws.{is_refusal}
 use Rattle.guillotiere.specs.Refits.{Rearrangement}
+use Rattle.guillotiere.specs.Runs.{is_plain}
+use Rattle.guillotiere.specs.States.{State, IsLive, started, after_freeing, after_growth}
 use Rattle.guillotiere.specs.Steps.{AtlasCall, AtlasReply, Step, Grants, Rearranges, nodes_grown}
 use Rattle.guillotiere.specs.Steps.AtlasCall.{Allocate, Deallocate, Grow, Clear, Reset, Rearrange, ResizeAndRearrange}
 use Rattle.guillotiere.specs.Steps.AtlasReply.{Allocated, NoRoom, Done, Changed, Refused, BadCall}
-use Rattle.guillotiere.specs.Runs.{is_plain}
-use Rattle.guillotiere.specs.Laws.StepLaws.{is_refusal}
+use Rattle.guillotiere.specs.Trees.{Grant}
+use Rattle.guillotiere.specs.declared.error.AtlasError.TheVariants.{Memory, Slots, NotLive}
 
 -- What holds where nothing changes, and at each call that changes something, holds of each step.
 module _ (old new : State) (P : AtlasCall → AtlasReply → Type 0)
@@ -30,47 +30,22 @@ module _ (old new : State) (P : AtlasCall → AtlasReply → Type 0)
     moves call n (Changed list) rare h = moving call n list rare h
     moves call n (Refused Slots) rare h = unchanged call (Refused Slots) refl h.4
     moves call n (Refused Memory) rare h = unchanged call (Refused Memory) refl h.1
-    moves call n (Refused NotLive) rare h = absurd h
-    moves call n (Allocated g) rare h = absurd h
-    moves call n NoRoom rare h = absurd h
-    moves call n Done rare h = absurd h
+    moves call n reply rare h = absurd h
 
     pub by_outcome : (call : AtlasCall) (reply : AtlasReply) → Step old call reply new → P call reply
     by_outcome (Allocate r) NoRoom h = unchanged (Allocate r) NoRoom refl h.1
     by_outcome (Allocate r) (Allocated g) h = granting r h.0 g h.1
     by_outcome (Allocate r) (Refused Slots) h = unchanged (Allocate r) (Refused Slots) refl h.3
     by_outcome (Allocate r) (Refused Memory) h = unchanged (Allocate r) (Refused Memory) refl h.4
-    by_outcome (Allocate r) (Refused NotLive) h = absurd h
-    by_outcome (Allocate r) Done h = absurd h
-    by_outcome (Allocate r) (Changed list) h = absurd h
-    by_outcome (Allocate r) BadCall h = absurd h
     by_outcome (Deallocate id) Done h = freeing id h.0 h.1
     by_outcome (Deallocate id) (Refused NotLive) h = unchanged (Deallocate id) (Refused NotLive) refl h.1
-    by_outcome (Deallocate id) (Refused Memory) h = absurd h
-    by_outcome (Deallocate id) (Refused Slots) h = absurd h
-    by_outcome (Deallocate id) (Allocated g) h = absurd h
-    by_outcome (Deallocate id) NoRoom h = absurd h
-    by_outcome (Deallocate id) (Changed list) h = absurd h
-    by_outcome (Deallocate id) BadCall h = absurd h
     by_outcome (Grow n) BadCall h = unchanged (Grow n) BadCall refl h.1
     by_outcome (Grow n) Done h = growing n h.0 h.1 h.2
     by_outcome (Grow n) (Refused Slots) h = unchanged (Grow n) (Refused Slots) refl h.2
     by_outcome (Grow n) (Refused Memory) h = unchanged (Grow n) (Refused Memory) refl h.3
-    by_outcome (Grow n) (Refused NotLive) h = absurd h
-    by_outcome (Grow n) (Allocated g) h = absurd h
-    by_outcome (Grow n) NoRoom h = absurd h
-    by_outcome (Grow n) (Changed list) h = absurd h
     by_outcome Clear Done h = clearing h
-    by_outcome Clear (Allocated g) h = absurd h
-    by_outcome Clear NoRoom h = absurd h
-    by_outcome Clear (Changed list) h = absurd h
-    by_outcome Clear (Refused error) h = absurd h
-    by_outcome Clear BadCall h = absurd h
     by_outcome (Reset n o) BadCall h = unchanged (Reset n o) BadCall refl h.1
     by_outcome (Reset n o) Done h = resetting n o h.0 h.1 h.2
-    by_outcome (Reset n o) (Allocated g) h = absurd h
-    by_outcome (Reset n o) NoRoom h = absurd h
-    by_outcome (Reset n o) (Changed list) h = absurd h
-    by_outcome (Reset n o) (Refused error) h = absurd h
     by_outcome Rearrange reply h = moves Rearrange old.size reply refl h
     by_outcome (ResizeAndRearrange n) reply h = moves (ResizeAndRearrange n) n reply refl h
+    by_outcome call reply h = absurd h

@@ -1,17 +1,18 @@
 -- Calls made of an atlas in turn.
-use Rattle.std.proofs.Common.{◌≡◌, ℕ, suc, ◌+◌, ◌≤◌, ◌<◌, ◌⊎◌, true, List, [], ◌∷◌, ◌++◌, length, map, take, drop, get_or, refl, ap, subst, sym, ◌∙◌, arith, inl, inr, All}
-use Rattle.std.proofs.lemmas.List.Elements.{All-map}
+use Rattle.std.proofs.Common.{◌≡◌, ℕ, suc, ◌+◌, ◌≤◌, ◌<◌, ◌⊎◌, true, List, [], ◌∷◌, ◌++◌, length, map, take, drop}
+use Rattle.std.proofs.Common.{get_or, refl, ap, subst, sym, ◌∙◌, arith, inl, inr, All}
 use Rattle.std.proofs.lemmas.List.{take_more, map-append, length-map, drop-append-le, take-append-le}
-use Rattle.guillotiere.specs.declared.session.Call.{Call}
-use Rattle.guillotiere.specs.declared.session.Reply.{Reply}
+use Rattle.std.proofs.lemmas.List.Elements.{All-map}
+use Rattle.guillotiere.specs.RunTurns.{freeings_of, turns_within}
+use Rattle.guillotiere.specs.Runs.{Run, is_plain}
+use Rattle.guillotiere.specs.Sessions.{call_of, reply_of, calls_of, replies_of, TakesTurns, IsSession}
 use Rattle.guillotiere.specs.States.{State, used_in, IsSound}
 use Rattle.guillotiere.specs.Steps.{AtlasCall, AtlasReply, Step}
-use Rattle.guillotiere.specs.Steps.AtlasCall.{Allocate, Deallocate, Grow, Clear, Reset, Rearrange, ResizeAndRearrange}
-use Rattle.guillotiere.specs.Steps.AtlasReply.{Allocated, NoRoom, Done, Changed, Refused, BadCall}
-use Rattle.guillotiere.specs.Runs.{Run, is_plain}
-use Rattle.guillotiere.specs.RunTurns.{freeings_of, turns_within}
+use Rattle.guillotiere.specs.Steps.AtlasCall.{Deallocate}
+use Rattle.guillotiere.specs.Steps.AtlasReply.{Done}
 use Rattle.guillotiere.specs.Stored.{AtlasValue, state_of}
-use Rattle.guillotiere.specs.Sessions.{call_of, reply_of, calls_of, replies_of, TakesTurns, IsSession}
+use Rattle.guillotiere.specs.declared.session.Call.{Call}
+use Rattle.guillotiere.specs.declared.session.Reply.{Reply}
 use Rattle.guillotiere.proofs.StepLemmas.RunKeeping.{runs_keep_order}
 use Rattle.guillotiere.proofs.StepLemmas.Traces.{runs_leave_no_trace}
 use Rattle.guillotiere.proofs.StepLemmas.StepKeeping.{nodes_positive}
@@ -56,29 +57,13 @@ pub record IsPlayed (old : AtlasValue) (calls : List AtlasCall) (replies : List 
 turns_by_call : (old new : AtlasValue) (call : AtlasCall) (reply : AtlasReply) → TakesTurns old call reply new
     → ((freeings_of call reply ≡ 1) × (new.turns + used_in (state_of new) ≡ old.turns + 1 + used_in (state_of old)))
     ⊎ (new.turns ≡ old.turns)
-turns_by_call old new (Allocate r) reply h = inr h
 turns_by_call old new (Deallocate id) Done h = inl (refl, h)
-turns_by_call old new (Deallocate id) NoRoom h = inr h
-turns_by_call old new (Deallocate id) (Allocated g) h = inr h
-turns_by_call old new (Deallocate id) (Changed list) h = inr h
-turns_by_call old new (Deallocate id) (Refused error) h = inr h
-turns_by_call old new (Deallocate id) BadCall h = inr h
-turns_by_call old new (Grow n) reply h = inr h
-turns_by_call old new Clear reply h = inr h
-turns_by_call old new (Reset n o) reply h = inr h
-turns_by_call old new Rearrange reply h = inr h
-turns_by_call old new (ResizeAndRearrange n) reply h = inr h
+turns_by_call old new call reply h = inr h
 
 turns_of_step : (old new : AtlasValue) (call : AtlasCall) (reply : AtlasReply) → IsSound (state_of old)
     → Step (state_of old) call reply (state_of new) → TakesTurns old call reply new
     → new.turns + used_in (state_of new) ≤ old.turns + used_in (state_of old) + freeings_of call reply + adds_of call reply
-turns_of_step old new call reply sound step takes = by_call (turns_by_call old new call reply takes)
-  where
-    by_call : ((freeings_of call reply ≡ 1) × (new.turns + used_in (state_of new) ≡ old.turns + 1 + used_in (state_of old)))
-        ⊎ (new.turns ≡ old.turns)
-        → new.turns + used_in (state_of new) ≤ old.turns + used_in (state_of old) + freeings_of call reply + adds_of call reply
-    by_call (inl h) = omega (arith, h.0, h.1)
-    by_call (inr h) = omega (arith, h, members_added (state_of old) (state_of new) call reply sound step)
+turns_of_step old new call reply sound step takes = grind (arith, turns_by_call, adds_of, members_added)
 
 pub played_more : (old mid new : AtlasValue) (calls : List AtlasCall) (replies : List AtlasReply) (call : AtlasCall)
     (reply : AtlasReply) → IsSound (state_of old) → IsPlayed old calls replies mid

@@ -1,13 +1,14 @@
 -- What is live can be put in the order of a refit.
-use Rattle.std.proofs.Common.{◌≡◌, ℕ, ◌+◌, ◌%◌, ◌^◌, ◌<◌, ◌≤◌, ◌==◌, ◌⊎◌, inl, inr, List, [], ◌∷◌, refl, sym, subst, ◌∙◌, arith, IsPermutation, All}
-use Rattle.std.specs.List.{count_by}
-use Rattle.std.proofs.lemmas.Bool.{cases_order, eq-eqb}
+use Rattle.std.proofs.Common.{◌≡◌, ℕ, ◌+◌, ◌%◌, ◌^◌, ◌≤◌, ◌==◌, ◌⊎◌, inl, inr, List, [], ◌∷◌, refl, sym, subst, ◌∙◌}
+use Rattle.std.proofs.Common.{arith, IsPermutation, All}
+use Rattle.std.proofs.lemmas.Bool.{eq-eqb}
 use Rattle.std.proofs.lemmas.List.Elements.{All-nil, All-cons, All-head, All-tail, All-weaker, Contains-get_or}
-use Rattle.std.proofs.lemmas.List.Sorted.{IsPermutation-refl, IsPermutation-sym, IsPermutation-trans, IsPermutation-cons, IsPermutation-middle, All-permutation}
-use Rattle.guillotiere.specs.Boxes.{Sides, area}
-use Rattle.guillotiere.specs.Cuts.{cap}
-use Rattle.guillotiere.specs.Trees.{Tree, Grant, live, IsWellFormed}
+use Rattle.std.proofs.lemmas.List.Sorted.{IsPermutation-refl, IsPermutation-sym, IsPermutation-trans}
+use Rattle.std.proofs.lemmas.List.Sorted.{IsPermutation-cons, IsPermutation-middle, All-permutation}
+use Rattle.std.specs.List.{count_by}
+use Rattle.guillotiere.specs.Boxes.{Sides}
 use Rattle.guillotiere.specs.Refits.{Precedes, IsRanked, IsRefitOrder}
+use Rattle.guillotiere.specs.Trees.{Tree, Grant, live, IsWellFormed}
 use Rattle.guillotiere.proofs.TreeLemmas.BoxLists.{count_live}
 use Rattle.guillotiere.proofs.ListLemmas.Counting.{count_by-cons, count_some}
 use Rattle.guillotiere.proofs.TreeLemmas.TreeBasics.{one_if}
@@ -42,22 +43,7 @@ all_differ (g ∷ gs) once = (first, all_differ gs rest)
 
 -- Of two grants in other slots one precedes the other.
 either : (g h : Grant) → Differ g h → Precedes g h ⊎ Precedes h g
-either g h unlike = by_area (cases_order (cap (area g.box)) (cap (area h.box))) (cases_order (g.id % 2 ^ 24) (h.id % 2 ^ 24))
-  where
-    a : ℕ
-    a = cap (area g.box)
-
-    b : ℕ
-    b = cap (area h.box)
-
-    by_area : (a ≡ b) ⊎ ((a < b) ⊎ (b < a))
-        → (g.id % 2 ^ 24 ≡ h.id % 2 ^ 24) ⊎ ((g.id % 2 ^ 24 < h.id % 2 ^ 24) ⊎ (h.id % 2 ^ 24 < g.id % 2 ^ 24))
-        → Precedes g h ⊎ Precedes h g
-    by_area (inr (inl lt)) k = inr (inl lt)
-    by_area (inr (inr lt)) k = inl (inl lt)
-    by_area (inl e) (inl same) = absurd (unlike same)
-    by_area (inl e) (inr (inl lt)) = inr (inr (e, lt))
-    by_area (inl e) (inr (inr lt)) = inl (inr (sym e, lt))
+either g h unlike = grind arith
 
 onward : (g h k : Grant) → Precedes g h → Precedes h k → Precedes g k
 onward g h k (inl a) (inl b) = inl (omega arith)

@@ -1,26 +1,27 @@
 -- What a rearranging keeps, moves and leaves out.
-use Rattle.std.proofs.Common.{◌≡◌, ℕ, ◌+◌, ◌-◌, ◌≤◌, List, [], ◌∷◌, ◌++◌, map, subst, subst₂, sym, ◌∙◌, arith, inl, inr, Contains, IsPermutation, All}
-use Rattle.std.specs.List.{count_by}
-use Rattle.std.proofs.lemmas.List.Sorted.{IsPermutation-refl, IsPermutation-sym, IsPermutation-trans, IsPermutation-cons, IsPermutation-middle, IsPermutation-append_right, All-permutation}
+use Rattle.std.proofs.Common.{◌≡◌, ℕ, ◌+◌, ◌≤◌, List, [], ◌∷◌, ◌++◌, map, subst, subst₂, sym, ◌∙◌, arith, inl, inr}
+use Rattle.std.proofs.Common.{Contains, IsPermutation, All}
 use Rattle.std.proofs.lemmas.List.Elements.{All-nil, All-cons, All-head, All-tail}
+use Rattle.std.proofs.lemmas.List.Sorted.{IsPermutation-refl, IsPermutation-sym, IsPermutation-trans}
+use Rattle.std.proofs.lemmas.List.Sorted.{IsPermutation-cons, IsPermutation-middle, IsPermutation-append_right}
+use Rattle.std.proofs.lemmas.List.Sorted.{All-permutation}
+use Rattle.std.specs.List.{count_by}
 use Rattle.guillotiere.specs.Boxes.{Position, Sides, Box, box_at, box_sides, Fits, IsPositive}
-use Rattle.guillotiere.specs.Choice.{Options, AreValid, rounded}
-use Rattle.guillotiere.specs.Trees.{Tree, Grant, grant, live, free_boxes, node_count, IsWellFormed, IsNormal}
 use Rattle.guillotiere.specs.Changes.{place}
-use Rattle.guillotiere.specs.States.{IsAligned}
+use Rattle.guillotiere.specs.Choice.{Options, AreValid, rounded}
 use Rattle.guillotiere.specs.Refits.{Transfer, Rearrangement, refit_sides, refit_nodes, Refits}
+use Rattle.guillotiere.specs.States.{IsAligned}
+use Rattle.guillotiere.specs.Trees.{Tree, Grant, grant, live, free_boxes, node_count, IsWellFormed, IsNormal}
 use Rattle.guillotiere.proofs.ListLemmas.Counting.{count_by-cons, permuted_from_counts}
 use Rattle.guillotiere.proofs.TreeLemmas.BoxLists.{same_grant, same_grant-itself, same_grant-true}
 use Rattle.guillotiere.proofs.SearchLemmas.Rounding.{rounded_positive, rounded_aligned, rounded_same}
 use Rattle.guillotiere.proofs.TreeLemmas.TreeBasics.{one_if}
-use Rattle.guillotiere.proofs.TreeLemmas.TreePlacing.{place_well_formed, place_normal, place_live}
+use Rattle.guillotiere.proofs.TreeLemmas.TreePlacing.{place_well_formed, place_normal, place_live, request_inside}
 use Rattle.guillotiere.proofs.TreeLemmas.TreeCounts.{place_nodes}
+use Rattle.guillotiere.specs.Laws.TreeLaws.{PlacingsKeepTrees}
 
 pub sides_at : (o : Position) (s : Sides) → box_sides (box_at o s) ≡ s
-sides_at o s =
-    let w : o.x + s.width - o.x ≡ s.width = omega arith in
-    let h : o.y + s.height - o.y ≡ s.height = omega arith in
-    λ i. record { width = w i; height = h i }
+sides_at o s = grind arith
 
 -- After a placing the grant is live, with all that was.
 pub place_permuted : (size : Sides) (t : Tree) (f : Box) (r : Sides) (id : ℕ) → IsWellFormed size t
@@ -120,3 +121,11 @@ refitted size o limit valid (g ∷ gs) t list new movable well normal aligned li
       after = more.after;
       sides = more.sides;
     })
+
+pub placings_keep_trees : PlacingsKeepTrees
+placings_keep_trees size t f r id well fits = record {
+  well_formed = place_well_formed size t f r id well fits.positive fits.fits fits.unused;
+  normal = place_normal size t f r id;
+  live = place_permuted size t f r id well fits.is_free fits.positive fits.fits;
+  inside = request_inside f r fits.positive fits.fits;
+}

@@ -1,11 +1,11 @@
 -- Each run keeps an atlas in order.
 use Rattle.std.proofs.Common.{◌≤◌, List, [], ◌∷◌, sym, subst, arith}
-use Rattle.guillotiere.specs.Trees.{ids, slot_count}
-use Rattle.guillotiere.specs.States.{State, IsSound}
-use Rattle.guillotiere.specs.Steps.{AtlasCall, AtlasReply, Step}
+use Rattle.guillotiere.specs.Laws.RunLaws.{IsTiled, IsInOrder, IsOwed, IsRunInOrder, RunsKeepOrder}
 use Rattle.guillotiere.specs.Laws.StepLaws.{live_count}
 use Rattle.guillotiere.specs.Runs.{Run}
-use Rattle.guillotiere.specs.Laws.RunLaws.{IsTiled, IsInOrder, IsOwed, IsRunInOrder, RunsKeepOrder}
+use Rattle.guillotiere.specs.States.{State, IsSound}
+use Rattle.guillotiere.specs.Steps.{AtlasCall, AtlasReply, Step}
+use Rattle.guillotiere.specs.Trees.{ids, slot_count}
 use Rattle.guillotiere.proofs.TreeLemmas.BoxLists.{squares_in_one, areas_of_boxes, boxes_in_place, live_few}
 use Rattle.guillotiere.proofs.StepLemmas.StepKeeping.{steps_keep}
 use Rattle.guillotiere.proofs.StepLemmas.StepEffects.{steps_do}
@@ -31,9 +31,7 @@ in_order s sound = record { sound = sound; tiled = tiled s sound }
 
 owed : (old new : State) (call : AtlasCall) (reply : AtlasReply) → IsSound old → Step old call reply new
     → IsOwed old call reply new
-owed old new call reply sound h =
-    let due = steps_answer_as_due old new call reply h in
-    record { step = h; does = steps_do old new call reply sound h; grants = due.0; denies = due.1 }
+owed old new call reply sound h = grind (arith, steps_answer_as_due, steps_do)
 
 kept_along : (calls : List AtlasCall) (replies : List AtlasReply) (old new : State) → IsSound old
     → Run old calls replies new → IsRunInOrder old calls replies new × IsInOrder new

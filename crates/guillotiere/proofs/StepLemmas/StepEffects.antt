@@ -1,20 +1,25 @@
 -- What each step does, call by call.
-use Rattle.std.proofs.Common.{◌≡◌, ℕ, ◌+◌, ◌-◌, ◌*◌, ◌/◌, ◌≤◌, ◌<◌, true, ◌∷◌, map, refl, ap, subst, subst₂, sym, ◌∙◌, arith, inl, inr, Contains, IsPermutation}
-use Rattle.std.specs.List.{count_by}
-use Rattle.std.proofs.lemmas.Bool.{false≢true, eq-eqb, le-leb, lt-ltb, and_from}
+use Rattle.std.proofs.Common.{rules, ◌≡◌, ℕ, ◌+◌, ◌-◌, ◌*◌, ◌/◌, ◌≤◌, ◌<◌, true, ◌∷◌, map, refl, ap, subst, subst₂, sym}
+use Rattle.std.proofs.Common.{◌∙◌, arith, inl, inr, Contains, IsPermutation}
+use Rattle.std.proofs.lemmas.Bool.{false≢true, eq-eqb}
 use Rattle.std.proofs.lemmas.List.{append-nil}
-use Rattle.std.proofs.lemmas.List.Sorted.{IsPermutation-sym, IsPermutation-trans}
 use Rattle.std.proofs.lemmas.List.Elements.{All-contains}
-use Rattle.guillotiere.specs.Boxes.{Sides, Box, box_at, box_sides, covers, IsInside, Fits, IsPositive, IsNonempty, IsWithin}
-use Rattle.guillotiere.specs.Choice.{rounded, ComesFirst}
-use Rattle.guillotiere.specs.Trees.{Grant, grant, live, ids, slot_count}
+use Rattle.std.proofs.lemmas.List.Sorted.{IsPermutation-sym, IsPermutation-trans}
+use Rattle.std.specs.List.{count_by}
+use Rattle.guillotiere.specs.Boxes.{Sides, Box, box_at, box_sides, covers, IsInside, Fits, IsPositive, IsNonempty}
+use Rattle.guillotiere.specs.Boxes.{IsWithin}
 use Rattle.guillotiere.specs.Changes.{only}
-use Rattle.guillotiere.specs.States.{State, live_in, free_in, IsLive, IsAligned, IsSound, after_freeing, after_growth}
+use Rattle.guillotiere.specs.Choice.{rounded, ComesFirst}
+use Rattle.guillotiere.specs.Laws.StepLaws.{live_count, IsBarelyAbove, IsGrantStep, IsFreeingStep, IsGrowthStep}
+use Rattle.guillotiere.specs.Laws.StepLaws.{IsRearrangingStep, Does, GrantsLieInside, FreeingsRemoveOne}
+use Rattle.guillotiere.specs.Laws.StepLaws.{GrowthsKeepBoxes, RearrangingsLoseNothing, is_refusal}
+use Rattle.guillotiere.specs.Laws.StepLaws.{RefusalsChangeNothing, PicksAreOne}
 use Rattle.guillotiere.specs.Refits.{Rearrangement}
+use Rattle.guillotiere.specs.States.{State, live_in, free_in, IsLive, IsAligned, IsSound, after_freeing, after_growth}
 use Rattle.guillotiere.specs.Steps.{AtlasCall, AtlasReply, Step, Grants, Rearranges}
 use Rattle.guillotiere.specs.Steps.AtlasCall.{Allocate, Deallocate, Grow}
-use Rattle.guillotiere.specs.Steps.AtlasReply.{Allocated, NoRoom, Done, Changed, Refused, BadCall}
-use Rattle.guillotiere.specs.Laws.StepLaws.{live_count, IsBarelyAbove, IsGrantStep, IsFreeingStep, IsGrowthStep, IsRearrangingStep, Does, GrantsLieInside, FreeingsRemoveOne, GrowthsKeepBoxes, RearrangingsLoseNothing, is_refusal, RefusalsChangeNothing, PicksAreOne}
+use Rattle.guillotiere.specs.Steps.AtlasReply.{Allocated, Done, Changed}
+use Rattle.guillotiere.specs.Trees.{Grant, grant, live, ids, slot_count}
 use Rattle.guillotiere.proofs.ListLemmas.Counting.{count_some, counted_once}
 use Rattle.guillotiere.proofs.TreeLemmas.BoxLists.{count_live, live_few, free_in_place, free_once}
 use Rattle.guillotiere.proofs.SearchLemmas.Rounding.{up_least, up_below, rounded_positive, rounded_aligned, rounded_same}
@@ -90,10 +95,7 @@ freeing_step old id sound at = record {
 -- A growth.
 
 pub growth_step : (old : State) (n : Sides) → IsSound old → Fits old.size n → IsGrowthStep old (after_growth old n)
-growth_step old n sound fit = record {
-  live = live_grown old.size n old.tree fit;
-  free = grown_room old.size n old.tree sound.well_formed fit;
-}
+growth_step old n sound fit = search (rules, live_grown, grown_room)
 
 -- A rearranging.
 
@@ -113,12 +115,10 @@ rearranging_step old new n list sound h =
 
 unchanged_does : (old new : State) (call : AtlasCall) (reply : AtlasReply) → is_refusal reply ≡ true → new ≡ old
     → Does old call reply new
-unchanged_does old new call NoRoom refused same = same
-unchanged_does old new call (Refused error) refused same = same
-unchanged_does old new call BadCall refused same = same
 unchanged_does old new call (Allocated g) refused same = absurd (false≢true refused)
 unchanged_does old new call Done refused same = absurd (false≢true refused)
 unchanged_does old new call (Changed list) refused same = absurd (false≢true refused)
+unchanged_does old new call reply refused same = same
 
 pub steps_do : (old new : State) (call : AtlasCall) (reply : AtlasReply) → IsSound old → Step old call reply new
     → Does old call reply new
@@ -134,16 +134,7 @@ steps_do old new call reply sound =
     call reply
 
 pub refusals_change_nothing : RefusalsChangeNothing
-refusals_change_nothing old new call reply =
-    by_outcome old new (λ call reply. is_refusal reply ≡ true → new ≡ old)
-    (λ call reply refused same _. same)
-    (λ r f g h refused. absurd (false≢true refused))
-    (λ id at is refused. absurd (false≢true refused))
-    (λ n fit room is refused. absurd (false≢true refused))
-    (λ is refused. absurd (false≢true refused))
-    (λ n o pos valid is refused. absurd (false≢true refused))
-    (λ call n list rare h refused. absurd (false≢true refused))
-    call reply
+refusals_change_nothing old new call reply = grind arith
 
 pub grants_lie_inside : GrantsLieInside
 grants_lie_inside old new r g sound h = steps_do old new (Allocate r) (Allocated g) sound h
@@ -166,9 +157,7 @@ same_place f g (inr a) (inl b) = absurd (omega (arith, a.0))
 same_place f g (inr a) (inr b) = (omega (arith, a.1, b.1), a.0)
 
 covers_corner : (b : Box) (x y : ℕ) → IsNonempty b → x ≡ b.min.x → y ≡ b.min.y → covers x y b ≡ true
-covers_corner b x y h p q =
-    and_from _ _ (and_from _ _ (le-leb b.min.x x (omega arith)) (lt-ltb x b.max.x (omega (arith, h.0))))
-    (and_from _ _ (le-leb b.min.y y (omega arith)) (lt-ltb y b.max.y (omega (arith, h.1))))
+covers_corner b x y h p q = grind arith
 
 pub picks_are_one : PicksAreOne
 picks_are_one s r f g sound pf pg =

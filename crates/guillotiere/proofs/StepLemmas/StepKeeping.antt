@@ -1,17 +1,17 @@
 -- Each step keeps what each atlas keeps.
-use Rattle.std.proofs.Common.{◌≡◌, ℕ, ◌≤◌, ◌<◌, Bool, refl, subst, sym, arith, All}
-use Rattle.std.proofs.lemmas.List.Sorted.{All-permutation}
+use Rattle.std.proofs.Common.{rules, ◌≡◌, ℕ, ◌≤◌, ◌<◌, Bool, refl, subst, sym, arith, All}
 use Rattle.std.proofs.lemmas.List.Elements.{All-nil, All-filter}
+use Rattle.std.proofs.lemmas.List.Sorted.{All-permutation}
 use Rattle.guillotiere.specs.Boxes.{Sides, Box, box_sides, Fits, IsPositive, IsNonempty}
-use Rattle.guillotiere.specs.Choice.{Options, AreValid, rounded}
-use Rattle.guillotiere.specs.Trees.{Members, Tree, Grant, total, node_count, IsWellFormed, IsNormal}
-use Rattle.guillotiere.specs.Trees.Members.{End, Free, Alloc, Seq}
 use Rattle.guillotiere.specs.Changes.{only, release, grown, place, fresh}
-use Rattle.guillotiere.specs.States.{State, live_in, used_in, IsSound, started, after_freeing, after_growth}
+use Rattle.guillotiere.specs.Choice.{Options, AreValid, rounded}
+use Rattle.guillotiere.specs.Laws.StepLaws.{StepsKeep}
 use Rattle.guillotiere.specs.Refits.{Rearrangement}
+use Rattle.guillotiere.specs.States.{State, live_in, used_in, IsSound, started, after_freeing, after_growth}
 use Rattle.guillotiere.specs.Steps.{Grants, Rearranges, nodes_with, nodes_grown}
 use Rattle.guillotiere.specs.Steps.AtlasReply.{Changed}
-use Rattle.guillotiere.specs.Laws.StepLaws.{StepsKeep}
+use Rattle.guillotiere.specs.Trees.{Members, Tree, Grant, total, node_count, IsWellFormed, IsNormal}
+use Rattle.guillotiere.specs.Trees.Members.{End}
 use Rattle.guillotiere.proofs.TreeLemmas.BoxLists.{live_in_place}
 use Rattle.guillotiere.proofs.SearchLemmas.Rounding.{rounded_positive}
 use Rattle.guillotiere.proofs.StepLemmas.Refitting.{HasAlignedBox, IsMovable, IsRefitted, refitted, place_aligned}
@@ -24,9 +24,7 @@ use Rattle.guillotiere.proofs.TreeLemmas.TreeLive.{live_release, live_grown}
 
 some_nodes : (m : Members) → 0 < total m → 1 ≤ node_count m
 some_nodes End h = absurd (omega arith)
-some_nodes (Free e rest) h = omega arith
-some_nodes (Alloc id e rest) h = omega arith
-some_nodes (Seq e inner rest) h = omega arith
+some_nodes m h = omega arith
 
 pub nodes_positive : (size : Sides) (t : Tree) → IsWellFormed size t → 1 ≤ node_count t.members
 nodes_positive size t well = some_nodes t.members (subst (λ k. 0 < k) (sym well.along) (side_positive t.axis size well.nonempty))
@@ -38,19 +36,10 @@ pub fresh_normal : (n : Sides) → IsNormal (fresh n).members
 fresh_normal n = (refl, tt)
 
 pub limit_positive : (s : State) → IsSound s → 1 ≤ s.limit
-limit_positive s sound =
-    let some : 1 ≤ used_in s = nodes_positive s.size s.tree sound.well_formed in
-    omega (arith, sound.counted, sound.limited)
+limit_positive s sound = grind (arith, nodes_positive)
 
 pub started_sound : (s : State) (n : Sides) (o : Options) → IsSound s → IsPositive n → AreValid o → IsSound (started n o s.limit)
-started_sound s n o sound pos valid = record {
-  well_formed = fresh_well_formed n pos;
-  normal = fresh_normal n;
-  valid = valid;
-  aligned = All-nil (HasAlignedBox o);
-  counted = omega arith;
-  limited = limit_positive s sound;
-}
+started_sound s n o sound pos valid = grind (arith, fresh_well_formed, fresh_normal, All-nil, limit_positive)
 
 pub placing_sound : (s : State) (f : Box) (r : Sides) (g : Grant) (new : State) → IsSound s → Grants s r f g new → IsSound new
 placing_sound s f r g new sound h =
@@ -100,18 +89,12 @@ sides_positive : (b : Box) → IsNonempty b → IsPositive (box_sides b)
 sides_positive b h = (omega (arith, h.0), omega (arith, h.1))
 
 pub live_movable : (s : State) → IsSound s → All (IsMovable s.options) (live_in s)
-live_movable s sound k d below = (
-  sides_positive _
-      (live_in_place s.size s.tree sound.well_formed k d below).0,
-  sound.aligned k d below,
-)
+live_movable s sound k d below = grind (arith, sides_positive, live_in_place)
 
 pub step_refitted : (old new : State) (n : Sides) (list : Rearrangement) → IsSound old → (h : Rearranges old n (Changed list) new)
     → IsRefitted n old.options old.limit (fresh n) h.1 list h.2
 step_refitted old new n list sound h =
-    refitted n old.options old.limit sound.valid h.1 (fresh n) list h.2
-    (All-permutation (IsMovable old.options) (live_in old) h.1 h.3.permuted (live_movable old sound))
-    (fresh_well_formed n h.0) (fresh_normal n) (All-nil (HasAlignedBox old.options)) (limit_positive old sound) h.4
+    search (rules, refitted, All-permutation, live_movable, fresh_well_formed, fresh_normal, All-nil, limit_positive)
 
 pub moving_sound : (old new : State) (n : Sides) (list : Rearrangement) → IsSound old
     → Rearranges old n (Changed list) new → IsSound new

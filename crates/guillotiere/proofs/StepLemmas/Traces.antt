@@ -1,54 +1,34 @@
 -- What a run leaves once what was granted in it is freed.
-use Rattle.std.proofs.Common.{◌≡◌, ℕ, ◌-◌, eqb, ltb, Bool, true, false, cond, not, ◌&&◌, ◌||◌, List, [], ◌∷◌, refl, ap, subst, subst₂, sym, ◌∙◌, ◌⊎◌, inl, inr, arith, All}
+use Rattle.std.proofs.Common.{◌≡◌, ℕ, Bool, true, false, cond, List, [], ◌∷◌, refl, ap, subst, subst₂, sym, ◌∙◌, ◌⊎◌}
+use Rattle.std.proofs.Common.{inl, inr, arith, All}
+use Rattle.std.proofs.lemmas.Bool.{eqb-true, false≢true}
 use Rattle.std.proofs.lemmas.List.Elements.{All-head, All-tail}
-use Rattle.std.proofs.lemmas.Bool.{eqb-true, false≢true, cases_eq, le-ltb}
-use Rattle.guillotiere.specs.Boxes.{Sides, Box, Fits, other, side}
+use Rattle.guillotiere.specs.Boxes.{Sides, Box, Fits}
+use Rattle.guillotiere.specs.Changes.{nf, mark, only, and_id, release, grown}
 use Rattle.guillotiere.specs.Choice.{rounded}
-use Rattle.guillotiere.specs.Trees.{Members, Tree, Grant, ids, total, is_one_free, IsWellFormed, IsOneFree}
-use Rattle.guillotiere.specs.Trees.Members.{End, Free, Alloc, Seq}
-use Rattle.guillotiere.specs.Changes.{nf, mark, only, and_id, release, lengthened, lengthened_to, grown_members, grown}
-use Rattle.guillotiere.specs.States.{State, IsSound, after_freeing, after_growth}
-use Rattle.guillotiere.specs.Steps.{AtlasCall, AtlasReply, Step, Grants}
-use Rattle.guillotiere.specs.Steps.AtlasCall.{Allocate, Deallocate, Grow, Clear, Reset, Rearrange, ResizeAndRearrange}
-use Rattle.guillotiere.specs.Steps.AtlasReply.{Allocated, Done}
+use Rattle.guillotiere.specs.Laws.RunLaws.{RunsLeaveNoTrace}
 use Rattle.guillotiere.specs.Laws.StepLaws.{is_refusal}
 use Rattle.guillotiere.specs.Runs.{Run, Since, since_start, since_call, since, but_id, is_plain, IsAsWithout}
-use Rattle.guillotiere.specs.Laws.RunLaws.{RunsLeaveNoTrace}
+use Rattle.guillotiere.specs.States.{State, IsSound, after_freeing, after_growth}
+use Rattle.guillotiere.specs.Steps.{AtlasCall, AtlasReply, Step, Grants}
+use Rattle.guillotiere.specs.Steps.AtlasCall.{Allocate, Deallocate, Grow}
+use Rattle.guillotiere.specs.Steps.AtlasReply.{Allocated, Done}
+use Rattle.guillotiere.specs.Trees.{Tree, Grant, ids, is_one_free, IsWellFormed, IsOneFree}
 use Rattle.guillotiere.proofs.StepLemmas.Outcomes.{by_outcome}
 use Rattle.guillotiere.proofs.StepLemmas.StepKeeping.{steps_keep}
 use Rattle.guillotiere.proofs.TreeLemmas.TreeIds.{unused-absent}
 use Rattle.guillotiere.proofs.TreeLemmas.TreeNormal.{release-none, release-like, release-release}
 use Rattle.guillotiere.proofs.TreeLemmas.TreeUndone.{grant_undone}
-use Rattle.guillotiere.proofs.TreeLemmas.TreeGrowth.{grown-other, growth_released, growth_released_free}
+use Rattle.guillotiere.proofs.TreeLemmas.TreeGrowth.{growth_released, growth_released_free}
 use Rattle.guillotiere.proofs.TreeLemmas.TreeKept.{release_well_formed}
 
 -- Sets of ids freed one after another.
 
 freed_again : (s : ℕ → Bool) (id : ℕ) (t : Tree) → s id ≡ true → release (but_id s id) (release (only id) t) ≡ release s t
-freed_again s id t h = release-release (but_id s id) (only id) t ∙ release-like (λ k. only id k || but_id s id k) s t same
-  where
-    by_test : (k : ℕ) (b : Bool) → eqb k id ≡ b → (b || (s k && not b)) ≡ s k
-    by_test k true is = sym (ap s (eqb-true k id is) ∙ h)
-    by_test k false is = by_member (s k)
-      where
-        by_member : (c : Bool) → (false || (c && not false)) ≡ c
-        by_member true = refl
-        by_member false = refl
-
-    same : (k : ℕ) → (only id k || but_id s id k) ≡ s k
-    same k = by_test k (eqb k id) refl
+freed_again s id t h = grind (arith, release-release, release-like, eqb-true)
 
 freed_too : (s : ℕ → Bool) (id : ℕ) (t : Tree) → release s (release (only id) t) ≡ release (only id) (release s t)
-freed_too s id t =
-    release-release s (only id) t ∙ release-like (λ k. only id k || s k) (λ k. s k || only id k) t
-    (λ k. swapped (only id k) (s k))
-    ∙ sym (release-release (only id) s t)
-  where
-    swapped : (a b : Bool) → (a || b) ≡ (b || a)
-    swapped true true = refl
-    swapped true false = refl
-    swapped false true = refl
-    swapped false false = refl
+freed_too s id t = grind (arith, release-release, release-like)
 
 one_free_stays : (size : Sides) (s : ℕ → Bool) (t : Tree) → IsOneFree size t → IsOneFree size (release s t)
 one_free_stays size s t is = ap (λ m. nf (mark s m)) is
@@ -61,95 +41,39 @@ one_free_grows old new t is = subst (λ m. IsOneFree new (grown old new (record 
 as_freed : (before size : Sides) (t u : Tree) (g : ℕ → Bool) (id : ℕ) → IsAsWithout before size (release g t) u
     → IsAsWithout before size (release g (release (only id) t)) (release (only id) u)
 as_freed before size t u g id (inl same) = inl (freed_too g id t ∙ ap (release (only id)) same)
-as_freed before size t u g id (inr both) =
-    inr (
-      both.0,
-      subst (IsOneFree size) (sym (freed_too g id t))
-          (one_free_stays size (only id) (release g t) both.1),
-      one_free_stays size (only id) u both.2,
-    )
+as_freed before size t u g id (inr both) = grind (arith, freed_too, one_free_stays)
 
 same_or_not : (a b : Sides) → (a ≡ b) ⊎ (a ≡ b → ⊥)
-same_or_not a b = by_side (cases_eq a.width b.width) (cases_eq a.height b.height)
-  where
-    by_side : (a.width ≡ b.width) ⊎ (a.width ≡ b.width → ⊥) → (a.height ≡ b.height) ⊎ (a.height ≡ b.height → ⊥)
-        → (a ≡ b) ⊎ (a ≡ b → ⊥)
-    by_side (inl w) (inl h) = inl (λ i. record { width = w i; height = h i })
-    by_side (inl w) (inr h) = inr (λ same. h (ap (λ (s : Sides). s.height) same))
-    by_side (inr w) h = inr (λ same. w (ap (λ (s : Sides). s.width) same))
-
-fits_both_ways : (a b : Sides) → Fits a b → Fits b a → a ≡ b
-fits_both_ways a b there back =
-    let w : a.width ≡ b.width = omega (arith, there.0, back.0) in
-    let h : a.height ≡ b.height = omega (arith, there.1, back.1) in
-    λ i. record { width = w i; height = h i }
+same_or_not a b = grind arith
 
 -- What has grown once has another size than before, whatever it grows to later.
 stays_other : (before old new : Sides) → Fits before old → Fits old new → (old ≡ before → ⊥) → new ≡ before → ⊥
-stays_other before old new first then unlike back =
-    unlike (fits_both_ways old before (subst (Fits old) back then) first)
+stays_other before old new first then unlike back = grind arith
 
 grows_other : (before old new : Sides) → Fits before old → (new ≡ old → ⊥) → Fits old new → new ≡ before → ⊥
-grows_other before old new first unlike then back =
-    unlike (fits_both_ways new old (subst (λ s. Fits s old) (sym back) first) then)
-
-not_below : (a : ℕ) → ltb a a ≡ false
-not_below a = le-ltb a a (omega arith)
+grows_other before old new first unlike then back = grind arith
 
 -- A growth to the present size changes nothing.
 pub grown_itself : (size : Sides) (t : Tree) → IsWellFormed size t → grown size size t ≡ t
-grown_itself size t well = by_members t.members well.along
-  where
-    other_members : (m : Members) → is_one_free m ≡ false
-        → grown_members size size t.axis m ≡ record { axis = t.axis; members = m }
-    other_members m many =
-        grown-other size size t.axis m many
-        ∙ ap (λ b. cond {A = Tree} b (record { axis = other t.axis; members = Seq (side (other t.axis) size) (lengthened_to (side t.axis size) (side t.axis size) m) (Free (side (other t.axis) size - side (other t.axis) size) End) }) (record { axis = t.axis; members = lengthened_to (side t.axis size) (side t.axis size) m }))
-        (not_below (side (other t.axis) size))
-        ∙ ap (λ b. record { axis = t.axis; members = cond b (lengthened (side t.axis size - side t.axis size) m) m })
-        (not_below (side t.axis size))
-
-    by_members : (m : Members) → total m ≡ side t.axis size
-        → grown_members size size t.axis m ≡ record { axis = t.axis; members = m }
-    by_members (Free e End) sum =
-        let whole : side t.axis size ≡ e = omega arith in
-        ap (λ k. record { axis = t.axis; members = Free k End }) whole
-    by_members End sum = other_members End refl
-    by_members (Free e (Free k rest)) sum = other_members (Free e (Free k rest)) refl
-    by_members (Free e (Alloc id k rest)) sum = other_members (Free e (Alloc id k rest)) refl
-    by_members (Free e (Seq k inner rest)) sum = other_members (Free e (Seq k inner rest)) refl
-    by_members (Alloc id e rest) sum = other_members (Alloc id e rest) refl
-    by_members (Seq e inner rest) sum = other_members (Seq e inner rest) refl
+grown_itself size t well = grind arith
 
 as_grown : (before old new : Sides) (t u : Tree) (g : ℕ → Bool) → Fits before old → IsWellFormed old t → Fits old new
     → IsAsWithout before old (release g t) u → IsAsWithout before new (release g (grown old new t)) (grown old new u)
 as_grown before old new t u g first well fit h = by_test (is_one_free (release g t).members) refl h
   where
     kept : release g t ≡ u → new ≡ old → release g (grown old new t) ≡ grown old new u
-    kept same whole =
-        subst (λ n. release g (grown old n t) ≡ grown old n u) (sym whole)
-        (ap (release g) (grown_itself old t well) ∙ same
-        ∙ sym (grown_itself old u (subst (IsWellFormed old) same (release_well_formed old g t well))))
+    kept same whole = grind (arith, grown_itself, release_well_formed)
 
     by_size : release g t ≡ u → is_one_free (release g t).members ≡ true → (new ≡ old) ⊎ (new ≡ old → ⊥)
         → IsAsWithout before new (release g (grown old new t)) (grown old new u)
     by_size same is (inl whole) = inl (kept same whole)
-    by_size same is (inr unlike) =
-        let both : IsOneFree new (release g (grown old new t)) × IsOneFree new (grown old new (release g t)) =
-        growth_released_free old new t g well fit is in
-        inr (grows_other before old new first unlike fit, both.0, subst (λ k. IsOneFree new (grown old new k)) same both.1)
+    by_size same is (inr unlike) = grind (arith, growth_released_free, grows_other)
 
     by_test : (b : Bool) → is_one_free (release g t).members ≡ b → IsAsWithout before old (release g t) u
         → IsAsWithout before new (release g (grown old new t)) (grown old new u)
     by_test false is (inl same) = inl (growth_released old new t g well fit is ∙ ap (grown old new) same)
     by_test true is (inl same) = by_size same is (same_or_not new old)
-    by_test b is (inr free) =
-        let one : is_one_free (release g t).members ≡ true = ap is_one_free free.1 in
-        inr (
-          stays_other before old new first fit free.0,
-          (growth_released_free old new t g well fit one).0,
-          one_free_grows old new u free.2,
-        )
+    by_test b is (inr free) = grind (arith, stays_other, growth_released_free, one_free_grows)
 
 -- A state and what was gathered since, where freeing what is held leaves the tree gathered.
 record IsWithout (before : Sides) (s : State) (k : Since) : Type 0 where
@@ -198,15 +122,9 @@ grown_without before old k n sound fit w = record {
 
 unchanged_since : (k : Since) (call : AtlasCall) (reply : AtlasReply) → is_refusal reply ≡ true → since_call k call reply ≡ k
 unchanged_since k (Allocate r) (Allocated g) h = absurd (false≢true h)
-unchanged_since k (Allocate r) reply h = refl
 unchanged_since k (Deallocate id) Done h = absurd (false≢true h)
-unchanged_since k (Deallocate id) reply h = refl
 unchanged_since k (Grow n) Done h = absurd (false≢true h)
-unchanged_since k (Grow n) reply h = refl
-unchanged_since k Clear reply h = refl
-unchanged_since k (Reset n o) reply h = refl
-unchanged_since k Rearrange reply h = refl
-unchanged_since k (ResizeAndRearrange n) reply h = refl
+unchanged_since k call reply h = refl
 
 -- And a step keeps what a state and what was gathered have in common.
 step_without : (before : Sides) (old new : State) (k : Since) (call : AtlasCall) (reply : AtlasReply) → IsSound old

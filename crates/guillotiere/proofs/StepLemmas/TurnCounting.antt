@@ -1,16 +1,16 @@
 -- How many turns a run takes.
 use Rattle.std.proofs.Common.{◌≡◌, ℕ, ◌+◌, ◌*◌, ◌≤◌, List, [], ◌∷◌, ◌++◌, length, subst, sym, arith, inl, inr, All}
-use Rattle.std.proofs.lemmas.List.Sorted.{All-permutation}
 use Rattle.std.proofs.lemmas.List.Elements.{All-head, All-tail}
+use Rattle.std.proofs.lemmas.List.Sorted.{All-permutation}
 use Rattle.guillotiere.specs.Boxes.{Sides, Box, box_sides, IsPositive}
-use Rattle.guillotiere.specs.Choice.{Options, AreValid, rounded}
-use Rattle.guillotiere.specs.Trees.{Tree, Grant, node_count, IsWellFormed}
-use Rattle.guillotiere.specs.Changes.{only, release, grown, place, fresh, place_need, grow_need}
-use Rattle.guillotiere.specs.States.{State, live_in, used_in, IsSound}
+use Rattle.guillotiere.specs.Changes.{only, release, grown, place, fresh, place_need}
+use Rattle.guillotiere.specs.Choice.{Options, AreValid}
 use Rattle.guillotiere.specs.Refits.{Rearrangement, refit_sides, Refits}
+use Rattle.guillotiere.specs.RunTurns.{grants_of, freeings_of, growths_of, moves_of, in_all, turns_within}
+use Rattle.guillotiere.specs.States.{State, live_in, used_in, IsSound}
 use Rattle.guillotiere.specs.Steps.{AtlasCall, AtlasReply, Step, Grants, Rearranges}
 use Rattle.guillotiere.specs.Steps.AtlasReply.{Changed}
-use Rattle.guillotiere.specs.RunTurns.{grants_of, freeings_of, growths_of, moves_of, in_all, turns_within}
+use Rattle.guillotiere.specs.Trees.{Tree, Grant, node_count, IsWellFormed}
 use Rattle.guillotiere.proofs.StepLemmas.Outcomes.{by_outcome}
 use Rattle.guillotiere.proofs.SearchLemmas.Rounding.{rounded_positive}
 use Rattle.guillotiere.proofs.StepLemmas.Refitting.{IsMovable}
@@ -23,8 +23,7 @@ use Rattle.guillotiere.proofs.TreeLemmas.TreeCounts.{place_nodes, place_most, gr
 refit_most : (size : Sides) (o : Options) (limit : ℕ) → AreValid o → (order : List Grant) (t : Tree) (list : Rearrangement)
     (new : Tree) → All (IsMovable o) order → IsWellFormed size t → Refits size o limit t order list new
     → node_count new.members ≤ node_count t.members + 4 * length list.changes
-refit_most size o limit valid [] t list new movable well h =
-    subst (λ n. node_count n.members ≤ node_count t.members + 4 * length list.changes) (sym h.1) (omega arith)
+refit_most size o limit valid [] t list new movable well h = grind arith
 refit_most size o limit valid (g ∷ gs) t list new movable well (inl (f, id, rest, can, unused, room, is, then)) =
     let fitting = can.best.candidate.fitting in
     let here : IsMovable o g = All-head (IsMovable o) g gs movable in
@@ -37,8 +36,7 @@ refit_most size o limit valid (g ∷ gs) t list new movable well (inl (f, id, re
     (place_well_formed size t f (refit_sides o g) id well pos fitting.fits unused) then in
     subst (λ l. node_count new.members ≤ node_count t.members + 4 * length l.changes) (sym is) (omega arith)
 refit_most size o limit valid (g ∷ gs) t list new movable well (inr (rest, cannot, is, then)) =
-    subst (λ l. node_count new.members ≤ node_count t.members + 4 * length l.changes) (sym is)
-    (refit_most size o limit valid gs t rest new (All-tail (IsMovable o) g gs movable) well then)
+    grind (arith, refit_most size o limit valid gs t rest new (All-tail (IsMovable o) g gs movable) well then)
 
 moved_most : (old new : State) (n : Sides) (list : Rearrangement) → IsSound old → Rearranges old n (Changed list) new
     → used_in new ≤ used_in old + 4 * length list.changes
@@ -57,21 +55,10 @@ adds_of call reply = 4 * grants_of call reply + 3 * growths_of call reply + 4 * 
 
 granted_most : (old new : State) (r : Sides) (f : Box) (g : Grant) → IsSound old → Grants old r f g new
     → used_in new ≤ used_in old + 4
-granted_most old new r f g sound h =
-    let fitting = h.takes.pick.best.candidate.fitting in
-    let pos : IsPositive (rounded old.options r) = rounded_positive old.options r sound.valid h.takes.positive in
-    let count : node_count (place old.size f (rounded old.options r) g.id old.tree).members
-    ≡ used_in old + place_need old.size f (rounded old.options r) old.tree =
-    place_nodes old.size old.tree f (rounded old.options r) g.id in
-    let most : place_need old.size f (rounded old.options r) old.tree ≤ 4 =
-    place_most old.size old.tree f (rounded old.options r) sound.well_formed pos fitting.fits in
-    subst (λ s. used_in s ≤ used_in old + 4) (sym h.state) (omega arith)
+granted_most old new r f g sound h = grind (arith, rounded_positive, place_nodes, place_most)
 
 grown_most : (old : State) (n : Sides) → node_count (grown old.size n old.tree).members ≤ used_in old + 3
-grown_most old n =
-    let count : node_count (grown old.size n old.tree).members ≡ used_in old + grow_need old.size n old.tree = grow_nodes old.size n old.tree in
-    let most : grow_need old.size n old.tree ≤ 3 = grow_most old.size n old.tree in
-    omega arith
+grown_most old n = grind (arith, grow_nodes, grow_most)
 
 pub members_added : (old new : State) (call : AtlasCall) (reply : AtlasReply) → IsSound old → Step old call reply new
     → used_in new ≤ used_in old + adds_of call reply
@@ -99,18 +86,9 @@ in_all-more count [] [] call reply same = omega arith
 in_all-more count [] (r ∷ replies) call reply same = absurd (omega arith)
 in_all-more count (c ∷ calls) [] call reply same = absurd (omega arith)
 in_all-more count (c ∷ calls) (r ∷ replies) call reply same =
-    let more : in_all count (calls ++ call ∷ []) (replies ++ reply ∷ []) ≡ in_all count calls replies + count call reply =
-    in_all-more count calls replies call reply (omega arith) in
-    omega arith
+    grind (arith, in_all-more count calls replies call reply (omega arith))
 
 pub turns_within-more : (calls : List AtlasCall) (replies : List AtlasReply) (call : AtlasCall) (reply : AtlasReply)
     → length calls ≡ length replies
     → turns_within (calls ++ call ∷ []) (replies ++ reply ∷ []) ≡ turns_within calls replies + freeings_of call reply + adds_of call reply
-turns_within-more calls replies call reply same =
-    omega (
-      arith,
-      in_all-more freeings_of calls replies call reply same,
-      in_all-more grants_of calls replies call reply same,
-      in_all-more growths_of calls replies call reply same,
-      in_all-more moves_of calls replies call reply same,
-    )
+turns_within-more calls replies call reply same = grind (arith, in_all-more)

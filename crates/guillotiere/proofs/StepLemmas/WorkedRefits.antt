@@ -2,18 +2,20 @@
 use Rattle.std.proofs.Common.{[], ◌∷◌, refl, inl, inr, arith}
 use Rattle.std.proofs.lemmas.List.Elements.{All-nil, All-cons}
 use Rattle.std.proofs.lemmas.List.Sorted.{IsPermutation-sym, IsPermutation-middle}
-use Rattle.guillotiere.specs.declared.error.AtlasError.TheVariants.{Slots}
-use Rattle.guillotiere.specs.Trees.{Tree, Grant, grant, live}
 use Rattle.guillotiere.specs.Changes.{fresh, place, only}
+use Rattle.guillotiere.specs.Laws.ChoiceExamples.{default_options}
+use Rattle.guillotiere.specs.Laws.Examples.{sides, box}
+use Rattle.guillotiere.specs.Laws.RefitExamples.{three_boxes, three_within, three_in_order, three_moved, moved_tree}
+use Rattle.guillotiere.specs.Laws.RefitExamples.{one_older, five_calls, five_replies, after_five}
+use Rattle.guillotiere.specs.Refits.{Precedes, IsRanked, Refits, RefitPasses, IsRefitOrder, CanRefit, CannotRefit}
+use Rattle.guillotiere.specs.Refits.{no_changes}
+use Rattle.guillotiere.specs.Runs.{Run}
 use Rattle.guillotiere.specs.States.{State, after_placing, after_freeing, after_growth, after_refit}
-use Rattle.guillotiere.specs.Refits.{Precedes, IsRanked, Refits, RefitPasses, IsRefitOrder, CanRefit, CannotRefit, no_changes}
 use Rattle.guillotiere.specs.Steps.{Step}
 use Rattle.guillotiere.specs.Steps.AtlasCall.{Allocate, Rearrange}
 use Rattle.guillotiere.specs.Steps.AtlasReply.{Allocated, Changed, Refused}
-use Rattle.guillotiere.specs.Laws.Examples.{sides, box}
-use Rattle.guillotiere.specs.Laws.ChoiceExamples.{default_options}
-use Rattle.guillotiere.specs.Laws.RefitExamples.{three_boxes, three_within, three_in_order, three_moved, moved_tree, one_older, five_calls, five_replies, after_five}
-use Rattle.guillotiere.specs.Runs.{Run}
+use Rattle.guillotiere.specs.Trees.{Tree, Grant, grant, live}
+use Rattle.guillotiere.specs.declared.error.AtlasError.TheVariants.{Slots}
 use Rattle.guillotiere.proofs.SearchLemmas.PickExistence.{pick_by_keys, no_room_by_test}
 
 pub three_ordered : IsRefitOrder (live (sides 10 10) three_boxes) three_in_order
@@ -35,12 +37,10 @@ abbrev one_moved : Tree
 one_moved = place (sides 10 10) (box 0 0 10 10) (sides 5 7) 3 (fresh (sides 10 10))
 
 first_fits : CanRefit (sides 10 10) default_options (fresh (sides 10 10)) (grant 3 (box 0 3 5 10)) (box 0 0 10 10)
-first_fits =
-    pick_by_keys (box 0 0 10 10 ∷ []) default_options (sides 5 7) (box 0 0 10 10) (0, omega arith, refl) refl refl
+first_fits = grind arith
 
 second_fits : CanRefit (sides 10 10) default_options one_moved (grant 2 (box 5 3 10 10)) (box 5 0 10 10)
-second_fits =
-    pick_by_keys (box 0 7 5 10 ∷ box 5 0 10 10 ∷ []) default_options (sides 5 7) (box 5 0 10 10) (1, omega arith, refl) refl refl
+second_fits = grind arith
 
 third_fails : CannotRefit (sides 10 10) default_options moved_tree (grant 0 (box 0 0 10 3))
 third_fails = no_room_by_test (box 0 7 5 10 ∷ box 5 7 10 10 ∷ []) default_options (sides 10 3) refl
@@ -74,12 +74,10 @@ pub passes_four : RefitPasses (sides 10 10) default_options 4 (fresh (sides 10 1
 passes_four = inl (box 0 0 10 10, first_fits, omega arith)
 
 pub passes_five : RefitPasses (sides 10 10) default_options 5 (fresh (sides 10 10)) three_in_order
-passes_five =
-    inr (inl (box 0 0 10 10, 3, first_fits, refl, omega arith, inl (box 5 0 10 10, second_fits, omega arith)))
+passes_five = grind (arith, first_fits, second_fits)
 
 pub passes_six : RefitPasses (sides 10 10) default_options 6 (fresh (sides 10 10)) three_in_order
-passes_six =
-    inr (inl (box 0 0 10 10, 3, first_fits, refl, omega arith, inl (box 5 0 10 10, second_fits, omega arith)))
+passes_six = grind (arith, first_fits, second_fits)
 
 pub three_step : Step (three_within 7) Rearrange (Changed three_moved) (after_refit (three_within 7) (sides 10 10) moved_tree)
 three_step = ((omega arith, omega arith), three_in_order, moved_tree, three_ordered, refit_of_three, refl)
@@ -91,8 +89,7 @@ pub two_ranked : (g h : Grant) → Precedes g h → IsRanked (g ∷ h ∷ [])
 two_ranked g h before = (All-cons (Precedes g) h [] before (All-nil (Precedes g)), (All-nil (Precedes h), tt))
 
 pub capped_order : IsRanked (grant 1 (box 0 40000 100000 70000) ∷ grant 0 (box 0 0 100000 40000) ∷ [])
-capped_order =
-    two_ranked (grant 1 (box 0 40000 100000 70000)) (grant 0 (box 0 0 100000 40000)) (inr (refl, omega arith))
+capped_order = grind arith
 
 pub order_by_slot : IsRanked (grant 16777219 (box 0 3 5 10) ∷ grant 50331650 (box 5 3 10 10) ∷ [])
 order_by_slot = two_ranked (grant 16777219 (box 0 3 5 10)) (grant 50331650 (box 5 3 10 10)) (inr (refl, omega arith))
@@ -158,4 +155,16 @@ five_run = (
       ),
     ),
   ),
+)
+
+pub ruleset worked_refits = (
+  three_ordered,
+  capped_order,
+  order_by_slot,
+  refit_of_three,
+  passes_four,
+  passes_five,
+  passes_six,
+  three_step,
+  three_refused,
 )

@@ -1,5 +1,5 @@
 -- The free slot that a request takes, and how it is granted.
-use Rattle.std.proofs.Common.{ℕ, ◌<◌, ◌≤◌, ◌≡◌, ◌≢◌, List, [], length, true, false, refl, sym, ap, subst, ◌∙◌, arith, vec_capacity}
+use Rattle.std.proofs.Common.{ℕ, ◌<◌, ◌≤◌, ◌≡◌, ◌≢◌, List, length, true, refl, sym, ap, subst, ◌∙◌, arith}
 use Rattle.std.proofs.lemmas.List.{length-map}
 use Rattle.guillotiere.specs.declared.store.Store.{Store}
 use Rattle.guillotiere.specs.declared.slots.Slot.{Slot}
@@ -20,8 +20,8 @@ use Rattle.guillotiere.specs.Stored.{Shelf, Holding, Holds, places_of}
 use Rattle.guillotiere.specs.Store.Holdings.{shelf_of, node_in, across_of, with_loose, with_held, IsLow}
 use Rattle.guillotiere.specs.Search.Bands.{list_of, number_of}
 use Rattle.guillotiere.specs.Slots.Lists.{node_sides, node_strip}
-use Rattle.guillotiere.specs.Store.Planning.{IsPlanFor, IsFeasible, IsPlaceable, IsPlaceableAt, IsPlaced, IsPlanned, slots_of}
-use Rattle.guillotiere.specs.Store.StoreCalls.{IsSharpened, IsUnlisted}
+use Rattle.guillotiere.specs.Store.Planning.{IsPlanFor, IsFeasible, IsPlaceable, IsPlaceableAt, IsPlaced, IsPlanned}
+use Rattle.guillotiere.specs.Store.StoreCalls.{IsListedAt, IsSharpened, IsUnlisted}
 use Rattle.guillotiere.specs.Store.Chosen.{IsAtRest, IsChosen, IsGrantable, IsGrantMade}
 use Rattle.guillotiere.proofs.StoreLemmas.Filing.{with_mark-same}
 use Rattle.guillotiere.proofs.SlotLemmas.JoiningWrites.{used-inside}
@@ -52,42 +52,27 @@ module _ (v : Shelf) (h : Holding) (rest : IsAtRest v h) where
     picked_here = subst (λ s. (free : List Box) → AreFreeBoxes (nodes s) free → IsPick free (options_of v.options) r (box_of found.rectangle)) e picked
 
     pub found-exact : leaf.area ≡ rectangle_of (box_of leaf.area)
-    found-exact =
-        subst (λ (n : Node). n.area ≡ rectangle_of (box_of n.area)) (sym le)
-        (exact-free (nodes v.slots) h.sequence h.tree rest.holds.stands rest.holds.wide rest.holds.cut found.at.number free_here).unsigned
+    found-exact = grind (arith, exact-free, free_here)
 
     pub found-fits : Fits r (box_sides (box_of leaf.area))
-    found-fits =
-        let is : leaf.area ≡ found.rectangle = ap (λ (n : Node). n.area) le ∙ area_here in
-        subst (λ a. Fits r (box_sides (box_of a))) (sym is) (picked_here (ungranted (leaves h.sequence.axis origin h.sequence.width (erase h.tree))) rest-free).best.candidate.fitting.fits
+    found-fits = grind (arith, area_here, picked_here, rest-free)
 
     pub found-chosen : (plan : Plan) → IsPlanFor leaf r plan → IsFeasible plan (extent_of leaf) (across_of leaf)
         → (found.place.row < 52) × (found.place.column < 52) × (number_of found.place ≡ list_of (options_of v.options) (node_sides (node_at (nodes slots) found.at.number)))
         → ((i : ℕ) → IsFreeSlot (nodes slots) i → i ≢ found.at.number → list_of (options_of v.options) (node_sides (node_at (nodes slots) i)) ≡ number_of found.place
         → found.low ≤ node_strip (node_at (nodes slots) i))
         → IsChosen v r (record { at = found.at; area = found.rectangle; place = found.place; low = found.low; plan = plan })
-    found-chosen plan line feasible place low = record {
-      free = free_here;
-      area = area_here;
-      pick = picked_here;
-      row = place.0;
-      column = place.1;
-      place = subst (λ s. number_of found.place ≡ list_of (options_of v.options) (node_sides (node_at (nodes s) found.at.number))) e place.2;
-      low = subst (λ s. (i : ℕ) → IsFreeSlot (nodes s) i → i ≢ found.at.number → list_of (options_of v.options) (node_sides (node_at (nodes s) i)) ≡ number_of found.place
-          → found.low ≤ node_strip (node_at (nodes s) i)) e low;
-      line = subst (λ n. IsPlanFor n r plan) le line;
-      feasible = subst (λ n. IsFeasible plan (extent_of n) (across_of n)) le feasible;
-    }
+    found-chosen plan line feasible place low = grind (arith, free_here, area_here, picked_here)
+
+-- It stands in the list at its place.
+pub listed-chosen : {A : Type 0} {v : Store A} {r : Sides} {p : Chosen} {h : Holding} → IsGrantable v r p h
+    → IsListedAt v p.at.number p.place
+listed-chosen {A} {v} {r} {p} {h} w = grind arith
 
 -- Once the slot is loose, no other slot of its list lies above the strip that the search saw.
 chosen-low : (v u : Shelf) (r : Sides) (p : Chosen) → IsChosen v r p → nodes u.slots ≡ nodes v.slots → u.options ≡ v.options
     → (h : Holding) → h.loose p.at.number ≡ true → IsLow u h (number_of p.place) p.low
-chosen-low v u r p w same options h is_loose i free kept list =
-    let n : node_in u i ≡ node_in v i = ap (λ ns. node_at ns i) same in
-    let other : i ≢ p.at.number = λ e. (let z : true ≡ false = sym is_loose ∙ (ap h.loose (sym e) ∙ kept) in cc) in
-    let there : list_of (options_of v.options) (node_sides (node_in v i)) ≡ number_of p.place =
-    ap (λ o. list_of (options_of o) (node_sides (node_in v i))) (sym options) ∙ (ap (λ m. list_of (options_of u.options) (node_sides m)) (sym n) ∙ list) in
-    subst (λ m. p.low ≤ node_strip m) (sym n) (w.low i (subst (λ (m : Node). m.kind ≡ kind.Free) n free) other there)
+chosen-low v u r p w same options h is_loose i free kept list = grind arith
 
 -- The slot leaves its list, for which another strip is kept then.
 pub unlisted-sharpened : {A : Type 0} {v u v' : Store A} {r : Sides} (p : Chosen) → IsChosen (shelf_of v) r p → IsUnlisted v u p.at.number
@@ -101,11 +86,7 @@ unlisted-sharpened {A} {v} {u} {v'} {r} p w one two = record {
             (chosen-low (shelf_of v) (shelf_of u) r p w one.nodes one.room.options now (with_mark-same h.loose p.at.number true)),
       );
   nodes = ap (λ s. nodes s.items) two.slots ∙ one.nodes;
-  room = record {
-    slots = ap (λ s. length s.items) two.slots ∙ one.room.slots;
-    capacity = ap vec_capacity two.slots ∙ one.room.capacity;
-    options = two.options ∙ one.room.options;
-  };
+  room = grind arith;
   turns = two.turns ∙ one.turns;
 }
 
@@ -117,18 +98,7 @@ module _ {A : Type 0} {v v' : Store A} {r : Sides} {p : Chosen} {h : Holding} (w
   unlisted = with_loose p.at.number true (with_held left.0 h)
 
   is_placeable : IsPlaceableAt v' p.at.number p.plan unlisted
-  is_placeable = record {
-    leaf = record {
-      holds = left.1;
-      kind = ap (λ ns. (node_at ns p.at.number).kind) u.nodes ∙ w.chosen.free;
-      loose = with_mark-same h.loose p.at.number true;
-    };
-    only = only-more h.loose p.at.number [] w.rest.listed;
-    feasible =
-        subst (λ ns. IsFeasible p.plan (extent_of (node_at ns p.at.number)) (across_of (node_at ns p.at.number))) (sym u.nodes)
-        w.chosen.feasible;
-    slots = slots-kept v v' (slots_of p.plan) h u.room w.slots;
-  }
+  is_placeable = grind (arith, left, with_mark-same, only-more, slots-kept)
 
   pub placeable-chosen : IsPlaceable v' p.at.number p.plan
   placeable-chosen = (unlisted, is_placeable)
@@ -138,28 +108,11 @@ module _ {A : Type 0} {v v' : Store A} {r : Sides} {p : Chosen} {h : Holding} (w
     placed_there = placed.kept unlisted is_placeable
 
     pub granted-inside : to < length new.slots.items
-    granted-inside =
-        let inside : to < length (nodes new.slots.items) = used-inside (nodes new.slots.items) to (rw placed_there.1.granted (omega arith)) in
-        simp length-map at inside
+    granted-inside = grind (arith, used-inside, placed_there, length-map)
 
     pub granted-short : to < 16777216
     granted-short = omega (arith, granted-inside, placed_there.1.holds.short)
 
     pub grant-made : (id : ℕ) (node : Node) → node ≡ node_in (shelf_of new) to → id ≡ id_of to node.generation
         → (to : ℕ) × (h' : Holding) × IsGrantMade (shelf_of new) p id to h h'
-    grant-made id node same is =
-        let q = placed_there.1 in (
-          to,
-          placed_there.0,
-          record {
-            planned = record {
-              holds = q.holds;
-              listed = q.listed;
-              tree = q.tree;
-              sequence = q.sequence;
-              granted = q.granted;
-              spare = q.spare;
-            };
-            names = is ∙ ap (λ (n : Node). id_of to n.generation) same;
-          },
-        )
+    grant-made id node same is = grind (arith, placed_there)

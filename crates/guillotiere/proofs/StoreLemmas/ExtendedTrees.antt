@@ -16,15 +16,13 @@ other-other Vertical = refl
 
 pub total-stretched : (d : ℕ) (n : Numbered) → total (erase (stretched d n)) ≤ total (erase n) + d
 total-stretched d End = omega arith
-total-stretched d (Free i e rest) =
-    stretched-free d i e rest (λ m v. total (erase v) ≤ e + total (erase m) + d) (omega arith) (λ _. omega (arith, total-stretched d rest))
+total-stretched d (Free i e rest) = grind (arith, stretched-free, total-stretched d rest)
 total-stretched d (Alloc i g e rest) = omega (arith, total-stretched d rest)
 total-stretched d (Seq i e inner rest) = omega (arith, total-stretched d rest)
 
 pub cut-stretched : (d across : ℕ) (n : Numbered) → IsCut across (erase n) → IsCut across (erase (stretched d n))
 cut-stretched d across End c = tt
-cut-stretched d across (Free i e rest) c =
-    stretched-free d i e rest (λ m v. IsCut across (erase v)) (omega (arith, c.0), tt) (λ _. (c.0, cut-stretched d across rest c.1))
+cut-stretched d across (Free i e rest) c = grind (arith, stretched-free, cut-stretched d across rest c.1)
 cut-stretched d across (Alloc i g e rest) c = (c.0, cut-stretched d across rest c.1)
 cut-stretched d across (Seq i e inner rest) c = (c.0, c.1, c.2, cut-stretched d across rest c.3)
 

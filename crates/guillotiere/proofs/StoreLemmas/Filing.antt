@@ -1,6 +1,6 @@
 -- The lists of free slots and the list of unused ones, all together.
-use Rattle.std.proofs.Common.{ℕ, ◌<◌, ◌≤◌, ◌≡◌, List, [], ◌∷◌, refl, sym, ap, ◌∙◌, inl, inr, arith, length, Bool, true, false, eqb, ◌&&◌, subst}
-use Rattle.std.specs.Prelude.{if◌then◌else◌, not, ◌≢◌}
+use Rattle.std.proofs.Common.{ℕ, ◌<◌, ◌≤◌, ◌≡◌, List, [], ◌∷◌, refl, sym, ap, ◌∙◌, inl, inr, arith, length, Bool, true, false, eqb}
+use Rattle.std.specs.Prelude.{if◌then◌else◌, ◌≢◌}
 use Rattle.std.proofs.lemmas.Bool.{cases_eq, cases_lt, cond_both, cond-true, cond-false, eq-eqb, ne_eqb, and_parts, and_from, and_right}
 use Rattle.std.proofs.lemmas.List.{length-map}
 use Rattle.guillotiere.specs.declared.slots.Slot.{Slot}
@@ -15,7 +15,7 @@ use Rattle.guillotiere.specs.declared.search.bands.Place.{Place}
 use Rattle.guillotiere.specs.Boxes.{box_sides}
 use Rattle.guillotiere.specs.Pixels.{sides_of, box_of}
 use Rattle.guillotiere.specs.Choice.{Options}
-use Rattle.guillotiere.specs.Slots.{nodes, rings, node_at, ring_at, use_count, no_slot}
+use Rattle.guillotiere.specs.Slots.{nodes, rings, node_at, ring_at, use_count}
 use Rattle.guillotiere.specs.Slots.Numbered.{same}
 use Rattle.guillotiere.specs.Slots.Lists.{IsList, IsFiled, AreFiled, Places, occurs, without, filed, node_sides, node_strip, is_free}
 use Rattle.guillotiere.specs.Search.Bands.{list_of, number_of}
@@ -31,9 +31,7 @@ abbrev pub list_for : Options → Node → ℕ
 list_for o n = list_of o (node_sides n)
 
 pub filed-free : (o : Options) (n : Node) → n.kind ≡ kind.Free → filed o (list_for o n) n ≡ 1
-filed-free o n e =
-    let free : is_free n.kind ≡ true = ap is_free e in
-    cond-true _ 1 0 (and_from _ _ free (eq-eqb (list_for o n) (list_for o n) refl))
+filed-free o n e = grind (arith, cond-true, and_from, eq-eqb)
 
 pub filed-other : (o : Options) (k : ℕ) (n : Node) → (k ≡ list_for o n → ⊥) → filed o k n ≡ 0
 filed-other o k n ne = cond-false _ 1 0 (and_right _ _ (ne_eqb (list_for o n) k (λ q. ne (sym q))))
@@ -55,13 +53,11 @@ free_kind kind.Unused e = cc
 
 -- What stands in a list is free.
 pub filed-kind : (o : Options) (k : ℕ) (n : Node) → 0 < filed o k n → n.kind ≡ kind.Free
-filed-kind o k n =
-    cond_both (is_free n.kind && eqb (list_for o n) k) 1 0 (λ v. 0 < v → n.kind ≡ kind.Free) (λ t _. free_kind n.kind (and_parts _ _ t).0) (λ _ l. absurd (omega arith))
+filed-kind o k n = grind (arith, free_kind, and_parts)
 
 -- What stands in a list is used.
 pub filed-use : (o : Options) (k : ℕ) (n : Node) → filed o k n ≤ use_count n.kind
-filed-use o k n =
-    cond_both (is_free n.kind && eqb (list_for o n) k) 1 0 (λ v. v ≤ use_count n.kind) (λ t. omega (arith, free_use n.kind (and_parts _ _ t).0)) (λ _. omega arith)
+filed-use o k n = grind (arith, free_use, and_parts)
 
 pub with_mark-same : (loose : ℕ → Bool) (i : ℕ) (mark : Bool) → with_mark loose i mark i ≡ mark
 with_mark-same loose i mark = cond-true _ mark (loose i) (eq-eqb i i refl)
@@ -115,11 +111,7 @@ module _ (o : Options) (ns : List Node) (rs : List Ring) (heads : List ListHead)
 
   -- What stands in a list is not loose.
   pub listed-kept : (k i : ℕ) → k < 2704 → 0 < occurs i (p.held k) → p.loose i ≡ false
-  listed-kept k i l h = by (p.loose i) refl
-    where
-      by : (b : Bool) → p.loose i ≡ b → p.loose i ≡ false
-      by true e = absurd (omega (arith, loose-nowhere k i l e))
-      by false e = e
+  listed-kept k i l h = grind (arith, loose-nowhere)
 
   -- An unused slot stands in no list.
   pub unused-nowhere : (k i : ℕ) → k < 2704 → use_count (node_at ns i).kind ≡ 0 → occurs i (p.held k) ≡ 0
@@ -136,11 +128,7 @@ module _ (o : Options) (ns : List Node) (rs : List Ring) (heads : List ListHead)
 -- A list stays as it was: its slots keep their rings.
 pub IsFiled-kept : (o : Options) (ns : List Node) (rs ts : List Ring) (heads heads' : List ListHead) (k : ℕ) (xs ys : List ℕ) (loose loose' : ℕ → Bool) → head_of heads' k ≡ head_of heads k → low_of heads' k ≡ low_of heads k → ys ≡ xs → length rs ≤ length ts → ((j : ℕ) → 0 < occurs j xs → ring_at ts j ≡ ring_at rs j) → ((j : ℕ) → unless_loose (loose' j) (filed o k (node_at ns j)) ≡ unless_loose (loose j) (filed o k (node_at ns j))) → IsFiled o ns rs heads k xs loose → IsFiled o ns ts heads' k ys loose'
 IsFiled-kept o ns rs ts heads heads' k xs ys loose loose' eh el ey lt same_at marks h =
-    rw ey (record {
-      links = subst (λ (first : Link). IsList ts first xs) (sym eh) (IsList-kept rs ts (head_of heads k) xs lt same_at h.links);
-      each = λ j. h.each j ∙ sym (marks j);
-      low = λ j l. omega (arith, el, h.low j l);
-    })
+    grind (arith, IsList-kept rs ts (head_of heads k) xs lt same_at h.links)
 
 -- Slot i left a list.
 pub record IsTakenOut (rs ts : List Ring) (first new : Link) (i : ℕ) : Type 0 where
@@ -170,15 +158,7 @@ module _ (o : Options) (ns : List Node) (rs ts : List Ring) (heads heads' : List
   used_free j h = unused-nowhere o ns rs heads unused p f m j below (spare-use o ns rs heads unused p f j h).0
 
   marks : (k : ℕ) (mark : Bool) → (k ≡ m → ⊥) → (j : ℕ) → unless_loose (with_mark p.loose i mark j) (filed o k (node_at ns j)) ≡ unless_loose (p.loose j) (filed o k (node_at ns j))
-  marks k mark ne j =
-      elim (cases_eq j i) [
-        | inl e ↦
-            let z : filed o k (node_at ns j) ≡ 0 = rw e (filed-other o k (node_at ns i) (λ q. ne (q ∙ sym em))) in
-            let a = unless-le (with_mark p.loose i mark j) (filed o k (node_at ns j)) in
-            let b = unless-le (p.loose j) (filed o k (node_at ns j)) in
-            omega arith
-        | inr nj ↦ ap (λ b. unless_loose b (filed o k (node_at ns j))) (with_mark-other p.loose i mark j nj)
-      ]
+  marks k mark ne j = grind (arith, filed-other, unless-le, with_mark-other)
 
   pub AreFiled-unlisted : p.loose i ≡ false → IsTakenOut rs ts (head_of heads m) (head_of heads' m) i → low_of heads' m ≡ low_of heads m → AreFiled o ns ts heads' unused (unlisted p i)
   AreFiled-unlisted kept w same_low =
@@ -187,23 +167,8 @@ module _ (o : Options) (ns : List Node) (rs ts : List Ring) (heads heads' : List
       let on : 0 < occurs i (p.held m) = omega arith in
       let same_at : (j : ℕ) → occurs j (p.held m) ≡ 0 → ring_at ts j ≡ ring_at rs j = (λ j z. w.others (p.held m) j mine.links on z) in
       let links : IsList ts (head_of heads' m) (without i (p.held m)) = w.links (p.held m) mine.links on in
-      let changed : IsFiled o ns ts heads' m (without i (p.held m)) (with_mark p.loose i true) = record {
-        links = links;
-        each = λ j. elim (cases_eq j i) [
-          | inl e ↦
-              let z = unless-loose (with_mark p.loose i true j) (filed o m (node_at ns j)) (rw e (with_mark-same p.loose i true)) in
-              let q = occurs-without i (p.held m) on j in
-              let u : occurs j (p.held m) ≡ 1 = rw e one in
-              let s : same j i ≡ 1 = rw e (same-self i) in
-              (let v : occurs j (without i (p.held m)) ≡ 0 = omega arith in v) ∙ sym z
-          | inr nj ↦
-              let q = occurs-without i (p.held m) on j in
-              let s = same-ne j i nj in
-              let v : occurs j (without i (p.held m)) ≡ occurs j (p.held m) = omega arith in
-              v ∙ mine.each j ∙ sym (ap (λ b. unless_loose b (filed o m (node_at ns j))) (with_mark-other p.loose i true j nj))
-        ];
-        low = λ j h. omega (arith, same_low, mine.low j (omega (arith, occurs-without i (p.held m) on j)));
-      } in
+      let changed : IsFiled o ns ts heads' m (without i (p.held m)) (with_mark p.loose i true) =
+      grind (arith, unless-loose, with_mark-same, occurs-without, same-self, same-ne, with_mark-other) in
       record {
         free = λ k l. elim (cases_eq k m) [
           | inl e ↦ rw e changed
@@ -255,21 +220,7 @@ pub AreFiled-sharpened : (o : Options) (ns : List Node) (rs : List Ring) (heads 
     → ((i : ℕ) → (node_at ns i).kind ≡ kind.Free → p.loose i ≡ false → list_for o (node_at ns i) ≡ m → low ≤ node_strip (node_at ns i))
     → AreFiled o ns rs heads unused p → AreFiled o ns rs heads' unused p
 AreFiled-sharpened o ns rs heads heads' unused p m low firsts lows here below f =
-    record {
-      free = λ k l. elim (cases_eq k m) [
-        | inl e ↦ record {
-          links = subst (λ (first : Link). IsList rs first (p.held k)) (sym (firsts k)) ((f.free k l).links);
-          each = (f.free k l).each;
-          low = λ i h.
-              let s = below i (listed-kind o ns rs heads unused p f k i l h) (listed-kept o ns rs heads unused p f k i l h) (sym (listed-list o ns rs heads unused p f k i l h) ∙ e) in
-              omega (arith, ap (low_of heads') e, here, s);
-        }
-        | inr ne ↦ IsFiled-kept o ns rs rs heads heads' k (p.held k) (p.held k) p.loose p.loose (firsts k) (lows k ne) refl (omega arith) (λ j h. refl) (λ j. refl) (f.free k l)
-      ];
-      line = f.line;
-      begins = f.begins;
-      each = f.each;
-    }
+    grind (arith, below, listed-kind, listed-kept, listed-list, IsFiled-kept)
 
 pub number-is : (o : Options) (place : Place) (size : Size) (node n : Node) → number_of place ≡ list_of o (sides_of size) → sides_of size ≡ box_sides (box_of node.area) → node ≡ n → number_of place ≡ list_for o n
 number-is o place size node n e s r = e ∙ ap (list_of o) s ∙ ap (list_for o) r
@@ -291,29 +242,25 @@ is-unlisted o slots heads i m k em =
 -- A slot that stands in a list makes it one that is used.
 is-used : (rs : List Ring) (heads : List ListHead) (k j : ℕ) (xs : List ℕ) → length rs < 4294967295 → IsList rs (head_of heads k) xs → 0 < occurs j xs → is_used_at heads k ≡ true
 is-used rs heads k j [] short h l = absurd (omega arith)
-is-used rs heads k j (x ∷ xs) short h l =
-    let some : (head_of heads k).number ≡ no_slot → ⊥ = (λ e. absurd (omega (arith, h.begins, h.chain.0, e))) in
-    ap (λ b. not b) (ne_eqb (head_of heads k).number no_slot some)
+is-used rs heads k j (x ∷ xs) short h l = grind (arith, ne_eqb)
 
 pub unlisted-by : (o : Options) (ns ms : List Node) (rs ts : List Ring) (heads heads' : List ListHead) (i m : ℕ) (new : Link) → ms ≡ ns → m ≡ list_for o (node_at ns i) → (node_at ns i).kind ≡ kind.Free
     → ChangesList heads heads' m → head_of heads' m ≡ new → low_of heads' m ≡ low_of heads m → IsTakenOut rs ts (head_of heads m) new i
     → (unused : Link) (p : Places) → AreFiled o ns rs heads unused p → p.loose i ≡ false → AreFiled o ms ts heads' unused (unlisted p i)
 unlisted-by o ns ms rs ts heads heads' i m new en em free changes first low w unused p f kept =
-    let P : List Node → Type 0 = λ ys. AreFiled o ys ts heads' unused (unlisted p i) in
-    let there : IsTakenOut rs ts (head_of heads m) (head_of heads' m) i = subst (λ l. IsTakenOut rs ts (head_of heads m) l i) (sym first) w in
-    subst P (sym en) (AreFiled-unlisted o ns rs ts heads heads' unused p f i m em free changes kept there low)
+    grind (arith, AreFiled-unlisted o ns rs ts heads heads' unused p f i m em free changes kept)
 
 pub listed-by : (o : Options) (ns ms : List Node) (rs ts : List Ring) (heads heads' : List ListHead) (i m strip : ℕ) (new : Link) → length rs < 4294967295 → ms ≡ ns → m ≡ list_for o (node_at ns i) → (node_at ns i).kind ≡ kind.Free
     → ChangesList heads heads' m → head_of heads' m ≡ new → strip ≡ node_strip (node_at ns i) → low_of heads' m ≤ strip
     → (is_used_at heads m ≡ true → low_of heads' m ≤ low_of heads m) → IsPutIn rs ts (head_of heads m) new i
     → (unused : Link) (p : Places) → AreFiled o ns rs heads unused p → p.loose i ≡ true → AreFiled o ms ts heads' unused (listed p (list_for o (node_at ns i)) i)
 listed-by o ns ms rs ts heads heads' i m strip new short en em free changes first es low lower w unused p f kept =
-    let P : List Node → Type 0 = λ ys. AreFiled o ys ts heads' unused (listed p (list_for o (node_at ns i)) i) in
-    let Q : ℕ → Type 0 = λ k. AreFiled o ns ts heads' unused (listed p k i) in
-    let there : IsPutIn rs ts (head_of heads m) (head_of heads' m) i = subst (λ l. IsPutIn rs ts (head_of heads m) l i) (sym first) w in
-    let below : m < 2704 = rw em (list_of-most o (node_sides (node_at ns i))) in
-    subst P (sym en) (subst Q em (AreFiled-listed o ns rs ts heads heads' unused p f i m em free changes kept there (omega (arith, low, es))
-    (λ j l. lower (is-used rs heads m j (p.held m) short ((f.free m below).links) l))))
+    grind (
+      arith,
+      list_of-most o (node_sides (node_at ns i)),
+      AreFiled-listed o ns rs ts heads heads' unused p f i m em free changes kept,
+      is-used rs heads m,
+    )
 
 pub length-rings : (xs ys : List Slot) → length ys ≡ length xs → length (rings ys) ≡ length (rings xs)
 length-rings xs ys e = length-map ys _ ∙ e ∙ sym (length-map xs _)

@@ -1,18 +1,17 @@
 -- The slots of an atlas that grows: what the store holds after each call.
-use Rattle.std.proofs.Common.{ℕ, ◌+◌, ◌-◌, ◌<◌, ◌≡◌, ◌↔◌, IsTrue, List, [], length, Bool, cond, true, false, not, refl, sym, ap, subst, ◌∙◌, inl, inr, arith}
-use Rattle.std.proofs.lemmas.Bool.{cases_eq, true≢false}
+use Rattle.std.proofs.Common.{ℕ, ◌+◌, ◌-◌, ◌<◌, ◌≡◌, ◌↔◌, IsTrue, List, [], length, Bool, cond, true, false, not, refl, sym, ap, subst, arith}
+use Rattle.std.proofs.lemmas.Bool.{true≢false}
 use Rattle.std.proofs.lemmas.List.{length-map}
 use Rattle.guillotiere.specs.declared.store.Store.{Store}
-use Rattle.guillotiere.specs.declared.slots.Slot.{Slot}
 use Rattle.guillotiere.specs.declared.slots.NodeKind.TheVariants as kind
 use Rattle.guillotiere.specs.Boxes.{Sides, side, IsPositive}
 use Rattle.guillotiere.specs.Trees.{total}
 use Rattle.guillotiere.specs.Changes.{grown_members}
-use Rattle.guillotiere.specs.Slots.{nodes, node_at, no_slot}
+use Rattle.guillotiere.specs.Slots.{nodes, no_slot}
 use Rattle.guillotiere.specs.Slots.Lists.{is_free, occurs}
 use Rattle.guillotiere.specs.Slots.Links.{with_mark}
-use Rattle.guillotiere.specs.Slots.Numbered.{erase, Free, End}
-use Rattle.guillotiere.specs.Slots.Standing.{IsSlot, Standing}
+use Rattle.guillotiere.specs.Slots.Numbered.{erase}
+use Rattle.guillotiere.specs.Slots.Standing.{IsSlot}
 use Rattle.guillotiere.specs.Stored.{Shelf, Holding, Holds}
 use Rattle.guillotiere.specs.Store.Holdings.{shelf_of, node_in, HasSlotsFor, IsLooseLeaf, KeepsRoom, with_loose, with_held, with_spare}
 use Rattle.guillotiere.specs.Slots.Growing.{IsEnd, IsLone, last_slot, after_stretch, after_whole, after_append, after_nest}
@@ -31,20 +30,14 @@ use Rattle.guillotiere.proofs.StoreLemmas.GrownTrees.{last-inside, erase-stretch
 
 -- A leaf that was listed, and is again.
 listed-again : (loose : ℕ → Bool) (k : ℕ) → ((i : ℕ) → occurs i [] ≡ 0 → loose i ≡ false) → (i : ℕ) → occurs i [] ≡ 0 → with_mark (with_mark loose k true) k false i ≡ false
-listed-again loose k only i z =
-    elim (cases_eq i k) [
-      | inl e ↦ ap (with_mark (with_mark loose k true) k false) e ∙ with_mark-same (with_mark loose k true) k false
-      | inr ne ↦ with_mark-other (with_mark loose k true) k false i ne ∙ with_mark-other loose k true i ne ∙ only i z
-    ]
+listed-again loose k only i z = grind (arith, with_mark-same, with_mark-other)
 
 end_some : (size : Sides) (d last : ℕ) (h : Holding) → IsEnd size d last h → IsNonempty h.tree
 end_some size d last h end = nonempty-total h.tree end.some
 
 -- The last member is a slot.
 pub last-slot : (v : Shelf) (h : Holding) → Holds v h → 0 < total (erase h.tree) → IsSlot (length v.slots) (last_slot h.tree)
-last-slot v h holds some =
-    let inside : last_slot h.tree < length (nodes v.slots) = last-inside (nodes v.slots) h.sequence h.tree holds.stands (nonempty-total h.tree some) in
-    inr (omega (arith, inside, length-map v.slots (λ (s : Slot). s.node)))
+last-slot v h holds some = grind (arith, last-inside, nonempty-total, length-map)
 
 pub end-slot : (v : Shelf) (size : Sides) (d last : ℕ) (h : Holding) → Holds v h → IsEnd size d last h → IsSlot (length v.slots) last
 end-slot v size d last h holds end = subst (IsSlot (length v.slots)) end.ends (last-slot v h holds end.some)
@@ -53,13 +46,7 @@ need-free : (v : Shelf) (last : ℕ) → (node_in v last).kind ≡ kind.Free →
 need-free v last free = ap (λ k. strip_after (is_free k)) free
 
 need-busy : (v : Shelf) (last : ℕ) → ((node_in v last).kind ≡ kind.Free → ⊥) → strip_need v last ≡ 1
-need-busy v last busy = by_kind (node_in v last).kind busy
-  where
-    by_kind : (k : _) → (k ≡ kind.Free → ⊥) → strip_after (is_free k) ≡ 1
-    by_kind kind.Free b = absurd (b refl)
-    by_kind kind.Alloc b = refl
-    by_kind kind.Container b = refl
-    by_kind kind.Unused b = refl
+need-busy v last busy = grind arith
 
 -- The answer whether the last member is free says whether a strip takes a slot.
 pub need-answer : (v : Shelf) (last : ℕ) (t : Bool) → (IsTrue t ↔ ((node_in v last).kind ≡ kind.Free)) → cond (not t) 1 0 ≡ strip_need v last
@@ -76,11 +63,7 @@ module _ {A : Type 0} {v v1 : Store A} {size : Sides} {last d n : ℕ} {h : Hold
   to_stretch = with_loose last true (with_held taken_out.0 h)
 
   stretch_leaf : IsLooseLeaf (shelf_of v1) last to_stretch
-  stretch_leaf = record {
-    holds = taken_out.1;
-    kind = ap (λ ns. (node_at ns last).kind) w1.nodes ∙ free;
-    loose = with_mark-same h.loose last true;
-  }
+  stretch_leaf = grind (arith, taken_out, with_mark-same)
 
   stretch_end : IsEnd size d last to_stretch
   stretch_end = record { start = s.end.start; ends = s.end.ends; some = s.end.some; along = s.end.along; across = s.end.across }
@@ -124,13 +107,7 @@ module _ {A : Type 0} {v v1 : Store A} {size : Sides} {last d n : ℕ} {h : Hold
 pub append-ready : {A : Type 0} {v : Store A} {size : Sides} {last d n : ℕ} {h : Holding} → IsLengthenable v size last d n h
     → ((node_in (shelf_of v) last).kind ≡ kind.Free → ⊥)
     → (h' : Holding) × (d' : ℕ) × IsExtendable (shelf_of v) size last d' h' × HasSlotsFor 1 v h'
-append-ready {A} {v} {size} {last} {d} {n} {h} s busy =
-    let slots : HasSlotsFor (n + 1) v h = subst (λ j. HasSlotsFor (n + j) v h) (need-busy (shelf_of v) last busy) s.slots in (
-      h,
-      d,
-      record { holds = s.holds; end = s.end; more = s.more },
-      fewer-slots 1 (n + 1) v h (omega arith) slots,
-    )
+append-ready {A} {v} {size} {last} {d} {n} {h} s busy = grind (arith, need-busy, fewer-slots)
 
 -- A strip is appended to any other last member, and listed.
 module _ {A : Type 0} {v v1 : Store A} {size : Sides} {last k d n : ℕ} {h : Holding} (s : IsLengthenable v size last d n h)
@@ -159,9 +136,7 @@ module _ {A : Type 0} {v v1 : Store A} {size : Sides} {last k d n : ℕ} {h : Ho
         record {
           holds = got.1;
           listed = listed-again h.loose k s.listed;
-          members =
-              erase-appended k d (nodes v.slots.items) h.sequence no_slot 0 h.tree s.holds.stands.standing
-              (λ f. busy (subst (λ j. (node_in (shelf_of v) j).kind ≡ kind.Free) s.end.ends f));
+          members = grind (arith, erase-appended);
           sequence = refl;
           first = first-appended k d h.tree (end_some size d last h s.end);
           spare = omega (arith, one, appended_to.3);
@@ -209,17 +184,10 @@ module _ {A : Type 0} {v v1 : Store A} {at : ℕ} {old : Sides} {h : Holding} (t
   to_enlarge = with_loose at true (with_held whole_out.0 h)
 
   whole_free : (node_in (shelf_of v) at).kind ≡ kind.Free
-  whole_free =
-      let standing : Standing (nodes v.slots.items) h.sequence no_slot 0 (Free at alone.extent End) =
-      subst (Standing (nodes v.slots.items) h.sequence no_slot 0) alone.tree t.holds.stands.standing in
-      standing.0.kind
+  whole_free = grind arith
 
   whole_leaf : IsLooseLeaf (shelf_of v1) at to_enlarge
-  whole_leaf = record {
-    holds = whole_out.1;
-    kind = ap (λ ns. (node_at ns at).kind) w1.nodes ∙ whole_free;
-    loose = with_mark-same h.loose at true;
-  }
+  whole_leaf = grind (arith, whole_out, whole_free, with_mark-same)
 
   whole_lone : IsLone at to_enlarge
   whole_lone = record { start = alone.start; extent = alone.extent; tree = alone.tree }

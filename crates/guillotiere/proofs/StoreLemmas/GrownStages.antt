@@ -1,8 +1,8 @@
 -- The stages of a growth: along the top sequence, and then across it.
-use Rattle.std.proofs.Common.{ℕ, ◌+◌, ◌-◌, ◌<◌, ◌≤◌, ◌≡◌, ◌↔◌, IsTrue, [], length, Bool, cond, true, false, not, ◌&&◌, refl, sym, ap, subst, ◌∙◌, inl, inr, arith}
+use Rattle.std.proofs.Common.{ℕ, ◌+◌, ◌-◌, ◌<◌, ◌≡◌, ◌↔◌, IsTrue, [], length, Bool, cond, true, false, not, ◌&&◌, refl, sym, ap, subst, ◌∙◌, arith}
 use Rattle.std.specs.Bool.{Decides}
 use Rattle.std.specs.Ordering.{int_eq}
-use Rattle.std.proofs.lemmas.Bool.{cases_eq, not-true, not-false, true≢false}
+use Rattle.std.proofs.lemmas.Bool.{not-true, not-false, true≢false}
 use Rattle.std.proofs.lemmas.Bool.Decides.{Decides-and, Decides-like, Decides-int_eq}
 use Rattle.guillotiere.specs.declared.store.Store.{Store}
 use Rattle.guillotiere.specs.declared.slots.NodeKind.TheVariants as kind
@@ -10,16 +10,15 @@ use Rattle.guillotiere.specs.declared.geometry.Size.{Size}
 use Rattle.guillotiere.specs.declared.tree.growth.Growth.{Growth}
 use Rattle.guillotiere.specs.Boxes.{Axis, Sides, other, side, Fits}
 use Rattle.guillotiere.specs.Boxes.Axis.{Horizontal, Vertical}
-use Rattle.guillotiere.specs.Pixels.{sides_of, size_of}
+use Rattle.guillotiere.specs.Pixels.{sides_of}
 use Rattle.guillotiere.specs.Trees.{total, is_one_free}
-use Rattle.guillotiere.specs.Trees as tree
 use Rattle.guillotiere.specs.Changes.{lengthened_to, widened, grown_members}
 use Rattle.guillotiere.specs.Slots.{nodes}
 use Rattle.guillotiere.specs.Slots.Numbered.{erase, first_slot}
 use Rattle.guillotiere.specs.Stored.{Shelf, Holding, Holds, IsLooseOnly}
 use Rattle.guillotiere.specs.Store.Holdings.{shelf_of, node_in, HasSlotsFor}
 use Rattle.guillotiere.specs.Slots.Growing.{IsEnd, IsSpanning, IsWider, last_slot}
-use Rattle.guillotiere.specs.Store.Growths.{IsGrowthOf, IsGrowable, IsGrownHolding, IsLengthenable, IsLonger, IsNeedOf, IsWidenable, IsWidenedTo, middle_of, strip_need, tree_held}
+use Rattle.guillotiere.specs.Store.Growths.{IsGrowthOf, IsGrowable, IsGrownHolding, IsLengthenable, IsLonger, IsNeedOf, IsWidenable, IsWidenedTo, middle_of, strip_need}
 use Rattle.guillotiere.proofs.SlotLemmas.Reading.{tree-by_parts}
 use Rattle.guillotiere.proofs.AtlasLemmas.Observing.{nonempty-total}
 use Rattle.guillotiere.proofs.TreeLemmas.TreeBasics.{longer_side, other_twice}
@@ -33,12 +32,7 @@ abbrev pub same_size : Size → Size → Bool
 same_size a b = int_eq a.width b.width && int_eq a.height b.height
 
 Decides-same_size : (a b : Size) → Decides (same_size a b) (a ≡ b)
-Decides-same_size a b =
-    Decides-like (same_size a b) (λ h. equal h.0 h.1) (λ e. (ap (λ (s : Size). s.width) e, ap (λ (s : Size). s.height) e))
-    (Decides-and (int_eq a.width b.width) (int_eq a.height b.height) (Decides-int_eq a.width b.width) (Decides-int_eq a.height b.height))
-  where
-    equal : a.width ≡ b.width → a.height ≡ b.height → a ≡ b
-    equal p q = λ i. record { width = p i; height = q i }
+Decides-same_size a b = grind (arith, Decides-like, Decides-and, Decides-int_eq)
 
 -- What `==` and `!=` answer.
 pub equal-yes : (a b : Size) (t : Bool) → t ≡ same_size a b → t ≡ true → a ≡ b
@@ -87,20 +81,10 @@ module _ (old new : Sides) (h : Holding) (p : Growth) (w : IsGrowthOf old new h 
 
   module _ (fits : Fits old new) where
     pub along-longer : (p.middle ≡ p.from → ⊥) → side h.sequence.axis old < side h.sequence.axis new
-    along-longer ne =
-        let le : side h.sequence.axis old ≤ side h.sequence.axis new = longer_side h.sequence.axis old new fits in
-        elim (cases_eq (side h.sequence.axis old) (side h.sequence.axis new)) [
-          | inl e ↦ absurd (ne (w.middle ∙ ap size_of (middle-old h.sequence.axis old new e) ∙ sym w.from))
-          | inr apart ↦ omega (arith, apart)
-        ]
+    along-longer ne = grind (arith, longer_side, middle-old)
 
     pub across-longer : (p.middle ≡ p.to → ⊥) → side (other h.sequence.axis) old < side (other h.sequence.axis) new
-    across-longer ne =
-        let le : side (other h.sequence.axis) old ≤ side (other h.sequence.axis) new = longer_side (other h.sequence.axis) old new fits in
-        elim (cases_eq (side (other h.sequence.axis) old) (side (other h.sequence.axis) new)) [
-          | inl e ↦ absurd (ne (w.middle ∙ ap size_of (middle-new h.sequence.axis old new e) ∙ sym w.to))
-          | inr apart ↦ omega (arith, apart)
-        ]
+    across-longer ne = grind (arith, longer_side, middle-new)
 
 -- How many slots a growth takes.
 
@@ -117,9 +101,7 @@ need-is v old new h holds some busy = nodes-grown_by (nodes v.slots) h.sequence 
 module _ (v : Shelf) (old new : Sides) (h : Holding) (p : Growth) (w : IsGrowthOf old new h p) where
   pub strip-longer : (t : Bool) → (IsTrue t ↔ ((node_in v p.last.number).kind ≡ kind.Free)) → side h.sequence.axis old < side h.sequence.axis new
       → cond (not t) 1 0 ≡ along_need v (last_slot h.tree) old new h.sequence.axis
-  strip-longer t says longer =
-      need-answer v p.last.number t says ∙ ap (strip_need v) (sym (w.last longer))
-      ∙ sym (if_longer-more (side h.sequence.axis old) (side h.sequence.axis new) (strip_need v (last_slot h.tree)) longer)
+  strip-longer t says longer = grind (arith, need-answer, if_longer-more)
 
   pub strip-same : side h.sequence.axis old ≡ side h.sequence.axis new → along_need v (last_slot h.tree) old new h.sequence.axis ≡ 0
   strip-same e = if_longer-not (side h.sequence.axis old) (side h.sequence.axis new) (strip_need v (last_slot h.tree)) (omega arith)
@@ -160,13 +142,7 @@ module _ {A : Type 0} {v : Store A} {old new : Sides} {first n : ℕ} {p : Growt
     need_longer = omega (arith, need_parts, if_longer-more (side axis old) (side axis new) (strip_need (shelf_of v) (last_slot h.tree)) longer, ap (strip_need (shelf_of v)) ends)
 
     longer-end : IsEnd (sides_of p.middle) (side axis new - side axis old) p.last.number h
-    longer-end = record {
-      start = w.tree.spans.start;
-      ends = ends;
-      some = w.tree.spans.some;
-      along = omega (arith, w.tree.spans.along, middle-along old new h p w.growth);
-      across = w.tree.spans.across ∙ sym (middle-across old new h p w.growth);
-    }
+    longer-end = grind (arith, ends, middle-along, middle-across)
 
     longer-more : 0 < side axis new - side axis old
     longer-more = omega arith
@@ -175,13 +151,7 @@ module _ {A : Type 0} {v : Store A} {old new : Sides} {first n : ℕ} {p : Growt
     longer-slots = subst (λ k. HasSlotsFor k v h) need_longer w.slots
 
     pub longer-ready : IsLengthenable v (sides_of p.middle) p.last.number (side axis new - side axis old) (across_need old new axis) h
-    longer-ready = record {
-      holds = w.tree.holds;
-      listed = w.tree.listed;
-      end = longer-end;
-      more = longer-more;
-      slots = longer-slots;
-    }
+    longer-ready = grind (arith, longer-end, longer-more, longer-slots)
 
     pub longer-midway : {v' : Store A} → IsLonger v v' (sides_of p.middle) p.last.number → IsMidwayIn v' old new first n h
     longer-midway told = let got = told.kept h (side axis new - side axis old) (across_need old new axis) longer-ready in let l = got.1 in (
@@ -199,26 +169,12 @@ module _ {A : Type 0} {v : Store A} {old new : Sides} {first n : ℕ} {p : Growt
 
   -- The tree is as long as before.
   pub same-midway : side axis old ≡ side axis new → IsMidwayIn v old new first n h
-  same-midway e =
-      let none : along_need (shelf_of v) (last_slot h.tree) old new axis ≡ 0 = if_longer-not (side axis old) (side axis new) (strip_need (shelf_of v) (last_slot h.tree)) (omega arith) in
-      let all : n ≡ across_need old new axis = omega (arith, need_parts) in (
-        h,
-        record {
-          holds = w.tree.holds;
-          listed = w.tree.listed;
-          members = sym (lengthened_to-same (side axis old) (side axis new) (erase h.tree) (omega arith));
-          sequence = refl;
-          begins = w.tree.spans.begins;
-          spare = omega (arith, all);
-          slots = subst (λ k. HasSlotsFor k v h) all w.slots;
-        },
-      )
+  same-midway e = grind (arith, if_longer-not, need_parts, lengthened_to-same)
 
   -- From there on.
   module _ {u : Store A} {h1 : Holding} (m : IsMidway u old new first n h h1) where
     total_midway : total (erase h1.tree) ≡ side axis new
-    total_midway =
-        ap total m.members ∙ total-lengthened_to (side axis old) (side axis new) (erase h.tree) (longer_side axis old new w.fits) w.tree.spans.along
+    total_midway = grind (arith, total-lengthened_to, longer_side)
 
     some_midway : 0 < total (erase h1.tree)
     some_midway = omega (arith, total_midway, longer_side axis old new w.fits, w.tree.spans.along, w.tree.spans.some)
@@ -234,25 +190,8 @@ module _ {A : Type 0} {v : Store A} {old new : Sides} {first n : ℕ} {p : Growt
 
     -- It is as wide as before.
     pub midway-grown : side (other axis) old ≡ side (other axis) new → IsGrownHolding (shelf_of u) old new first n h h1
-    midway-grown e = record {
-      tree = record {
-        holds = m.holds;
-        listed = m.listed;
-        spans = record {
-          start = ap (λ s. s.start) m.sequence ∙ w.tree.spans.start;
-          begins = m.begins;
-          some = some_midway;
-          along = along_midway;
-          across = across_midway ∙ ap (λ s. side (other s.axis) old) m.sequence ∙ e ∙ ap (λ s. side (other s.axis) new) (sym m.sequence);
-        };
-      };
-      grown =
-          tree-by_parts (tree_held h1) axis (erase h1.tree) (ap (λ s. s.axis) m.sequence) refl
-          ∙ sym (grown_is ∙ widened-same (side (other axis) old) (side (other axis) new) axis (erase h1.tree) (omega arith));
-      spare =
-          let none : across_need old new axis ≡ 0 = if_longer-not (side (other axis) old) (side (other axis) new) 2 (omega arith) in
-          omega (arith, m.spare, none);
-    }
+    midway-grown e =
+        grind (arith, some_midway, along_midway, across_midway, tree-by_parts, grown_is, widened-same, if_longer-not)
 
     -- It grows across its axis too.
     module _ (wider : side (other axis) old < side (other axis) new) where
@@ -260,18 +199,10 @@ module _ {A : Type 0} {v : Store A} {old new : Sides} {first n : ℕ} {p : Growt
       two = if_longer-more (side (other axis) old) (side (other axis) new) 2 wider
 
       midway-spans : IsSpanning (sides_of p.middle) first h1
-      midway-spans = record {
-        start = ap (λ s. s.start) m.sequence ∙ w.tree.spans.start;
-        begins = m.begins;
-        some = some_midway;
-        along = total_midway ∙ sym (middle-along old new h p w.growth) ∙ ap (λ s. side s.axis (sides_of p.middle)) (sym m.sequence);
-        across = ap (λ s. s.width) m.sequence ∙ w.tree.spans.across ∙ sym (middle-across old new h p w.growth) ∙ ap (λ s. side (other s.axis) (sides_of p.middle)) (sym m.sequence);
-      }
+      midway-spans = grind (arith, some_midway, total_midway, middle-along, middle-across)
 
       midway-wider : IsWider h1.sequence.axis (sides_of p.middle) new (side (other axis) new - side (other axis) old)
-      midway-wider =
-          subst (λ s. IsWider s.axis (sides_of p.middle) new (side (other axis) new - side (other axis) old)) (sym m.sequence)
-          (sym (middle-along old new h p w.growth), omega (arith, middle-across old new h p w.growth))
+      midway-wider = grind (arith, middle-along, middle-across)
 
       midway-more : 0 < side (other axis) new - side (other axis) old
       midway-more = omega arith
@@ -280,11 +211,7 @@ module _ {A : Type 0} {v : Store A} {old new : Sides} {first n : ℕ} {p : Growt
       midway-slots = subst (λ k. HasSlotsFor k u h1) two m.slots
 
       pub midway-ready : IsWidenable u (sides_of p.middle) new first (side (other axis) new - side (other axis) old) h1
-      midway-ready = record {
-        nests = record { holds = m.holds; spans = midway-spans; wider = midway-wider; more = midway-more };
-        listed = m.listed;
-        slots = midway-slots;
-      }
+      midway-ready = grind (arith, midway-spans, midway-wider, midway-more, midway-slots)
 
       pub widened-grown : {v' : Store A} {top : ℕ} → IsWidenedTo u v' (sides_of p.middle) new first top
           → (h' : Holding) × IsGrownHolding (shelf_of v') old new top n h h'
@@ -297,21 +224,8 @@ module _ {A : Type 0} {v : Store A} {old new : Sides} {first n : ℕ} {p : Growt
           let whole : total (erase h'.tree) ≡ side (other axis) new = ap total l.members ∙ omega (arith, width, wider) in (
             h',
             record {
-              tree = record {
-                holds = l.holds;
-                listed = l.listed;
-                spans = record {
-                  start = ap (λ s. s.start) l.sequence;
-                  begins = l.first;
-                  some = omega (arith, whole, wider);
-                  along = whole ∙ ap (λ a. side a new) (sym turned);
-                  across = ap (λ s. s.width) l.sequence ∙ total_midway ∙ ap (λ a. side a new) (sym (other_twice axis)) ∙ ap (λ a. side (other a) new) (sym turned);
-                };
-              };
-              grown =
-                  tree-by_parts (tree_held h') (other axis) _ turned l.members
-                  ∙ ap (λ k. record { axis = other axis; members = tree.Seq k (erase h1.tree) (tree.Free (side (other axis) new - side (other axis) old) tree.End) }) width
-                  ∙ sym (grown_is ∙ widened-more (side (other axis) old) (side (other axis) new) axis (erase h1.tree) wider);
+              tree = grind (arith, total_midway, other_twice);
+              grown = grind (arith, tree-by_parts, grown_is, widened-more);
               spare = omega (arith, l.spare, m.spare, two);
             },
           )

@@ -58,8 +58,7 @@ erase-appended k d ns s b p (Free i e (Alloc j g c rest)) h busy =
     ap (tree.Free e) (erase-appended k d ns s i (p + e) (Alloc j g c rest) h.2 busy)
 erase-appended k d ns s b p (Free i e (Seq j c inner rest)) h busy =
     ap (tree.Free e) (erase-appended k d ns s i (p + e) (Seq j c inner rest) h.2 busy)
-erase-appended k d ns s b p (Alloc i g e rest) h busy =
-    ap (tree.Alloc (id_of i g) e) (erase-appended k d ns s i (p + e) rest h.3 busy)
+erase-appended k d ns s b p (Alloc i g e rest) h busy = grind (arith, erase-appended k d ns s i (p + e) rest h.3 busy)
 erase-appended k d ns s b p (Seq i e inner rest) h busy =
     ap (tree.Seq e (erase inner)) (erase-appended k d ns s i (p + e) rest h.3 busy)
 
@@ -135,19 +134,11 @@ pub lengthened_to-same : (a b : ℕ) (m : Members) → b ≤ a → lengthened_to
 lengthened_to-same a b m h = ap (λ t. cond t (lengthened (b - a) m) m) (le-ltb a b h)
 
 pub total-lengthened_to : (a b : ℕ) (m : Members) → a ≤ b → total m ≡ a → total (lengthened_to a b m) ≡ b
-total-lengthened_to a b m le e = by_test (ltb a b) refl
-  where
-    by_test : (x : Bool) → ltb a b ≡ x → total (cond x (lengthened (b - a) m) m) ≡ b
-    by_test true is = let lt : a < b = ltb-true a b is in omega (arith, total-lengthened (b - a) m)
-    by_test false is = let ge : b ≤ a = ltb-false a b is in omega arith
+total-lengthened_to a b m le e = grind (arith, ltb-true, total-lengthened, ltb-false)
 
 pub widened-more : (u w : ℕ) (axis : Axis) (m : Members) → u < w
     → widened u w axis m ≡ record { axis = other axis; members = tree.Seq u m (tree.Free (w - u) tree.End) }
-widened-more u w axis m h =
-    ap (λ t. cond {A = Tree} t (record { axis = other axis; members = tree.Seq u m (tree.Free (w - u) tree.End) }) (record { axis = axis; members = m }))
-    (lt-ltb u w h)
+widened-more u w axis m h = grind (arith, lt-ltb)
 
 pub widened-same : (u w : ℕ) (axis : Axis) (m : Members) → w ≤ u → widened u w axis m ≡ record { axis = axis; members = m }
-widened-same u w axis m h =
-    ap (λ t. cond {A = Tree} t (record { axis = other axis; members = tree.Seq u m (tree.Free (w - u) tree.End) }) (record { axis = axis; members = m }))
-    (le-ltb u w h)
+widened-same u w axis m h = grind (arith, le-ltb)

@@ -1,16 +1,15 @@
 -- Each plan, carried out by the calls of the store one after another.
-use Rattle.std.proofs.Common.{ℕ, ◌-◌, ◌<◌, ◌≤◌, ◌≡◌, ◌≢◌, ℤ, [], ◌∷◌, length, true, false, refl, sym, ap, subst, ◌∙◌, inl, inr, arith}
+use Rattle.std.proofs.Common.{ℕ, ◌-◌, ◌<◌, ◌≤◌, ◌≡◌, ◌≢◌, [], ◌∷◌, length, true, false, refl, sym, ap, ◌∙◌, inl, inr, arith}
 use Rattle.guillotiere.specs.declared.store.Store.{Store}
 use Rattle.guillotiere.specs.declared.slots.Node.{Node}
 use Rattle.guillotiere.specs.declared.tree.Plan.{Plan}
 use Rattle.guillotiere.specs.declared.tree.Plan.TheVariants as plan
-use Rattle.guillotiere.specs.Pixels.{natural}
 use Rattle.guillotiere.specs.Slots.{nodes, node_at}
 use Rattle.guillotiere.specs.Slots.Numbered.{granted_at, split_at, wrapped_at}
 use Rattle.guillotiere.specs.Slots.Links.{with_mark}
 use Rattle.guillotiere.specs.Slots.Reading.{extent_of}
 use Rattle.guillotiere.specs.Stored.{Holding}
-use Rattle.guillotiere.specs.Store.Holdings.{shelf_of, node_in, across_of, HasSlotsFor, IsLooseLeaf, with_loose, with_held, with_spare, after_split, after_wrap, after_grant}
+use Rattle.guillotiere.specs.Store.Holdings.{shelf_of, node_in, HasSlotsFor, IsLooseLeaf, with_loose, with_held, with_spare, after_split, after_wrap, after_grant}
 use Rattle.guillotiere.specs.Store.StoreCalls.{IsGranted, IsListed, IsSplit, IsWrapped, IsWrappedTwo}
 use Rattle.guillotiere.specs.Store.Planning.{IsPlaceableAt, IsPlaced, IsPlanned, IsPlannedTree, slots_of}
 use Rattle.guillotiere.proofs.StoreLemmas.Filing.{with_mark-same}
@@ -24,14 +23,7 @@ planned-end : {A : Type 0} {v v' : Store A} (new : Store A) (at to : ℕ) (p : P
     → nodes new.slots.items ≡ nodes v'.slots.items → IsStage new [] h'
     → IsPlannedTree p at h.sequence.width to (node_in (shelf_of new) to).generation h.tree h'.tree → h'.sequence ≡ h.sequence
     → length h'.spare ≡ length h.spare - slots_of p → IsPlanned (shelf_of new) at to p h h'
-planned-end new at to p h h' w same s tree sequence spare = record {
-  holds = s.holds;
-  listed = s.only;
-  tree = tree;
-  sequence = sequence;
-  granted = ap (λ ns. (node_at ns to).kind) same ∙ ap (λ (n : Node). n.kind) w.granted;
-  spare = spare;
-}
+planned-end new at to p h h' w same s tree sequence spare = grind arith
 
 generation-kept : {A : Type 0} {v v' : Store A} (new : Store A) (to : ℕ) → IsGranted v v' to → nodes new.slots.items ≡ nodes v'.slots.items
     → (node_in (shelf_of v) to).generation ≡ (node_in (shelf_of new) to).generation
@@ -39,28 +31,16 @@ generation-kept new to w same = sym (ap (λ ns. (node_at ns to).generation) same
 
 -- The leaf is granted whole.
 pub whole-placed : {A : Type 0} {v v' : Store A} {at : ℕ} → IsGranted v v' at → IsPlaced v v' at at plan.Whole
-whole-placed {A} {v} {v'} {at} w = record {
-  kept = λ h s.
-      let h' : Holding = after_grant at (node_in (shelf_of v) at).generation h in (
-        h',
-        planned-end v' at at plan.Whole h h' w refl (grant-stage w (first-stage s) s.leaf.loose)
-            (refl, ap (λ g. granted_at at g h.tree) (generation-kept v' at w refl)) refl (omega arith),
-      );
-  options = w.room.options;
-  turns = w.turns;
-}
+whole-placed {A} {v} {v'} {at} w = grind (arith, planned-end, grant-stage, first-stage, generation-kept)
 
 -- Cut along.
-module _ {A : Type 0} {v0 v1 : Store A} {at k : ℕ} {p p' : ℤ} (e1 : p' ≡ p) (split : IsSplit v0 v1 at k (natural p')) where
-  w1 : IsSplit v0 v1 at k (natural p)
-  w1 = subst (λ n. IsSplit v0 v1 at k (natural n)) e1 split
-
+module _ {A : Type 0} {v0 v1 : Store A} {at k : ℕ} {p : ℕ} (split : IsSplit v0 v1 at k p) where
   module _ {h : Holding} (s : IsPlaceableAt v0 at (plan.StripAlong p) h) where
-    strip_split : SplitTo v1 0 at k (natural p) (at ∷ []) h
-    strip_split = split-stage 0 w1 (first-stage s) s.slots s.leaf.loose
+    strip_split : SplitTo v1 0 at k p (at ∷ []) h
+    strip_split = split-stage 0 split (first-stage s) s.slots s.leaf.loose
 
     abbrev strip1 : Holding
-    strip1 = with_spare strip_split.spare (after_split at k (natural p) h)
+    strip1 = with_spare strip_split.spare (after_split at k p h)
 
     strip_at : strip1.loose at ≡ true
     strip_at = mark-stays h.loose k at s.leaf.loose
@@ -76,7 +56,7 @@ module _ {A : Type 0} {v0 v1 : Store A} {at k : ℕ} {p p' : ℤ} (e1 : p' ≡ p
       strip_stage2 = grant-stage w2 (stage-order (at ∷ k ∷ []) (λ i z. omega arith) strip_split.stage) strip_at
 
       strip_loose : strip2.loose k ≡ true
-      strip_loose = mark-apart (with_mark h.loose k true) at k w1.apart (with_mark-same h.loose k true)
+      strip_loose = mark-apart (with_mark h.loose k true) at k split.apart (with_mark-same h.loose k true)
 
       pub strip_along-list : (h2 : Holding) × IsLooseLeaf (shelf_of v2) k h2
       strip_along-list = (strip2, stage-leaf k strip_stage2 strip_loose)
@@ -86,26 +66,21 @@ module _ {A : Type 0} {v0 v1 : Store A} {at k : ℕ} {p p' : ℤ} (e1 : p' ≡ p
           let l : ListedTo v3 k [] strip2 = list-stage w3 strip_stage2 strip_loose in (
             with_loose k false (with_held l.held strip2),
             planned-end v3 at at (plan.StripAlong p) h (with_loose k false (with_held l.held strip2)) w2 w3.nodes l.stage
-                (refl, k, ap (λ g. granted_at at g (split_at at k (natural p) h.tree)) (generation-kept v3 at w2 w3.nodes))
+                (refl, k, ap (λ g. granted_at at g (split_at at k p h.tree)) (generation-kept v3 at w2 w3.nodes))
                 refl strip_split.spared,
           )
 
 -- Cut across.
-module _ {A : Type 0} {v0 v1 : Store A} {at f b : ℕ} {q q' : ℤ} (e1 : q' ≡ q) (wrap : IsWrappedTwo v0 v1 at f b (natural q')) where
-  w1_two : IsWrappedTwo v0 v1 at f b (natural q)
-  w1_two = subst (λ n. IsWrappedTwo v0 v1 at f b (natural n)) e1 wrap
-
+module _ {A : Type 0} {v0 v1 : Store A} {at f b : ℕ} {q : ℕ} (wrap : IsWrappedTwo v0 v1 at f b q) where
   module _ {h : Holding} (s : IsPlaceableAt v0 at (plan.StripAcross q) h) where
-    across_wrap : WrappedTwoTo v1 0 at f b (natural q) [] h
-    across_wrap = wrap_two-stage 0 w1_two (first-stage s) s.slots s.leaf.loose
+    across_wrap : WrappedTwoTo v1 0 at f b q [] h
+    across_wrap = wrap_two-stage 0 wrap (first-stage s) s.slots s.leaf.loose
 
     abbrev across1 : Holding
-    across1 = with_spare across_wrap.spare (after_split f b (natural q) (after_wrap at f h))
+    across1 = with_spare across_wrap.spare (after_split f b q (after_wrap at f h))
 
     across_front : across1.loose f ≡ true
-    across_front =
-        mark-stays (with_mark (with_mark h.loose f true) at false) b f
-        (mark-apart (with_mark h.loose f true) at f w1_two.front_apart (with_mark-same h.loose f true))
+    across_front = grind (arith, mark-stays, mark-apart, with_mark-same)
 
     pub strip_across-grant : (h1 : Holding) × IsLooseLeaf (shelf_of v1) f h1
     strip_across-grant = (across1, stage-leaf f across_wrap.stage across_front)
@@ -118,7 +93,7 @@ module _ {A : Type 0} {v0 v1 : Store A} {at f b : ℕ} {q q' : ℤ} (e1 : q' ≡
       across_stage2 = grant-stage w2 (stage-order (f ∷ b ∷ []) (λ i z. omega arith) across_wrap.stage) across_front
 
       across_back : across2.loose b ≡ true
-      across_back = mark-apart across1.loose f b w1_two.back_apart.1 (with_mark-same (with_mark (with_mark h.loose f true) at false) b true)
+      across_back = mark-apart across1.loose f b wrap.back_apart.1 (with_mark-same (with_mark (with_mark h.loose f true) at false) b true)
 
       pub strip_across-list : (h2 : Holding) × IsLooseLeaf (shelf_of v2) b h2
       strip_across-list = (across2, stage-leaf b across_stage2 across_back)
@@ -128,7 +103,7 @@ module _ {A : Type 0} {v0 v1 : Store A} {at f b : ℕ} {q q' : ℤ} (e1 : q' ≡
           let l : ListedTo v3 b [] across2 = list-stage w3 across_stage2 across_back in (
             with_loose b false (with_held l.held across2),
             planned-end v3 at f (plan.StripAcross q) h (with_loose b false (with_held l.held across2)) w2 w3.nodes l.stage
-                (b, ap (λ g. granted_at f g (split_at f b (natural q) (wrapped_at at f h.sequence.width h.tree))) (generation-kept v3 f w2 w3.nodes))
+                (b, ap (λ g. granted_at f g (split_at f b q (wrapped_at at f h.sequence.width h.tree))) (generation-kept v3 f w2 w3.nodes))
                 refl across_wrap.spared,
           )
 
@@ -181,16 +156,13 @@ module _ {A : Type 0} {v3 v4 : Store A} {g k l : ℕ} {h3 : Holding} (c : IsCorn
         )
 
 -- Cut along, and its first part across.
-module _ {A : Type 0} {v0 v1 : Store A} {at k : ℕ} {p p' : ℤ} (e1 : p' ≡ p) (split : IsSplit v0 v1 at k (natural p')) {q : ℤ} {h : Holding}
+module _ {A : Type 0} {v0 v1 : Store A} {at k : ℕ} {p : ℕ} (split : IsSplit v0 v1 at k p) {q : ℕ} {h : Holding}
     (s : IsPlaceableAt v0 at (plan.CornerAlong p q) h) where
-  along_w1 : IsSplit v0 v1 at k (natural p)
-  along_w1 = subst (λ n. IsSplit v0 v1 at k (natural n)) e1 split
-
-  along_split : SplitTo v1 2 at k (natural p) (at ∷ []) h
-  along_split = split-stage 2 along_w1 (first-stage s) s.slots s.leaf.loose
+  along_split : SplitTo v1 2 at k p (at ∷ []) h
+  along_split = split-stage 2 split (first-stage s) s.slots s.leaf.loose
 
   abbrev along1 : Holding
-  along1 = with_spare along_split.spare (after_split at k (natural p) h)
+  along1 = with_spare along_split.spare (after_split at k p h)
 
   along_at : along1.loose at ≡ true
   along_at = mark-stays h.loose k at s.leaf.loose
@@ -212,25 +184,20 @@ module _ {A : Type 0} {v0 v1 : Store A} {at k : ℕ} {p p' : ℤ} (e1 : p' ≡ p
     along_inner = mark-apart (with_mark along1.loose g true) at g w2.apart (with_mark-same along1.loose g true)
 
     along_back2 : along2.loose k ≡ true
-    along_back2 = mark-apart (with_mark along1.loose g true) at k along_w1.apart (mark-stays along1.loose g k along_back)
+    along_back2 = mark-apart (with_mark along1.loose g true) at k split.apart (mark-stays along1.loose g k along_back)
 
     pub corner_along-split : (h2 : Holding) × IsLooseLeaf (shelf_of v2) g h2 × HasSlotsFor 1 v2 h2
     corner_along-split = (along2, stage-leaf g along_wrap.stage along_inner, along_wrap.slots)
 
-    pub corner_along-less : natural q < extent_of (node_in (shelf_of v2) g)
-    corner_along-less =
-        let e : extent_of (node_in (shelf_of v2) g) ≡ across_of (node_in (shelf_of v0) at) = w2.extent ∙ along_w1.across in
-        omega (arith, s.feasible.3, e)
+    pub corner_along-less : q < extent_of (node_in (shelf_of v2) g)
+    corner_along-less = grind arith
 
-    module _ {v3 : Store A} {l : ℕ} {q' : ℤ} (e3 : q' ≡ q) (again : IsSplit v2 v3 g l (natural q')) where
-      along_w3 : IsSplit v2 v3 g l (natural q)
-      along_w3 = subst (λ n. IsSplit v2 v3 g l (natural n)) e3 again
-
-      along_split2 : SplitTo v3 0 g l (natural q) (g ∷ k ∷ []) along2
-      along_split2 = split-stage 0 along_w3 along_wrap.stage along_wrap.slots along_inner
+    module _ {v3 : Store A} {l : ℕ} (again : IsSplit v2 v3 g l q) where
+      along_split2 : SplitTo v3 0 g l q (g ∷ k ∷ []) along2
+      along_split2 = split-stage 0 again along_wrap.stage along_wrap.slots along_inner
 
       abbrev along3 : Holding
-      along3 = with_spare along_split2.spare (after_split g l (natural q) along2)
+      along3 = with_spare along_split2.spare (after_split g l q along2)
 
       corner_along-corner : IsCorner v3 g k l along3
       corner_along-corner = record {
@@ -239,7 +206,7 @@ module _ {A : Type 0} {v0 v1 : Store A} {at k : ℕ} {p p' : ℤ} (e1 : p' ≡ p
         loose_k = mark-stays along2.loose l k along_back2;
         loose_l = with_mark-same along2.loose l true;
         apart_k = along_wrap.fresh k along_back;
-        apart_l = along_w3.apart;
+        apart_l = again.apart;
         apart = λ e. along_split2.fresh k along_back2 (sym e);
       }
 
@@ -260,25 +227,20 @@ module _ {A : Type 0} {v0 v1 : Store A} {at k : ℕ} {p p' : ℤ} (e1 : p' ≡ p
           (λ e. (
             k,
             l,
-            ap (λ x. granted_at g x (split_at g l (natural q) (wrapped_at at g h.sequence.width (split_at at k (natural p) h.tree)))) e,
+            ap (λ x. granted_at g x (split_at g l q (wrapped_at at g h.sequence.width (split_at at k p h.tree)))) e,
           ))
 
 -- Cut across, and its first part along.
-module _ {A : Type 0} {v0 v1 : Store A} {at c b : ℕ} {q q' : ℤ} (e1 : q' ≡ q) (wrap : IsWrappedTwo v0 v1 at c b (natural q')) {p : ℤ} {h : Holding}
+module _ {A : Type 0} {v0 v1 : Store A} {at c b : ℕ} {q : ℕ} (wrap : IsWrappedTwo v0 v1 at c b q) {p : ℕ} {h : Holding}
     (s : IsPlaceableAt v0 at (plan.CornerAcross p q) h) where
-  both_w1 : IsWrappedTwo v0 v1 at c b (natural q)
-  both_w1 = subst (λ n. IsWrappedTwo v0 v1 at c b (natural n)) e1 wrap
-
-  both_wrap : WrappedTwoTo v1 2 at c b (natural q) [] h
-  both_wrap = wrap_two-stage 2 both_w1 (first-stage s) s.slots s.leaf.loose
+  both_wrap : WrappedTwoTo v1 2 at c b q [] h
+  both_wrap = wrap_two-stage 2 wrap (first-stage s) s.slots s.leaf.loose
 
   abbrev both1 : Holding
-  both1 = with_spare both_wrap.spare (after_split c b (natural q) (after_wrap at c h))
+  both1 = with_spare both_wrap.spare (after_split c b q (after_wrap at c h))
 
   both_front : both1.loose c ≡ true
-  both_front =
-      mark-stays (with_mark (with_mark h.loose c true) at false) b c
-      (mark-apart (with_mark h.loose c true) at c both_w1.front_apart (with_mark-same h.loose c true))
+  both_front = grind (arith, mark-stays, mark-apart, with_mark-same)
 
   both_back : both1.loose b ≡ true
   both_back = with_mark-same (with_mark (with_mark h.loose c true) at false) b true
@@ -297,25 +259,20 @@ module _ {A : Type 0} {v0 v1 : Store A} {at c b : ℕ} {q q' : ℤ} (e1 : q' ≡
     both_inner = mark-apart (with_mark both1.loose g true) c g w2.apart (with_mark-same both1.loose g true)
 
     both_back2 : both2.loose b ≡ true
-    both_back2 = mark-apart (with_mark both1.loose g true) c b both_w1.back_apart.1 (mark-stays both1.loose g b both_back)
+    both_back2 = mark-apart (with_mark both1.loose g true) c b wrap.back_apart.1 (mark-stays both1.loose g b both_back)
 
     pub corner_across-split : (h2 : Holding) × IsLooseLeaf (shelf_of v2) g h2 × HasSlotsFor 1 v2 h2
     corner_across-split = (both2, stage-leaf g both_again.stage both_inner, both_again.slots)
 
-    pub corner_across-less : natural p < extent_of (node_in (shelf_of v2) g)
-    corner_across-less =
-        let e : extent_of (node_in (shelf_of v2) g) ≡ extent_of (node_in (shelf_of v0) at) = w2.extent ∙ both_w1.across in
-        omega (arith, s.feasible.1, e)
+    pub corner_across-less : p < extent_of (node_in (shelf_of v2) g)
+    corner_across-less = grind arith
 
-    module _ {v3 : Store A} {l : ℕ} {p' : ℤ} (e3 : p' ≡ p) (split : IsSplit v2 v3 g l (natural p')) where
-      both_w3 : IsSplit v2 v3 g l (natural p)
-      both_w3 = subst (λ n. IsSplit v2 v3 g l (natural n)) e3 split
-
-      both_split : SplitTo v3 0 g l (natural p) (g ∷ b ∷ []) both2
-      both_split = split-stage 0 both_w3 both_again.stage both_again.slots both_inner
+    module _ {v3 : Store A} {l : ℕ} (split : IsSplit v2 v3 g l p) where
+      both_split : SplitTo v3 0 g l p (g ∷ b ∷ []) both2
+      both_split = split-stage 0 split both_again.stage both_again.slots both_inner
 
       abbrev both3 : Holding
-      both3 = with_spare both_split.spare (after_split g l (natural p) both2)
+      both3 = with_spare both_split.spare (after_split g l p both2)
 
       corner_across-corner : IsCorner v3 g b l both3
       corner_across-corner = record {
@@ -324,7 +281,7 @@ module _ {A : Type 0} {v0 v1 : Store A} {at c b : ℕ} {q q' : ℤ} (e1 : q' ≡
         loose_k = mark-stays both2.loose l b both_back2;
         loose_l = with_mark-same both2.loose l true;
         apart_k = both_again.fresh b both_back;
-        apart_l = both_w3.apart;
+        apart_l = split.apart;
         apart = λ e. both_split.fresh b both_back2 (sym e);
       }
 
@@ -346,6 +303,6 @@ module _ {A : Type 0} {v0 v1 : Store A} {at c b : ℕ} {q q' : ℤ} (e1 : q' ≡
             b,
             c,
             l,
-            ap (λ x. granted_at g x (split_at g l (natural p) (wrapped_at c g h.sequence.width
-                (split_at c b (natural q) (wrapped_at at c h.sequence.width h.tree))))) e,
+            ap (λ x. granted_at g x (split_at g l p (wrapped_at c g h.sequence.width
+                (split_at c b q (wrapped_at at c h.sequence.width h.tree))))) e,
           ))

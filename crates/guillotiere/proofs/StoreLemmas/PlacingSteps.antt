@@ -1,14 +1,12 @@
 -- The calls of the store, one after another, by which a plan is carried out.
-use Rattle.std.proofs.Common.{ℕ, ◌+◌, ◌-◌, ◌≤◌, ◌≡◌, ◌≢◌, List, [], ◌∷◌, length, Bool, true, false, refl, sym, ap, ◌∙◌, ◌⊎◌, inl, inr, arith}
+use Rattle.std.proofs.Common.{ℕ, ◌+◌, ◌-◌, ◌≤◌, ◌≡◌, ◌≢◌, List, [], ◌∷◌, length, Bool, true, false, ap, ◌∙◌, ◌⊎◌, inl, inr, arith}
 use Rattle.std.proofs.lemmas.Bool.{cases_eq}
 use Rattle.guillotiere.specs.declared.store.Store.{Store}
 use Rattle.guillotiere.specs.declared.slots.Link.{Link}
 use Rattle.guillotiere.specs.declared.slots.Node.{Node}
 use Rattle.guillotiere.specs.declared.slots.NodeKind.TheVariants as kind
-use Rattle.guillotiere.specs.declared.cut.Orientation.{Orientation}
-use Rattle.guillotiere.specs.declared.cut.Orientation.TheVariants as orientation
 use Rattle.guillotiere.specs.declared.tree.Plan.{Plan}
-use Rattle.guillotiere.specs.Slots.{nodes, node_at, use_count}
+use Rattle.guillotiere.specs.Slots.{nodes}
 use Rattle.guillotiere.specs.Slots.Numbered.{tally}
 use Rattle.guillotiere.specs.Slots.Lists.{occurs}
 use Rattle.guillotiere.specs.Slots.Links.{with_mark}
@@ -41,61 +39,32 @@ not_both : {P : Type 0} (b : Bool) → b ≡ true → b ≡ false → P
 not_both b t f = absurd (cc)
 
 pub first-stage : {A : Type 0} {v : Store A} {at : ℕ} {p : Plan} {h : Holding} → IsPlaceableAt v at p h → IsStage v (at ∷ []) h
-first-stage {A} {v} {at} {p} {h} s = record {
-  holds = s.leaf.holds;
-  free = (λ i l. elim (cases_eq i at) [
-    | inl e ↦ ap (λ k. (node_in (shelf_of v) k).kind) e ∙ s.leaf.kind
-    | inr ne ↦ not_both (h.loose i) l (s.only i (omega (arith, same-ne i at ne)))
-  ]);
-  only = s.only;
-}
+first-stage {A} {v} {at} {p} {h} s = grind (arith, not_both, same-ne)
 
 -- Marks
 
 pub mark-stays : (loose : ℕ → Bool) (k i : ℕ) → loose i ≡ true → with_mark loose k true i ≡ true
-mark-stays loose k i l =
-    elim (cases_eq i k) [
-      | inl e ↦ ap (with_mark loose k true) e ∙ with_mark-same loose k true
-      | inr ne ↦ with_mark-other loose k true i ne ∙ l
-    ]
+mark-stays loose k i l = grind (arith, with_mark-same, with_mark-other)
 
 pub mark-apart : (loose : ℕ → Bool) (k i : ℕ) → i ≢ k → loose i ≡ true → with_mark loose k false i ≡ true
 mark-apart loose k i ne l = with_mark-other loose k false i ne ∙ l
 
 mark_cases : (loose : ℕ → Bool) (k i : ℕ) → with_mark loose k true i ≡ true → (i ≡ k) ⊎ ((i ≢ k) × (loose i ≡ true))
-mark_cases loose k i l =
-    elim (cases_eq i k) [
-      | inl e ↦ inl e
-      | inr ne ↦ inr (ne, sym (with_mark-other loose k true i ne) ∙ l)
-    ]
+mark_cases loose k i l = grind (arith, with_mark-other)
 
 unmark_cases : (loose : ℕ → Bool) (k i : ℕ) → with_mark loose k false i ≡ true → (i ≢ k) × (loose i ≡ true)
-unmark_cases loose k i l =
-    elim (cases_eq i k) [
-      | inl e ↦ not_both (with_mark loose k false i) l (ap (with_mark loose k false) e ∙ with_mark-same loose k false)
-      | inr ne ↦ (ne, sym (with_mark-other loose k false i ne) ∙ l)
-    ]
+unmark_cases loose k i l = grind (arith, not_both, with_mark-same, with_mark-other)
 
 pub only-more : (loose : ℕ → Bool) (k : ℕ) (ks : List ℕ) → ((i : ℕ) → occurs i ks ≡ 0 → loose i ≡ false) → (i : ℕ) → occurs i (k ∷ ks) ≡ 0 → with_mark loose k true i ≡ false
-only-more loose k ks only i z =
-    elim (cases_eq i k) [
-      | inl e ↦ absurd (omega (arith, ap (λ j. occurs j (k ∷ ks)) e, same-self k))
-      | inr ne ↦ with_mark-other loose k true i ne ∙ only i (omega arith)
-    ]
+only-more loose k ks only i z = grind (arith, same-self, with_mark-other, only)
 
 only-less : (loose : ℕ → Bool) (k : ℕ) (ks : List ℕ) → ((i : ℕ) → occurs i (k ∷ ks) ≡ 0 → loose i ≡ false) → (i : ℕ) → occurs i ks ≡ 0 → with_mark loose k false i ≡ false
-only-less loose k ks only i z =
-    elim (cases_eq i k) [
-      | inl e ↦ ap (with_mark loose k false) e ∙ with_mark-same loose k false
-      | inr ne ↦ with_mark-other loose k false i ne ∙ only i (omega (arith, same-ne i k ne))
-    ]
+only-less loose k ks only i z = grind (arith, with_mark-same, with_mark-other, only, same-ne)
 
 -- A slot that comes into the tree was not used.
 fresh_slot : (v v' : Shelf) (h h' : Holding) (k i : ℕ) → Holds v h → Holds v' h' → tally k h.tree + 1 ≤ tally k h'.tree
     → (node_in v i).kind ≡ kind.Free → i ≢ k
-fresh_slot v v' h h' k i old new more free e =
-    let here : tally k h.tree ≡ 1 = old.stands.numbered k ∙ ap (λ j. use_count (node_in v j).kind) (sym e) ∙ ap use_count free in
-    absurd (omega (arith, new.stands.numbered k, used-le (node_in v' k).kind))
+fresh_slot v v' h h' k i old new more free e = grind (arith, free, used-le)
 
 -- A split.
 pub record SplitTo {A : Type 0} (v' : Store A) (n at k p : ℕ) (ks : List ℕ) (h : Holding) : Type 0 where
@@ -140,8 +109,7 @@ pub record WrappedTo {A : Type 0} (v' : Store A) (n at k : ℕ) (ks : List ℕ) 
 
 wrap_only : (loose : ℕ → Bool) (at k : ℕ) (ks : List ℕ) → ((i : ℕ) → occurs i (at ∷ ks) ≡ 0 → loose i ≡ false)
     → (i : ℕ) → occurs i (k ∷ ks) ≡ 0 → with_mark (with_mark loose k true) at false i ≡ false
-wrap_only loose at k ks only =
-    only-less (with_mark loose k true) at (k ∷ ks) (λ j z. only-more loose k (at ∷ ks) only j (omega arith))
+wrap_only loose at k ks only = grind (arith, only-less, only-more, only)
 
 pub wrap-stage : {A : Type 0} {v v' : Store A} {at k : ℕ} {ks : List ℕ} {h : Holding} (n : ℕ) → IsWrapped v v' at k
     → IsStage v (at ∷ ks) h → HasSlotsFor (n + 1) v h → h.loose at ≡ true → WrappedTo v' n at k ks h
@@ -200,11 +168,7 @@ wrap_two-stage {A} {v} {v'} {at} {k} {j} {p} {ks} {h} n w s room l =
 -- A grant.
 pub grant-stage : {A : Type 0} {v v' : Store A} {at : ℕ} {ks : List ℕ} {h : Holding} → IsGranted v v' at → IsStage v (at ∷ ks) h
     → h.loose at ≡ true → IsStage v' ks (after_grant at (node_in (shelf_of v) at).generation h)
-grant-stage {A} {v} {v'} {at} {ks} {h} w s l = record {
-  holds = w.kept h (stage-leaf at s l);
-  free = (λ i m. let u = unmark_cases h.loose at i m in (w.others i u.0).kind ∙ s.free i u.1);
-  only = only-less h.loose at ks s.only;
-}
+grant-stage {A} {v} {v'} {at} {ks} {h} w s l = grind (arith, stage-leaf, unmark_cases, only-less)
 
 -- A listing.
 pub record ListedTo {A : Type 0} (v' : Store A) (at : ℕ) (ks : List ℕ) (h : Holding) : Type 0 where
@@ -213,38 +177,15 @@ pub record ListedTo {A : Type 0} (v' : Store A) (at : ℕ) (ks : List ℕ) (h : 
 
 pub list-stage : {A : Type 0} {v v' : Store A} {at : ℕ} {ks : List ℕ} {h : Holding} → IsListed v v' at → IsStage v (at ∷ ks) h
     → h.loose at ≡ true → ListedTo v' at ks h
-list-stage {A} {v} {v'} {at} {ks} {h} w s l =
-    let got = w.kept h (stage-leaf at s l) in
-    record {
-      held = got.0;
-      stage = record {
-        holds = got.1;
-        free = (λ i m. ap (λ ns. (node_at ns i).kind) w.nodes ∙ s.free i (unmark_cases h.loose at i m).1);
-        only = only-less h.loose at ks s.only;
-      };
-    }
+list-stage {A} {v} {v'} {at} {ks} {h} w s l = grind (arith, stage-leaf, unmark_cases, only-less)
 
 -- Sides of the parts of a leaf.
 
 pub across-front : (leaf : Node) (p : ℕ) (after : Link) → across_of (front_node leaf p after) ≡ across_of leaf
-across-front leaf p after = by_axis leaf.axis
-  where
-    by_axis : (o : Orientation) → across_of (front_node (record leaf { axis = o }) p after) ≡ across_of (record leaf { axis = o })
-    by_axis orientation.Horizontal = refl
-    by_axis orientation.Vertical = refl
+across-front leaf p after = grind arith
 
 pub extent-inner : (leaf : Node) (at : Link) (unused : Node) → extent_of (inner_node leaf at unused) ≡ across_of leaf
-extent-inner leaf at unused = by_axis leaf.axis
-  where
-    by_axis : (o : Orientation)
-        → extent_of (inner_node (record leaf { axis = o }) at unused) ≡ across_of (record leaf { axis = o })
-    by_axis orientation.Horizontal = refl
-    by_axis orientation.Vertical = refl
+extent-inner leaf at unused = grind arith
 
 pub across-inner : (leaf : Node) (at : Link) (unused : Node) → across_of (inner_node leaf at unused) ≡ extent_of leaf
-across-inner leaf at unused = by_axis leaf.axis
-  where
-    by_axis : (o : Orientation)
-        → across_of (inner_node (record leaf { axis = o }) at unused) ≡ extent_of (record leaf { axis = o })
-    by_axis orientation.Horizontal = refl
-    by_axis orientation.Vertical = refl
+across-inner leaf at unused = grind arith

@@ -1,5 +1,5 @@
 -- What a plan carried out in a store makes of the tree that is read from it.
-use Rattle.std.proofs.Common.{ℕ, ◌+◌, ◌<◌, ◌≤◌, ◌≡◌, length, sym, ap, subst, ◌∙◌, arith}
+use Rattle.std.proofs.Common.{ℕ, ◌+◌, ◌<◌, ◌≡◌, arith}
 use Rattle.std.proofs.lemmas.List.{length-map}
 use Rattle.guillotiere.specs.declared.tree.Plan.{Plan}
 use Rattle.guillotiere.specs.declared.slots.NodeKind.TheVariants as kind
@@ -7,22 +7,19 @@ use Rattle.guillotiere.specs.Boxes.{Sides, other, side, box_sides, Fits, IsPosit
 use Rattle.guillotiere.specs.Pixels.{box_of}
 use Rattle.guillotiere.specs.Trees.{IsWellFormed}
 use Rattle.guillotiere.specs.Changes.{place, place_need}
-use Rattle.guillotiere.specs.Slots.{nodes, use_count, no_slot}
-use Rattle.guillotiere.specs.Slots.Numbered.{tally, numbers, id_of}
+use Rattle.guillotiere.specs.Slots.{nodes, use_count}
+use Rattle.guillotiere.specs.Slots.Numbered.{numbers, id_of}
 use Rattle.guillotiere.specs.Slots.Reading.{tree_of}
 use Rattle.guillotiere.specs.Stored.{Shelf, Holding, Holds}
 use Rattle.guillotiere.specs.Store.Holdings.{node_in}
 use Rattle.guillotiere.specs.Store.Planning.{IsPlanFor, IsPlanned, slots_of}
-use Rattle.guillotiere.proofs.SlotLemmas.Reading.{IsNonempty, nonempty-tally, tree_of-Stands}
+use Rattle.guillotiere.proofs.SlotLemmas.Reading.{nonempty-tally, tree_of-Stands}
 use Rattle.guillotiere.proofs.SlotLemmas.SlotAims.{IsChoice, tree_in}
 use Rattle.guillotiere.proofs.StoreLemmas.SlotPlans.{planned-placed, planned-need, planned-numbers, once-Stands}
 
 -- Some slot is used, so that the tree that is read has an axis.
 read_tree : (v : Shelf) (h : Holding) (i : ℕ) → Holds v h → 0 < use_count (node_in v i).kind → tree_of (nodes v.slots) ≡ tree_in h.sequence h.tree
-read_tree v h i holds l =
-    let some : IsNonempty h.tree = nonempty-tally i h.tree (rw (holds.stands.numbered i) l) in
-    let short : length (nodes v.slots) < no_slot = simp length-map (omega (arith, holds.short)) in
-    tree_of-Stands (nodes v.slots) h.sequence h.tree short holds.top holds.stands some
+read_tree v h i holds l = grind (arith, nonempty-tally, length-map, tree_of-Stands)
 
 -- A free slot of a store that holds a well-formed tree of an atlas, and a request that fits its box.
 pub record IsPlacing (size : Sides) (v : Shelf) (h : Holding) (at : ℕ) (r : Sides) : Type 0 where
@@ -39,30 +36,16 @@ module _ (size : Sides) (v : Shelf) (h : Holding) (at : ℕ) (r : Sides) (placin
   is_read = read_tree v h at placing.holds (rw placing.free (omega arith))
 
   pub choice : IsChoice size (nodes v.slots) h.sequence h.tree at
-  choice = record {
-    stands = placing.holds.stands;
-    free = placing.free;
-    start = placing.start;
-    across = placing.across;
-    well = subst (IsWellFormed size) is_read placing.well;
-  }
+  choice = grind (arith, is_read)
 
   -- The tree that is read afterwards is the model's placing.
   pub planned-tree : (new : Shelf) (to : ℕ) (p : Plan) (h' : Holding) → IsPlanFor (node_in v at) r p → IsPlanned new at to p h h' → tree_of (nodes new.slots) ≡ place size (box_of (node_in v at).area) r (id_of to (node_in new to).generation) (tree_of (nodes v.slots))
   planned-tree new to p h' for planned =
-      let once : (x : ℕ) → tally x h'.tree ≤ 1 = once-Stands (nodes new.slots) h'.sequence h'.tree planned.holds.stands in
-      let placed = planned-placed size (nodes v.slots) h.sequence h.tree at r choice (placing.positive, placing.fits) p to (node_in new to).generation h'.tree for planned.tree once in
-      read_tree new h' to planned.holds (rw planned.granted (omega arith))
-      ∙ ap (λ s. tree_in s h'.tree) planned.sequence
-      ∙ placed
-      ∙ ap (place size (box_of (node_in v at).area) r (id_of to (node_in new to).generation)) (sym is_read)
+      grind (arith, once-Stands, planned-placed, choice, read_tree, tree_in, is_read)
 
   -- It has as many members more as the model needs.
   pub planned-used : (new : Shelf) (to : ℕ) (p : Plan) (h' : Holding) → IsPlanFor (node_in v at) r p → IsPlanned new at to p h h' → numbers h'.tree ≡ numbers h.tree + slots_of p
-  planned-used new to p h' for planned =
-      planned-numbers size (nodes v.slots) h.sequence h.tree at r choice (placing.positive, placing.fits) p to (node_in new to).generation h'.tree for planned.tree (once-Stands (nodes new.slots) h'.sequence h'.tree planned.holds.stands)
+  planned-used new to p h' for planned = grind (arith, planned-numbers, choice, once-Stands)
 
   pub need-read : (p : Plan) → IsPlanFor (node_in v at) r p → place_need size (box_of (node_in v at).area) r (tree_of (nodes v.slots)) ≡ slots_of p
-  need-read p for =
-      ap (place_need size (box_of (node_in v at).area) r) is_read
-      ∙ planned-need size (nodes v.slots) h.sequence h.tree at r choice (placing.positive, placing.fits) p for
+  need-read p for = grind (arith, is_read, planned-need, choice)

@@ -10,7 +10,4 @@ side_is (pos n) h = refl
 side_is (negsuc n) h = absurd (omega arith)
 
 pub size_is : (size : Size) → IsPositive (sides_of size) → size ≡ size_of (sides_of size)
-size_is size h =
-    let w : size.width ≡ pos (natural size.width) = side_is size.width h.0 in
-    let t : size.height ≡ pos (natural size.height) = side_is size.height h.1 in
-    λ i. record { width = w i; height = t i }
+size_is size h = grind (arith, side_is)

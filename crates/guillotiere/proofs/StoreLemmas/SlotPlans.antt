@@ -3,11 +3,10 @@ use Rattle.std.proofs.Common.{ℕ, ◌+◌, ◌<◌, ◌≤◌, ◌≡◌, ◌�
 use Rattle.guillotiere.specs.declared.tree.Plan.{Plan}
 use Rattle.guillotiere.specs.declared.tree.Plan.TheVariants as plan
 use Rattle.guillotiere.specs.declared.slots.Node.{Node}
-use Rattle.guillotiere.specs.Boxes.{Axis, Sides, Box, other, same_axis, side, box_sides}
+use Rattle.guillotiere.specs.Boxes.{Axis, Sides, Box, other, same_axis, side}
 use Rattle.guillotiere.specs.Boxes.Axis.{Horizontal, Vertical}
-use Rattle.guillotiere.specs.Pixels.{natural, box_of}
-use Rattle.guillotiere.specs.Cuts.{cut}
-use Rattle.guillotiere.specs.Changes.{need, place, place_need}
+use Rattle.guillotiere.specs.Pixels.{box_of}
+use Rattle.guillotiere.specs.Changes.{place, place_need}
 use Rattle.guillotiere.specs.Slots.{node_at, axis_of}
 use Rattle.guillotiere.specs.Slots.Numbered.{Numbered, tally, numbers, same, id_of, granted_at, split_at, wrapped_at, wrapping, is_free_at}
 use Rattle.guillotiere.specs.Slots.Standing.{Sequence, Stands}
@@ -76,8 +75,7 @@ module _ (size : Sides) (ns : List Node) (s : Sequence) (n : Numbered) (i : ℕ)
 
   -- The tree once a plan is carried out in the leaf: `placed` by the model.
   pub planned-placed : (p : Plan) (to g : ℕ) (new : Numbered) → IsPlanFor (node_at ns i) r p → IsPlannedTree p i s.width to g n new → ((x : ℕ) → tally x new ≤ 1) → tree_in s new ≡ place size f r (id_of to g) (tree_in s n)
-  planned-placed plan.Whole to g new for t once =
-      ap (tree_in s) t.1 ∙ whole-placed size ns s n i r h fit g for ∙ ap (λ v. place size f r (id_of v g) (tree_in s n)) (sym t.0)
+  planned-placed plan.Whole to g new for t once = grind (arith, tree_in, whole-placed)
   planned-placed (plan.StripAlong p) to g new for t once =
       let k = t.1 in
       let is : new ≡ granted_at i g (split_at i k (side a r) n) = t.2 ∙ ap (λ v. granted_at i g (split_at i k v n)) for.1 in
@@ -89,7 +87,7 @@ module _ (size : Sides) (ns : List Node) (s : Sequence) (n : Numbered) (i : ℕ)
       let n1 : Numbered = split_at i k (side a r) n in
       let n2 : Numbered = wrapped_at i to s.width n1 in
       let n3 : Numbered = split_at to l (side (other a) r) n2 in
-      let is : new ≡ granted_at to g n3 = t.2 ∙ ap (λ v. granted_at to g (split_at to l v (wrapped_at i to s.width (split_at i k (natural p) n)))) for.2 ∙ ap (λ v. granted_at to g (split_at to l (side (other a) r) (wrapped_at i to s.width (split_at i k v n)))) for.1 in
+      let is : new ≡ granted_at to g n3 = t.2 ∙ ap (λ v. granted_at to g (split_at to l v (wrapped_at i to s.width (split_at i k p n)))) for.2 ∙ ap (λ v. granted_at to g (split_at to l (side (other a) r) (wrapped_at i to s.width (split_at i k v n)))) for.1 in
       let stays : 0 < places (is_free_at i) n1 = split-stays i k (side a r) n here in
       let gains : 0 < places (is_free_at to) n2 = wrapped-gains i to s.width n1 stays in
       let sum : (x : ℕ) → tally x n + same x k + same x to + same x l ≤ 1 = (λ x. omega (arith, once x, ap (tally x) is, tally-granted x to g n3, split-adds x to l (side (other a) r) n2 gains, wrapped-adds x i to s.width n1 stays, split-adds x i k (side a r) n here)) in
@@ -116,7 +114,7 @@ module _ (size : Sides) (ns : List Node) (s : Sequence) (n : Numbered) (i : ℕ)
       let n2 : Numbered = split_at c k (side (other a) r) n1 in
       let n3 : Numbered = wrapped_at c to s.width n2 in
       let n4 : Numbered = split_at to l (side a r) n3 in
-      let is : new ≡ granted_at to g n4 = t.3 ∙ ap (λ v. granted_at to g (split_at to l v (wrapped_at c to s.width (split_at c k (natural q) n1)))) for.1 ∙ ap (λ v. granted_at to g (split_at to l (side a r) (wrapped_at c to s.width (split_at c k v n1)))) for.2 in
+      let is : new ≡ granted_at to g n4 = t.3 ∙ ap (λ v. granted_at to g (split_at to l v (wrapped_at c to s.width (split_at c k q n1)))) for.1 ∙ ap (λ v. granted_at to g (split_at to l (side a r) (wrapped_at c to s.width (split_at c k v n1)))) for.2 in
       let gains : 0 < places (is_free_at c) n1 = wrapped-gains i c s.width n here in
       let stays : 0 < places (is_free_at c) n2 = split-stays c k (side (other a) r) n1 gains in
       let gains_again : 0 < places (is_free_at to) n3 = wrapped-gains c to s.width n2 stays in
@@ -130,14 +128,7 @@ module _ (size : Sides) (ns : List Node) (s : Sequence) (n : Numbered) (i : ℕ)
 
   -- As many slots as the model needs.
   pub planned-need : (p : Plan) → IsPlanFor (node_at ns i) r p → place_need size f r (tree_in s n) ≡ slots_of p
-  planned-need p for = place_need-choice size ns s n i r h fit ∙ by_line p for
-    where
-      by_line : (p : Plan) → IsPlanFor (node_at ns i) r p → need (cut (box_sides f) r) a ≡ slots_of p
-      by_line plan.Whole for = ap (λ c. need c a) for
-      by_line (plan.StripAlong p) for = ap (λ c. need c a) for.0 ∙ rw (same_axis-itself a) refl
-      by_line (plan.CornerAlong p q) for = ap (λ c. need c a) for.0 ∙ rw (same_axis-itself a) refl
-      by_line (plan.StripAcross q) for = ap (λ c. need c a) for.0 ∙ rw (same_axis-other a) refl
-      by_line (plan.CornerAcross p q) for = ap (λ c. need c a) for.0 ∙ rw (same_axis-other a) refl
+  planned-need p for = grind (arith, place_need-choice, same_axis-itself, same_axis-other)
 
   -- As many members as the model's tree.
   pub planned-numbers : (p : Plan) (to g : ℕ) (new : Numbered) → IsPlanFor (node_at ns i) r p → IsPlannedTree p i s.width to g n new → ((x : ℕ) → tally x new ≤ 1) → numbers new ≡ numbers n + slots_of p

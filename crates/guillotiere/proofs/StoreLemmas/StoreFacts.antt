@@ -1,12 +1,11 @@
 -- What a call on slots tells of the store whose slots they are.
-use Rattle.std.proofs.Common.{ℕ, ◌+◌, ◌≤◌, ◌≡◌, List, [], ◌∷◌, ◌++◌, sym, ap, ◌∙◌, arith, length, length-set, set, subst, inl, inr, vec_capacity, vec_len}
-use Rattle.std.proofs.lemmas.Bool.{cases_eq}
+use Rattle.std.proofs.Common.{ℕ, ◌+◌, ◌≤◌, ◌≡◌, List, [], ◌∷◌, ◌++◌, sym, ap, ◌∙◌, arith, length, length-set, set, subst, vec_capacity, vec_len}
 use Rattle.std.proofs.lemmas.List.{length_push, with_items_is}
 use Rattle.std.specs.Vec.{with_items}
 use Rattle.guillotiere.specs.declared.store.Store.{Store}
 use Rattle.guillotiere.specs.declared.slots.Slot.{Slot}
 use Rattle.guillotiere.specs.declared.slots.Node.{Node}
-use Rattle.guillotiere.specs.Slots.{nodes, rings, no_slot}
+use Rattle.guillotiere.specs.Slots.{nodes, no_slot}
 use Rattle.guillotiere.specs.Stored.{Holding, HoldsWith}
 use Rattle.guillotiere.specs.Store.Holdings.{shelf_of, HasSlotsFor, KeepsRoom, after_take}
 use Rattle.guillotiere.proofs.StoreLemmas.StoreSteps.{AreSlots, length-nodes, length-rings, some-front}
@@ -15,8 +14,7 @@ use Rattle.guillotiere.proofs.StoreLemmas.StoreTakes.{rest-length}
 -- The slots that a store has once a call on them is done.
 pub are-slots : {A : Type 0} (s : Store A) {given mid : List Slot} → given ≡ s.slots.items → length given ≡ vec_len s.slots
     → length mid ≡ length given → AreSlots s.slots.items given mid (with_items s.slots mid).items
-are-slots s {given} {mid} value len long =
-    record { given = value; left = with_items_is s.slots mid (long ∙ len); long = long }
+are-slots s {given} {mid} value len long = grind (arith, with_items_is)
 
 -- A relation of the slots that the call was given and left is one of the store's slots before and after.
 pub across-call : (R : List Slot → List Slot → Type 0) {own old mid new : List Slot} → AreSlots own old mid new → R old mid → R own new
@@ -24,19 +22,13 @@ across-call R {own} {old} {mid} {new} s r = subst (λ x. R x new) s.given (subst
 
 pub slots-room : {A : Type 0} (old new : Store A) {given mid : List Slot} → AreSlots old.slots.items given mid new.slots.items
     → vec_capacity new.slots ≡ vec_capacity old.slots → new.options ≡ old.options → KeepsRoom old new
-slots-room old new s room options = record {
-  slots = ap (λ l. length l) s.left ∙ s.long ∙ ap (λ l. length l) s.given;
-  capacity = room;
-  options = options;
-}
+slots-room old new s room options = grind arith
 
 -- A slot is taken: an unused one, or else a new one.
 module _ {A : Type 0} (old new : Store A) (i : ℕ) (n : Node) (slot : Slot) where
   taken-length : ((old.unused.number ≡ no_slot → ⊥) → nodes new.slots.items ≡ set (nodes old.slots.items) i n)
       → (old.unused.number ≡ no_slot → ⊥) → length new.slots.items ≡ length old.slots.items
-  taken-length again ne =
-      let same = ap (λ s. length s) (again ne) ∙ length-set (nodes old.slots.items) i n in
-      omega (arith, same, length-nodes new.slots.items, length-nodes old.slots.items)
+  taken-length again ne = grind (arith, length-set, length-nodes)
 
   pushed-length : (old.unused.number ≡ no_slot → new.slots.items ≡ old.slots.items ++ slot ∷ []) → old.unused.number ≡ no_slot
       → length new.slots.items ≡ length old.slots.items + 1
@@ -44,10 +36,7 @@ module _ {A : Type 0} (old new : Store A) (i : ℕ) (n : Node) (slot : Slot) whe
 
   pub taken-longer : ((old.unused.number ≡ no_slot → ⊥) → nodes new.slots.items ≡ set (nodes old.slots.items) i n)
       → (old.unused.number ≡ no_slot → new.slots.items ≡ old.slots.items ++ slot ∷ []) → length old.slots.items ≤ length new.slots.items
-  taken-longer again fresh = elim (cases_eq old.unused.number no_slot) [
-    | inl e ↦ omega (arith, pushed-length fresh e)
-    | inr ne ↦ omega (arith, taken-length again ne)
-  ]
+  taken-longer again fresh = grind (arith, pushed-length, taken-length)
 
   -- One slot fewer can be taken then.
   pub taken-room : (h : Holding) (hand : ℕ → ℕ) (m : ℕ) → HoldsWith hand (shelf_of old) h
@@ -55,14 +44,4 @@ module _ {A : Type 0} (old new : Store A) (i : ℕ) (n : Node) (slot : Slot) whe
       → (old.unused.number ≡ no_slot → new.slots.items ≡ old.slots.items ++ slot ∷ [])
       → vec_capacity new.slots ≡ vec_capacity old.slots → HasSlotsFor (m + 1) old h → HasSlotsFor m new (after_take h)
   taken-room h hand m holds again fresh room slots =
-      let rest = rest-length h.spare in
-      elim slots [
-        | inl s ↦ inl (omega (arith, s, rest))
-        | inr s ↦ elim (cases_eq old.unused.number no_slot) [
-          | inl e ↦ elim (cases_eq (length h.spare) 0) [
-            | inl z ↦ inr (omega (arith, pushed-length fresh e, room, rest, z, s.0), omega (arith, pushed-length fresh e, rest, z, s.1))
-            | inr nz ↦ absurd (some-front h.spare (rings old.slots.items) (omega (arith, length-rings old.slots.items, holds.short)) holds.filed.line (sym holds.filed.begins ∙ e) (omega arith))
-          ]
-          | inr ne ↦ inr (omega (arith, taken-length again ne, room, rest, s.0), omega (arith, taken-length again ne, rest, s.1))
-        ]
-      ]
+      grind (arith, rest-length, pushed-length, some-front, length-rings, taken-length)

@@ -11,16 +11,17 @@ use Rattle.guillotiere.specs.Choice.{Options}
 use Rattle.guillotiere.specs.Pixels.{options_of}
 use Rattle.guillotiere.specs.Search.Tables.{head_of, low_of}
 use Rattle.guillotiere.specs.Slots.{nodes, rings, node_at, use_count, KeepsUse, no_slot}
-use Rattle.guillotiere.specs.Slots.Numbered.{Numbered, tally, marked, joined, lifted, granted_at, split_at, wrapped_at}
+use Rattle.guillotiere.specs.Slots.Numbered.{Numbered, joined, lifted, granted_at, split_at, wrapped_at}
 use Rattle.guillotiere.specs.Slots.Standing.{Sequence, Stands}
 use Rattle.guillotiere.specs.Slots.SlotCalls.{CanSplitInto, IsLeafFreed, IsLeafGranted, IsNextJoined, IsChildLifted, IsLeafSplit, IsLeafWrapped}
 use Rattle.guillotiere.proofs.SlotLemmas.Frames.{Standing-same}
-use Rattle.guillotiere.specs.Slots.Lists.{AreFiled, Places, Line, front, is_free}
+use Rattle.guillotiere.specs.Search.Bands.{list_of}
+use Rattle.guillotiere.specs.Slots.Lists.{AreFiled, Places, Line, front, is_free, node_sides}
 use Rattle.std.proofs.lemmas.List.{length-map, length_push}
-use Rattle.guillotiere.specs.Slots.Links.{with_mark, with_count, tail_of, given_back, IsSolid, IsTaken}
+use Rattle.guillotiere.specs.Slots.Links.{BelongsIn, IsListed, with_mark, with_count, given_back, IsSolid, IsTaken}
 use Rattle.guillotiere.specs.Stored.{Shelf, Holding, Holds, HoldsWith, places_of}
 use Rattle.guillotiere.specs.Store.Holdings.{node_in, IsLow, IsLooseLeaf, IsReadyWith, after_take, after_grant, after_mark, after_join, after_lift, after_split, after_wrap}
-use Rattle.guillotiere.proofs.StoreLemmas.Filing.{AreFiled-sharpened, with_mark-same, with_mark-other, with_count-same, with_count-other}
+use Rattle.guillotiere.proofs.StoreLemmas.Filing.{AreFiled-sharpened, is-listed, with_mark-same, with_mark-other, with_count-same, with_count-other}
 use Rattle.guillotiere.proofs.StoreLemmas.Taking.{AreFiled-moved, AreFiled-nodes, IsMoved}
 use Rattle.guillotiere.proofs.SlotLemmas.NumberedCuts.{IsRecut, recut-marked, recut-granted, recut-joined, recut-lifted, recut-split, recut-wrapped}
 use Rattle.guillotiere.proofs.SlotLemmas.SlotBoxes.{slot-exact}
@@ -33,18 +34,7 @@ pub held_again : (hand hand' : ℕ → ℕ) (v : Shelf) (new : List Slot) (unuse
     (record { spare = spare; held = h.held; hand = hand'; loose = loose })
     → IsRecut h.sequence.width h.tree tree
     → HoldsWith hand' (record v { slots = new; unused = unused }) (record h { tree = tree; spare = spare; loose = loose })
-held_again hand hand' v new unused h tree spare loose short holds stands filed recut =
-    record {
-      top = holds.top;
-      stands = stands;
-      filed = filed;
-      short = short;
-      valid = holds.valid;
-      cut = recut.1 holds.wide holds.cut;
-      wide = holds.wide;
-      across = holds.across;
-      along = omega (arith, holds.along, recut.0);
-    }
+held_again hand hand' v new unused h tree spare loose short holds stands filed recut = grind arith
 
 -- A slot that keeps its use stays as it was for the lists.
 pub moved-kept : (n m : Node) (loose loose' : Bool) → KeepsUse n m → loose' ≡ loose → IsMoved n m loose loose'
@@ -59,19 +49,7 @@ pub filed-one : (o : Options) (ns ms : List Node) (rs ts : List Ring) (heads : L
     → ((k : ℕ) → k ≢ i → KeepsUse (node_at ns k) (node_at ms k))
     → AreFiled o ns rs heads unused p → AreFiled o ms ts heads unused (record p { loose = with_mark p.loose i mark })
 filed-one o ns ms rs ts heads unused p i mark same here used others filed =
-    let moved : (k : ℕ) → IsMoved (node_at ns k) (node_at ms k) (p.loose k) (with_mark p.loose i mark k) =
-    λ k. elim (cases_eq k i) [
-      | inl e ↦ subst (λ x. IsMoved (node_at ns x) (node_at ms x) (p.loose x) (with_mark p.loose i mark x)) (sym e)
-          (subst (λ b. IsMoved (node_at ns i) (node_at ms i) (p.loose i) b) (sym (with_mark-same p.loose i mark)) here)
-      | inr ne ↦ moved-kept (node_at ns k) (node_at ms k) (p.loose k) (with_mark p.loose i mark k) (others k ne) (with_mark-other p.loose i mark k ne)
-    ] in
-    let counts : (k : ℕ) → k < length rs → p.hand k + use_count (node_at ms k).kind ≡ p.hand k + use_count (node_at ns k).kind =
-    λ k _. elim (cases_eq k i) [
-      | inl e ↦ subst (λ x. p.hand x + use_count (node_at ms x).kind ≡ p.hand x + use_count (node_at ns x).kind) (sym e) (omega (arith, used))
-      | inr ne ↦ omega (arith, use-kept (node_at ns k) (node_at ms k) (others k ne))
-    ] in
-    subst (λ r. AreFiled o ms r heads unused (record p { loose = with_mark p.loose i mark })) (sym same)
-    (AreFiled-moved o ns ms rs heads unused p p.hand (with_mark p.loose i mark) moved counts filed)
+    grind (arith, with_mark-same, moved-kept, with_mark-other, use-kept, AreFiled-moved)
 
 -- A loose leaf is granted.
 pub granted-holds : (v : Shelf) (new : List Slot) (at : ℕ) → length new ≡ length v.slots → IsLeafGranted v.slots new at
@@ -106,9 +84,7 @@ short-mid own old mid new a h = omega (arith, ap (λ s. length s) a.given, a.lon
 
 pub filed-before : (hand : ℕ → ℕ) (v : Shelf) (old : List Slot) (h : Holding) → old ≡ v.slots → HoldsWith hand v h
     → AreFiled (options_of v.options) (nodes old) (rings old) v.heads v.unused (places_of hand h)
-filed-before hand v old h e holds =
-    let F : List Slot → Type 0 = λ slots. AreFiled (options_of v.options) (nodes slots) (rings slots) v.heads v.unused (places_of hand h) in
-    subst F (sym e) holds.filed
+filed-before hand v old h e holds = grind arith
 
 pub stands-before : (hand : ℕ → ℕ) (v : Shelf) (old : List Slot) (h : Holding) → old ≡ v.slots → HoldsWith hand v h → Stands (nodes old) h.sequence h.tree
 stands-before hand v old h e holds = let Q : List Slot → Type 0 = λ slots. Stands (nodes slots) h.sequence h.tree in subst Q (sym e) holds.stands
@@ -117,13 +93,12 @@ stands-before hand v old h e holds = let Q : List Slot → Type 0 = λ slots. St
 pub marked-holds : (v : Shelf) (new : List Slot) (at : ℕ) → length new ≡ length v.slots → IsLeafFreed v.slots new at
     → (node_in v at).kind ≡ kind.Alloc → (h : Holding) → Holds v h → Holds (record v { slots = new }) (after_mark at h)
 marked-holds v new at long w was h holds =
-    let is_now_free : (node_at (nodes new) at).kind ≡ kind.Free = ap (λ n. n.kind) w.leaf in
-    held_again (λ i. 0) (λ i. 0) v new v.unused h (marked at h.tree) h.spare (with_mark h.loose at true)
-    (omega (arith, holds.short, long)) holds (w.tree h.sequence h.tree holds.stands)
-    (filed-one (options_of v.options) (nodes v.slots) (nodes new) (rings v.slots) (rings new) v.heads v.unused
-    (places_of (λ i. 0) h) at true w.same_rings (inr (inr (ap is_free was), inl refl))
-    (ap use_count is_now_free ∙ sym (ap use_count was)) w.others holds.filed)
-    (recut-marked at h.sequence.width h.tree)
+    grind (
+      arith,
+      held_again,
+      filed-one (options_of v.options) (nodes v.slots) (nodes new) (rings v.slots) (rings new) v.heads v.unused,
+      recut-marked at h.sequence.width h.tree,
+    )
 
 -- Two slots change: i stays in use, and j goes to hand or comes from there.
 pub record ChangesTwo (ns ms : List Node) (i j : ℕ) (hand hand' : ℕ → ℕ) (loose loose' : ℕ → Bool) : Type 0 where
@@ -145,18 +120,12 @@ filed-two o ns ms rs ts heads unused p hand' loose' i j same c filed =
     let moved : (k : ℕ) → M k =
     λ k. elim (cases_eq k i) [
       | inl e ↦ subst M (sym e) c.first
-      | inr ne ↦ elim (cases_eq k j) [
-        | inl e ↦ subst M (sym e) c.second
-        | inr nf ↦ moved-kept (node_at ns k) (node_at ms k) (p.loose k) (loose' k) (c.others k ne nf) (c.marks k ne nf)
-      ]
+      | inr ne ↦ grind (arith, moved-kept)
     ] in
     let counts : (k : ℕ) → k < length rs → C k =
     λ k _. elim (cases_eq k j) [
       | inl e ↦ subst C (sym e) c.counted
-      | inr ne ↦ elim (cases_eq k i) [
-        | inl e ↦ subst C (sym e) (omega (arith, c.used, c.hands i c.apart))
-        | inr nf ↦ omega (arith, use-kept (node_at ns k) (node_at ms k) (c.others k nf ne), c.hands k ne)
-      ]
+      | inr ne ↦ grind (arith, use-kept)
     ] in
     subst (λ r. AreFiled o ms r heads unused (record p { hand = hand'; loose = loose' })) (sym same)
     (AreFiled-moved o ns ms rs heads unused p hand' loose' moved counts filed)
@@ -164,30 +133,14 @@ filed-two o ns ms rs ts heads unused p hand' loose' i j same c filed =
 -- What is in hand may be said in another way.
 pub filed-hand : (o : Options) (ns : List Node) (rs : List Ring) (heads : List ListHead) (unused : Link) (p : Places) (hand' : ℕ → ℕ)
     → ((i : ℕ) → hand' i ≡ p.hand i) → AreFiled o ns rs heads unused p → AreFiled o ns rs heads unused (record p { hand = hand' })
-filed-hand o ns rs heads unused p hand' e filed =
-    AreFiled-nodes o ns ns rs heads unused p hand' p.loose (λ k i. refl) (λ i _. omega (arith, e i)) (λ k i _ _. refl) filed
+filed-hand o ns rs heads unused p hand' e filed = grind (arith, AreFiled-nodes)
 
 pub holds-hand : (hand hand' : ℕ → ℕ) (v : Shelf) (h : Holding) → ((i : ℕ) → hand' i ≡ hand i) → HoldsWith hand v h → HoldsWith hand' v h
-holds-hand hand hand' v h e holds =
-    record {
-      top = holds.top;
-      stands = holds.stands;
-      filed = filed-hand (options_of v.options) (nodes v.slots) (rings v.slots) v.heads v.unused (places_of hand h) hand' e holds.filed;
-      short = holds.short;
-      valid = holds.valid;
-      cut = holds.cut;
-      wide = holds.wide;
-      across = holds.across;
-      along = holds.along;
-    }
+holds-hand hand hand' v h e holds = grind (arith, filed-hand)
 
 -- One slot that was in hand, and is no more.
 pub hand-back : (hand : ℕ → ℕ) (j m : ℕ) → hand j ≡ 0 → (i : ℕ) → with_count (with_count hand j m) j 0 i ≡ hand i
-hand-back hand j m none i =
-    elim (cases_eq i j) [
-      | inl e ↦ subst (λ x. with_count (with_count hand j m) j 0 x ≡ hand x) (sym e) (with_count-same (with_count hand j m) j 0 ∙ sym none)
-      | inr ne ↦ with_count-other (with_count hand j m) j 0 i ne ∙ with_count-other hand j m i ne
-    ]
+hand-back hand j m none i = grind (arith, with_count-same, with_count-other)
 
 -- A free leaf leaves its list, or enters it: the nodes stay.
 pub listed-holds : (v : Shelf) (old mid new : List Slot) (heads : List ListHead) (h : Holding) (held : ℕ → List ℕ) (loose : ℕ → Bool)
@@ -196,44 +149,31 @@ pub listed-holds : (v : Shelf) (old mid new : List Slot) (heads : List ListHead)
     → AreFiled (options_of v.options) (nodes mid) (rings mid) heads v.unused (record (places_of (λ i. 0) h) { held = held; loose = loose }))
     → Holds v h → Holds (record v { slots = new; heads = heads }) (record h { held = held; loose = loose })
 listed-holds v old mid new heads h held loose a same filed holds =
-    let Q : List Slot → Type 0 = λ slots. Holds (record v { slots = slots; heads = heads }) (record h { held = held; loose = loose }) in
-    let S : List Node → Type 0 = λ ns. Stands ns h.sequence h.tree in
-    subst Q (sym a.left) (record {
-      top = holds.top;
-      stands = subst S (sym same) (stands-before (λ i. 0) v old h a.given holds);
-      filed = filed (filed-before (λ i. 0) v old h a.given holds);
-      short = short-mid v.slots old mid new a holds.short;
-      valid = holds.valid;
-      cut = holds.cut;
-      wide = holds.wide;
-      across = holds.across;
-      along = holds.along;
-    })
+    grind (arith, stands-before, filed-before, short-mid)
 
 -- Another strip is kept of a list.
 pub sharpened-holds : (v : Shelf) (heads : List ListHead) (m low : ℕ) (h : Holding)
     → ((k : ℕ) → head_of heads k ≡ head_of v.heads k) → ((k : ℕ) → k ≢ m → low_of heads k ≡ low_of v.heads k) → low_of heads m ≡ low
     → IsLow v h m low → Holds v h → Holds (record v { heads = heads }) h
-sharpened-holds v heads m low h firsts lows here below holds =
-    record {
-      top = holds.top;
-      stands = holds.stands;
-      filed = AreFiled-sharpened (options_of v.options) (nodes v.slots) (rings v.slots) v.heads heads v.unused (places_of (λ i. 0) h) m low firsts lows here below holds.filed;
-      short = holds.short;
-      valid = holds.valid;
-      cut = holds.cut;
-      wide = holds.wide;
-      across = holds.across;
-      along = holds.along;
-    }
+sharpened-holds v heads m low h firsts lows here below holds = grind (arith, AreFiled-sharpened)
 
 -- The rectangle of a free leaf is exact.
 pub leaf-exact : (v : Shelf) (old : List Slot) (at : ℕ) (h : Holding) → old ≡ v.slots → Holds v h → (node_in v at).kind ≡ kind.Free
     → IsSolid (node_at (nodes old) at).area
-leaf-exact v old at h e holds free =
-    let P : List Slot → Type 0 = λ slots. IsSolid (node_at (nodes slots) at).area in
-    let used : 0 < use_count (node_in v at).kind = omega (arith, ap use_count free) in
-    subst P (sym e) (slot-exact (nodes v.slots) at h.sequence h.tree holds.stands holds.cut holds.wide used)
+leaf-exact v old at h e holds free = grind (arith, slot-exact)
+
+-- A free slot that is not loose stands in a list.
+pub is-held-listed : (v : Shelf) (old : List Slot) (at : ℕ) (h : Holding) → old ≡ v.slots → Holds v h
+    → (node_in v at).kind ≡ kind.Free → h.loose at ≡ false → IsListed (rings old) at
+is-held-listed v old at h e holds free kept =
+    let P : List Slot → Type 0 = λ slots. IsListed (rings slots) at in
+    subst P (sym e) (is-listed (options_of v.options) v.slots v.heads at
+    (record { unused = v.unused; places = places_of (λ i. 0) h; filed = holds.filed; kept = kept }) free)
+
+pub belongs-before : (v : Shelf) (old : List Slot) (m at : ℕ) (h : Holding) → old ≡ v.slots
+    → (node_in v at).kind ≡ kind.Free → h.loose at ≡ false → m ≡ list_of (options_of v.options) (node_sides (node_in v at))
+    → BelongsIn (options_of v.options) (nodes old) (places_of (λ i. 0) h) m at
+belongs-before v old m at h e free kept list = grind arith
 
 -- Slot j, which was in hand, is given back.
 pub record GivesBack (v : Shelf) (old new : List Slot) (unused : Link) (j : ℕ) : Type 0 where
@@ -277,19 +217,15 @@ pub joined-holds : (v : Shelf) (mid new : List Slot) (unused : Link) (i j : ℕ)
     → (h : Holding) → IsLooseLeaf v i h → h.loose j ≡ true
     → Holds (record v { slots = new; unused = unused }) (after_join i j h)
 joined-holds v mid new unused i j long w back other_free h leaf loose_j =
-    let gone : (node_at (nodes mid) j).kind ≡ kind.Unused = ap (λ n. n.kind) w.given in
-    let apart : i ≢ j = λ e. w.apart (sym e) in
-    given-holds v mid new unused i j h (joined i h.tree) (with_mark h.loose j false) long w.same_rings back leaf.holds (record {
-      apart = apart;
-      first = inr (inl leaf.loose, inl (with_mark-other h.loose j false i apart ∙ leaf.loose));
-      second = inr (inl loose_j, inr (ap is_free gone));
-      used = ap (λ n. use_count n.kind) w.leaf;
-      counted = omega (arith, with_count-same (λ k. 0) j 1, ap use_count gone, ap use_count other_free);
-      hands = λ k ne. with_count-other (λ k. 0) j 1 k ne;
-      marks = λ k _ ne. with_mark-other h.loose j false k ne;
-      others = w.others;
-    })
-    (w.tree h.sequence h.tree leaf.holds.stands) (recut-joined i h.sequence.width h.tree)
+    grind (
+      arith,
+      given-holds v mid new unused i j h (joined i h.tree) (with_mark h.loose j false) long w.same_rings back leaf.holds,
+      with_mark-other h.loose j false i,
+      with_count-same,
+      with_count-other,
+      with_mark-other h.loose j false,
+      recut-joined i h.sequence.width h.tree,
+    )
 
 -- A container gives way to its lone child, whose slot is given back.
 pub lifted-holds : (v : Shelf) (mid new : List Slot) (unused : Link) (i c : ℕ) → length mid ≡ length v.slots
@@ -319,19 +255,7 @@ node-before P v old i e p = let Q : List Slot → Type 0 = λ slots. P (node_at 
 -- The tree stays where a slot that isn't used changes, and stays unused.
 pub stands-taken : (ns ms : List Node) (i : ℕ) (s : Sequence) (n : Numbered) → (node_at ns i).kind ≡ kind.Unused → (node_at ms i).kind ≡ kind.Unused
     → ((k : ℕ) → k ≢ i → node_at ms k ≡ node_at ns k) → Stands ns s n → Stands ms s n
-stands-taken ns ms i s n was is others stands =
-    let counts : (k : ℕ) → tally k n ≡ use_count (node_at ms k).kind =
-    λ k. elim (cases_eq k i) [
-      | inl e ↦ subst (λ x. tally x n ≡ use_count (node_at ms x).kind) (sym e) (stands.numbered i ∙ ap use_count was ∙ sym (ap use_count is))
-      | inr ne ↦ stands.numbered k ∙ ap (λ m. use_count m.kind) (sym (others k ne))
-    ] in
-    record {
-      standing = Standing-same ns ms s no_slot 0 n (λ j h. elim (cases_eq j i) [
-        | inl e ↦ absurd (omega (arith, ap (λ x. tally x n) e, stands.numbered i, ap use_count was))
-        | inr ne ↦ others j ne
-      ]) stands.standing;
-      numbered = counts;
-    }
+stands-taken ns ms i s n was is others stands = grind (arith, others, Standing-same)
 
 -- An unused slot is taken.
 pub taken-holds : (v : Shelf) (new : List Slot) (unused : Link) (at : ℕ) (h : Holding) (hand : ℕ → ℕ)
@@ -339,10 +263,7 @@ pub taken-holds : (v : Shelf) (new : List Slot) (unused : Link) (at : ℕ) (h : 
     → ((k : ℕ) → k ≢ at → node_at (nodes new) k ≡ node_at (nodes v.slots) k)
     → IsTaken (options_of v.options) v.slots new v.heads unused (places_of hand h) at
     → HoldsWith hand v h → HoldsWith (with_count hand at 1) (record v { slots = new; unused = unused }) (after_take h)
-taken-holds v new unused at h hand short others taken holds =
-    held_again hand (with_count hand at 1) v new unused h h.tree (tail_of h.spare) h.loose short holds
-    (stands-taken (nodes v.slots) (nodes new) at h.sequence h.tree taken.was_unused taken.is_unused others holds.stands)
-    taken.filed (refl, λ _ c. c)
+taken-holds v new unused at h hand short others taken holds = grind (arith, held_again, stands-taken, others)
 
 -- A list of slots begins at a slot.
 pub some-front : (xs : List ℕ) (rs : List Ring) → length rs ≤ 16777216 → Line rs xs → front xs ≡ no_slot → 1 ≤ length xs → ⊥
@@ -363,25 +284,11 @@ pub taken-short : (v : Shelf) (new : List Slot) (capacity i : ℕ) (n : Node) (s
     → (v.unused.number ≡ no_slot → new ≡ v.slots ++ slot ∷ [])
     → length new ≤ 16777216
 taken-short v new capacity i n slot h hand holds room again fresh =
-    elim (cases_eq v.unused.number no_slot) [
-      | inl e ↦
-          let one : length new ≡ length v.slots + 1 = ap (λ s. length s) (fresh e) ∙ length_push v.slots slot in
-          elim room [
-            | inl some ↦ absurd (some-front h.spare (rings v.slots) (omega (arith, length-rings v.slots, holds.short)) holds.filed.line (sym holds.filed.begins ∙ e) some)
-            | inr r ↦ elim (cases_eq (length h.spare) 0) [
-              | inl z ↦ omega (arith, one, r.1, z)
-              | inr nz ↦ absurd (some-front h.spare (rings v.slots) (omega (arith, length-rings v.slots, holds.short)) holds.filed.line (sym holds.filed.begins ∙ e) (omega arith))
-            ]
-          ]
-      | inr ne ↦
-          let same : length (nodes new) ≡ length (nodes v.slots) = ap (λ s. length s) (again ne) ∙ length-set (nodes v.slots) i n in
-          omega (arith, same, length-nodes new, length-nodes v.slots, holds.short)
-    ]
+    grind (arith, length_push, some-front, length-rings, length-set, length-nodes)
 
 -- A free leaf and an unused slot are two.
 pub apart-kinds : (ns : List Node) (i j : ℕ) → (node_at ns i).kind ≡ kind.Free → (node_at ns j).kind ≡ kind.Unused → i ≢ j
-apart-kinds ns i j free unused e =
-    let z : kind.Free ≡ kind.Unused = sym free ∙ ap (λ x. (node_at ns x).kind) e ∙ unused in cc
+apart-kinds ns i j free unused e = grind arith
 
 -- The slot in hand takes what a loose leaf doesn't keep.
 pub split-holds : (v : Shelf) (new : List Slot) (at fresh : Link) (p : ℕ) → length new ≡ length v.slots

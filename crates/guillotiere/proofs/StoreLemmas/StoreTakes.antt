@@ -1,12 +1,11 @@
 -- A slot is taken and put to use at once.
-use Rattle.std.proofs.Common.{ℕ, ◌-◌, [], ◌∷◌, ◌≡◌, ◌≢◌, List, refl, sym, ◌∙◌, arith, length, true, inl, inr, subst, false}
+use Rattle.std.proofs.Common.{ℕ, ◌-◌, [], ◌∷◌, ◌≡◌, ◌≢◌, List, refl, sym, arith, length, true}
 use Rattle.guillotiere.specs.declared.store.Store.{Store}
 use Rattle.guillotiere.specs.declared.slots.NodeKind.TheVariants as kind
-use Rattle.guillotiere.specs.Slots.Links.{with_count, with_mark, tail_of}
+use Rattle.guillotiere.specs.Slots.Links.{with_count, tail_of}
 use Rattle.guillotiere.specs.Stored.{Shelf, Holding, HoldsWith}
 use Rattle.guillotiere.specs.Store.Holdings.{node_in, HasSlotsFor, IsReadyWith, KeepsRoom, after_take, after_wrap}
 use Rattle.guillotiere.proofs.StoreLemmas.Filing.{with_count-same, with_count-other, with_mark-same, with_mark-other}
-use Rattle.std.proofs.lemmas.Bool.{cases_eq}
 use Rattle.guillotiere.proofs.StoreLemmas.StoreSteps.{holds-hand, hand-back, apart-kinds}
 use Rattle.guillotiere.specs.Slots.{nodes}
 
@@ -22,11 +21,7 @@ used-taken v fresh hand h none holds = holds-hand (with_count (with_count hand f
 -- As many slots can be taken as before.
 pub slots-kept : {A : Type 0} (old new : Store A) (n : ℕ) (h : Holding) → KeepsRoom old new
     → HasSlotsFor n old h → HasSlotsFor n new h
-slots-kept old new n h r slots =
-    elim slots [
-      | inl s ↦ inl s
-      | inr s ↦ inr (omega (arith, r.slots, r.capacity, s.0), omega (arith, r.slots, s.1))
-    ]
+slots-kept old new n h r slots = grind arith
 
 -- A list that loses its first.
 pub rest-length : (xs : List ℕ) → length (tail_of xs) ≡ length xs - 1
@@ -42,24 +37,12 @@ abbrev pub two_hands : (b f : ℕ) → ℕ → ℕ
 two_hands b f = with_count (with_count (λ i. 0) b 1) f 1
 
 pub second-hand : (b f : ℕ) → f ≢ b → with_count (two_hands b f) f 0 b ≡ 1
-second-hand b f apart =
-    with_count-other (two_hands b f) f 0 b (λ e. apart (sym e)) ∙ with_count-other (with_count (λ i. 0) b 1) f 1 b (λ e. apart (sym e)) ∙ with_count-same (λ i. 0) b 1
+second-hand b f apart = grind (arith, with_count-other, with_count-same)
 
 pub no-hand : (b f : ℕ) (i : ℕ) → 0 ≡ with_count (with_count (two_hands b f) f 0) b 0 i
-no-hand b f i =
-    elim (cases_eq i b) [
-      | inl e ↦ subst (λ x. 0 ≡ with_count (with_count (two_hands b f) f 0) b 0 x) (sym e) (sym (with_count-same (with_count (two_hands b f) f 0) b 0))
-      | inr ne ↦ elim (cases_eq i f) [
-        | inl e ↦ subst (λ x. 0 ≡ with_count (two_hands b f) f 0 x) (sym e) (sym (with_count-same (two_hands b f) f 0)) ∙ sym (with_count-other (with_count (two_hands b f) f 0) b 0 i ne)
-        | inr nf ↦ sym (with_count-other (with_count (two_hands b f) f 0) b 0 i ne ∙ with_count-other (two_hands b f) f 0 i nf ∙ with_count-other (with_count (λ k. 0) b 1) f 1 i nf ∙ with_count-other (λ k. 0) b 1 i ne)
-      ]
-    ]
+no-hand b f i = grind (arith, with_count-same, with_count-other)
 
 -- The child of what was a loose leaf is ready to be split.
 pub ready-wrapped : (v : Shelf) (at f b : ℕ) (h : Holding) → f ≢ b → f ≢ at → HoldsWith (with_count (two_hands b f) f 0) v (after_wrap at f h)
     → IsReadyWith (with_count (two_hands b f) f 0) v f b (after_wrap at f h)
-ready-wrapped v at f b h apart other holds = record {
-  holds = holds;
-  loose = with_mark-other (with_mark h.loose f true) at false f other ∙ with_mark-same h.loose f true;
-  in_hand = second-hand b f apart;
-}
+ready-wrapped v at f b h apart other holds = grind (arith, with_mark-other, with_mark-same, second-hand)

@@ -8,8 +8,8 @@ use Rattle.guillotiere.specs.declared.store.Store.{Store}
 use Rattle.guillotiere.specs.Trees.{IsNormal}
 use Rattle.guillotiere.specs.Changes.{nf}
 use Rattle.guillotiere.specs.Slots.Calm.{IsCalmAt, IsCalmBut, NoneEmpty}
-use Rattle.guillotiere.specs.Slots.{nodes, rings, use_count, no_slot}
-use Rattle.guillotiere.specs.Slots.Numbered.{Numbered, erase, numbers, same, tally, marked, lifted, first_slot, End, Free, Alloc, Seq}
+use Rattle.guillotiere.specs.Slots.{nodes, rings, no_slot}
+use Rattle.guillotiere.specs.Slots.Numbered.{erase, numbers, same, tally, marked, lifted, first_slot}
 use Rattle.guillotiere.specs.Slots.Standing.{IsSlot, IsWhole, IsTree}
 use Rattle.guillotiere.specs.Slots.Lists.{occurs}
 use Rattle.guillotiere.specs.Stored.{Shelf, Holding, Holds, IsLooseOnly}
@@ -34,8 +34,7 @@ count-nodes : (v : Shelf) → length (nodes v.slots) ≡ length v.slots
 count-nodes v = simp length-map
 
 pub settling-tree_of : (v : Shelf) (at : ℕ) (h : Holding) → IsSettlingAt v at h → IsSettlingTree (nodes v.slots) h.sequence h.tree at
-settling-tree_of v at h w =
-    record { top = w.leaf.holds.top; stands = w.leaf.holds.stands; full = w.full; free = w.leaf.kind; calm = w.calm }
+settling-tree_of v at h w = grind arith
 
 whole-of : (v : Shelf) (h : Holding) → Holds v h → IsWhole (nodes v.slots)
 whole-of v h w = (h.sequence, h.tree, w.top, w.stands)
@@ -46,15 +45,10 @@ tree-in v h w = (h.sequence, h.tree, w.stands)
 -- The neighbours of the leaf at work are slots or none.
 
 pub next-inside : (v : Shelf) (at m : ℕ) (n : Node) → ((h : Holding) × IsSettlingAt v at h) → n ≡ node_in v at → m ≡ length v.slots → IsSlot m n.next.number
-next-inside v at m n t e em =
-    let w = t.1.leaf in
-    next-slot (nodes v.slots) at m n.next.number (whole-of v t.0 w.holds) w.kind (ap (λ (n : Node). n.next.number) e) (em ∙ sym (count-nodes v))
+next-inside v at m n t e em = grind (arith, next-slot, whole-of, count-nodes)
 
 pub previous-inside : (v : Shelf) (at m : ℕ) (n : Node) → ((h : Holding) × IsSettlingAt v at h) → n ≡ node_in v at → m ≡ length v.slots → IsSlot m n.previous.number
-previous-inside v at m n t e em =
-    let w = t.1.leaf in
-    let few = few-slots v t.0 w.holds in
-    previous-slot (nodes v.slots) at m n.previous.number (omega arith) (whole-of v t.0 w.holds) w.kind (ap (λ (n : Node). n.previous.number) e) (em ∙ sym (count-nodes v))
+previous-inside v at m n t e em = grind (arith, few-slots, previous-slot, whole-of, count-nodes)
 
 -- A slot other than the one at work stands in its list.
 listed : (v : Shelf) (at x : ℕ) (h : Holding) → IsSettlingAt v at h → (x ≡ at → ⊥) → h.loose x ≡ false
@@ -75,66 +69,28 @@ pub record IsJoinable (v : Shelf) (i j at : ℕ) (h : Holding) : Type 0 where
   pub full : NoneEmpty (erase h.tree)
 
 apart-next : (v : Shelf) (i j : ℕ) (h : Holding) → Holds v h → (node_in v i).kind ≡ kind.Free → (node_in v i).next.number ≡ j → (node_in v j).kind ≡ kind.Free → j ≡ i → ⊥
-apart-next v i j h w fi e fj =
-    let few = few-slots v h w in
-    (can-join (nodes v.slots) i j (node_in v j).next.number (omega arith) (tree-in v h w) fi e fj refl).apart.0
+apart-next v i j h w fi e fj = grind (arith, few-slots, can-join, tree-in)
 
 leads-here : (v : Shelf) (at x : ℕ) (h : Holding) → IsSettlingAt v at h → x ≡ (node_in v at).previous.number → (node_in v x).kind ≡ kind.Free → (node_in v x).next.number ≡ at
-leads-here v at x h w e f =
-    let few = few-slots v h w.leaf.holds in
-    let leads = previous-leads (nodes v.slots) at (omega arith) (whole-of v h w.leaf.holds) w.leaf.kind (rw e at f) in
-    rw e leads
+leads-here v at x h w e f = grind (arith, few-slots, previous-leads, whole-of)
 
 -- Only the leaf at work and the one that was taken out of its list are loose.
 only-two : (i j : ℕ) (h : Holding) (held : ℕ → List ℕ) → IsLooseOnly (i ∷ []) h → IsLooseOnly (i ∷ j ∷ []) (with_loose j true (with_held held h))
-only-two i j h held only k z =
-    let nj : k ≡ j → ⊥ = ne-from_same j k (omega (arith, comm k j)) in
-    with_mark-other h.loose j true k nj ∙ only k (omega arith)
-  where
-    comm : (a b : ℕ) → same a b ≡ same b a
-    comm a b = elim (cases_eq a b) [ inl e ↦ rw e refl | inr ne ↦ same-ne a b ne ∙ sym (same-ne b a (λ q. ne (sym q))) ]
+only-two i j h held only k z = grind (arith, ne-from_same, with_mark-other, only, same-ne)
 
 pub next-listed : (v : Shelf) (at x : ℕ) (h : Holding) → IsSettlingAt v at h → x ≡ (node_in v at).next.number → (node_in v x).kind ≡ kind.Free → h.loose x ≡ false
 next-listed v at x h w e f = listed v at x h w (apart-next v at x h w.leaf.holds w.leaf.kind (sym e) f)
 
 pub previous-listed : (v : Shelf) (at x : ℕ) (h : Holding) → IsSettlingAt v at h → x ≡ (node_in v at).previous.number → (node_in v x).kind ≡ kind.Free → h.loose x ≡ false
-previous-listed v at x h w e f =
-    listed v at x h w (λ q. apart-next v x at h w.leaf.holds f (leads-here v at x h w e f) w.leaf.kind (sym q))
+previous-listed v at x h w e f = grind (arith, listed, apart-next, leads-here)
 
 pub joinable-next : (v u : Shelf) (at x : ℕ) (h : Holding) (held : ℕ → List ℕ) → IsSettlingAt v at h → x ≡ (node_in v at).next.number → (node_in v x).kind ≡ kind.Free → nodes u.slots ≡ nodes v.slots → Holds u (with_loose x true (with_held held h)) → IsJoinable u at x at (with_loose x true (with_held held h))
 joinable-next v u at x h held w e f same_nodes holds =
-    let ne = apart-next v at x h w.leaf.holds w.leaf.kind (sym e) f in
-    record {
-      holds = holds;
-      free = rw same_nodes w.leaf.kind;
-      next = rw same_nodes (sym e);
-      next_free = rw same_nodes f;
-      loose = with_mark-other h.loose x true at (λ q. ne (sym q)) ∙ w.leaf.loose;
-      next_loose = with_mark-same h.loose x true;
-      only = only-two at x h held w.only;
-      apart = ne;
-      which = inl refl;
-      calm = rw same_nodes w.calm;
-      full = w.full;
-    }
+    grind (arith, apart-next, with_mark-other, with_mark-same, only-two)
 
 pub joinable-previous : (v u : Shelf) (at x : ℕ) (h : Holding) (held : ℕ → List ℕ) → IsSettlingAt v at h → x ≡ (node_in v at).previous.number → (node_in v x).kind ≡ kind.Free → nodes u.slots ≡ nodes v.slots → Holds u (with_loose x true (with_held held h)) → IsJoinable u x at at (with_loose x true (with_held held h))
 joinable-previous v u at x h held w e f same_nodes holds =
-    let leads = leads-here v at x h w e f in
-    let ne = apart-next v x at h w.leaf.holds f leads w.leaf.kind in
-    record {
-      holds = holds;
-      free = rw same_nodes f;
-      next = rw same_nodes leads;
-      next_free = rw same_nodes w.leaf.kind;
-      loose = with_mark-same h.loose x true;
-      next_loose = with_mark-other h.loose x true at ne ∙ w.leaf.loose;
-      only = λ k z. only-two at x h held w.only k (omega arith);
-      apart = ne;
-      which = inr refl;
-      calm = rw same_nodes w.calm;
-      full = w.full;
-    }
+    grind (arith, leads-here, apart-next, with_mark-same, with_mark-other, only-two)
 
 -- One slot was given back, so there is one member fewer.
 pub fewer-given : (v u : Shelf) (h less : Holding) (j : ℕ) → Holds v h → Holds u less → length u.slots ≡ length v.slots → less.spare ≡ j ∷ h.spare → numbers less.tree + 1 ≡ numbers h.tree
@@ -161,11 +117,7 @@ fewer-given v u h less j w k same_length given =
 
 -- An unused slot is not free.
 spare-apart : (u : Shelf) (less : Holding) (c j : ℕ) (rest : List ℕ) → Holds u less → less.spare ≡ j ∷ rest → (node_in u c).kind ≡ kind.Free → c ≡ j → ⊥
-spare-apart u less c j rest k given f e =
-    let lj : j < length (rings u.slots) = (rw given at k.filed.line).0 in
-    let o : occurs j less.spare ≡ same j j + occurs j rest = ap (occurs j) given in
-    let z : use_count (node_in u j).kind ≡ 1 = ap (λ v. use_count (node_in u v).kind) (sym e) ∙ ap use_count f in
-    absurd (omega (arith, k.filed.each j lj, same-self j))
+spare-apart u less c j rest k given f e = grind (arith, same-self)
 
 -- What a join makes of two leaves that can be joined.
 pub settling-joined : (v u : Shelf) (i j at : ℕ) (h : Holding) → IsJoinable v i j at h → Holds u (after_join i (node_in v i).next.number h) → length u.slots ≡ length v.slots → IsCalmBut (nodes u.slots) i → (node_in u i).kind ≡ kind.Free → (less : Holding) × IsSettlingAt u i less × IsTurned h less
@@ -191,13 +143,7 @@ settling-joined v u i j at h w was same_length calm free =
 
 -- A turn of a tree is one of the same tree with other lists.
 pub turned-same : (h held less : Holding) → held.tree ≡ h.tree → held.sequence ≡ h.sequence → IsTurned held less → IsTurned h less
-turned-same h held less et es w =
-    record {
-      same_nf = w.same_nf ∙ ap (λ n. nf (erase n)) et;
-      fewer = w.fewer ∙ ap numbers et;
-      sequence = w.sequence ∙ es;
-      first = w.first ∙ ap first_slot et;
-    }
+turned-same h held less et es w = grind arith
 
 -- What a lift makes of the leaf at work.
 pub settling-lifted : (v u : Shelf) (c at : ℕ) (h : Holding) → IsSettlingAt v at h → Holds u (after_lift c at h) → length u.slots ≡ length v.slots → IsCalmBut (nodes u.slots) c → (node_in u c).kind ≡ kind.Free → (less : Holding) × IsSettlingAt u c less × IsTurned h less
@@ -207,12 +153,7 @@ settling-lifted v u c at h w k same_length calm free =
       after_lift c at h,
       record {
         leaf = record { holds = k; kind = free; loose = with_mark-other outer.loose at false c ne ∙ with_mark-same h.loose c true };
-        only = λ x z. elim (cases_eq x at) [
-          | inl e ↦ rw e (with_mark-same outer.loose at false)
-          | inr other ↦
-              let nc : x ≡ c → ⊥ = λ q. absurd (omega (arith, same-self c, ap (λ v. same v c) q)) in
-              with_mark-other outer.loose at false x other ∙ with_mark-other h.loose c true x nc ∙ w.only x (omega (arith, same-ne x at other))
-        ];
+        only = grind (arith, with_mark-same, same-self, with_mark-other, same-ne);
         calm = calm;
         full = full-lifted c h.tree w.full;
       },
@@ -226,9 +167,7 @@ settling-lifted v u c at h w k same_length calm free =
 
 -- Where no neighbour is free and the leaf isn't alone in a container, the tree is normal.
 pub settled-at : (v : Shelf) (at : ℕ) (n : Node) (h : Holding) → n ≡ node_in v at → IsSettlingAt v at h → ((node_in v n.next.number).kind ≡ kind.Free → ⊥) → ((node_in v n.previous.number).kind ≡ kind.Free → ⊥) → (n.previous.number ≡ no_slot → n.next.number ≡ no_slot → n.parent.number ≡ no_slot) → IsNormal (erase h.tree)
-settled-at v at n h e w nn np alone =
-    let few = few-slots v h w.leaf.holds in
-    settled (nodes v.slots) at h.sequence h.tree (omega arith) (settling-tree_of v at h w) (rw e at nn) (rw e at np) (rw e at alone)
+settled-at v at n h e w nn np alone = grind (arith, few-slots, settled, settling-tree_of)
 
 -- A freeing between two turns, from the tree of h on: n slots were given back, and slot `at` of the tree of m settles.
 pub record IsFreeing (now : Shelf) (slot at n : ℕ) (h m : Holding) : Type 0 where
@@ -261,43 +200,16 @@ freeing-marked v u i n h w k calm free =
 
 -- A turn goes on with it.
 pub freeing-turned : (u : Shelf) (i next n : ℕ) (h m less : Holding) (at : ℕ) (now : Shelf) → IsFreeing now i at n h m → IsSettlingAt u next less → IsTurned m less → IsFreeing u i next (n + 1) h less
-freeing-turned u i next n h m less at now w s t =
-    record {
-      settling = s;
-      same_nf = t.same_nf ∙ w.same_nf;
-      given = omega (arith, t.fewer, w.given);
-      sequence = t.sequence ∙ w.sequence;
-      first = t.first ∙ w.first;
-    }
+freeing-turned u i next n h m less at now w s t = grind arith
 
 -- There are no more turns than slots.
 pub freeing-short : (v u : Shelf) (i at n : ℕ) (h m : Holding) → IsFreeable v i h → IsFreeing u i at n h m → n < length v.slots
-freeing-short v u i at n h m w f =
-    let nv : length (nodes v.slots) ≡ length v.slots = simp length-map in
-    let some : 0 < tally at m.tree = rw (f.settling.leaf.holds.stands.numbered at, f.settling.leaf.kind) (omega arith) in
-    omega (arith, some-numbers at m.tree some, f.given, numbers-few (nodes v.slots) h.sequence h.tree w.holds.stands)
-  where
-    some-numbers : (k : ℕ) (n : Numbered) → 0 < tally k n → 0 < numbers n
-    some-numbers k End l = absurd (omega arith)
-    some-numbers k (Free j e rest) l = omega arith
-    some-numbers k (Alloc j g e rest) l = omega arith
-    some-numbers k (Seq j e inner rest) l = omega arith
+freeing-short v u i at n h m w f = grind (arith, length-map, numbers-few)
 
 -- And ends it where the tree is normal and the leaf is listed.
 pub freed-listed : (v now u : Shelf) (i at n : ℕ) (h m : Holding) (held : ℕ → List ℕ) → IsFreeable v i h → IsFreeing now i at n h m → IsNormal (erase m.tree) → Holds u (with_loose at false (with_held held m)) → IsFreed v u i n h (with_loose at false (with_held held m))
 freed-listed v now u i at n h m held w f normal k =
-    let few = few-slots v h w.holds in
-    record {
-      holds = k;
-      listed = λ x _. elim (cases_eq x at) [
-        | inl e ↦ rw e (with_mark-same m.loose at false)
-        | inr ne ↦ with_mark-other m.loose at false x ne ∙ f.settling.only x (omega (arith, same-ne x at ne))
-      ];
-      tree = sym (nf-normal (erase m.tree) normal) ∙ f.same_nf ∙ ap nf (erase-marked_at (nodes v.slots) i h.sequence h.tree few (granted-inside v i w.granted) w.holds.stands);
-      given = f.given;
-      sequence = f.sequence;
-      first = f.first;
-    }
+    grind (arith, few-slots, with_mark-same, with_mark-other, same-ne, nf-normal, erase-marked_at, granted-inside)
 
 -- A leaf is as loose on the same slots.
 pub loose-same : (v u : Shelf) (at : ℕ) (h : Holding) → u ≡ v → IsSettlingAt v at h → IsLooseLeaf u at h
@@ -305,5 +217,4 @@ loose-same v u at h e w = rw e w.leaf
 
 -- Rooms are kept one after another.
 pub keeps-room : {A : Type 0} (a b c : Store A) → KeepsRoom a b → KeepsRoom b c → KeepsRoom a c
-keeps-room a b c x y =
-    record { slots = y.slots ∙ x.slots; capacity = y.capacity ∙ x.capacity; options = y.options ∙ x.options }
+keeps-room a b c x y = grind arith

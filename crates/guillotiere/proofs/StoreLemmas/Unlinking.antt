@@ -1,6 +1,6 @@
 -- One slot leaves a list, and one joins it in front.
 use Rattle.std.proofs.Common.{ℕ, ◌<◌, ◌≤◌, ◌≡◌, List, [], ◌∷◌, refl, sym, ap, ◌∙◌, ◌⊎◌, inl, inr, arith, length, set, get_or-set_same, get_or-set_other, length-set, eqb, zero, suc}
-use Rattle.std.proofs.lemmas.Bool.{cases_eq, cases_lt, cond_both, eqb-true, eqb-false, eq-eqb, ne_eqb, cond-true, cond-false}
+use Rattle.std.proofs.lemmas.Bool.{cases_eq, cond_both, eqb-true, eqb-false, eq-eqb, ne_eqb, cond-true, cond-false}
 use Rattle.std.proofs.lemmas.List.{get_or_past}
 use Rattle.guillotiere.specs.declared.slots.Ring.{Ring}
 use Rattle.guillotiere.specs.declared.slots.Link.{Link}
@@ -15,39 +15,28 @@ use Rattle.guillotiere.proofs.ListLemmas.Occurrences.{same-self, same-ne, ne-fro
 pub Chain-kept : (rs ts : List Ring) (b : ℕ) (xs : List ℕ) → length rs ≤ length ts → ((k : ℕ) → 0 < occurs k xs → ring_at ts k ≡ ring_at rs k) → Chain rs b xs → Chain ts b xs
 Chain-kept rs ts b [] e same_at h = tt
 Chain-kept rs ts b (x ∷ xs) e same_at h =
-    let q : ring_at ts x ≡ ring_at rs x = same_at x (omega (arith, same-self x)) in
-    (omega (arith, h.0), rw q h.1, rw q h.2, Chain-kept rs ts x xs e (λ k l. same_at k (omega arith)) h.3)
+    grind (arith, same-self, Chain-kept rs ts x xs e (λ k l. same_at k (omega arith)) h.3)
 
 pub Chain-same : (rs ts : List Ring) (b : ℕ) (xs : List ℕ) → length ts ≡ length rs → ((k : ℕ) → 0 < occurs k xs → ring_at ts k ≡ ring_at rs k) → Chain rs b xs → Chain ts b xs
 Chain-same rs ts b xs e same_at h = Chain-kept rs ts b xs (omega arith) same_at h
 
 pub IsList-kept : (rs ts : List Ring) (first : Link) (xs : List ℕ) → length rs ≤ length ts → ((k : ℕ) → 0 < occurs k xs → ring_at ts k ≡ ring_at rs k) → IsList rs first xs → IsList ts first xs
-IsList-kept rs ts first xs e same_at h =
-    record { chain = Chain-kept rs ts no_slot xs e same_at h.chain; begins = h.begins; once = h.once }
+IsList-kept rs ts first xs e same_at h = grind (arith, Chain-kept)
 
 pub Chain-inside : (rs : List Ring) (b i : ℕ) (xs : List ℕ) → Chain rs b xs → 0 < occurs i xs → i < length rs
 Chain-inside rs b i [] h l = absurd (omega arith)
-Chain-inside rs b i (x ∷ xs) h l =
-    elim (cases_eq i x) [ inl q ↦ (rw q h.0) | inr ne ↦ Chain-inside rs x i xs h.3 (omega (arith, same-ne i x ne)) ]
+Chain-inside rs b i (x ∷ xs) h l = grind (arith, Chain-inside rs x i xs h.3, same-ne)
 
 -- What follows a member is a member, or none.
 pub next-in_list : (rs : List Ring) (b i : ℕ) (xs : List ℕ) → Chain rs b xs → 0 < occurs i xs → ((ring_at rs i).next.number ≡ no_slot) ⊎ (0 < occurs (ring_at rs i).next.number xs)
 next-in_list rs b i [] h l = absurd (omega arith)
-next-in_list rs b i (x ∷ xs) h l =
-    elim (cases_eq i x) [
-      | inl q ↦ front_of _ x xs (rw q h.2)
-      | inr ne ↦ elim (next-in_list rs x i xs h.3 (omega (arith, same-ne i x ne))) [ inl e ↦ inl e | inr y ↦ inr (omega arith) ]
-    ]
+next-in_list rs b i (x ∷ xs) h l = grind (arith, front_of, next-in_list rs x i xs h.3, same-ne)
 
 -- What comes before a member is a member, but for the first.
 pub previous-in_list : (rs : List Ring) (b i : ℕ) (xs : List ℕ) → Chain rs b xs → 0 < occurs i xs → (front xs ≡ i → ⊥) → 0 < occurs (ring_at rs i).previous.number xs
 previous-in_list rs b i [] h l nf = absurd (omega arith)
 previous-in_list rs b i (x ∷ []) h l nf = absurd (omega (arith, same-ne i x (λ q. nf (sym q))))
-previous-in_list rs b i (x ∷ (y ∷ ys)) h l nf =
-    elim (cases_eq i y) [
-      | inl q ↦ is_first _ x (y ∷ ys) (rw q h.3.1)
-      | inr ne ↦ let more = previous-in_list rs x i (y ∷ ys) h.3 (omega (arith, same-ne i x (λ q. nf (sym q)))) (λ q. ne (sym q)) in omega arith
-    ]
+previous-in_list rs b i (x ∷ (y ∷ ys)) h l nf = grind (arith, is_first, previous-in_list rs x i (y ∷ ys) h.3, same-ne)
 
 previous-first : (rs : List Ring) (b i : ℕ) (xs : List ℕ) → Chain rs b xs → 0 < occurs i xs → front xs ≡ i → (ring_at rs i).previous.number ≡ b
 previous-first rs b i [] h l e = absurd (omega arith)
@@ -55,8 +44,7 @@ previous-first rs b i (x ∷ xs) h l e = rw (← e) h.1
 
 front-without_first : (rs : List Ring) (b i : ℕ) (xs : List ℕ) → Chain rs b xs → 0 < occurs i xs → front xs ≡ i → front (without i xs) ≡ (ring_at rs i).next.number
 front-without_first rs b i [] h l e = absurd (omega arith)
-front-without_first rs b i (x ∷ xs) h l e =
-    rw (cond-true (eqb i x) xs (x ∷ without i xs) (eq-eqb i x (sym e))) (rw (← e) (sym h.2))
+front-without_first rs b i (x ∷ xs) h l e = grind (arith, cond-true, eq-eqb)
 
 -- The rings ts are rs after the neighbours of i let it go.
 pub record IsUnlinked (rs ts : List Ring) (i p n : ℕ) : Type 0 where
@@ -70,13 +58,7 @@ pub record IsUnlinked (rs ts : List Ring) (i p n : ℕ) : Type 0 where
 module _ (rs ts : List Ring) (i p n : ℕ) (w : IsUnlinked rs ts i p n) where
   rest_after : (b : ℕ) (xs : List ℕ) → p ≡ b → front xs ≡ n → occurs p xs ≡ 0 → occurs no_slot xs ≡ 0 → ((k : ℕ) → occurs k xs ≤ 1) → Chain rs i xs → Chain ts b xs
   rest_after b [] eb en zp none once h = tt
-  rest_after b (y ∷ ys) eb en zp none once h =
-      let there : ring_at ts y ≡ record (ring_at rs y) { previous = (ring_at rs i).previous } = (rw en (w.after (λ z. ne-from_same no_slot y (omega arith) (en ∙ z)))) in (
-        rw w.same_length h.0,
-        rw there (w.previous ∙ eb),
-        rw there h.2,
-        Chain-same rs ts y ys w.same_length (λ k l. w.others k (ne-from_occurs p k ys (omega arith) l) (λ z. ne-from_occurs y k ys (omega (arith, once y, same-self y)) l (z ∙ sym en))) h.3,
-      )
+  rest_after b (y ∷ ys) eb en zp none once h = grind (arith, ne-from_same, Chain-same, ne-from_occurs, same-self)
 
   pub Chain-unlinked : (b : ℕ) (xs : List ℕ) → ((k : ℕ) → occurs k xs ≤ 1) → occurs b xs ≡ 0 → occurs no_slot xs ≡ 0 → 0 < occurs i xs → Chain rs b xs → Chain ts b (without i xs)
   Chain-unlinked b [] once nb none l h = absurd (omega arith)
@@ -90,35 +72,19 @@ module _ (rs ts : List Ring) (i p n : ℕ) (w : IsUnlinked rs ts i p n) where
       let zx : occurs x xs ≡ 0 = omega (arith, once x, same-self x) in
       let tail = Chain-unlinked x xs (λ k. omega (arith, once k)) zx (omega arith) lx h.3 in
       elim (cases_eq (front xs) i) [
-        | inl e ↦
-            let px : p ≡ x = sym w.previous ∙ previous-first rs x i xs h.3 lx e in
-            let nn : p ≡ no_slot → ⊥ = (λ z. ne-from_same no_slot x (omega arith) (sym px ∙ z)) in
-            let there : ring_at ts x ≡ record (ring_at rs x) { next = (ring_at rs i).next } = rw px at (w.before nn) in
-            (rw w.same_length h.0, rw there h.1, rw there (sym (front-without_first rs x i xs h.3 lx e)), tail)
-        | inr ne ↦
-            let lp : 0 < occurs p xs = rw w.previous at (previous-in_list rs x i xs h.3 lx ne) in
-            let xp : x ≡ p → ⊥ = (λ z. ne-from_occurs x p xs zx lp (sym z)) in
-            let xn : x ≡ n → ⊥ = (λ z. elim (next-in_list rs x i xs h.3 lx) [ inl e ↦ ne-from_same no_slot x (omega arith) (z ∙ sym w.next ∙ e) | inr y ↦ ne-from_occurs x n xs zx (rw w.next at y) (sym z) ]) in
-            let there : ring_at ts x ≡ ring_at rs x = w.others x xp xn in
-            (rw w.same_length h.0, rw there h.1, rw there (h.2 ∙ sym (front-without i xs ne)), tail)
+        | inl e ↦ grind (arith, previous-first, ne-from_same, front-without_first)
+        | inr ne ↦ grind (arith, previous-in_list, ne-from_occurs, next-in_list, ne-from_same, front-without)
       ])
 
 -- A list has no slot past the end.
 pub none-occurs : (rs : List Ring) (b : ℕ) (xs : List ℕ) → length rs < 4294967295 → Chain rs b xs → occurs no_slot xs ≡ 0
-none-occurs rs b xs short h =
-    elim (cases_lt 0 (occurs no_slot xs)) [ inl l ↦ let y = Chain-inside rs b no_slot xs h l in absurd (omega arith) | inr n ↦ omega arith ]
+none-occurs rs b xs short h = grind (arith, Chain-inside)
 
 -- The two neighbours differ, where there are any.
 neighbours-apart : (rs : List Ring) (b i : ℕ) (xs : List ℕ) → ((k : ℕ) → occurs k xs ≤ 1) → occurs b xs ≡ 0 → 0 < occurs i xs → Chain rs b xs → (ring_at rs i).next.number ≡ (ring_at rs i).previous.number → (ring_at rs i).next.number ≡ no_slot
 neighbours-apart rs b i [] once nb l h e = absurd (omega arith)
 neighbours-apart rs b i (x ∷ xs) once nb l h e =
-    elim (cases_eq i x) [
-      | inl q ↦
-          let pb : (ring_at rs i).previous.number ≡ b = rw q h.1 in
-          let nf : (ring_at rs i).next.number ≡ front xs = rw q h.2 in
-          elim (front_in xs) [ inl z ↦ nf ∙ z | inr y ↦ absurd (ne-from_occurs b (front xs) xs (omega arith) y (sym nf ∙ e ∙ pb)) ]
-      | inr ne ↦ neighbours-apart rs x i xs (λ k. omega (arith, once k)) (omega (arith, once x, same-self x)) (omega (arith, same-ne i x ne)) h.3 e
-    ]
+    grind (arith, front_in, ne-from_occurs, neighbours-apart rs x i xs, same-self, same-ne)
 
 pub record CanUnlink (rs : List Ring) (i : ℕ) : Type 0 where
   pub inside : i < length rs
@@ -128,40 +94,23 @@ pub record CanUnlink (rs : List Ring) (i : ℕ) : Type 0 where
 
 pub can-unlink : (rs : List Ring) (i : ℕ) → IsListed rs i → length rs < 4294967295 → CanUnlink rs i
 can-unlink rs i t short =
-    let xs = t.1 in
-    let h = t.2 in
-    let l = t.3 in
-    record {
-      inside = Chain-inside rs no_slot i xs h.chain l;
-      previous = elim (cases_eq (front xs) i) [
-        | inl e ↦ inl (previous-first rs no_slot i xs h.chain l e)
-        | inr ne ↦ inr (Chain-inside rs no_slot _ xs h.chain (previous-in_list rs no_slot i xs h.chain l ne))
-      ];
-      next = elim (next-in_list rs no_slot i xs h.chain l) [ inl e ↦ inl e | inr y ↦ inr (Chain-inside rs no_slot _ xs h.chain y) ];
-      apart = neighbours-apart rs no_slot i xs h.once (none-occurs rs no_slot xs short h.chain) l h.chain;
-    }
+    grind (
+      arith,
+      Chain-inside rs no_slot i,
+      previous-first rs no_slot i,
+      Chain-inside rs no_slot,
+      previous-in_list rs no_slot i,
+      next-in_list rs no_slot i,
+      neighbours-apart rs no_slot i,
+      none-occurs rs no_slot,
+    )
 
 slot_inside : (n i : ℕ) → IsSlot n i → (i ≡ no_slot → ⊥) → i < n
 slot_inside n i (inl e) ne = absurd (ne e)
 slot_inside n i (inr l) ne = l
 
 pub unlinked-by : (rs ss ts : List Ring) (i : ℕ) (ring : Ring) → CanUnlink rs i → ring ≡ ring_at rs i → ss ≡ with_next rs ring.previous.number ring.next → ts ≡ with_ring_previous ss ring.next.number ring.previous → IsUnlinked rs ts i (ring_at rs i).previous.number (ring_at rs i).next.number
-unlinked-by rs ss ts i ring c er es et =
-    let p = (ring_at rs i).previous.number in
-    let n = (ring_at rs i).next.number in
-    let r1 : Ring = record (ring_at rs p) { next = (ring_at rs i).next } in
-    let xs = set rs p r1 in
-    let r2 : Ring = record (ring_at xs n) { previous = (ring_at rs i).previous } in
-    let is : ts ≡ set xs n r2 = rw (et, es, er) refl in
-    let lx : length xs ≡ length rs = length-set rs p r1 in
-    record {
-      same_length = rw is (length-set xs n r2 ∙ lx);
-      previous = refl;
-      next = refl;
-      before = λ z. rw (is, get_or-set_other xs n p r2 blank_ring (λ q. z (q ∙ c.apart (sym q))), get_or-set_same rs p r1 blank_ring (slot_inside _ _ c.previous z)) refl;
-      after = λ z. rw (is, get_or-set_same xs n r2 blank_ring (rw lx (slot_inside _ _ c.next z)), get_or-set_other rs p n r1 blank_ring (λ q. z (c.apart q))) refl;
-      others = λ k kp kn. rw (is, get_or-set_other xs n k r2 blank_ring kn, get_or-set_other rs p k r1 blank_ring kp) refl;
-    }
+unlinked-by rs ss ts i ring c er es et = grind (arith, length-set, get_or-set_other, get_or-set_same, slot_inside)
 
 number-of : (l m : Link) → l ≡ m → l.number ≡ m.number
 number-of l m e = ap (λ (k : Link). k.number) e
@@ -174,25 +123,15 @@ IsList-unlinked rs ts first i ring short w er xs h l =
     record {
       chain = Chain-unlinked rs ts i _ _ w no_slot xs h.once none none l h.chain;
       begins = elim (cases_eq (front xs) i) [
-        | inl e ↦
-            let z : ring.previous.number ≡ no_slot = previous ∙ previous-first rs no_slot i xs h.chain l e in
-            number-of _ _ (cond-true (eqb ring.previous.number no_slot) ring.next first (eq-eqb _ _ z)) ∙ next ∙ sym (front-without_first rs no_slot i xs h.chain l e)
-        | inr ne ↦
-            let some : ring.previous.number ≡ no_slot → ⊥ = (λ z. ne-from_occurs no_slot _ xs none (previous-in_list rs no_slot i xs h.chain l ne) (sym previous ∙ z)) in
-            number-of _ _ (cond-false (eqb ring.previous.number no_slot) ring.next first (ne_eqb _ _ some)) ∙ h.begins ∙ sym (front-without i xs ne)
+        | inl e ↦ grind (arith, previous-first, number-of, cond-true, eq-eqb, front-without_first)
+        | inr ne ↦ grind (arith, ne-from_occurs, previous-in_list, number-of, cond-false, ne_eqb, front-without)
       ];
       once = λ k. omega (arith, occurs-without i xs l k, h.once k);
     }
 
 pub others-unlinked : (rs ts : List Ring) (first : Link) (i : ℕ) → length rs < 4294967295 → IsUnlinked rs ts i (ring_at rs i).previous.number (ring_at rs i).next.number → (xs : List ℕ) (k : ℕ) → IsList rs first xs → 0 < occurs i xs → occurs k xs ≡ 0 → ring_at ts k ≡ ring_at rs k
 others-unlinked rs ts first i short w xs k h l z =
-    elim (cases_eq k no_slot) [
-      | inl e ↦ rw e (get_or_past ts no_slot blank_ring (rw w.same_length (omega arith)) ∙ sym (get_or_past rs no_slot blank_ring (omega arith)))
-      | inr nk ↦ w.others k (λ q. elim (cases_eq (front xs) i) [
-        | inl e ↦ nk (q ∙ previous-first rs no_slot i xs h.chain l e)
-        | inr ne ↦ ne-from_occurs k _ xs z (previous-in_list rs no_slot i xs h.chain l ne) (sym q)
-      ]) (λ q. elim (next-in_list rs no_slot i xs h.chain l) [ inl e ↦ nk (q ∙ e) | inr y ↦ ne-from_occurs k _ xs z y (sym q) ])
-    ]
+    grind (arith, get_or_past, previous-first, ne-from_occurs, previous-in_list, next-in_list)
 
 pub IsList-pushed : (rs ss ts : List Ring) (head slot : Link) (ring : Ring) → length rs < 4294967295 → slot.number < length rs → ring.previous.number ≡ no_slot → ring.next ≡ head → ss ≡ set rs slot.number ring → ts ≡ with_ring_previous ss head.number slot → (xs : List ℕ) → IsList rs head xs → occurs slot.number xs ≡ 0 → IsList ts slot (slot.number ∷ xs)
 IsList-pushed rs ss ts head slot ring short inside ep en es et xs h z =
@@ -225,48 +164,24 @@ IsList-pushed rs ss ts head slot ring short inside ep en es et xs h z =
 -- The ring of a slot that neither joins nor stands in the list stays.
 pub others-pushed : (rs ss ts : List Ring) (head slot : Link) (ring : Ring) → length rs < 4294967295 → ss ≡ set rs slot.number ring → ts ≡ with_ring_previous ss head.number slot → (xs : List ℕ) (k : ℕ) → IsList rs head xs → (k ≡ slot.number → ⊥) → occurs k xs ≡ 0 → ring_at ts k ≡ ring_at rs k
 others-pushed rs ss ts head slot ring short es et xs k h ki z =
-    let mid = set rs slot.number ring in
-    let is : ts ≡ with_ring_previous mid head.number slot = rw (et, es) refl in
-    let ly : length mid ≡ length rs = length-set rs slot.number ring in
-    let lt : length ts ≡ length rs = rw is (length-set mid head.number _ ∙ ly) in
-    let in_place : (k ≡ head.number → ⊥) → ring_at ts k ≡ ring_at rs k = (λ kh. rw (is, get_or-set_other mid head.number k _ blank_ring kh) (get_or-set_other rs slot.number k ring blank_ring ki)) in
-    elim (cases_eq k head.number) [
-      | inl e ↦ elim (front_in xs) [
-        | inl n ↦ let past : k ≡ no_slot = e ∙ h.begins ∙ n in rw past (get_or_past ts no_slot blank_ring (rw lt (omega arith)) ∙ sym (get_or_past rs no_slot blank_ring (omega arith)))
-        | inr y ↦ absurd (ne-from_occurs k (front xs) xs z y (sym (e ∙ h.begins)))
-      ]
-      | inr ne ↦ in_place ne
-    ]
+    grind (arith, length-set, get_or-set_other, front_in, get_or_past, ne-from_occurs)
 
 -- Distinct slots below n are at most n.
 pub length-distinct : (n : ℕ) (xs : List ℕ) → ((k : ℕ) → occurs k xs ≤ 1) → ((k : ℕ) → 0 < occurs k xs → k < n) → length xs ≤ n
 length-distinct zero [] once inside = omega arith
 length-distinct zero (x ∷ xs) once inside = let y : x < 0 = inside x (omega (arith, same-self x)) in absurd (omega arith)
 length-distinct (suc n) xs once inside =
-    elim (cases_lt 0 (occurs n xs)) [
-      | inl l ↦
-          let fewer = length-distinct n (without n xs) (λ k. omega (arith, occurs-without n xs l k, once k)) (λ k y.
-          let b : k < suc n = inside k (omega (arith, occurs-without n xs l k)) in
-          let ne : k ≡ n → ⊥ = (λ q. absurd (omega (arith, occurs-without n xs l k, once k, same-self n, ap (λ v. same v n) q))) in
-          omega arith) in
-          omega (arith, length-without n xs l)
-      | inr z ↦
-          let fewer = length-distinct n xs once (λ k y. let b = inside k y in let ne : k ≡ n → ⊥ = ne-from_occurs n k xs (omega arith) y in omega arith) in
-          omega arith
-    ]
+    grind (arith, length-distinct n (without n xs), occurs-without, same-self, length-without, length-distinct n xs once, ne-from_occurs)
 
 pub Line-kept : (rs ts : List Ring) (xs : List ℕ) → length rs ≤ length ts → ((k : ℕ) → 0 < occurs k xs → ring_at ts k ≡ ring_at rs k) → Line rs xs → Line ts xs
 Line-kept rs ts [] e same_at h = tt
 Line-kept rs ts (x ∷ xs) e same_at h =
-    let q : ring_at ts x ≡ ring_at rs x = same_at x (omega (arith, same-self x)) in
-    (omega (arith, h.0), rw q h.1, Line-kept rs ts xs e (λ k l. same_at k (omega arith)) h.2)
+    grind (arith, same-self, Line-kept rs ts xs e (λ k l. same_at k (omega arith)) h.2)
 
 pub Line-inside : (rs : List Ring) (i : ℕ) (xs : List ℕ) → Line rs xs → 0 < occurs i xs → i < length rs
 Line-inside rs i [] h l = absurd (omega arith)
-Line-inside rs i (x ∷ xs) h l =
-    elim (cases_eq i x) [ inl q ↦ (rw q h.0) | inr ne ↦ Line-inside rs i xs h.2 (omega (arith, same-ne i x ne)) ]
+Line-inside rs i (x ∷ xs) h l = grind (arith, Line-inside rs i xs h.2, same-ne)
 
 pub Line-given : (rs ts : List Ring) (i : ℕ) (ring : Ring) → i < length rs → ts ≡ set rs i ring → (xs : List ℕ) → Line rs xs → ring.next.number ≡ front xs → occurs i xs ≡ 0 → Line ts (i ∷ xs)
 Line-given rs ts i ring l e xs h n z =
-    let lt : length ts ≡ length rs = rw e (length-set rs i ring) in
-    (rw lt l, rw (e, get_or-set_same rs i ring blank_ring l) n, Line-kept rs ts xs (omega arith) (λ k o. rw e (get_or-set_other rs i k ring blank_ring (ne-from_occurs i k xs z o))) h)
+    grind (arith, length-set, get_or-set_same, Line-kept, get_or-set_other, ne-from_occurs)

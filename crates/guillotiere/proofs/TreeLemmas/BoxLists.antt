@@ -1,15 +1,16 @@
 -- The lists of live grants and of free boxes, as parts of the leaves.
-use Rattle.std.proofs.Common.{◌≡◌, ℕ, ◌+◌, ◌*◌, ◌≤◌, ◌<◌, ◌==◌, ◌%◌, ◌^◌, Bool, true, false, cond, Option, Some, None, List, [], ◌∷◌, ◌++◌, map, refl, ap, sym, ◌∙◌, arith, All}
-use Rattle.std.specs.List.{count_by, sum_by}
-use Rattle.std.proofs.lemmas.List.Sums.{sum_by-cons, sum_by-append}
-use Rattle.std.proofs.lemmas.List.Elements.{All-nil, All-cons, All-append, All-head, All-tail}
+use Rattle.std.proofs.Common.{rules, ◌≡◌, ℕ, ◌+◌, ◌*◌, ◌≤◌, ◌<◌, ◌==◌, ◌%◌, ◌^◌, Bool, true, false, cond, Option, Some}
+use Rattle.std.proofs.Common.{None, List, [], ◌∷◌, ◌++◌, map, refl, ap, sym, ◌∙◌, arith, All}
 use Rattle.std.proofs.lemmas.Bool.{eqb-true, eq-eqb}
+use Rattle.std.proofs.lemmas.List.Elements.{All-nil, All-cons, All-append, All-head, All-tail}
+use Rattle.std.proofs.lemmas.List.Sums.{sum_by-cons, sum_by-append}
+use Rattle.std.specs.List.{count_by, sum_by}
 use Rattle.guillotiere.specs.Boxes.{Sides, Box, area, covers, same_box, IsNonempty, IsWithin}
-use Rattle.guillotiere.specs.Trees.{Tree, Leaf, Grant, tree_leaves, granted, ungranted, live, free_boxes, ids, slot_count, IsWellFormed}
+use Rattle.guillotiere.specs.Trees.{Tree, Leaf, Grant, tree_leaves, granted, ungranted, live, free_boxes, ids}
+use Rattle.guillotiere.specs.Trees.{slot_count, IsWellFormed}
 use Rattle.guillotiere.proofs.ListLemmas.Counting.{count_by-weaker, count_by-cons}
 use Rattle.guillotiere.proofs.TreeLemmas.TreeTiling.{areas_add_up, squares_once, boxes_within}
 use Rattle.guillotiere.proofs.TreeLemmas.TreeIds.{ids-live}
-use Rattle.guillotiere.proofs.TreeLemmas.TreeBasics.{same_box-true, same_box-itself}
 
 -- The boxes of grants, and free boxes.
 abbrev pub all_boxes : Sides → Tree → List Box
@@ -29,14 +30,7 @@ sums_of_leaves f (l ∷ ls) = by_owner l.owner l.box (sums_of_leaves f ls) ∙ s
     by_owner : (w : Option ℕ) (b : Box) → sum_by f (boxes_of ls) ≡ n
         → sum_by f (boxes_of (record { owner = w; box = b } ∷ ls)) ≡ f b + n
     by_owner (Some id) b h = sum_by-cons f b (boxes_of ls) ∙ ap (λ k. f b + k) h
-    by_owner None b h =
-        sum_by-append f (map (λ (g : Grant). g.box) (granted ls)) (b ∷ ungranted ls)
-        ∙ ap (λ k. sum_by f (map (λ (g : Grant). g.box) (granted ls)) + k) (sum_by-cons f b (ungranted ls))
-        ∙ turned_sum (sum_by f (map (λ (g : Grant). g.box) (granted ls))) (f b) (sum_by f (ungranted ls)) n
-        (sym (sum_by-append f (map (λ (g : Grant). g.box) (granted ls)) (ungranted ls)) ∙ h)
-      where
-        turned_sum : (a b c n : ℕ) → a + c ≡ n → a + (b + c) ≡ b + n
-        turned_sum a b c n h = omega arith
+    by_owner None b h = grind (arith, sum_by-append, sum_by-cons, n)
 
 pub squares_in_one : (size : Sides) (t : Tree) → IsWellFormed size t → (x y : ℕ) → x < size.width → y < size.height
     → count_by (covers x y) (all_boxes size t) ≡ 1
@@ -49,22 +43,13 @@ areas_of_boxes size t well = sums_of_leaves area (tree_leaves size t) ∙ areas_
 -- What holds of each leaf's box holds of those lists.
 granted_all : (P : Box → Type 0) (ls : List Leaf) → All (λ (l : Leaf). P l.box) ls → All (λ (g : Grant). P g.box) (granted ls)
 granted_all P [] h = All-nil (λ (g : Grant). P g.box)
-granted_all P (l ∷ ls) h = by_owner l.owner l.box (All-head (λ (k : Leaf). P k.box) l ls h)
-    (granted_all P ls (All-tail (λ (k : Leaf). P k.box) l ls h))
-  where
-    by_owner : (w : Option ℕ) (b : Box) → P b → All (λ (g : Grant). P g.box) (granted ls)
-        → All (λ (g : Grant). P g.box) (granted (record { owner = w; box = b } ∷ ls))
-    by_owner (Some id) b p k = All-cons (λ (g : Grant). P g.box) _ _ p k
-    by_owner None b p k = k
+granted_all P (l ∷ ls) h =
+    grind (arith, All-head, granted_all P ls (All-tail (λ (k : Leaf). P k.box) l ls h), All-tail, All-cons)
 
 ungranted_all : (P : Box → Type 0) (ls : List Leaf) → All (λ (l : Leaf). P l.box) ls → All P (ungranted ls)
 ungranted_all P [] h = All-nil P
-ungranted_all P (l ∷ ls) h = by_owner l.owner l.box (All-head (λ (k : Leaf). P k.box) l ls h)
-    (ungranted_all P ls (All-tail (λ (k : Leaf). P k.box) l ls h))
-  where
-    by_owner : (w : Option ℕ) (b : Box) → P b → All P (ungranted ls) → All P (ungranted (record { owner = w; box = b } ∷ ls))
-    by_owner (Some id) b p k = k
-    by_owner None b p k = All-cons P _ _ p k
+ungranted_all P (l ∷ ls) h =
+    grind (arith, All-head, ungranted_all P ls (All-tail (λ (k : Leaf). P k.box) l ls h), All-tail, All-cons)
 
 mapped_all : (P : Box → Type 0) (gs : List Grant) → All (λ (g : Grant). P g.box) gs → All P (map (λ (g : Grant). g.box) gs)
 mapped_all P [] h = All-nil P
@@ -81,9 +66,7 @@ free_in_place size t well = ungranted_all (λ b. IsNonempty b × IsWithin size b
 
 pub boxes_in_place : (size : Sides) (t : Tree) → IsWellFormed size t
     → All (λ b. IsNonempty b × IsWithin size b) (all_boxes size t)
-boxes_in_place size t well =
-    All-append (λ b. IsNonempty b × IsWithin size b) (map (λ (g : Grant). g.box) (live size t)) (free_boxes size t)
-    (mapped_all (λ b. IsNonempty b × IsWithin size b) (live size t) (live_in_place size t well)) (free_in_place size t well)
+boxes_in_place size t well = search (rules, All-append, mapped_all, live_in_place, free_in_place)
 
 -- No unit square is in two free boxes.
 pub free_once : (size : Sides) (t : Tree) → IsWellFormed size t → (x y : ℕ) → x < size.width → y < size.height
@@ -109,23 +92,14 @@ same_slot id k h = eq-eqb _ _ (ap (λ j. j % 2 ^ 24) (eqb-true k id h))
 
 -- An id is live at most as often as its slot is used.
 pub live_few : (id : ℕ) (size : Sides) (t : Tree) → count_by (λ g. g.id == id) (live size t) ≤ slot_count id (ids t.members)
-live_few id size t =
-    let few : count_by (λ k. k == id) (ids t.members) ≤ slot_count id (ids t.members) =
-    count_by-weaker (λ k. k == id) (λ k. k % 2 ^ 24 == id % 2 ^ 24) (same_slot id) (ids t.members) in
-    rw (count_live (λ k. k == id) size t) few
+live_few id size t = grind (arith, count_by-weaker, same_slot, count_live)
 
 -- Grants can be told apart.
 abbrev pub same_grant : Grant → Grant → Bool
 same_grant g h = cond (g.id == h.id) (same_box g.box h.box) false
 
 pub same_grant-itself : (g : Grant) → same_grant g g ≡ true
-same_grant-itself g =
-    rw (eq-eqb g.id g.id refl)
-    (same_box-itself g.box)
+same_grant-itself g = grind arith
 
 pub same_grant-true : (g h : Grant) → same_grant g h ≡ true → g ≡ h
-same_grant-true g h is = by_test (g.id == h.id) refl is
-  where
-    by_test : (b : Bool) → (g.id == h.id) ≡ b → cond b (same_box g.box h.box) false ≡ true → g ≡ h
-    by_test true e same = λ i. record { id = eqb-true _ _ e i; box = same_box-true g.box h.box same i }
-    by_test false e same = absurd (cc)
+same_grant-true g h is = grind arith

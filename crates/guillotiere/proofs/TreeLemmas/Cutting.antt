@@ -1,49 +1,48 @@
 -- The axis of a cut, and that the parts of a cut rectangle tile it.
-use Rattle.std.proofs.Common.{◌≡◌, ℕ, ◌+◌, ◌-◌, ◌*◌, ◌<◌, ◌≤◌, Bool, true, false, cond, ◌&&◌, ◌⊎◌, [], ◌∷◌, ℤ, pos, negsuc, ◌+ℤ◌, ◌-ℤ◌, ◌≤ℤ◌, refl, ap, sym, subst, arith}
-use Rattle.std.specs.Prelude.{int_le, int_lt}
-use Rattle.std.proofs.lemmas.Bool.{cond_below, cond_above}
+use Rattle.std.proofs.Common.{◌≡◌, ℕ, ◌+◌, ◌-◌, ◌*◌, ◌<◌, ◌≤◌, Bool, true, false, cond, ◌&&◌, ◌⊎◌, [], ◌∷◌, ℤ, pos, ◌+ℤ◌}
+use Rattle.std.proofs.Common.{◌-ℤ◌, ◌≤ℤ◌, refl, ap, arith}
 use Rattle.std.proofs.lemmas.Int.{ints}
-use Rattle.guillotiere.specs.declared.geometry.Size.{Size}
-use Rattle.guillotiere.specs.declared.geometry.Rectangle.{Rectangle}
-use Rattle.guillotiere.specs.declared.cut.Orientation.{Orientation}
-use Rattle.guillotiere.specs.declared.cut.Orientation.TheVariants as orientation
-use Rattle.guillotiere.specs.declared.cut.Rest.{Rest}
+use Rattle.std.specs.Prelude.{int_le, int_lt}
+use Rattle.std.proofs.Math.Nat.{le-mul_of_pos_right}
+use Rattle.std.proofs.lemmas.Bool.{cond_below, cond_above}
+use Rattle.guillotiere.specs.Boxes.{Sides}
 use Rattle.guillotiere.specs.Boxes.Axis.{Horizontal, Vertical}
 use Rattle.guillotiere.specs.Cuts.{cap, cut_axis}
 use Rattle.guillotiere.specs.Pixels.{natural, sides_of}
 use Rattle.guillotiere.specs.Rectangles.{FitsInto, Tile, granted_in, rest_in}
+use Rattle.guillotiere.specs.declared.cut.Orientation.{Orientation}
+use Rattle.guillotiere.specs.declared.cut.Rest.{Rest}
+use Rattle.guillotiere.specs.declared.geometry.Rectangle.{Rectangle}
+use Rattle.guillotiere.specs.declared.geometry.Size.{Size}
+use Rattle.guillotiere.specs.declared.cut.Orientation.TheVariants as orientation
 
 -- The axis.
-
-natural_difference : (a b : ℤ) → pos 0 ≤ℤ b → b ≤ℤ a → natural (a -ℤ b) ≡ natural a - natural b
-natural_difference (pos a) (pos b) p q =
-    let e : pos a -ℤ pos b ≡ pos (a - b) = omega (arith, ints) in
-    ap natural e
-natural_difference (negsuc a) (pos b) p q = absurd (omega (arith, ints))
-natural_difference (pos a) (negsuc b) p q = absurd (omega (arith, ints))
-natural_difference (negsuc a) (negsuc b) p q = absurd (omega (arith, ints))
 
 pub axis_horizontal : (whole size : Size) (beside below : ℕ)
     → pos 0 ≤ℤ size.width → pos 0 ≤ℤ size.height → size.width ≤ℤ whole.width → size.height ≤ℤ whole.height
     → beside ≡ cap (natural (whole.width -ℤ size.width) * natural size.height) → below ≡ cap (natural size.width * natural (whole.height -ℤ size.height))
     → below < beside → Horizontal ≡ cut_axis (sides_of whole) (sides_of size)
-axis_horizontal whole size beside below wide high width height p q r =
-    let a = natural_difference whole.width size.width wide width in
-    let b = natural_difference whole.height size.height high height in
-    let p' : beside ≡ cap ((natural whole.width - natural size.width) * natural size.height) = rw (← a) p in
-    let q' : below ≡ cap (natural size.width * (natural whole.height - natural size.height)) = rw (← b) q in
-    cond_below (cap (natural size.width * (natural whole.height - natural size.height))) (cap ((natural whole.width - natural size.width) * natural size.height)) Horizontal Vertical (omega arith)
+axis_horizontal whole size beside below wide high width height p q r = grind arith
 
 pub axis_vertical : (whole size : Size) (beside below : ℕ)
     → pos 0 ≤ℤ size.width → pos 0 ≤ℤ size.height → size.width ≤ℤ whole.width → size.height ≤ℤ whole.height
     → beside ≡ cap (natural (whole.width -ℤ size.width) * natural size.height) → below ≡ cap (natural size.width * natural (whole.height -ℤ size.height))
     → beside ≤ below → Vertical ≡ cut_axis (sides_of whole) (sides_of size)
-axis_vertical whole size beside below wide high width height p q r =
-    let a = natural_difference whole.width size.width wide width in
-    let b = natural_difference whole.height size.height high height in
-    let p' : beside ≡ cap ((natural whole.width - natural size.width) * natural size.height) = rw (← a) p in
-    let q' : below ≡ cap (natural size.width * (natural whole.height - natural size.height)) = rw (← b) q in
-    cond_above (cap (natural size.width * (natural whole.height - natural size.height))) (cap ((natural whole.width - natural size.width) * natural size.height)) Horizontal Vertical Vertical (omega arith) refl
+axis_vertical whole size beside below wide high width height p q r = grind arith
+
+-- Where a side is equal, nothing remains on its axis.
+pub axis_equal_width : (whole r : Sides) → whole.width ≡ r.width → Vertical ≡ cut_axis whole r
+axis_equal_width whole r e =
+    let none : whole.width - r.width ≡ 0 = omega (arith, e) in
+    let beside = ap (λ d. d * r.height) none in
+    cond_above (cap (r.width * (whole.height - r.height))) (cap ((whole.width - r.width) * r.height)) Horizontal Vertical Vertical (omega (arith, beside)) refl
+
+pub axis_equal_height : (whole r : Sides) → whole.height ≡ r.height → r.width < whole.width → 0 < r.height → Horizontal ≡ cut_axis whole r
+axis_equal_height whole r e narrower high =
+    let none : whole.height - r.height ≡ 0 = omega (arith, e) in
+    let below = ap (λ d. r.width * d) none in
+    let beside = le-mul_of_pos_right (whole.width - r.width) high in
+    cond_below (cap (r.width * (whole.height - r.height))) (cap ((whole.width - r.width) * r.height)) Horizontal Vertical (omega (arith, below, beside, narrower))
 
 -- The tiling.
 
@@ -59,7 +58,7 @@ lies low high x = int_le low x && int_lt x high
 
 parts : (a c b x : ℤ) → a ≤ℤ c → c ≤ℤ b → AreParts (lies a c x) (lies c b x) (lies a b x)
 unfolding AreParts
-parts a c b x p q = grind (arith, ints)
+parts a c b x p q = grind arith
 
 abbrev one_if : Bool → ℕ
 one_if b = cond b 1 0
@@ -87,6 +86,4 @@ tiling_in orientation.Vertical r s fits x y =
 
 pub tiling : (o : Orientation) (r : Rectangle) (s : Size) (rest : Rest) → rest ≡ rest_in o r s → FitsInto s r
     → Tile (granted_in r s ∷ rest.split ∷ rest.leftover ∷ []) r
-tiling o r s rest e fits =
-    let P : Rest → Type 0 = λ v. Tile (granted_in r s ∷ v.split ∷ v.leftover ∷ []) r in
-    subst P (sym e) (tiling_in o r s fits)
+tiling o r s rest e fits = grind (arith, tiling_in)

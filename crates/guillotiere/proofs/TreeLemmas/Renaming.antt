@@ -1,16 +1,17 @@
 -- Names in place of ids: what a tree shows is the same, and placing, freeing and growing are the same under them.
-use Rattle.std.proofs.Common.{◌≡◌, ℕ, ◌+◌, ◌-◌, ◌==◌, eqb, Bool, true, false, cond, ltb, List, ◌∷◌, ◌++◌, map, refl, ap, ap₂, subst, sym, ◌∙◌}
-use Rattle.std.specs.List.{Contains}
-use Rattle.std.proofs.lemmas.Bool.{eqb-true, eq-eqb, ne_eqb}
+use Rattle.std.proofs.Common.{rules, arith, ◌≡◌, ℕ, ◌+◌, Bool, cond, List, ◌∷◌, ◌++◌, map, refl, ap, ap₂, subst, sym}
+use Rattle.std.proofs.Common.{◌∙◌}
+use Rattle.std.proofs.lemmas.Bool.{eq-eqb, ne_eqb}
 use Rattle.std.proofs.lemmas.List.{map-append}
 use Rattle.std.proofs.lemmas.List.Elements.{Contains-append_left, Contains-append_right}
-use Rattle.guillotiere.specs.Boxes.{Axis, Position, Sides, Box, other, same_axis, side, sized, moved, box_at, origin, box_sides, same_box}
-use Rattle.guillotiere.specs.Cuts.{Cut, cut}
-use Rattle.guillotiere.specs.Cuts.Cut.{Whole, Strip, Corner}
-use Rattle.guillotiere.specs.Trees.{Members, Tree, Grant, grant, live, free_boxes, ids, node_count}
+use Rattle.guillotiere.specs.Boxes.{Axis, Position, Sides, Box, other, side, moved, origin}
+use Rattle.guillotiere.specs.Changes.{free_before, nf, mark, only, release, placed, place, needed, place_need}
+use Rattle.guillotiere.specs.Changes.{lengthened, lengthened_to, widened, grown_members, grown}
+use Rattle.guillotiere.specs.Renaming.{renamed, renamed_tree, renamed_grant, with_name, IsOneToOne, AreNamedAlike}
+use Rattle.guillotiere.specs.Renaming.{RenamingChangesNothing}
+use Rattle.guillotiere.specs.Trees.{Members, Tree, Grant, live, free_boxes, ids, node_count}
 use Rattle.guillotiere.specs.Trees.Members.{End, Free, Alloc, Seq}
-use Rattle.guillotiere.specs.Changes.{free_before, seq_before, nf, mark, only, release, put, placed, place, needed, need, place_need, lengthened, lengthened_to, widened, grown_members, grown}
-use Rattle.guillotiere.specs.Renaming.{renamed, renamed_tree, renamed_grant, with_name, IsOneToOne, AreNamedAlike, RenamingChangesNothing}
+use Rattle.std.specs.List.{Contains}
 use Rattle.guillotiere.proofs.TreeLemmas.TreeBasics.{live_among, live_among-seq, free_among, free_among-seq}
 use Rattle.guillotiere.proofs.TreeLemmas.TreeIds.{Contains-first, Contains-later}
 
@@ -26,8 +27,7 @@ pub renamed-agreeing : (f g : ℕ → ℕ) (m : Members) → AreNamedAlike f g (
 renamed-agreeing f g End same = refl
 renamed-agreeing f g (Free e rest) same = ap (Free e) (renamed-agreeing f g rest same)
 renamed-agreeing f g (Alloc id e rest) same =
-    ap₂ (λ k m. Alloc k e m) (same id (Contains-first id (ids rest)))
-    (renamed-agreeing f g rest (λ k at. same k (Contains-later id (ids rest) k at)))
+    search (rules, renamed-agreeing f g rest (λ k at. same k (Contains-later id (ids rest) k at)))
 renamed-agreeing f g (Seq e inner rest) same =
     ap₂ (Seq e) (renamed-agreeing f g inner (λ k at. same k (Contains-append_left (ids inner) (ids rest) k at)))
     (renamed-agreeing f g rest (λ k at. same k (Contains-append_right (ids inner) (ids rest) k at)))
@@ -39,8 +39,7 @@ pub ids-renamed : (f : ℕ → ℕ) (m : Members) → ids (renamed f m) ≡ map 
 ids-renamed f End = refl
 ids-renamed f (Free e rest) = ids-renamed f rest
 ids-renamed f (Alloc id e rest) = ap (λ (k : List ℕ). f id ∷ k) (ids-renamed f rest)
-ids-renamed f (Seq e inner rest) =
-    ap₂ (λ (j k : List ℕ). j ++ k) (ids-renamed f inner) (ids-renamed f rest) ∙ sym (map-append f (ids inner) (ids rest))
+ids-renamed f (Seq e inner rest) = grind (arith, ids-renamed f inner, ids-renamed f rest, map-append)
 
 pub nodes-renamed : (f : ℕ → ℕ) (m : Members) → node_count (renamed f m) ≡ node_count m
 nodes-renamed f End = refl
@@ -52,8 +51,7 @@ live-renamed : (f : ℕ → ℕ) (axis : Axis) (o : Position) (across : ℕ) (m 
     → live_among axis o across (renamed f m) ≡ map (renamed_grant f) (live_among axis o across m)
 live-renamed f axis o across End = refl
 live-renamed f axis o across (Free e rest) = live-renamed f axis (moved axis o e) across rest
-live-renamed f axis o across (Alloc id e rest) =
-    ap (λ (k : List Grant). (grant (f id) (box_at o (sized axis e across))) ∷ k) (live-renamed f axis (moved axis o e) across rest)
+live-renamed f axis o across (Alloc id e rest) = grind (arith, live-renamed f axis (moved axis o e) across rest)
 live-renamed f axis o across (Seq e inner rest) =
     live_among-seq axis o across e (renamed f inner) (renamed f rest)
     ∙ ap₂ (λ (j k : List Grant). j ++ k) (live-renamed f (other axis) o e inner)
@@ -64,8 +62,7 @@ live-renamed f axis o across (Seq e inner rest) =
 free-renamed : (f : ℕ → ℕ) (axis : Axis) (o : Position) (across : ℕ) (m : Members)
     → free_among axis o across (renamed f m) ≡ free_among axis o across m
 free-renamed f axis o across End = refl
-free-renamed f axis o across (Free e rest) =
-    ap (λ (k : List Box). (box_at o (sized axis e across)) ∷ k) (free-renamed f axis (moved axis o e) across rest)
+free-renamed f axis o across (Free e rest) = grind (arith, free-renamed f axis (moved axis o e) across rest)
 free-renamed f axis o across (Alloc id e rest) = free-renamed f axis (moved axis o e) across rest
 free-renamed f axis o across (Seq e inner rest) =
     free_among-seq axis o across e (renamed f inner) (renamed f rest)
@@ -86,8 +83,7 @@ needed-renamed : (f : ℕ → ℕ) (b : Box) (r : Sides) (axis : Axis) (o : Posi
     → needed b r axis o across (renamed f m) ≡ needed b r axis o across m
 needed-renamed f b r axis o across End = refl
 needed-renamed f b r axis o across (Free e rest) =
-    ap (λ k. cond (same_box (box_at o (sized axis e across)) b) (need (cut (box_sides b) r) axis) 0 + k)
-    (needed-renamed f b r axis (moved axis o e) across rest)
+    search (rules, needed-renamed f b r axis (moved axis o e) across rest)
 needed-renamed f b r axis o across (Alloc id e rest) = needed-renamed f b r axis (moved axis o e) across rest
 needed-renamed f b r axis o across (Seq e inner rest) =
     ap₂ (λ j k. j + k) (needed-renamed f b r (other axis) o e inner) (needed-renamed f b r axis (moved axis o e) across rest)
@@ -100,21 +96,13 @@ need_renamed f size b r t = needed-renamed f b r t.axis origin (side (other t.ax
 
 renamed-free_before : (f : ℕ → ℕ) (e : ℕ) (m : Members) → renamed f (free_before e m) ≡ free_before e (renamed f m)
 renamed-free_before f e End = refl
-renamed-free_before f e (Free k rest) = refl
-renamed-free_before f e (Alloc id k rest) = refl
-renamed-free_before f e (Seq k inner rest) = refl
-
-renamed-seq_before : (f : ℕ → ℕ) (e : ℕ) (inner m : Members)
-    → renamed f (seq_before e inner m) ≡ seq_before e (renamed f inner) (renamed f m)
-renamed-seq_before f e (Free k End) m = renamed-free_before f e m
-renamed-seq_before f e inner m = refl
+renamed-free_before f e m = refl
 
 renamed-nf : (f : ℕ → ℕ) (m : Members) → renamed f (nf m) ≡ nf (renamed f m)
 renamed-nf f End = refl
 renamed-nf f (Free e rest) = renamed-free_before f e (nf rest) ∙ ap (free_before e) (renamed-nf f rest)
 renamed-nf f (Alloc id e rest) = ap (Alloc (f id) e) (renamed-nf f rest)
-renamed-nf f (Seq e inner rest) =
-    renamed-seq_before f e (nf inner) (nf rest) ∙ ap₂ (seq_before e) (renamed-nf f inner) (renamed-nf f rest)
+renamed-nf f (Seq e inner rest) = grind (arith, renamed-nf f inner, renamed-nf f rest)
 
 -- Marking the ids of a set is marking their names.
 renamed-mark : (f : ℕ → ℕ) (s n : ℕ → Bool) (m : Members) → ((id : ℕ) → Contains (ids m) id → n (f id) ≡ s id)
@@ -122,14 +110,7 @@ renamed-mark : (f : ℕ → ℕ) (s n : ℕ → Bool) (m : Members) → ((id : �
 renamed-mark f s n End same = refl
 renamed-mark f s n (Free e rest) same = ap (Free e) (renamed-mark f s n rest same)
 renamed-mark f s n (Alloc id e rest) same =
-    by_test (s id) (n (f id)) (same id (Contains-first id (ids rest)))
-    (renamed-mark f s n rest (λ k at. same k (Contains-later id (ids rest) k at)))
-  where
-    by_test : (b c : Bool) → c ≡ b → renamed f (mark s rest) ≡ mark n (renamed f rest)
-        → renamed f (cond b (Free e (mark s rest)) (Alloc id e (mark s rest)))
-        ≡ cond c (Free e (mark n (renamed f rest))) (Alloc (f id) e (mark n (renamed f rest)))
-    by_test true c is h = rw is (ap (Free e) h)
-    by_test false c is h = rw is (ap (Alloc (f id) e) h)
+    search (rules, renamed-mark f s n rest (λ k at. same k (Contains-later id (ids rest) k at)))
 renamed-mark f s n (Seq e inner rest) same =
     ap₂ (Seq e) (renamed-mark f s n inner (λ k at. same k (Contains-append_left (ids inner) (ids rest) k at)))
     (renamed-mark f s n rest (λ k at. same k (Contains-append_right (ids inner) (ids rest) k at)))
@@ -137,58 +118,34 @@ renamed-mark f s n (Seq e inner rest) same =
 -- Where no two ids have one name, an id is told by its name.
 told_by_name : (f : ℕ → ℕ) (xs : List ℕ) (id k : ℕ) → IsOneToOne f xs → Contains xs id → Contains xs k
     → only (f id) (f k) ≡ only id k
-told_by_name f xs id k one at_id at_k = by_test (eqb k id) refl
-  where
-    by_test : (b : Bool) → eqb k id ≡ b → (f k == f id) ≡ b
-    by_test true is = eq-eqb (f k) (f id) (ap f (eqb-true k id is))
-    by_test false is = ne_eqb (f k) (f id) (λ same. apart (one k id at_k at_id same))
-      where
-        apart : k ≡ id → ⊥
-        apart same = cc (is, eq-eqb k id same)
+told_by_name f xs id k one at_id at_k = search rules
 
 pub release_renamed : (f : ℕ → ℕ) (t : Tree) (id : ℕ) → IsOneToOne f (ids t.members) → Contains (ids t.members) id
     → renamed_tree f (release (only id) t) ≡ release (only (f id)) (renamed_tree f t)
-release_renamed f t id one at =
-    ap (λ m. record { axis = t.axis; members = m })
-    (renamed-nf f (mark (only id) t.members)
-    ∙ ap nf (renamed-mark f (only id) (only (f id)) t.members (λ k here. told_by_name f (ids t.members) id k one at here)))
+release_renamed f t id one at = search (rules, renamed-nf, renamed-mark, told_by_name)
 
 -- Growth
 
 renamed-lengthened : (f : ℕ → ℕ) (d : ℕ) (m : Members) → renamed f (lengthened d m) ≡ lengthened d (renamed f m)
-renamed-lengthened f d End = refl
-renamed-lengthened f d (Free e End) = refl
 renamed-lengthened f d (Free e (Free k rest)) = ap (Free e) (renamed-lengthened f d (Free k rest))
 renamed-lengthened f d (Free e (Alloc id k rest)) = ap (Free e) (renamed-lengthened f d (Alloc id k rest))
 renamed-lengthened f d (Free e (Seq k inner rest)) = ap (Free e) (renamed-lengthened f d (Seq k inner rest))
 renamed-lengthened f d (Alloc id e rest) = ap (Alloc (f id) e) (renamed-lengthened f d rest)
 renamed-lengthened f d (Seq e inner rest) = ap (Seq e (renamed f inner)) (renamed-lengthened f d rest)
+renamed-lengthened f d m = refl
 
 renamed-lengthened_to : (f : ℕ → ℕ) (a b : ℕ) (m : Members)
     → renamed f (lengthened_to a b m) ≡ lengthened_to a b (renamed f m)
-renamed-lengthened_to f a b m = by_test (ltb a b)
-  where
-    by_test : (x : Bool) → renamed f (cond x (lengthened (b - a) m) m) ≡ cond x (lengthened (b - a) (renamed f m)) (renamed f m)
-    by_test true = renamed-lengthened f (b - a) m
-    by_test false = refl
+renamed-lengthened_to f a b m = search (rules, renamed-lengthened)
 
 renamed-widened : (f : ℕ → ℕ) (u n : ℕ) (axis : Axis) (m : Members)
     → renamed_tree f (widened u n axis m) ≡ widened u n axis (renamed f m)
-renamed-widened f u n axis m = by_test (ltb u n)
-  where
-    by_test : (x : Bool)
-        → renamed_tree f (cond x (record { axis = other axis; members = Seq u m (Free (n - u) End) }) (record { axis = axis; members = m }))
-        ≡ cond {A = Tree} x (record { axis = other axis; members = Seq u (renamed f m) (Free (n - u) End) }) (record { axis = axis; members = renamed f m })
-    by_test true = refl
-    by_test false = refl
+renamed-widened f u n axis m = search (rules)
 
 longer_renamed : (f : ℕ → ℕ) (old new : Sides) (axis : Axis) (m : Members)
     → renamed_tree f (widened (side (other axis) old) (side (other axis) new) axis (lengthened_to (side axis old) (side axis new) m))
     ≡ widened (side (other axis) old) (side (other axis) new) axis (lengthened_to (side axis old) (side axis new) (renamed f m))
-longer_renamed f old new axis m =
-    renamed-widened f (side (other axis) old) (side (other axis) new) axis (lengthened_to (side axis old) (side axis new) m)
-    ∙ ap (widened (side (other axis) old) (side (other axis) new) axis)
-    (renamed-lengthened_to f (side axis old) (side axis new) m)
+longer_renamed f old new axis m = search (rules, renamed-widened, renamed-lengthened_to)
 
 renamed-grown : (f : ℕ → ℕ) (old new : Sides) (axis : Axis) (m : Members)
     → renamed_tree f (grown_members old new axis m) ≡ grown_members old new axis (renamed f m)
@@ -201,44 +158,12 @@ grown_renamed f old new t = renamed-grown f old new t.axis t.members
 
 -- Placing
 
-renamed-put : (f : ℕ → ℕ) (c : Cut) (axis : Axis) (e across p q id : ℕ) (rest : Members)
-    → renamed f (put c axis e across p q id rest) ≡ put c axis e across p q (f id) (renamed f rest)
-renamed-put f Whole axis e across p q id rest = refl
-renamed-put f (Strip a) axis e across p q id rest = by_axis (same_axis a axis)
-  where
-    by_axis : (b : Bool)
-        → renamed f (cond b (Alloc id p (Free (e - p) rest)) (Seq e (Alloc id q (Free (across - q) End)) rest))
-        ≡ cond b (Alloc (f id) p (Free (e - p) (renamed f rest))) (Seq e (Alloc (f id) q (Free (across - q) End)) (renamed f rest))
-    by_axis true = refl
-    by_axis false = refl
-renamed-put f (Corner a) axis e across p q id rest = by_axis (same_axis a axis)
-  where
-    by_axis : (b : Bool)
-        → renamed f (cond b (Seq p (Alloc id q (Free (across - q) End)) (Free (e - p) rest)) (Seq e (Seq q (Alloc id p (Free (e - p) End)) (Free (across - q) End)) rest))
-        ≡ cond b (Seq p (Alloc (f id) q (Free (across - q) End)) (Free (e - p) (renamed f rest))) (Seq e (Seq q (Alloc (f id) p (Free (e - p) End)) (Free (across - q) End)) (renamed f rest))
-    by_axis true = refl
-    by_axis false = refl
-
 renamed-placed : (f g : ℕ → ℕ) (b : Box) (r : Sides) (id : ℕ) (axis : Axis) (o : Position) (across : ℕ) (m : Members)
     → ((k : ℕ) → Contains (ids m) k → g k ≡ f k)
     → renamed g (placed b r id axis o across m) ≡ placed b r (g id) axis o across (renamed f m)
 renamed-placed f g b r id axis o across End same = refl
 renamed-placed f g b r id axis o across (Free e rest) same =
-    by_test (same_box (box_at o (sized axis e across)) b) (renamed-placed f g b r id axis (moved axis o e) across rest same)
-  where
-    after : Members
-    after = placed b r id axis (moved axis o e) across rest
-
-    named : Members
-    named = placed b r (g id) axis (moved axis o e) across (renamed f rest)
-
-    by_test : (x : Bool) → renamed g after ≡ named
-        → renamed g (cond x (put (cut (box_sides b) r) axis e across (side axis r) (side (other axis) r) id after) (Free e after))
-        ≡ cond x (put (cut (box_sides b) r) axis e across (side axis r) (side (other axis) r) (g id) named) (Free e named)
-    by_test true h =
-        renamed-put g (cut (box_sides b) r) axis e across (side axis r) (side (other axis) r) id after
-        ∙ ap (put (cut (box_sides b) r) axis e across (side axis r) (side (other axis) r) (g id)) h
-    by_test false h = ap (Free e) h
+    search (rules, renamed-placed f g b r id axis (moved axis o e) across rest same)
 renamed-placed f g b r id axis o across (Alloc i e rest) same =
     ap₂ (λ k m. Alloc k e m) (same i (Contains-first i (ids rest)))
     (renamed-placed f g b r id axis (moved axis o e) across rest (λ k at. same k (Contains-later i (ids rest) k at)))

@@ -1,10 +1,10 @@
 -- Small facts of axes, boxes and leaves that several files of lemmas need.
 use Rattle.std.proofs.Common.{◌≡◌, ℕ, ◌+◌, ◌<◌, ◌≤◌, Bool, true, cond, List, ◌++◌, refl, arith}
-use Rattle.std.proofs.lemmas.Bool.{and_parts, and_from, eqb-true, eq-eqb}
 use Rattle.std.proofs.lemmas.List.Elements.{filter_map-append}
-use Rattle.guillotiere.specs.Boxes.{Axis, Position, Sides, Box, other, side, sized, moved, box_at, whole_box, origin, same_box, Fits, IsPositive}
+use Rattle.guillotiere.specs.Boxes.{Axis, Position, Sides, Box, other, side, sized, moved, box_at, whole_box, origin}
+use Rattle.guillotiere.specs.Boxes.{same_box, Fits, IsPositive}
 use Rattle.guillotiere.specs.Boxes.Axis.{Horizontal, Vertical}
-use Rattle.guillotiere.specs.Trees.{Grant, Members, Leaf, leaves, grant_at, free_at, granted, ungranted}
+use Rattle.guillotiere.specs.Trees.{Grant, Members, leaves, granted, ungranted}
 use Rattle.guillotiere.specs.Trees.Members.{Seq}
 
 abbrev pub one_if : Bool → ℕ
@@ -38,19 +38,10 @@ whole_box-sized Vertical size = refl
 
 -- Boxes that pass the test are equal.
 pub same_box-true : (b c : Box) → same_box b c ≡ true → b ≡ c
-same_box-true b c h =
-    let mins = and_parts _ _ (and_parts _ _ h).0 in
-    let maxs = and_parts _ _ (and_parts _ _ h).1 in
-    let p : b.min.x ≡ c.min.x = eqb-true _ _ mins.0 in
-    let q : b.min.y ≡ c.min.y = eqb-true _ _ mins.1 in
-    let r : b.max.x ≡ c.max.x = eqb-true _ _ maxs.0 in
-    let s : b.max.y ≡ c.max.y = eqb-true _ _ maxs.1 in
-    λ i. record { min = record { x = p i; y = q i }; max = record { x = r i; y = s i } }
+same_box-true b c h = grind arith
 
 pub same_box-itself : (b : Box) → same_box b b ≡ true
-same_box-itself b =
-    and_from _ _ (and_from _ _ (eq-eqb b.min.x b.min.x refl) (eq-eqb b.min.y b.min.y refl))
-    (and_from _ _ (eq-eqb b.max.x b.max.x refl) (eq-eqb b.max.y b.max.y refl))
+same_box-itself b = grind arith
 
 -- What is live in members, and what is free in them.
 abbrev pub live_among : Axis → Position → ℕ → Members → List Grant
@@ -62,13 +53,9 @@ free_among axis o across m = ungranted (leaves axis o across m)
 pub live_among-seq : (axis : Axis) (o : Position) (across e : ℕ) (inner rest : Members)
     → live_among axis o across (Seq e inner rest)
     ≡ live_among (other axis) o e inner ++ live_among axis (moved axis o e) across rest
-live_among-seq axis o across e inner rest =
-    filter_map-append (λ (l : Leaf). grant_at l.owner l.box) (leaves (other axis) o e inner)
-    (leaves axis (moved axis o e) across rest)
+live_among-seq axis o across e inner rest = grind (arith, filter_map-append)
 
 pub free_among-seq : (axis : Axis) (o : Position) (across e : ℕ) (inner rest : Members)
     → free_among axis o across (Seq e inner rest)
     ≡ free_among (other axis) o e inner ++ free_among axis (moved axis o e) across rest
-free_among-seq axis o across e inner rest =
-    filter_map-append (λ (l : Leaf). free_at l.owner l.box) (leaves (other axis) o e inner)
-    (leaves axis (moved axis o e) across rest)
+free_among-seq axis o across e inner rest = grind (arith, filter_map-append)

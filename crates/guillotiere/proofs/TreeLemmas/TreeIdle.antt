@@ -1,8 +1,9 @@
 -- A tree with nothing live is one free leaf.
-use Rattle.std.proofs.Common.{◌≡◌, ℕ, ◌<◌, true, false, List, [], ◌∷◌, ◌++◌, map, refl, ap, subst, sym, ◌∙◌, arith}
-use Rattle.std.proofs.lemmas.Bool.{true≢false, false≢true}
+use Rattle.std.proofs.Common.{◌≡◌, ℕ, ◌<◌, true, List, [], ◌∷◌, ◌++◌, map, refl, ap, sym, ◌∙◌, arith}
+use Rattle.std.proofs.lemmas.Bool.{false≢true}
 use Rattle.guillotiere.specs.Boxes.{Sides, whole_box}
-use Rattle.guillotiere.specs.Trees.{Members, Tree, Grant, ids, live, free_boxes, total, is_idle, begins_free, IsNormal, IsWellFormed, IsOneFree}
+use Rattle.guillotiere.specs.Trees.{Members, Tree, Grant, ids, live, free_boxes, total, is_idle, IsNormal, IsWellFormed}
+use Rattle.guillotiere.specs.Trees.{IsOneFree}
 use Rattle.guillotiere.specs.Trees.Members.{End, Free, Alloc, Seq}
 use Rattle.guillotiere.proofs.TreeLemmas.TreeBasics.{side_positive}
 use Rattle.guillotiere.proofs.TreeLemmas.TreeGrowth.{one_free_box}
@@ -15,30 +16,17 @@ none_of (x ∷ xs) ys h = absurd (cc)
 -- Normal members with nothing live are none or one free one.
 idle : (m : Members) → IsNormal m → ids m ≡ [] → is_idle m ≡ true
 idle End n h = refl
-idle (Free e rest) n h = lone rest n.0 (idle rest n.1 h)
-  where
-    lone : (k : Members) → begins_free k ≡ false → is_idle k ≡ true → is_idle (Free e k) ≡ true
-    lone End p q = refl
-    lone (Free j k) p q = absurd (true≢false p)
-    lone (Alloc id j k) p q = absurd (false≢true q)
-    lone (Seq j inner k) p q = absurd (false≢true q)
+idle (Free e rest) n h = grind (arith, idle rest n.1 h)
 idle (Alloc id e rest) n h = absurd (cc)
 idle (Seq e inner rest) n h = absurd (false≢true (sym n.0 ∙ idle inner n.1 (none_of (ids inner) (ids rest) h).0))
 
 one_free : (m : Members) → is_idle m ≡ true → 0 < total m → m ≡ Free (total m) End
 one_free End h pos = absurd (omega arith)
 one_free (Free e End) h pos = ap (λ k. Free k End) (omega arith)
-one_free (Free e (Free j k)) h pos = absurd (false≢true h)
-one_free (Free e (Alloc id j k)) h pos = absurd (false≢true h)
-one_free (Free e (Seq j inner k)) h pos = absurd (false≢true h)
-one_free (Alloc id j k) h pos = absurd (false≢true h)
-one_free (Seq j inner k) h pos = absurd (false≢true h)
+one_free m h pos = absurd (false≢true h)
 
 pub no_ids : (size : Sides) (t : Tree) → IsWellFormed size t → IsNormal t.members → ids t.members ≡ [] → IsOneFree size t
-no_ids size t well normal none =
-    one_free t.members (idle t.members normal none)
-    (subst (λ k. 0 < k) (sym well.along) (side_positive t.axis size well.nonempty))
-    ∙ ap (λ k. Free k End) well.along
+no_ids size t well normal none = grind (arith, one_free, idle, side_positive)
 
 pub nothing_live : (size : Sides) (t : Tree) → IsWellFormed size t → IsNormal t.members → live size t ≡ []
     → IsOneFree size t × (free_boxes size t ≡ whole_box size ∷ [])

@@ -1,13 +1,14 @@
 -- Membership in lists, and the ids of what is live.
-use Rattle.std.proofs.Common.{◌≡◌, ℕ, ◌+◌, ◌%◌, ◌^◌, ◌<◌, ◌≤◌, ◌==◌, ◌⊎◌, inl, inr, eqb, Bool, true, false, get_or, List, [], ◌∷◌, ◌++◌, map, refl, ap, ap₂, subst, ◌∙◌, arith}
-use Rattle.std.specs.List.{count_by, Contains}
-use Rattle.std.proofs.lemmas.Bool.{eqb-true, eq-eqb}
+use Rattle.std.proofs.Common.{◌≡◌, ℕ, ◌<◌, ◌==◌, ◌⊎◌, List, [], ◌∷◌, ◌++◌, map, refl, ap, ap₂, ◌∙◌, arith}
+use Rattle.std.proofs.lemmas.Bool.{eq-eqb}
 use Rattle.std.proofs.lemmas.List.{map-append}
-use Rattle.std.proofs.lemmas.List.Elements.{Contains-append_left, Contains-append_right, Contains-append_cases, Contains-push, Contains-push_cases}
-use Rattle.std.proofs.lemmas.List.Sums.{sum_by-cons, get_or-le-sum_by}
+use Rattle.std.proofs.lemmas.List.Elements.{Contains-append_left, Contains-append_right, Contains-push}
+use Rattle.std.proofs.lemmas.List.Sums.{get_or-le-sum_by}
+use Rattle.std.specs.List.{count_by}
 use Rattle.guillotiere.specs.Boxes.{Axis, Position, Sides, other, side, moved, origin}
 use Rattle.guillotiere.specs.Trees.{Members, Tree, Grant, ids, live, slot_count}
 use Rattle.guillotiere.specs.Trees.Members.{End, Free, Alloc, Seq}
+use Rattle.std.specs.List.{Contains}
 use Rattle.guillotiere.proofs.TreeLemmas.TreeBasics.{one_if, live_among, live_among-seq}
 
 -- Membership at the head of a list and behind it.
@@ -22,38 +23,16 @@ pub Contains-none : {X : Type 0} (y : X) → Contains [] y → ⊥
 Contains-none y at = let few : at.0 < 0 = at.1 in omega arith
 
 pub Contains-cons_cases : {X : Type 0} (x : X) (xs : List X) (y : X) → Contains (x ∷ xs) y → (x ≡ y) ⊎ Contains xs y
-Contains-cons_cases {X} x xs y at = cases (Contains-append_cases (x ∷ []) xs y at)
-  where
-    alone : Contains [] y ⊎ (x ≡ y) → (x ≡ y) ⊎ Contains xs y
-    alone (inl none) = absurd (Contains-none y none)
-    alone (inr same) = inl same
-
-    cases : Contains (x ∷ []) y ⊎ Contains xs y → (x ≡ y) ⊎ Contains xs y
-    cases (inl h) = alone (Contains-push_cases [] x y h)
-    cases (inr h) = inr h
+Contains-cons_cases {X} x xs y at = grind arith
 
 -- An id that isn't in a list is counted nowhere in it.
 pub count-absent : (id : ℕ) (xs : List ℕ) → (Contains xs id → ⊥) → count_by (λ k. k == id) xs ≡ 0
 count-absent id [] absent = refl
-count-absent id (x ∷ xs) absent =
-    let later : count_by (λ k. k == id) xs ≡ 0 = count-absent id xs (λ at. absent (Contains-later x xs id at)) in
-    sum_by-cons (λ k. one_if (k == id)) x xs ∙ here (eqb x id) refl ∙ later
-  where
-    here : (b : Bool) → eqb x id ≡ b → one_if b + count_by (λ k. k == id) xs ≡ count_by (λ k. k == id) xs
-    here true is = absurd (absent (ap_contains (eqb-true x id is) (Contains-first x xs)))
-      where
-        ap_contains : x ≡ id → Contains (x ∷ xs) x → Contains (x ∷ xs) id
-        ap_contains same at = subst (λ k. Contains (x ∷ xs) k) same at
-    here false is = omega arith
+count-absent id (x ∷ xs) absent = grind (arith, count-absent id xs (λ at. absent (Contains-later x xs id at)))
 
 -- An id of an unused slot isn't in the list.
 pub unused-absent : (id : ℕ) (xs : List ℕ) → slot_count id xs ≡ 0 → Contains xs id → ⊥
-unused-absent id xs none at =
-    let here : one_if (get_or xs at.0 id % 2 ^ 24 == id % 2 ^ 24) ≤ slot_count id xs =
-    get_or-le-sum_by (λ k. one_if (k % 2 ^ 24 == id % 2 ^ 24)) xs at.0 id at.1 in
-    let same : (get_or xs at.0 id % 2 ^ 24 == id % 2 ^ 24) ≡ true = eq-eqb _ _ (ap (λ k. k % 2 ^ 24) at.2) in
-    let one : 1 ≤ slot_count id xs = subst (λ b. one_if b ≤ slot_count id xs) same here in
-    omega arith
+unused-absent id xs none at = grind (arith, one_if, get_or-le-sum_by, eq-eqb)
 
 -- The ids of what is live are those of the allocated leaves.
 pub ids-live_among : (axis : Axis) (o : Position) (across : ℕ) (m : Members)

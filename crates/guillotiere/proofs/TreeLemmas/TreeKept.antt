@@ -1,25 +1,25 @@
 -- Freeing and growing keep trees well formed and normal.
-use Rattle.std.proofs.Common.{◌≡◌, ℕ, ◌+◌, ◌-◌, ◌%◌, ◌^◌, ◌<◌, ◌≤◌, ◌==◌, Bool, true, false, cond, ltb, List, ◌∷◌, ◌++◌, refl, ap, ap₂, subst, subst₂, sym, ◌∙◌, arith}
-use Rattle.std.specs.List.{count_by}
-use Rattle.std.proofs.lemmas.List.Sums.{sum_by-cons, sum_by-append}
+use Rattle.std.proofs.Common.{rules, ◌≡◌, ℕ, ◌+◌, ◌-◌, ◌%◌, ◌^◌, ◌<◌, ◌≤◌, ◌==◌, Bool, true, false, cond, ltb, List}
+use Rattle.std.proofs.Common.{◌∷◌, ◌++◌, refl, ap, ap₂, subst, subst₂, sym, ◌∙◌, arith}
+use Rattle.std.proofs.lemmas.Bool.{ltb-true, ltb-false, true≢false}
 use Rattle.std.proofs.lemmas.List.{append-nil}
-use Rattle.std.proofs.lemmas.Bool.{ltb-true, ltb-false, true≢false, cond_both}
+use Rattle.std.proofs.lemmas.List.Sums.{sum_by-cons, sum_by-append}
+use Rattle.std.specs.List.{count_by}
 use Rattle.guillotiere.specs.Boxes.{Axis, Sides, other, side, Fits, IsPositive}
+use Rattle.guillotiere.specs.Changes.{free_before, seq_before, nf, mark, release, lengthened, lengthened_to, widened}
+use Rattle.guillotiere.specs.Changes.{grown_members, grown}
+use Rattle.guillotiere.specs.Laws.TreeLaws.{IsReleased}
 use Rattle.guillotiere.specs.Trees.{slot_count, Members, Tree, ids, total, IsCut, IsWellFormed, is_idle, IsNormal}
 use Rattle.guillotiere.specs.Trees.Members.{End, Free, Alloc, Seq}
-use Rattle.guillotiere.specs.Changes.{free_before, seq_before, nf, mark, release, lengthened, lengthened_to, widened, grown_members, grown}
 use Rattle.guillotiere.proofs.TreeLemmas.TreeBasics.{one_if, other_twice, side_positive, longer_side}
 use Rattle.guillotiere.proofs.TreeLemmas.TreeGrowth.{total-nf, total-mark}
-use Rattle.guillotiere.specs.Laws.TreeLaws.{IsReleased}
 use Rattle.guillotiere.proofs.TreeLemmas.TreeLive.{live_release}
 
 -- The normal form is normal, where no sequence is empty.
 
 normal-free_before : (e : ℕ) (m : Members) → IsNormal m → IsNormal (free_before e m)
 normal-free_before e (Free k rest) n = n
-normal-free_before e End n = (refl, n)
-normal-free_before e (Alloc id k rest) n = (refl, n)
-normal-free_before e (Seq k inner rest) n = (refl, n)
+normal-free_before e m n = (refl, n)
 
 normal-seq_before : (e : ℕ) (inner m : Members) → 0 < total inner → IsNormal inner → IsNormal m → IsNormal (seq_before e inner m)
 normal-seq_before e End m pos n k = absurd (omega arith)
@@ -31,14 +31,11 @@ normal-nf across End pos cut = tt
 normal-nf across (Free e rest) pos cut = normal-free_before e (nf rest) (normal-nf across rest pos cut.1)
 normal-nf across (Alloc id e rest) pos cut = normal-nf across rest pos cut.1
 normal-nf across (Seq e inner rest) pos cut =
-    normal-seq_before e (nf inner) (nf rest) (subst (λ k. 0 < k) (sym (total-nf inner ∙ cut.1)) pos)
-    (normal-nf e inner cut.0 cut.2) (normal-nf across rest pos cut.3)
+    grind (arith, normal-seq_before, total-nf, normal-nf e inner cut.0 cut.2, normal-nf across rest pos cut.3)
 
 cut-free_before : (across e : ℕ) (m : Members) → 0 < e → IsCut across m → IsCut across (free_before e m)
 cut-free_before across e (Free k rest) pos cut = (omega arith, cut.1)
-cut-free_before across e End pos cut = (pos, cut)
-cut-free_before across e (Alloc id k rest) pos cut = (pos, cut)
-cut-free_before across e (Seq k inner rest) pos cut = (pos, cut)
+cut-free_before across e m pos cut = (pos, cut)
 
 cut-seq_before : (across e : ℕ) (inner m : Members) → 0 < e → total inner ≡ across → IsCut e inner → IsCut across m
     → IsCut across (seq_before e inner m)
@@ -55,16 +52,13 @@ cut-nf across (Seq e inner rest) cut =
 pub cut-mark : (s : ℕ → Bool) (across : ℕ) (m : Members) → IsCut across m → IsCut across (mark s m)
 cut-mark s across End cut = cut
 cut-mark s across (Free e rest) cut = (cut.0, cut-mark s across rest cut.1)
-cut-mark s across (Alloc id e rest) cut =
-    cond_both (s id) (Free e (mark s rest)) (Alloc id e (mark s rest)) (λ m. IsCut across m) (λ _. (cut.0, cut-mark s across rest cut.1)) (λ _. (cut.0, cut-mark s across rest cut.1))
+cut-mark s across (Alloc id e rest) cut = grind (arith, cut-mark s across rest cut.1)
 cut-mark s across (Seq e inner rest) cut =
     (cut.0, total-mark s inner ∙ cut.1, cut-mark s e inner cut.2, cut-mark s across rest cut.3)
 
 ids-free_before : (e : ℕ) (m : Members) → ids (free_before e m) ≡ ids m
 ids-free_before e (Free k rest) = refl
-ids-free_before e End = refl
-ids-free_before e (Alloc id k rest) = refl
-ids-free_before e (Seq k inner rest) = refl
+ids-free_before e m = refl
 
 ids-seq_before : (e : ℕ) (inner m : Members) → ids (seq_before e inner m) ≡ ids inner ++ ids m
 ids-seq_before e (Free k End) m = ids-free_before e m
@@ -90,12 +84,7 @@ ids-mark p s (Alloc id e rest) = by_test (s id) (ids-mark p s rest)
         subst₂ (λ j k. j ≤ k) (sym (sum_by-cons (λ k. one_if (p k)) id (ids (mark s rest))))
         (sym (sum_by-cons (λ k. one_if (p k)) id (ids rest)))
         (let weak : one_if (p id) + count_by p (ids (mark s rest)) ≤ one_if (p id) + count_by p (ids rest) = omega arith in weak)
-ids-mark p s (Seq e inner rest) =
-    let a : count_by p (ids (mark s inner)) ≤ count_by p (ids inner) = ids-mark p s inner in
-    let b : count_by p (ids (mark s rest)) ≤ count_by p (ids rest) = ids-mark p s rest in
-    subst₂ (λ j k. j ≤ k) (sym (sum_by-append (λ k. one_if (p k)) (ids (mark s inner)) (ids (mark s rest))))
-    (sym (sum_by-append (λ k. one_if (p k)) (ids inner) (ids rest)))
-    (let both : count_by p (ids (mark s inner)) + count_by p (ids (mark s rest)) ≤ count_by p (ids inner) + count_by p (ids rest) = omega arith in both)
+ids-mark p s (Seq e inner rest) = grind (arith, ids-mark p s inner, ids-mark p s rest, sum_by-append, one_if)
 
 pub release_well_formed : (size : Sides) (s : ℕ → Bool) (t : Tree) → IsWellFormed size t → IsWellFormed size (release s t)
 release_well_formed size s t well = record {
@@ -121,13 +110,12 @@ release_keeps size s t well =
 -- Growth
 
 pub total-lengthened : (d : ℕ) (m : Members) → total (lengthened d m) ≡ total m + d
-total-lengthened d End = omega arith
-total-lengthened d (Free e End) = omega arith
 total-lengthened d (Free e (Free k rest)) = ap (λ j. e + j) (total-lengthened d (Free k rest)) ∙ omega arith
 total-lengthened d (Free e (Alloc id k rest)) = ap (λ j. e + j) (total-lengthened d (Alloc id k rest)) ∙ omega arith
 total-lengthened d (Free e (Seq k inner rest)) = ap (λ j. e + j) (total-lengthened d (Seq k inner rest)) ∙ omega arith
 total-lengthened d (Alloc id e rest) = ap (λ j. e + j) (total-lengthened d rest) ∙ omega arith
 total-lengthened d (Seq e inner rest) = ap (λ j. e + j) (total-lengthened d rest) ∙ omega arith
+total-lengthened d m = omega arith
 
 cut-lengthened : (d across : ℕ) (m : Members) → 0 < d → IsCut across m → IsCut across (lengthened d m)
 cut-lengthened d across End pos cut = (pos, tt)
@@ -139,22 +127,20 @@ cut-lengthened d across (Alloc id e rest) pos cut = (cut.0, cut-lengthened d acr
 cut-lengthened d across (Seq e inner rest) pos cut = (cut.0, cut.1, cut.2, cut-lengthened d across rest pos cut.3)
 
 ids-lengthened : (d : ℕ) (m : Members) → ids (lengthened d m) ≡ ids m
-ids-lengthened d End = refl
-ids-lengthened d (Free e End) = refl
 ids-lengthened d (Free e (Free k rest)) = ids-lengthened d (Free k rest)
 ids-lengthened d (Free e (Alloc id k rest)) = ids-lengthened d (Alloc id k rest)
 ids-lengthened d (Free e (Seq k inner rest)) = ids-lengthened d (Seq k inner rest)
 ids-lengthened d (Alloc id e rest) = ap (λ (k : List ℕ). id ∷ k) (ids-lengthened d rest)
 ids-lengthened d (Seq e inner rest) = ap (λ k. ids inner ++ k) (ids-lengthened d rest)
+ids-lengthened d m = refl
 
 normal-lengthened : (d : ℕ) (m : Members) → IsNormal m → IsNormal (lengthened d m)
-normal-lengthened d End n = (refl, tt)
-normal-lengthened d (Free e End) n = (refl, tt)
 normal-lengthened d (Free e (Free k rest)) n = absurd (true≢false n.0)
 normal-lengthened d (Free e (Alloc id k rest)) n = (refl, normal-lengthened d (Alloc id k rest) n.1)
 normal-lengthened d (Free e (Seq k inner rest)) n = (refl, normal-lengthened d (Seq k inner rest) n.1)
 normal-lengthened d (Alloc id e rest) n = normal-lengthened d rest n
 normal-lengthened d (Seq e inner rest) n = (n.0, n.1, normal-lengthened d rest n.2)
+normal-lengthened d m n = (refl, tt)
 
 -- What is kept when members that are not idle are lengthened to a new side.
 record Kept (across b : ℕ) (m : Members) : Type 0 where
@@ -228,8 +214,7 @@ longer_positive old new p f = (omega (arith, p.0, f.0), omega (arith, p.1, f.1))
 
 kept-grown : (old new : Sides) (axis : Axis) (m : Members) → IsPositive old → Fits old new → total m ≡ side axis old
     → IsCut (side (other axis) old) m → IsNormal m → KeptTree new (grown_members old new axis m)
-kept-grown old new axis End pos fit sum cut normal =
-    absurd (let p : 0 < side axis old = side_positive axis old pos in omega arith)
+kept-grown old new axis End pos fit sum cut normal = grind arith
 kept-grown old new axis (Free e End) pos fit sum cut normal =
     record { sum = omega arith; cut = (side_positive axis new (longer_positive old new pos fit), tt); normal = (refl, tt) }
 kept-grown old new axis m pos fit sum cut normal =
@@ -237,26 +222,14 @@ kept-grown old new axis m pos fit sum cut normal =
     (kept-lengthened_to (side (other axis) old) (side axis old) (side axis new) m (longer_side axis old new fit) (record { sum = sum; cut = cut; normal = normal; busy = refl }))
 
 ids-widened : (u n : ℕ) (axis : Axis) (m : Members) → ids (widened u n axis m).members ≡ ids m
-ids-widened u n axis m = by_test (ltb u n)
-  where
-    by_test : (x : Bool)
-        → ids (cond {A = Tree} x (record { axis = other axis; members = Seq u m (Free (n - u) End) }) (record { axis = axis; members = m })).members
-        ≡ ids m
-    by_test true = append-nil (ids m)
-    by_test false = refl
+ids-widened u n axis m = grind (arith, append-nil)
 
 ids-lengthened_to : (a b : ℕ) (m : Members) → ids (lengthened_to a b m) ≡ ids m
-ids-lengthened_to a b m = by_test (ltb a b)
-  where
-    by_test : (x : Bool) → ids (cond x (lengthened (b - a) m) m) ≡ ids m
-    by_test true = ids-lengthened (b - a) m
-    by_test false = refl
+ids-lengthened_to a b m = grind (arith, ids-lengthened)
 
 pub ids-grown : (old new : Sides) (axis : Axis) (m : Members) → ids (grown_members old new axis m).members ≡ ids m
 ids-grown old new axis (Free e End) = refl
-ids-grown old new axis m =
-    ids-widened (side (other axis) old) (side (other axis) new) axis (lengthened_to (side axis old) (side axis new) m)
-    ∙ ids-lengthened_to (side axis old) (side axis new) m
+ids-grown old new axis m = search (rules, ids-widened, ids-lengthened_to)
 
 pub grown_kept : (old new : Sides) (t : Tree) → IsWellFormed old t → IsNormal t.members → Fits old new
     → IsWellFormed new (grown old new t) × IsNormal (grown old new t).members

@@ -1,21 +1,20 @@
 -- What is live after normalising, freeing and growing.
-use Rattle.std.proofs.Common.{◌≡◌, ℕ, ◌-◌, ◌≤◌, Bool, true, false, cond, not, ltb, List, ◌∷◌, ◌++◌, refl, ap, ap₂, sym, ◌∙◌, arith}
-use Rattle.std.specs.List.{filter}
-use Rattle.std.proofs.lemmas.List.Elements.{filter-append}
+use Rattle.std.proofs.Common.{rules, ◌≡◌, ℕ, ◌-◌, ◌≤◌, Bool, true, false, cond, not, ltb, ◌++◌, refl, ap, ap₂, sym, ◌∙◌}
+use Rattle.std.proofs.Common.{arith}
 use Rattle.std.proofs.lemmas.List.{append-nil}
-use Rattle.std.proofs.lemmas.Bool.{ltb-false}
-use Rattle.guillotiere.specs.Boxes.{Axis, Position, Sides, other, side, sized, moved, box_at, origin, Fits}
-use Rattle.guillotiere.specs.Trees.{Grant, grant, Members, Tree, live}
+use Rattle.std.proofs.lemmas.List.Elements.{filter-append}
+use Rattle.std.specs.List.{filter}
+use Rattle.guillotiere.specs.Boxes.{Axis, Position, Sides, other, side, moved, origin, Fits}
+use Rattle.guillotiere.specs.Changes.{free_before, seq_before, nf, mark, release, lengthened, lengthened_to, widened}
+use Rattle.guillotiere.specs.Changes.{grown_members, grown}
+use Rattle.guillotiere.specs.Trees.{Grant, Members, Tree, live}
 use Rattle.guillotiere.specs.Trees.Members.{End, Free, Alloc, Seq}
-use Rattle.guillotiere.specs.Changes.{free_before, seq_before, nf, mark, release, lengthened, lengthened_to, widened, grown_members, grown}
 use Rattle.guillotiere.proofs.TreeLemmas.TreeBasics.{other_twice, longer_side, moved-twice, live_among, live_among-seq}
 
 live-free_before : (axis : Axis) (o : Position) (across e : ℕ) (m : Members)
     → live_among axis o across (free_before e m) ≡ live_among axis (moved axis o e) across m
 live-free_before axis o across e (Free k rest) = ap (λ p. live_among axis p across rest) (sym (moved-twice axis o e k))
-live-free_before axis o across e End = refl
-live-free_before axis o across e (Alloc id k rest) = refl
-live-free_before axis o across e (Seq k inner rest) = refl
+live-free_before axis o across e m = refl
 
 live-seq_before : (axis : Axis) (o : Position) (across e : ℕ) (inner m : Members)
     → live_among axis o across (seq_before e inner m)
@@ -27,8 +26,7 @@ pub live-nf : (axis : Axis) (o : Position) (across : ℕ) (m : Members)
     → live_among axis o across (nf m) ≡ live_among axis o across m
 live-nf axis o across End = refl
 live-nf axis o across (Free e rest) = live-free_before axis o across e (nf rest) ∙ live-nf axis (moved axis o e) across rest
-live-nf axis o across (Alloc id e rest) =
-    ap (λ (k : List Grant). (grant id (box_at o (sized axis e across))) ∷ k) (live-nf axis (moved axis o e) across rest)
+live-nf axis o across (Alloc id e rest) = grind (arith, live-nf axis (moved axis o e) across rest)
 live-nf axis o across (Seq e inner rest) =
     live-seq_before axis o across e (nf inner) (nf rest)
     ∙ ap₂ ◌++◌ (live-nf (other axis) o e inner) (live-nf axis (moved axis o e) across rest)
@@ -38,17 +36,7 @@ pub live-mark : (s : ℕ → Bool) (axis : Axis) (o : Position) (across : ℕ) (
     → live_among axis o across (mark s m) ≡ filter (λ p. not (s p.id)) (live_among axis o across m)
 live-mark s axis o across End = refl
 live-mark s axis o across (Free e rest) = live-mark s axis (moved axis o e) across rest
-live-mark s axis o across (Alloc id e rest) = by_test (s id) (live-mark s axis (moved axis o e) across rest)
-  where
-    by_test : (b : Bool)
-        → live_among axis (moved axis o e) across (mark s rest)
-        ≡ filter (λ p. not (s p.id)) (live_among axis (moved axis o e) across rest)
-        → live_among axis o across (cond b (Free e (mark s rest)) (Alloc id e (mark s rest)))
-        ≡ cond (not b)
-        ((grant id (box_at o (sized axis e across))) ∷ filter (λ p. not (s p.id)) (live_among axis (moved axis o e) across rest))
-        (filter (λ p. not (s p.id)) (live_among axis (moved axis o e) across rest))
-    by_test true h = h
-    by_test false h = ap (λ (k : List Grant). (grant id (box_at o (sized axis e across))) ∷ k) h
+live-mark s axis o across (Alloc id e rest) = grind (arith, live-mark s axis (moved axis o e) across rest)
 live-mark s axis o across (Seq e inner rest) =
     live_among-seq axis o across e (mark s inner) (mark s rest)
     ∙ ap₂ ◌++◌ (live-mark s (other axis) o e inner) (live-mark s axis (moved axis o e) across rest)
@@ -58,33 +46,23 @@ live-mark s axis o across (Seq e inner rest) =
 
 -- A freeing takes away the boxes of its ids.
 pub live_release : (size : Sides) (s : ℕ → Bool) (t : Tree) → live size (release s t) ≡ filter (λ p. not (s p.id)) (live size t)
-live_release size s t =
-    live-nf t.axis origin (side (other t.axis) size) (mark s t.members)
-    ∙ live-mark s t.axis origin (side (other t.axis) size) t.members
+live_release size s t = grind (arith, live-nf, live-mark)
 
 -- Growth
 
 live-lengthened : (d : ℕ) (axis : Axis) (o : Position) (across : ℕ) (m : Members)
     → live_among axis o across (lengthened d m) ≡ live_among axis o across m
-live-lengthened d axis o across End = refl
-live-lengthened d axis o across (Free e End) = refl
 live-lengthened d axis o across (Free e (Free k rest)) = live-lengthened d axis (moved axis o e) across (Free k rest)
 live-lengthened d axis o across (Free e (Alloc id k rest)) = live-lengthened d axis (moved axis o e) across (Alloc id k rest)
 live-lengthened d axis o across (Free e (Seq k inner rest)) = live-lengthened d axis (moved axis o e) across (Seq k inner rest)
-live-lengthened d axis o across (Alloc id e rest) =
-    ap (λ (k : List Grant). (grant id (box_at o (sized axis e across))) ∷ k) (live-lengthened d axis (moved axis o e) across rest)
+live-lengthened d axis o across (Alloc id e rest) = grind (arith, live-lengthened d axis (moved axis o e) across rest)
 live-lengthened d axis o across (Seq e inner rest) =
-    live_among-seq axis o across e inner (lengthened d rest)
-    ∙ ap (λ k. live_among (other axis) o e inner ++ k) (live-lengthened d axis (moved axis o e) across rest)
-    ∙ sym (live_among-seq axis o across e inner rest)
+    grind (arith, live_among-seq, live_among, live-lengthened d axis (moved axis o e) across rest)
+live-lengthened d axis o across m = refl
 
 live-lengthened_to : (a b : ℕ) (axis : Axis) (o : Position) (across : ℕ) (m : Members)
     → live_among axis o across (lengthened_to a b m) ≡ live_among axis o across m
-live-lengthened_to a b axis o across m = by_test (ltb a b)
-  where
-    by_test : (x : Bool) → live_among axis o across (cond x (lengthened (b - a) m) m) ≡ live_among axis o across m
-    by_test true = live-lengthened (b - a) axis o across m
-    by_test false = refl
+live-lengthened_to a b axis o across m = grind (arith, live_among, live-lengthened)
 
 live-widened : (old new : Sides) (axis : Axis) (m : Members) → side (other axis) old ≤ side (other axis) new
     → live new (widened (side (other axis) old) (side (other axis) new) axis m) ≡ live_among axis origin (side (other axis) old) m
@@ -103,15 +81,12 @@ live-widened old new axis m wide = by_test (ltb u n) refl
         live_among-seq (other axis) origin (side (other (other axis)) new) u m (Free (n - u) End)
         ∙ append-nil (live_among (other (other axis)) origin u m)
         ∙ ap (λ a. live_among a origin u m) (other_twice axis)
-    by_test false ge =
-        let same : n ≡ u = (let over : n ≤ u = ltb-false u n ge in omega arith) in ap (λ k. live_among axis origin k m) same
+    by_test false ge = grind arith
 
 live-grown_members : (old new : Sides) (axis : Axis) (m : Members) → Fits old new
     → live new (grown_members old new axis m) ≡ live_among axis origin (side (other axis) old) m
 live-grown_members old new axis (Free e End) fit = refl
-live-grown_members old new axis m fit =
-    live-widened old new axis (lengthened_to (side axis old) (side axis new) m) (longer_side (other axis) old new fit)
-    ∙ live-lengthened_to (side axis old) (side axis new) axis origin (side (other axis) old) m
+live-grown_members old new axis m fit = search (rules, live-widened, longer_side, live-lengthened_to)
 
 -- A growth keeps what is live.
 pub live_grown : (old new : Sides) (t : Tree) → Fits old new → live new (grown old new t) ≡ live old t

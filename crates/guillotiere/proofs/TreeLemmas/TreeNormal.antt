@@ -1,22 +1,18 @@
 -- Marking, normalising and freeing.
-use Rattle.std.proofs.Common.{◌≡◌, ℕ, ◌+◌, Bool, true, false, cond, ◌||◌, refl, ap, ap₂, sym, ◌∙◌, arith}
+use Rattle.std.proofs.Common.{◌≡◌, ℕ, ◌+◌, Bool, false, ◌||◌, refl, ap, ap₂, sym, ◌∙◌, arith}
 use Rattle.std.proofs.lemmas.Bool.{true≢false}
-use Rattle.guillotiere.specs.Trees.{Members, Tree, begins_free, is_idle, IsNormal}
-use Rattle.guillotiere.specs.Trees.Members.{End, Free, Alloc, Seq}
 use Rattle.guillotiere.specs.Changes.{free_before, seq_before, nf, mark, release}
+use Rattle.guillotiere.specs.Trees.{Members, Tree, begins_free, IsNormal}
+use Rattle.guillotiere.specs.Trees.Members.{End, Free, Alloc, Seq}
 
 -- Two free extents before members are their sum before them.
 pub free_before-twice : (a b : ℕ) (m : Members) → free_before a (free_before b m) ≡ free_before (a + b) m
 free_before-twice a b (Free e rest) = ap (λ k. Free k rest) (omega arith)
-free_before-twice a b End = refl
-free_before-twice a b (Alloc id e rest) = refl
-free_before-twice a b (Seq e inner rest) = refl
+free_before-twice a b m = refl
 
 nf-mark-free_before : (s : ℕ → Bool) (e : ℕ) (m : Members) → nf (mark s (free_before e m)) ≡ free_before e (nf (mark s m))
 nf-mark-free_before s e (Free e' rest) = sym (free_before-twice e e' (nf (mark s rest)))
-nf-mark-free_before s e End = refl
-nf-mark-free_before s e (Alloc id e' rest) = refl
-nf-mark-free_before s e (Seq e' inner rest) = refl
+nf-mark-free_before s e m = refl
 
 nf-mark-seq_before : (s : ℕ → Bool) (e : ℕ) (inner m : Members)
     → nf (mark s (seq_before e inner m)) ≡ seq_before e (nf (mark s inner)) (nf (mark s m))
@@ -27,13 +23,7 @@ nf-mark-seq_before s e inner m = refl
 pub nf_mark_nf : (s : ℕ → Bool) (m : Members) → nf (mark s (nf m)) ≡ nf (mark s m)
 nf_mark_nf s End = refl
 nf_mark_nf s (Free e rest) = nf-mark-free_before s e (nf rest) ∙ ap (free_before e) (nf_mark_nf s rest)
-nf_mark_nf s (Alloc id e rest) = by_test (s id) (nf_mark_nf s rest)
-  where
-    by_test : (b : Bool) → nf (mark s (nf rest)) ≡ nf (mark s rest)
-        → nf (cond b (Free e (mark s (nf rest))) (Alloc id e (mark s (nf rest))))
-        ≡ nf (cond b (Free e (mark s rest)) (Alloc id e (mark s rest)))
-    by_test true h = ap (free_before e) h
-    by_test false h = ap (Alloc id e) h
+nf_mark_nf s (Alloc id e rest) = grind (arith, nf_mark_nf s rest)
 nf_mark_nf s (Seq e inner rest) = nf-mark-seq_before s e (nf inner) (nf rest) ∙ cc (nf_mark_nf s inner, nf_mark_nf s rest)
 
 -- Normal members are their normal form.
@@ -42,16 +32,11 @@ free_before-normal : (e : ℕ) (m : Members) → begins_free m ≡ false → fre
 free_before-normal e (Free k rest) h = absurd (true≢false h)
 free_before-normal e m h = refl
 
-seq_before-normal : (e : ℕ) (inner m : Members) → is_idle inner ≡ false → seq_before e inner m ≡ Seq e inner m
-seq_before-normal e (Free k End) m h = absurd (true≢false h)
-seq_before-normal e inner m h = refl
-
 pub nf-normal : (m : Members) → IsNormal m → nf m ≡ m
 nf-normal End n = refl
 nf-normal (Free e rest) n = ap (free_before e) (nf-normal rest n.1) ∙ free_before-normal e rest n.0
 nf-normal (Alloc id e rest) n = ap (Alloc id e) (nf-normal rest n)
-nf-normal (Seq e inner rest) n =
-    ap₂ (seq_before e) (nf-normal inner n.1) (nf-normal rest n.2) ∙ seq_before-normal e inner rest n.0
+nf-normal (Seq e inner rest) n = grind (arith, nf-normal inner n.1, nf-normal rest n.2)
 
 pub mark-none : (m : Members) → mark (λ k. false) m ≡ m
 mark-none End = refl
@@ -68,13 +53,7 @@ release-none t normal = ap (λ m. record { axis = t.axis; members = m }) (ap nf 
 mark-mark : (s s' : ℕ → Bool) (m : Members) → mark s (mark s' m) ≡ mark (λ k. s' k || s k) m
 mark-mark s s' End = refl
 mark-mark s s' (Free e rest) = ap (Free e) (mark-mark s s' rest)
-mark-mark s s' (Alloc id e rest) = by_test (s' id) (mark-mark s s' rest)
-  where
-    by_test : (b : Bool) → mark s (mark s' rest) ≡ mark (λ k. s' k || s k) rest
-        → mark s (cond b (Free e (mark s' rest)) (Alloc id e (mark s' rest)))
-        ≡ cond (b || s id) (Free e (mark (λ k. s' k || s k) rest)) (Alloc id e (mark (λ k. s' k || s k) rest))
-    by_test true h = ap (Free e) h
-    by_test false h = ap (λ k. cond (s id) (Free e k) (Alloc id e k)) h
+mark-mark s s' (Alloc id e rest) = grind (arith, mark-mark s s' rest)
 mark-mark s s' (Seq e inner rest) = ap₂ (Seq e) (mark-mark s s' inner) (mark-mark s s' rest)
 
 -- Sets with the same ids free the same.
@@ -83,5 +62,4 @@ release-like s s' t h = ap (λ (f : ℕ → Bool). release f t) (λ i k. h k i)
 
 -- Freeing a set and then another frees both.
 pub release-release : (s s' : ℕ → Bool) (t : Tree) → release s (release s' t) ≡ release (λ k. s' k || s k) t
-release-release s s' t =
-    ap (λ m. record { axis = t.axis; members = m }) (nf_mark_nf s (mark s' t.members) ∙ ap nf (mark-mark s s' t.members))
+release-release s s' t = grind (arith, nf_mark_nf, mark-mark)

@@ -1,18 +1,21 @@
 -- What a placing keeps, and what it adds.
-use Rattle.std.proofs.Common.{◌≡◌, ℕ, ◌+◌, ◌-◌, ◌*◌, ◌%◌, ◌^◌, ◌≤◌, ◌==◌, Bool, true, false, cond, eqb, get_or, Option, Some, None, List, [], ◌∷◌, refl, ap, subst, sym, ◌∙◌, arith}
-use Rattle.std.specs.List.{count_by, Contains}
+use Rattle.std.proofs.Common.{rules, ◌≡◌, ℕ, ◌+◌, ◌*◌, ◌%◌, ◌^◌, ◌≤◌, ◌==◌, Bool, true, false, cond, eqb, Option, Some}
+use Rattle.std.proofs.Common.{None, List, [], ◌∷◌, refl, ap, subst, sym, ◌∙◌, arith}
+use Rattle.std.proofs.lemmas.Bool.{eqb-true, true≢false}
 use Rattle.std.proofs.lemmas.List.Sums.{sum_by-cons, sum_by-append, get_or-le-sum_by}
-use Rattle.std.proofs.lemmas.Bool.{eqb-true, le-leb, lt-ltb, and_from, true≢false}
-use Rattle.guillotiere.specs.Boxes.{Axis, Position, Sides, Box, other, same_axis, side, sized, moved, box_at, origin, box_sides, same_box, covers, Fits, IsPositive, IsNonempty, IsInside}
+use Rattle.std.specs.List.{count_by}
+use Rattle.guillotiere.specs.Boxes.{Axis, Position, Sides, Box, other, side, sized, moved, box_at, origin, box_sides}
+use Rattle.guillotiere.specs.Boxes.{same_box, covers, Fits, IsPositive, IsNonempty, IsInside}
 use Rattle.guillotiere.specs.Boxes.Axis.{Horizontal, Vertical}
-use Rattle.guillotiere.specs.Cuts.{Cut, cut}
-use Rattle.guillotiere.specs.Cuts.Cut.{Whole, Strip, Corner}
-use Rattle.guillotiere.specs.Trees.{Grant, grant, slot_count, Members, Tree, Leaf, tree_leaves, ids, ungranted, free_boxes, live, total, IsCut, IsWellFormed, begins_free, is_idle, IsNormal}
-use Rattle.guillotiere.specs.Trees.Members.{End, Free, Alloc, Seq}
 use Rattle.guillotiere.specs.Changes.{put, placed, place}
+use Rattle.guillotiere.specs.Cuts.{cut}
+use Rattle.guillotiere.specs.Trees.{Grant, grant, slot_count, Members, Tree, Leaf, tree_leaves, ids, ungranted}
+use Rattle.guillotiere.specs.Trees.{free_boxes, live, total, IsCut, IsWellFormed, begins_free, is_idle, IsNormal}
+use Rattle.guillotiere.specs.Trees.Members.{End, Free, Alloc, Seq}
+use Rattle.std.specs.List.{Contains}
 use Rattle.guillotiere.proofs.TreeLemmas.TreeBasics.{one_if, same_box-true, same_box-itself, live_among, free_among, live_among-seq, free_among-seq}
 use Rattle.guillotiere.proofs.TreeLemmas.TreeTiling.{squares_of_leaves}
-use Rattle.guillotiere.proofs.TreeLemmas.TreePuts.{CutSays, cut_says, sized_back, total-put, ids-put, normal-put, cut-put, live-put}
+use Rattle.guillotiere.proofs.TreeLemmas.TreePuts.{CutSays, cut_says, sized_back, ids-put, normal-put, cut-put, live-put}
 
 -- How many free leaves have the box.
 abbrev pub hits : Box → List Box → ℕ
@@ -21,10 +24,7 @@ hits f bs = count_by (λ b. same_box b f) bs
 pub hits-seq : (f : Box) (axis : Axis) (o : Position) (across e : ℕ) (inner rest : Members)
     → hits f (free_among axis o across (Seq e inner rest))
     ≡ hits f (free_among (other axis) o e inner) + hits f (free_among axis (moved axis o e) across rest)
-hits-seq f axis o across e inner rest =
-    ap (hits f) (free_among-seq axis o across e inner rest)
-    ∙ sum_by-append (λ b. one_if (same_box b f)) (free_among (other axis) o e inner)
-    (free_among axis (moved axis o e) across rest)
+hits-seq f axis o across e inner rest = grind (arith, free_among-seq, sum_by-append, one_if, free_among)
 
 pub hits-free : (f : Box) (axis : Axis) (o : Position) (across e : ℕ) (rest : Members)
     → hits f (free_among axis o across (Free e rest))
@@ -35,8 +35,7 @@ hits-free f axis o across e rest =
 -- What fits a box that is that of a member.
 fits_member : (axis : Axis) (o : Position) (e across : ℕ) (f : Box) (r : Sides)
     → same_box (box_at o (sized axis e across)) f ≡ true → Fits r (box_sides f) → Fits r (sized axis e across)
-fits_member axis o e across f r is fit =
-    subst (Fits r) (ap box_sides (sym (same_box-true _ _ is)) ∙ sized_back axis o e across) fit
+fits_member axis o e across f r is fit = grind arith
 
 along_fits : (axis : Axis) (e across : ℕ) (r : Sides) → Fits r (sized axis e across) → side axis r ≤ e
 along_fits Horizontal e across r fit = fit.0
@@ -46,28 +45,14 @@ along_fits Vertical e across r fit = fit.1
 says_member : (axis : Axis) (o : Position) (e across : ℕ) (f : Box) (r : Sides)
     → same_box (box_at o (sized axis e across)) f ≡ true → IsPositive r → Fits r (box_sides f)
     → CutSays (cut (box_sides f) r) (sized axis e across) r
-says_member axis o e across f r is pos fit =
-    subst (λ k. CutSays (cut (box_sides f) r) k r) (ap box_sides (sym (same_box-true _ _ is)) ∙ sized_back axis o e across)
-    (cut_says (box_sides f) r pos fit)
+says_member axis o e across f r is pos fit = grind (arith, same_box-true, sized_back, cut_says)
 
 -- The totals.
 total-placed : (f : Box) (r : Sides) (id : ℕ) → Fits r (box_sides f)
     → (axis : Axis) (o : Position) (across : ℕ) (m : Members) → total (placed f r id axis o across m) ≡ total m
 total-placed f r id fit axis o across End = refl
 total-placed f r id fit axis o across (Free e rest) =
-    by_test (same_box (box_at o (sized axis e across)) f) refl (total-placed f r id fit axis (moved axis o e) across rest)
-  where
-    after : Members
-    after = placed f r id axis (moved axis o e) across rest
-
-    by_test : (b : Bool) → same_box (box_at o (sized axis e across)) f ≡ b → total after ≡ total rest
-        → total (cond b (put (cut (box_sides f) r) axis e across (side axis r) (side (other axis) r) id after) (Free e after))
-        ≡ e + total rest
-    by_test true is h =
-        total-put (cut (box_sides f) r) axis e across (side axis r) (side (other axis) r) id after
-        (along_fits axis e across r (fits_member axis o e across f r is fit))
-        ∙ ap (λ k. e + k) h
-    by_test false is h = ap (λ k. e + k) h
+    search (rules, total-placed f r id fit axis (moved axis o e) across rest)
 total-placed f r id fit axis o across (Alloc i e rest) =
     ap (λ k. e + k) (total-placed f r id fit axis (moved axis o e) across rest)
 total-placed f r id fit axis o across (Seq e inner rest) =
@@ -78,17 +63,7 @@ cut-placed : (f : Box) (r : Sides) (id : ℕ) → IsPositive r → Fits r (box_s
     → IsCut across (placed f r id axis o across m)
 cut-placed f r id pos fit axis o across End well = tt
 cut-placed f r id pos fit axis o across (Free e rest) well =
-    by_test (same_box (box_at o (sized axis e across)) f) refl
-    (cut-placed f r id pos fit axis (moved axis o e) across rest well.1)
-  where
-    after : Members
-    after = placed f r id axis (moved axis o e) across rest
-
-    by_test : (b : Bool) → same_box (box_at o (sized axis e across)) f ≡ b → IsCut across after
-        → IsCut across (cond b (put (cut (box_sides f) r) axis e across (side axis r) (side (other axis) r) id after) (Free e after))
-    by_test true is h =
-        cut-put (cut (box_sides f) r) axis e across id r after (says_member axis o e across f r is pos fit) pos well.0 h
-    by_test false is h = (well.0, h)
+    grind (arith, cut-placed f r id pos fit axis (moved axis o e) across rest well.1, cut-put, says_member)
 cut-placed f r id pos fit axis o across (Alloc i e rest) well =
     (well.0, cut-placed f r id pos fit axis (moved axis o e) across rest well.1)
 cut-placed f r id pos fit axis o across (Seq e inner rest) well = (
@@ -101,72 +76,23 @@ cut-placed f r id pos fit axis o across (Seq e inner rest) well = (
 -- Normality
 begins-placed : (f : Box) (r : Sides) (id : ℕ) (axis : Axis) (o : Position) (across : ℕ) (m : Members)
     → begins_free m ≡ false → begins_free (placed f r id axis o across m) ≡ false
-begins-placed f r id axis o across End h = refl
 begins-placed f r id axis o across (Free e rest) h = absurd (true≢false h)
-begins-placed f r id axis o across (Alloc i e rest) h = refl
-begins-placed f r id axis o across (Seq e inner rest) h = refl
-
-busy-put : (c : Cut) (axis : Axis) (e across p q id : ℕ) (rest : Members) → is_idle (put c axis e across p q id rest) ≡ false
-busy-put Whole axis e across p q id rest = refl
-busy-put (Strip a) axis e across p q id rest = by_axis (same_axis a axis)
-  where
-    by_axis : (b : Bool)
-        → is_idle (cond b (Alloc id p (Free (e - p) rest)) (Seq e (Alloc id q (Free (across - q) End)) rest)) ≡ false
-    by_axis true = refl
-    by_axis false = refl
-busy-put (Corner a) axis e across p q id rest = by_axis (same_axis a axis)
-  where
-    by_axis : (b : Bool)
-        → is_idle (cond b (Seq p (Alloc id q (Free (across - q) End)) (Free (e - p) rest)) (Seq e (Seq q (Alloc id p (Free (e - p) End)) (Free (across - q) End)) rest))
-        ≡ false
-    by_axis true = refl
-    by_axis false = refl
+begins-placed f r id axis o across m h = refl
 
 busy-placed : (f : Box) (r : Sides) (id : ℕ) (axis : Axis) (o : Position) (across : ℕ) (m : Members) → IsNormal m
     → is_idle m ≡ false → is_idle (placed f r id axis o across m) ≡ false
 busy-placed f r id axis o across End n h = h
 busy-placed f r id axis o across (Free e End) n h = absurd (true≢false h)
 busy-placed f r id axis o across (Free e (Free k rest)) n h = absurd (true≢false n.0)
-busy-placed f r id axis o across (Free e (Alloc i k rest)) n h = by_test (same_box (box_at o (sized axis e across)) f)
-  where
-    after : Members
-    after = placed f r id axis (moved axis (moved axis o e) k) across rest
-
-    by_test : (b : Bool)
-        → is_idle (cond b (put (cut (box_sides f) r) axis e across (side axis r) (side (other axis) r) id (Alloc i k after)) (Free e (Alloc i k after)))
-        ≡ false
-    by_test true = busy-put (cut (box_sides f) r) axis e across (side axis r) (side (other axis) r) id (Alloc i k after)
-    by_test false = refl
-busy-placed f r id axis o across (Free e (Seq k inner rest)) n h = by_test (same_box (box_at o (sized axis e across)) f)
-  where
-    after : Members
-    after =
-        Seq k (placed f r id (other axis) (moved axis o e) k inner)
-        (placed f r id axis (moved axis (moved axis o e) k) across rest)
-
-    by_test : (b : Bool)
-        → is_idle (cond b (put (cut (box_sides f) r) axis e across (side axis r) (side (other axis) r) id after) (Free e after))
-        ≡ false
-    by_test true = busy-put (cut (box_sides f) r) axis e across (side axis r) (side (other axis) r) id after
-    by_test false = refl
 busy-placed f r id axis o across (Alloc i e rest) n h = refl
 busy-placed f r id axis o across (Seq e inner rest) n h = refl
+busy-placed f r id axis o across m n h = grind arith
 
 pub normal-placed : (f : Box) (r : Sides) (id : ℕ) (axis : Axis) (o : Position) (across : ℕ) (m : Members) → IsNormal m
     → IsNormal (placed f r id axis o across m)
 normal-placed f r id axis o across End n = tt
 normal-placed f r id axis o across (Free e rest) n =
-    by_test (same_box (box_at o (sized axis e across)) f) (begins-placed f r id axis (moved axis o e) across rest n.0)
-    (normal-placed f r id axis (moved axis o e) across rest n.1)
-  where
-    after : Members
-    after = placed f r id axis (moved axis o e) across rest
-
-    by_test : (b : Bool) → begins_free after ≡ false → IsNormal after
-        → IsNormal (cond b (put (cut (box_sides f) r) axis e across (side axis r) (side (other axis) r) id after) (Free e after))
-    by_test true apart normal =
-        normal-put (cut (box_sides f) r) axis e across (side axis r) (side (other axis) r) id after apart normal
-    by_test false apart normal = (apart, normal)
+    grind (arith, begins-placed, normal-placed f r id axis (moved axis o e) across rest n.1, normal-put)
 normal-placed f r id axis o across (Alloc i e rest) n = normal-placed f r id axis (moved axis o e) across rest n
 normal-placed f r id axis o across (Seq e inner rest) n =
     (busy-placed f r id (other axis) o e inner n.1 n.0, normal-placed f r id (other axis) o e inner n.1, normal-placed f r id axis (moved axis o e) across rest n.2)
@@ -206,15 +132,9 @@ ids-placed p f r id axis o across (Free e rest) =
         ∙ sum_by-cons (λ k. one_if (p k)) id (ids after)
         ∙ one_more (count_by p (ids after)) (count_by p (ids rest)) n (one_if (p id))
         (hits f (free_among axis o across (Free e rest))) is h
-    by_test false is h =
-        none_more (count_by p (ids after)) (count_by p (ids rest)) n (one_if (p id))
-        (hits f (free_among axis o across (Free e rest))) is h
+    by_test false is h = grind arith
 ids-placed p f r id axis o across (Alloc i e rest) =
-    sum_by-cons (λ k. one_if (p k)) i (ids (placed f r id axis (moved axis o e) across rest))
-    ∙ ap (λ k. one_if (p i) + k) (ids-placed p f r id axis (moved axis o e) across rest)
-    ∙ regroup (one_if (p i)) (count_by p (ids rest)) (hits f (free_among axis (moved axis o e) across rest) * one_if (p id))
-    ∙ ap (λ k. k + hits f (free_among axis (moved axis o e) across rest) * one_if (p id))
-    (sym (sum_by-cons (λ k. one_if (p k)) i (ids rest)))
+    search (rules, sum_by-cons, one_if, ids-placed p f r id axis (moved axis o e) across rest, regroup, free_among)
 ids-placed p f r id axis o across (Seq e inner rest) =
     sum_by-append (λ k. one_if (p k)) (ids (placed f r id (other axis) o e inner))
     (ids (placed f r id axis (moved axis o e) across rest))
@@ -256,8 +176,7 @@ live-placed p f r id pos fit axis o across (Free e rest) =
         (ap (λ k. k.min) (same_box-true (box_at o (sized axis e across)) f same))
         ∙ sum_by-cons (λ k. one_if (p k)) (grant id (box_at f.min r)) (live_among axis (moved axis o e) across after)
         ∙ one_more a c n (one_if (p (grant id (box_at f.min r)))) (hits f (free_among axis o across (Free e rest))) is h
-    by_test false same is h =
-        none_more a c n (one_if (p (grant id (box_at f.min r)))) (hits f (free_among axis o across (Free e rest))) is h
+    by_test false same is h = grind arith
 live-placed p f r id pos fit axis o across (Alloc i e rest) =
     sum_by-cons (λ k. one_if (p k)) (grant i (box_at o (sized axis e across)))
     (live_among axis (moved axis o e) across (placed f r id axis (moved axis o e) across rest))
@@ -286,18 +205,10 @@ nonempty_from : (f : Box) (r : Sides) → IsPositive r → Fits r (box_sides f) 
 nonempty_from f r pos fit = (omega (arith, pos.0, fit.0), omega (arith, pos.1, fit.1))
 
 covers_corner : (f : Box) → IsNonempty f → covers f.min.x f.min.y f ≡ true
-covers_corner f h =
-    and_from _ _ (and_from _ _ (le-leb f.min.x f.min.x (omega arith)) (lt-ltb f.min.x f.max.x h.0))
-    (and_from _ _ (le-leb f.min.y f.min.y (omega arith)) (lt-ltb f.min.y f.max.y h.1))
+covers_corner f h = grind arith
 
 same_covers : (f b : Box) → IsNonempty f → one_if (same_box b f) ≤ one_if (covers f.min.x f.min.y b)
-same_covers f b h = by_test (same_box b f) refl
-  where
-    by_test : (t : Bool) → same_box b f ≡ t → one_if t ≤ one_if (covers f.min.x f.min.y b)
-    by_test true is =
-        let covered : covers f.min.x f.min.y b ≡ true = ap (covers f.min.x f.min.y) (same_box-true b f is) ∙ covers_corner f h in
-        rw covered (omega arith)
-    by_test false is = omega arith
+same_covers f b h = grind arith
 
 hits_few : (f : Box) → IsNonempty f → (ls : List Leaf)
     → hits f (ungranted ls) ≤ count_by (λ (l : Leaf). covers f.min.x f.min.y l.box) ls
@@ -336,11 +247,7 @@ hits_once size t f r well pos fit =
     omega arith
 
 hits_some : (f : Box) (bs : List Box) → Contains bs f → 1 ≤ hits f bs
-hits_some f bs at =
-    let here : one_if (same_box (get_or bs at.0 f) f) ≤ hits f bs =
-    get_or-le-sum_by (λ b. one_if (same_box b f)) bs at.0 f at.1 in
-    let yes : same_box (get_or bs at.0 f) f ≡ true = ap (λ b. same_box b f) at.2 ∙ same_box-itself f in
-    rw yes at here
+hits_some f bs at = grind (arith, one_if, get_or-le-sum_by, same_box-itself)
 
 -- A placing keeps the tree well formed.
 pub place_well_formed : (size : Sides) (t : Tree) (f : Box) (r : Sides) (id : ℕ) → IsWellFormed size t → IsPositive r
@@ -365,18 +272,8 @@ place_well_formed size t f r id well pos fit unused = record {
         → count_by (λ k. k % 2 ^ 24 == slot) (ids (place size f r id t).members)
         ≡ count_by (λ k. k % 2 ^ 24 == slot) (ids t.members) + n * one_if (eqb (id % 2 ^ 24) slot)
         → count_by (λ k. k % 2 ^ 24 == slot) (ids (place size f r id t).members) ≤ 1
-    apart_at slot one true is e =
-        let here : id % 2 ^ 24 ≡ slot = eqb-true _ _ is in
-        let none : count_by (λ k. k % 2 ^ 24 == slot) (ids t.members) ≡ 0 =
-        subst (λ k. count_by (λ j. j % 2 ^ 24 == k) (ids t.members) ≡ 0) here unused in
-        le_one _ _ n (one_if (eqb (id % 2 ^ 24) slot)) e none (ap one_if is) few
-      where
-        le_one : (a c m k : ℕ) → a ≡ c + m * k → c ≡ 0 → k ≡ 1 → m ≤ 1 → a ≤ 1
-        le_one a c m k p q w l = rw (p, q, w) (omega arith)
-    apart_at slot one false is e = none_added _ _ n (one_if (eqb (id % 2 ^ 24) slot)) e (ap one_if is) one
-      where
-        none_added : (a c m k : ℕ) → a ≡ c + m * k → k ≡ 0 → c ≤ 1 → a ≤ 1
-        none_added a c m k p w l = rw (p, w) (omega arith)
+    apart_at slot one true is e = grind (arith, eqb-true, one_if, few)
+    apart_at slot one false is e = grind arith
 
 pub place_normal : (size : Sides) (t : Tree) (f : Box) (r : Sides) (id : ℕ) → IsNormal t.members
     → IsNormal (place size f r id t).members

@@ -1,10 +1,11 @@
 -- Freeing ids one after another.
-use Rattle.std.proofs.Common.{◌≡◌, ℕ, Bool, true, false, ◌||◌, List, [], ◌∷◌, refl, ap, sym, ◌∙◌}
+use Rattle.std.proofs.Common.{rules, arith, ◌≡◌, ℕ, Bool, true, false, ◌||◌, List, [], ◌∷◌, refl, ap, sym, ◌∙◌}
 use Rattle.std.proofs.lemmas.Bool.{eq-eqb, false≢true}
-use Rattle.guillotiere.specs.Trees.{Tree, IsNormal}
 use Rattle.guillotiere.specs.Changes.{only, release}
 use Rattle.guillotiere.specs.Laws.TreeLaws.{is_among, release_each}
-use Rattle.guillotiere.proofs.TreeLemmas.TreeNormal.{release-none, release-like, release-release}
+use Rattle.guillotiere.specs.Trees.{Tree, IsNormal}
+use Rattle.guillotiere.proofs.TreeLemmas.TreeNormal.{nf_mark_nf, release-none, release-like, release-release}
+use Rattle.guillotiere.specs.Laws.TreeLaws.{ReleasesInAnyOrder}
 
 or_false : (b : Bool) → (b || false) ≡ b
 or_false true = refl
@@ -28,5 +29,8 @@ pub release_any_order : (xs ys : List ℕ) (t : Tree) → ((id : ℕ) → is_amo
 release_any_order [] [] t same = refl
 release_any_order [] (y ∷ ys) t same = absurd (false≢true (same y ∙ first_is_among y ys))
 release_any_order (x ∷ xs) [] t same = absurd (false≢true (sym (same x) ∙ first_is_among x xs))
-release_any_order (x ∷ xs) (y ∷ ys) t same =
-    release_one_by_one x xs t ∙ release-like (is_among (x ∷ xs)) (is_among (y ∷ ys)) t same ∙ sym (release_one_by_one y ys t)
+release_any_order (x ∷ xs) (y ∷ ys) t same = grind (arith, release_one_by_one, release-like)
+
+pub releases_in_any_order : ReleasesInAnyOrder
+releases_in_any_order =
+    search (rules, nf_mark_nf, release-release, release_one_by_one, release_in_normal, release_any_order)

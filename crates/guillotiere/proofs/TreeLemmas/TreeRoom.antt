@@ -1,17 +1,19 @@
 -- Each free box lies in a free box after normalising, freeing and growing.
-use Rattle.std.proofs.Common.{◌-◌, ltb, refl, ◌≡◌, ℕ, ◌+◌, ◌≤◌, Bool, true, false, cond, List, [], ◌∷◌, ◌++◌, ap, subst, sym, ◌∙◌, arith, inl, inr, ◌⊎◌}
-use Rattle.std.specs.List.{All, Contains}
-use Rattle.std.proofs.lemmas.Bool.{ltb-false}
+use Rattle.std.proofs.Common.{rules, ◌-◌, ltb, refl, ◌≡◌, ℕ, ◌+◌, ◌≤◌, Bool, true, false, cond, List, [], ◌∷◌, ◌++◌}
+use Rattle.std.proofs.Common.{subst, sym, ◌∙◌, arith, inl, inr, ◌⊎◌}
 use Rattle.std.proofs.lemmas.List.Elements.{All-nil, All-cons}
-use Rattle.guillotiere.specs.Boxes.{Axis, Position, Sides, Box, other, side, sized, moved, box_at, box_sides, origin, Fits, IsInside}
+use Rattle.guillotiere.specs.Boxes.{Axis, Position, Sides, Box, other, side, sized, moved, box_at, box_sides, origin}
+use Rattle.guillotiere.specs.Boxes.{Fits, IsInside}
 use Rattle.guillotiere.specs.Boxes.Axis.{Horizontal, Vertical}
+use Rattle.guillotiere.specs.Changes.{free_before, seq_before, nf, mark, release, lengthened, lengthened_to, widened}
+use Rattle.guillotiere.specs.Changes.{grown_members, grown}
+use Rattle.guillotiere.specs.Laws.TreeLaws.{IsGrown, LiesInOneOf}
 use Rattle.guillotiere.specs.Trees.{IsNormal, Grant, Members, Tree, total, IsCut, IsWellFormed, free_boxes, live}
 use Rattle.guillotiere.specs.Trees.Members.{End, Free, Alloc, Seq}
-use Rattle.guillotiere.specs.Changes.{free_before, seq_before, nf, mark, release, lengthened, lengthened_to, widened, grown_members, grown}
-use Rattle.guillotiere.specs.Laws.TreeLaws.{IsGrown, LiesInOneOf}
-use Rattle.guillotiere.proofs.TreeLemmas.TreeBasics.{other_twice, longer_side, moved-twice, turned, live_among, free_among, live_among-seq, free_among-seq}
+use Rattle.std.specs.List.{All, Contains}
+use Rattle.guillotiere.proofs.TreeLemmas.TreeBasics.{other_twice, longer_side, moved-twice, live_among, free_among, live_among-seq, free_among-seq}
 use Rattle.guillotiere.proofs.TreeLemmas.TreeGrowth.{total-nf}
-use Rattle.guillotiere.proofs.TreeLemmas.TreeIds.{Contains-first, Contains-later, Contains-none, Contains-cons_cases}
+use Rattle.guillotiere.proofs.TreeLemmas.TreeIds.{Contains-first, Contains-later, Contains-none}
 use Rattle.guillotiere.proofs.TreeLemmas.TreeKept.{grown_kept, cut-mark}
 use Rattle.guillotiere.proofs.TreeLemmas.TreeLive.{live_grown}
 
@@ -32,11 +34,7 @@ room_right b (c ∷ cs) ds h = inr (room_right b cs ds h)
 room_cases : (b : Box) (cs ds : List Box) → LiesAmong b (cs ++ ds) → LiesAmong b cs ⊎ LiesAmong b ds
 room_cases b [] ds h = inr h
 room_cases b (c ∷ cs) ds (inl h) = inl (inl h)
-room_cases b (c ∷ cs) ds (inr h) = more (room_cases b cs ds h)
-  where
-    more : LiesAmong b cs ⊎ LiesAmong b ds → LiesAmong b (c ∷ cs) ⊎ LiesAmong b ds
-    more (inl k) = inl (inr k)
-    more (inr k) = inr k
+room_cases b (c ∷ cs) ds (inr h) = grind (arith, room_cases b cs ds h)
 
 inside_trans : (b c d : Box) → IsInside b c → IsInside c d → IsInside b d
 inside_trans b c d h k = (omega (arith, h.0, k.0), omega (arith, h.1, k.1), omega (arith, h.2, k.2), omega (arith, h.3, k.3))
@@ -51,9 +49,6 @@ inside_second : (axis : Axis) (o : Position) (e k across : ℕ)
 inside_second Horizontal o e k across = (omega arith, omega arith, omega arith, omega arith)
 inside_second Vertical o e k across = (omega arith, omega arith, omega arith, omega arith)
 
-inside_itself : (b : Box) → IsInside b b
-inside_itself b = (omega arith, omega arith, omega arith, omega arith)
-
 -- What has room in a free extent or after it has room once they are joined.
 room-free_before : (b : Box) (axis : Axis) (o : Position) (across e : ℕ) (m : Members)
     → IsInside b (box_at o (sized axis e across)) ⊎ LiesAmong b (free_among axis (moved axis o e) across m)
@@ -62,17 +57,12 @@ room-free_before b axis o across e (Free k rest) (inl h) = inl (inside_trans b _
 room-free_before b axis o across e (Free k rest) (inr (inl h)) = inl (inside_trans b _ _ h (inside_second axis o e k across))
 room-free_before b axis o across e (Free k rest) (inr (inr h)) =
     inr (subst (λ p. LiesAmong b (free_among axis p across rest)) (moved-twice axis o e k) h)
-room-free_before b axis o across e End h = h
-room-free_before b axis o across e (Alloc id k rest) h = h
-room-free_before b axis o across e (Seq k inner rest) h = h
+room-free_before b axis o across e m h = h
 
 room-seq_before : (b : Box) (axis : Axis) (o : Position) (across e : ℕ) (inner m : Members) → total inner ≡ across
     → LiesAmong b (free_among (other axis) o e inner) ⊎ LiesAmong b (free_among axis (moved axis o e) across m)
     → LiesAmong b (free_among axis o across (seq_before e inner m))
-room-seq_before b axis o across e (Free k End) m sum (inl (inl h)) =
-    let same : k ≡ across = omega arith in
-    room-free_before b axis o across e m
-    (inl (subst (IsInside b) (ap (λ j. box_at o (sized (other axis) j e)) same ∙ turned axis o e across) h))
+room-seq_before b axis o across e (Free k End) m sum (inl (inl h)) = grind arith
 room-seq_before b axis o across e (Free k End) m sum (inl (inr h)) = absurd h
 room-seq_before b axis o across e (Free k End) m sum (inr h) = room-free_before b axis o across e m (inr h)
 room-seq_before b axis o across e inner m sum (inl h) =
@@ -105,26 +95,15 @@ Holds id b (p ∷ ps) = ((p.id ≡ id) × (p.box ≡ b)) ⊎ Holds id b ps
 holds_cases : (id : ℕ) (b : Box) (ps qs : List Grant) → Holds id b (ps ++ qs) → Holds id b ps ⊎ Holds id b qs
 holds_cases id b [] qs h = inr h
 holds_cases id b (p ∷ ps) qs (inl h) = inl (inl h)
-holds_cases id b (p ∷ ps) qs (inr h) = more (holds_cases id b ps qs h)
-  where
-    more : Holds id b ps ⊎ Holds id b qs → Holds id b (p ∷ ps) ⊎ Holds id b qs
-    more (inl k) = inl (inr k)
-    more (inr k) = inr k
+holds_cases id b (p ∷ ps) qs (inr h) = grind (arith, holds_cases id b ps qs h)
 
 room-mark : (s : ℕ → Bool) (id : ℕ) (b : Box) → s id ≡ true → (axis : Axis) (o : Position) (across : ℕ) (m : Members)
     → Holds id b (live_among axis o across m) → LiesAmong b (free_among axis o across (mark s m))
 room-mark s id b chosen axis o across End h = absurd h
 room-mark s id b chosen axis o across (Free e rest) h = inr (room-mark s id b chosen axis (moved axis o e) across rest h)
-room-mark s id b chosen axis o across (Alloc i e rest) (inl h) =
-    let marked : s i ≡ true = ap s h.0 ∙ chosen in
-    rw marked (inl (subst (IsInside b) (sym h.1) (inside_itself b)))
+room-mark s id b chosen axis o across (Alloc i e rest) (inl h) = grind arith
 room-mark s id b chosen axis o across (Alloc i e rest) (inr h) =
-    by_test (s i) (room-mark s id b chosen axis (moved axis o e) across rest h)
-  where
-    by_test : (t : Bool) → LiesAmong b (free_among axis (moved axis o e) across (mark s rest))
-        → LiesAmong b (free_among axis o across (cond t (Free e (mark s rest)) (Alloc i e (mark s rest))))
-    by_test true k = inr k
-    by_test false k = k
+    grind (arith, room-mark s id b chosen axis (moved axis o e) across rest h)
 room-mark s id b chosen axis o across (Seq e inner rest) h =
     subst (LiesAmong b) (sym (free_among-seq axis o across e (mark s inner) (mark s rest)))
     (joined (holds_cases id b (live_among (other axis) o e inner) (live_among axis (moved axis o e) across rest) (subst (Holds id b) (live_among-seq axis o across e inner rest) h)) (room-mark s id b chosen (other axis) o e inner) (room-mark s id b chosen axis (moved axis o e) across rest))
@@ -133,10 +112,8 @@ room-mark s id b chosen axis o across (Seq e inner rest) h =
         → (Holds id b (live_among (other axis) o e inner) → LiesAmong b (free_among (other axis) o e (mark s inner)))
         → (Holds id b (live_among axis (moved axis o e) across rest) → LiesAmong b (free_among axis (moved axis o e) across (mark s rest)))
         → LiesAmong b (free_among (other axis) o e (mark s inner) ++ free_among axis (moved axis o e) across (mark s rest))
-    joined (inl k) f g =
-        room_left b (free_among (other axis) o e (mark s inner)) (free_among axis (moved axis o e) across (mark s rest)) (f k)
-    joined (inr k) f g =
-        room_right b (free_among (other axis) o e (mark s inner)) (free_among axis (moved axis o e) across (mark s rest)) (g k)
+    joined (inl k) f g = grind (arith, room_left, free_among)
+    joined (inr k) f g = grind (arith, room_right, free_among)
 
 -- Growth
 
@@ -145,13 +122,10 @@ room-lengthened : (b : Box) (d : ℕ) (axis : Axis) (o : Position) (across : ℕ
 room-lengthened b d axis o across End h = absurd h
 room-lengthened b d axis o across (Free e End) (inl h) = inl (inside_trans b _ _ h (inside_first axis o e d across))
 room-lengthened b d axis o across (Free e End) (inr h) = absurd h
-room-lengthened b d axis o across (Free e (Free k rest)) (inl h) = inl h
 room-lengthened b d axis o across (Free e (Free k rest)) (inr h) =
     inr (room-lengthened b d axis (moved axis o e) across (Free k rest) h)
-room-lengthened b d axis o across (Free e (Alloc id k rest)) (inl h) = inl h
 room-lengthened b d axis o across (Free e (Alloc id k rest)) (inr h) =
     inr (room-lengthened b d axis (moved axis o e) across (Alloc id k rest) h)
-room-lengthened b d axis o across (Free e (Seq k inner rest)) (inl h) = inl h
 room-lengthened b d axis o across (Free e (Seq k inner rest)) (inr h) =
     inr (room-lengthened b d axis (moved axis o e) across (Seq k inner rest) h)
 room-lengthened b d axis o across (Alloc id e rest) h = room-lengthened b d axis (moved axis o e) across rest h
@@ -162,10 +136,9 @@ room-lengthened b d axis o across (Seq e inner rest) h =
     either : LiesAmong b (free_among (other axis) o e inner) ⊎ LiesAmong b (free_among axis (moved axis o e) across rest)
         → (LiesAmong b (free_among axis (moved axis o e) across rest) → LiesAmong b (free_among axis (moved axis o e) across (lengthened d rest)))
         → LiesAmong b (free_among (other axis) o e inner ++ free_among axis (moved axis o e) across (lengthened d rest))
-    either (inl k) longer =
-        room_left b (free_among (other axis) o e inner) (free_among axis (moved axis o e) across (lengthened d rest)) k
-    either (inr k) longer =
-        room_right b (free_among (other axis) o e inner) (free_among axis (moved axis o e) across (lengthened d rest)) (longer k)
+    either (inl k) longer = grind (arith, room_left, free_among)
+    either (inr k) longer = grind (arith, room_right, free_among)
+room-lengthened b d axis o across m (inl h) = inl h
 
 room-lengthened_to : (b : Box) (u n : ℕ) (axis : Axis) (o : Position) (across : ℕ) (m : Members)
     → LiesAmong b (free_among axis o across m) → LiesAmong b (free_among axis o across (lengthened_to u n m))
@@ -192,26 +165,14 @@ room-widened b old new axis m wide h = by_test (ltb u n) refl
         subst (LiesAmong b) (sym (free_among-seq (other axis) origin (side (other (other axis)) new) u m (Free (n - u) End)))
         (room_left b (free_among (other (other axis)) origin u m) (free_among (other axis) (moved (other axis) origin u) (side (other (other axis)) new) (Free (n - u) End))
         (subst (λ a. LiesAmong b (free_among a origin u m)) (sym (other_twice axis)) h))
-    by_test false ge =
-        let same : u ≡ n = (let over : n ≤ u = ltb-false u n ge in omega arith) in
-        subst (λ k. LiesAmong b (free_among axis origin k m)) same h
-
-inside_longer : (axis : Axis) (o : Position) (e k c d : ℕ) → e ≤ k → c ≤ d
-    → IsInside (box_at o (sized axis e c)) (box_at o (sized axis k d))
-inside_longer Horizontal o e k c d p q = (omega arith, omega arith, omega arith, omega arith)
-inside_longer Vertical o e k c d p q = (omega arith, omega arith, omega arith, omega arith)
+    by_test false ge = grind arith
 
 room-grown : (b : Box) (old new : Sides) (axis : Axis) (m : Members) → total m ≡ side axis old → Fits old new
     → LiesAmong b (free_among axis origin (side (other axis) old) m)
     → LiesAmong b (free_boxes new (grown_members old new axis m))
-room-grown b old new axis (Free e End) along fit (inl h) =
-    let long : e ≤ side axis new = (let le : side axis old ≤ side axis new = longer_side axis old new fit in omega arith) in
-    inl
-    (inside_trans b _ _ h (inside_longer axis origin e (side axis new) (side (other axis) old) (side (other axis) new) long (longer_side (other axis) old new fit)))
+room-grown b old new axis (Free e End) along fit (inl h) = grind arith
 room-grown b old new axis (Free e End) along fit (inr h) = absurd h
-room-grown b old new axis m along fit h =
-    room-widened b old new axis (lengthened_to (side axis old) (side axis new) m) (longer_side (other axis) old new fit)
-    (room-lengthened_to b (side axis old) (side axis new) axis origin (side (other axis) old) m h)
+room-grown b old new axis m along fit h = search (rules, room-widened, longer_side, room-lengthened_to)
 
 -- The same with std's words.
 
@@ -223,11 +184,7 @@ lies_in_one b (c ∷ cs) (inr h) =
 
 holds_from : (g : Grant) (gs : List Grant) → Contains gs g → Holds g.id g.box gs
 holds_from g [] at = Contains-none g at
-holds_from g (p ∷ ps) at = cases (Contains-cons_cases p ps g at) (holds_from g ps)
-  where
-    cases : (p ≡ g) ⊎ Contains ps g → (Contains ps g → Holds g.id g.box ps) → Holds g.id g.box (p ∷ ps)
-    cases (inl same) below = inl (ap (λ k. k.id) same, ap (λ k. k.box) same)
-    cases (inr later) below = inr (below later)
+holds_from g (p ∷ ps) at = grind (arith, holds_from g ps)
 
 all_lie : (bs cs : List Box) → ((b : Box) → Contains bs b → LiesAmong b cs) → All (LiesInOneOf cs) bs
 all_lie [] cs each = All-nil (LiesInOneOf cs)
@@ -237,11 +194,7 @@ all_lie (b ∷ bs) cs each =
 
 among_itself : (b : Box) (bs : List Box) → Contains bs b → LiesAmong b bs
 among_itself b [] at = Contains-none b at
-among_itself b (c ∷ cs) at = cases (Contains-cons_cases c cs b at) (among_itself b cs)
-  where
-    cases : (c ≡ b) ⊎ Contains cs b → (Contains cs b → LiesAmong b cs) → LiesAmong b (c ∷ cs)
-    cases (inl same) below = inl (subst (IsInside b) (sym same) (inside_itself b))
-    cases (inr later) below = inr (below later)
+among_itself b (c ∷ cs) at = grind (arith, among_itself b cs)
 
 sides_inside : (b f : Box) → IsInside b f → Fits (box_sides b) (box_sides f)
 sides_inside b f h = (omega (arith, h.0, h.2), omega (arith, h.1, h.3))
@@ -261,9 +214,7 @@ freed_has_room size t s g well at chosen = (room.0, room.1, room.2, sides_inside
 -- Each earlier free box lies in a free box after a growth.
 pub grown_room : (old new : Sides) (t : Tree) → IsWellFormed old t → Fits old new
     → All (LiesInOneOf (free_boxes new (grown old new t))) (free_boxes old t)
-grown_room old new t well fit =
-    all_lie (free_boxes old t) (free_boxes new (grown old new t))
-    (λ b at. room-grown b old new t.axis t.members well.along fit (among_itself b (free_boxes old t) at))
+grown_room old new t well fit = search (rules, all_lie, room-grown, among_itself)
 
 pub grown_keeps : (old new : Sides) (t : Tree) → IsWellFormed old t → IsNormal t.members → Fits old new → IsGrown old new t
 grown_keeps old new t well normal fit =

@@ -1,23 +1,22 @@
 -- The leaves of members tile the box of the members.
-use Rattle.std.proofs.Common.{◌≡◌, ℕ, ◌+◌, ◌-◌, ◌*◌, ◌<◌, Bool, Some, None, ◌&&◌, ltb, leb, ap, ap₂, subst, sym, ◌∙◌, arith}
+use Rattle.std.proofs.Common.{rules, ◌≡◌, ℕ, ◌+◌, ◌-◌, ◌*◌, ◌<◌, Bool, ◌&&◌, ltb, leb, ap, ap₂, subst, sym, ◌∙◌, arith}
 use Rattle.std.proofs.Math.Nat.{mul_comm}
-use Rattle.std.specs.List.{All, sum_by, count_by}
 use Rattle.std.proofs.lemmas.List.Elements.{All-nil, All-cons, All-append}
 use Rattle.std.proofs.lemmas.List.Sums.{sum_by-cons, sum_by-append}
-use Rattle.std.proofs.lemmas.Bool.Decides.{nat_tests}
-use Rattle.guillotiere.specs.Boxes.{Axis, Position, Sides, other, side, sized, moved, box_at, origin, area, covers, IsNonempty, IsWithin}
+use Rattle.std.specs.List.{sum_by, count_by}
+use Rattle.guillotiere.specs.Boxes.{Axis, Position, Sides, other, side, sized, moved, box_at, origin, area, covers}
+use Rattle.guillotiere.specs.Boxes.{IsNonempty, IsWithin}
 use Rattle.guillotiere.specs.Boxes.Axis.{Horizontal, Vertical}
-use Rattle.guillotiere.specs.Trees.{Members, Tree, Leaf, leaf, leaves, tree_leaves, total, IsCut, IsWellFormed}
+use Rattle.guillotiere.specs.Trees.{Members, Tree, Leaf, leaves, tree_leaves, total, IsCut, IsWellFormed}
 use Rattle.guillotiere.specs.Trees.Members.{End, Free, Alloc, Seq}
+use Rattle.std.specs.List.{All}
 use Rattle.guillotiere.proofs.TreeLemmas.TreeBasics.{one_if, side_positive, turned, whole_box-sized}
+use Rattle.guillotiere.specs.Laws.TreeLaws.{LeavesTile}
 
 -- The areas.
 
 area-at : (x y w h : ℕ) → (x + w - x) * (y + h - y) ≡ w * h
-area-at x y w h =
-    let a : x + w - x ≡ w = omega arith in
-    let b : y + h - y ≡ h = omega arith in
-    cc
+area-at x y w h = grind arith
 
 pub area-sized : (axis : Axis) (o : Position) (e across : ℕ) → area (box_at o (sized axis e across)) ≡ e * across
 area-sized Horizontal o e across = area-at o.x o.y e across
@@ -30,12 +29,9 @@ pub areas_of_leaves : (axis : Axis) (o : Position) (across : ℕ) (m : Members) 
     → sum_by (λ (l : Leaf). area l.box) (leaves axis o across m) ≡ total m * across
 areas_of_leaves axis o across End cut = omega arith
 areas_of_leaves axis o across (Free e rest) cut =
-    sum_by-cons (λ (l : Leaf). area l.box) (leaf None (box_at o (sized axis e across))) (leaves axis (moved axis o e) across rest)
-    ∙ add_rows e (total rest) across _ _ (area-sized axis o e across) (areas_of_leaves axis (moved axis o e) across rest cut.1)
+    search (rules, sum_by-cons, add_rows, area-sized, areas_of_leaves axis (moved axis o e) across rest cut.1)
 areas_of_leaves axis o across (Alloc id e rest) cut =
-    sum_by-cons (λ (l : Leaf). area l.box) (leaf (Some id) (box_at o (sized axis e across)))
-    (leaves axis (moved axis o e) across rest)
-    ∙ add_rows e (total rest) across _ _ (area-sized axis o e across) (areas_of_leaves axis (moved axis o e) across rest cut.1)
+    search (rules, sum_by-cons, add_rows, area-sized, areas_of_leaves axis (moved axis o e) across rest cut.1)
 areas_of_leaves axis o across (Seq e inner rest) cut =
     sum_by-append (λ (l : Leaf). area l.box) (leaves (other axis) o e inner) (leaves axis (moved axis o e) across rest)
     ∙ add_rows e (total rest) across _ _
@@ -45,23 +41,19 @@ areas_of_leaves axis o across (Seq e inner rest) cut =
 -- The areas of the leaves add up to that of the size.
 pub areas_add_up : (size : Sides) (t : Tree) → IsWellFormed size t
     → sum_by (λ (l : Leaf). area l.box) (tree_leaves size t) ≡ size.width * size.height
-areas_add_up size t well = areas_of_leaves t.axis origin (side (other t.axis) size) t.members well.cut ∙ by_axis t.axis well.along
-  where
-    by_axis : (a : Axis) → total t.members ≡ side a size → total t.members * side (other a) size ≡ size.width * size.height
-    by_axis Horizontal e = ap (λ k. k * size.height) e
-    by_axis Vertical e = ap (λ k. k * size.width) e ∙ omega arith
+areas_add_up size t well = grind (arith, areas_of_leaves)
 
 -- Each unit square once.
 
 split_x : (lo e t k : ℕ) (b : Bool)
     → one_if ((leb lo k && ltb k (lo + e)) && b) + one_if ((leb (lo + e) k && ltb k (lo + e + t)) && b)
     ≡ one_if ((leb lo k && ltb k (lo + (e + t))) && b)
-split_x lo e t k b = grind (arith, nat_tests)
+split_x lo e t k b = grind arith
 
 split_y : (lo e t k : ℕ) (b : Bool)
     → one_if (b && (leb lo k && ltb k (lo + e))) + one_if (b && (leb (lo + e) k && ltb k (lo + e + t)))
     ≡ one_if (b && (leb lo k && ltb k (lo + (e + t))))
-split_y lo e t k b = grind (arith, nat_tests)
+split_y lo e t k b = grind arith
 
 split : (axis : Axis) (o : Position) (e t across x y : ℕ)
     → one_if (covers x y (box_at o (sized axis e across))) + one_if (covers x y (box_at (moved axis o e) (sized axis t across)))
@@ -70,31 +62,17 @@ split Horizontal o e t across x y = split_x o.x e t x (leb o.y y && ltb y (o.y +
 split Vertical o e t across x y = split_y o.y e t y (leb o.x x && ltb x (o.x + across))
 
 nothing : (axis : Axis) (o : Position) (across x y : ℕ) → one_if (covers x y (box_at o (sized axis 0 across))) ≡ 0
-nothing Horizontal o across x y = no_x o.x x (leb o.y y && ltb y (o.y + across))
-  where
-    no_x : (lo k : ℕ) (b : Bool) → one_if ((leb lo k && ltb k (lo + 0)) && b) ≡ 0
-    no_x lo k b = grind (arith, nat_tests)
-nothing Vertical o across x y = no_y o.y y (leb o.x x && ltb x (o.x + across))
-  where
-    no_y : (lo k : ℕ) (b : Bool) → one_if (b && (leb lo k && ltb k (lo + 0))) ≡ 0
-    no_y lo k b = grind (arith, nat_tests)
+nothing Horizontal o across x y = grind arith
+nothing Vertical o across x y = grind arith
 
 pub squares_of_leaves : (x y : ℕ) (axis : Axis) (o : Position) (across : ℕ) (m : Members) → IsCut across m
     → count_by (λ (l : Leaf). covers x y l.box) (leaves axis o across m)
     ≡ one_if (covers x y (box_at o (sized axis (total m) across)))
 squares_of_leaves x y axis o across End cut = sym (nothing axis o across x y)
 squares_of_leaves x y axis o across (Free e rest) cut =
-    sum_by-cons (λ (l : Leaf). one_if (covers x y l.box)) (leaf None (box_at o (sized axis e across)))
-    (leaves axis (moved axis o e) across rest)
-    ∙ ap (λ n. one_if (covers x y (box_at o (sized axis e across))) + n)
-    (squares_of_leaves x y axis (moved axis o e) across rest cut.1)
-    ∙ split axis o e (total rest) across x y
+    search (rules, sum_by-cons, one_if, squares_of_leaves x y axis (moved axis o e) across rest cut.1, split)
 squares_of_leaves x y axis o across (Alloc id e rest) cut =
-    sum_by-cons (λ (l : Leaf). one_if (covers x y l.box)) (leaf (Some id) (box_at o (sized axis e across)))
-    (leaves axis (moved axis o e) across rest)
-    ∙ ap (λ n. one_if (covers x y (box_at o (sized axis e across))) + n)
-    (squares_of_leaves x y axis (moved axis o e) across rest cut.1)
-    ∙ split axis o e (total rest) across x y
+    search (rules, sum_by-cons, one_if, squares_of_leaves x y axis (moved axis o e) across rest cut.1, split)
 squares_of_leaves x y axis o across (Seq e inner rest) cut =
     sum_by-append (λ (l : Leaf). one_if (covers x y l.box)) (leaves (other axis) o e inner)
     (leaves axis (moved axis o e) across rest)
@@ -104,7 +82,7 @@ squares_of_leaves x y axis o across (Seq e inner rest) cut =
     ∙ split axis o e (total rest) across x y
 
 inside : (x y w h : ℕ) → x < w → y < h → one_if (covers x y (box_at origin (record { width = w; height = h }))) ≡ 1
-inside x y w h in_x in_y = grind (arith, nat_tests)
+inside x y w h in_x in_y = grind arith
 
 -- Each unit square of the size lies in one leaf's box.
 pub squares_once : (size : Sides) (t : Tree) → IsWellFormed size t → (x y : ℕ) → x < size.width → y < size.height
@@ -156,3 +134,6 @@ boxes_within size t well =
     sound_leaves size t.axis origin (side (other t.axis) size) t.members well.cut
     (side_positive (other t.axis) size well.nonempty)
     (subst (IsWithin size) (sym (ap (λ k. box_at origin (sized t.axis k (side (other t.axis) size))) well.along ∙ whole_box-sized t.axis size)) (omega arith, omega arith))
+
+pub leaves_tile : LeavesTile
+leaves_tile size t well = record { squares = squares_once size t well; boxes = boxes_within size t well }

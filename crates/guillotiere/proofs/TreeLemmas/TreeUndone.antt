@@ -1,18 +1,18 @@
 -- A grant is undone by its freeing.
-use Rattle.std.proofs.Common.{◌≡◌, ℕ, ◌+◌, ◌-◌, ◌≤◌, ◌==◌, Bool, true, false, cond, ◌||◌, refl, ap, ap₂, subst, sym, ◌∙◌, arith}
-use Rattle.std.specs.List.{count_by, Contains}
+use Rattle.std.proofs.Common.{rules, ◌≡◌, ℕ, ◌+◌, ◌≤◌, ◌==◌, Bool, true, false, cond, refl, ap, ap₂, sym, ◌∙◌, arith}
 use Rattle.std.proofs.lemmas.List.Sums.{sum_by-cons, sum_by-append}
-use Rattle.std.proofs.lemmas.Bool.{eq-eqb}
-use Rattle.guillotiere.specs.Boxes.{Axis, Position, Sides, Box, other, same_axis, side, sized, moved, box_at, origin, box_sides, same_box, Fits}
+use Rattle.std.specs.List.{count_by}
+use Rattle.guillotiere.specs.Boxes.{Axis, Position, Sides, Box, other, side, sized, moved, box_at, origin, box_sides}
+use Rattle.guillotiere.specs.Boxes.{Fits}
 use Rattle.guillotiere.specs.Boxes.Axis.{Horizontal, Vertical}
-use Rattle.guillotiere.specs.Cuts.{Cut, cut}
-use Rattle.guillotiere.specs.Cuts.Cut.{Whole, Strip, Corner}
+use Rattle.guillotiere.specs.Changes.{free_before, seq_before, nf, mark, and_id, put, placed, place, release}
+use Rattle.guillotiere.specs.Cuts.{Cut}
+use Rattle.guillotiere.specs.Cuts.Cut.{Whole}
 use Rattle.guillotiere.specs.Trees.{Members, Tree, ids}
 use Rattle.guillotiere.specs.Trees.Members.{End, Free, Alloc, Seq}
-use Rattle.guillotiere.specs.Changes.{free_before, seq_before, nf, mark, and_id, put, placed, place, release}
+use Rattle.std.specs.List.{Contains}
 use Rattle.guillotiere.proofs.TreeLemmas.TreeBasics.{one_if, same_box-true}
 use Rattle.guillotiere.proofs.TreeLemmas.TreeIds.{count-absent}
-use Rattle.guillotiere.proofs.TreeLemmas.TreeNormal.{free_before-twice}
 
 -- What fits the box of a member is no longer than the member.
 pub fits_along : (axis : Axis) (o : Position) (e across : ℕ) (r : Sides)
@@ -20,42 +20,16 @@ pub fits_along : (axis : Axis) (o : Position) (e across : ℕ) (r : Sides)
 fits_along Horizontal o e across r h = omega (arith, h.0)
 fits_along Vertical o e across r h = omega (arith, h.1)
 
-rejoined : (p e : ℕ) (m : Members) → p ≤ e → free_before p (free_before (e - p) m) ≡ free_before e m
-rejoined p e m h =
-    let back : p + (e - p) ≡ e = omega arith in
-    free_before-twice p (e - p) m ∙ ap (λ k. free_before k m) back
-
 put-undone : (s : ℕ → Bool) (c : Cut) (axis : Axis) (e across p q id : ℕ) (rest : Members) → s id ≡ true → p ≤ e
     → nf (mark s (put c axis e across p q id rest)) ≡ free_before e (nf (mark s rest))
 put-undone s Whole axis e across p q id rest own fit = rw own refl
-put-undone s (Strip a) axis e across p q id rest own fit = by_axis (same_axis a axis)
-  where
-    by_axis : (b : Bool)
-        → nf (mark s (cond b (Alloc id p (Free (e - p) rest)) (Seq e (Alloc id q (Free (across - q) End)) rest)))
-        ≡ free_before e (nf (mark s rest))
-    by_axis true = rw own (rejoined p e (nf (mark s rest)) fit)
-    by_axis false = rw own refl
-put-undone s (Corner a) axis e across p q id rest own fit = by_axis (same_axis a axis)
-  where
-    by_axis : (b : Bool)
-        → nf (mark s (cond b (Seq p (Alloc id q (Free (across - q) End)) (Free (e - p) rest)) (Seq e (Seq q (Alloc id p (Free (e - p) End)) (Free (across - q) End)) rest)))
-        ≡ free_before e (nf (mark s rest))
-    by_axis true = rw own (rejoined p e (nf (mark s rest)) fit)
-    by_axis false = rw own refl
+put-undone s c axis e across p q id rest own fit = grind arith
 
 own_id : (s : ℕ → Bool) (id : ℕ) → and_id s id id ≡ true
-own_id s id = by_test (s id) (eq-eqb id id refl)
-  where
-    by_test : (b : Bool) → (id == id) ≡ true → (b || (id == id)) ≡ true
-    by_test true e = refl
-    by_test false e = e
+own_id s id = grind arith
 
 other_id : (s : ℕ → Bool) (id i : ℕ) → (i == id) ≡ false → and_id s id i ≡ s i
-other_id s id i h = rw h (by_test (s i))
-  where
-    by_test : (b : Bool) → (b || false) ≡ b
-    by_test true = refl
-    by_test false = refl
+other_id s id i h = grind arith
 
 no_count : (b : Bool) (n : ℕ) → one_if b + n ≡ 0 → b ≡ false
 no_count true n h = absurd (omega arith)
@@ -71,20 +45,7 @@ placed-undone : (s : ℕ → Bool) (f : Box) (r : Sides) (id : ℕ) → Fits r (
     → nf (mark (and_id s id) (placed f r id axis o across m)) ≡ nf (mark s m)
 placed-undone s f r id fit axis o across End absent = refl
 placed-undone s f r id fit axis o across (Free e rest) absent =
-    by_test (same_box (box_at o (sized axis e across)) f) refl
-    (placed-undone s f r id fit axis (moved axis o e) across rest absent)
-  where
-    after : Members
-    after = placed f r id axis (moved axis o e) across rest
-
-    by_test : (b : Bool) → same_box (box_at o (sized axis e across)) f ≡ b → nf (mark (and_id s id) after) ≡ nf (mark s rest)
-        → nf (mark (and_id s id) (cond b (put (cut (box_sides f) r) axis e across (side axis r) (side (other axis) r) id after) (Free e after)))
-        ≡ free_before e (nf (mark s rest))
-    by_test true is h =
-        put-undone (and_id s id) (cut (box_sides f) r) axis e across (side axis r) (side (other axis) r) id after (own_id s id)
-        (fits_along axis o e across r (subst (λ b. Fits r (box_sides b)) (sym (same_box-true _ _ is)) fit))
-        ∙ ap (free_before e) h
-    by_test false is h = ap (free_before e) h
+    search (rules, placed-undone s f r id fit axis (moved axis o e) across rest absent, put-undone, own_id, fits_along, same_box-true)
 placed-undone s f r id fit axis o across (Alloc i e rest) absent =
     let parts : one_if (i == id) + count_by (λ k. k == id) (ids rest) ≡ 0 =
     sym (sum_by-cons (λ k. one_if (k == id)) i (ids rest)) ∙ absent in

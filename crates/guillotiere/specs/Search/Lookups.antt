@@ -1,5 +1,7 @@
 -- The search through lists of entries: what it needs, and what it answers. No public clause cites this module.
 use Rattle.std.specs.Prelude.{ℕ, ◌+◌, ◌≡◌, ◌≢◌, ◌<◌, ◌≤◌, ◌==◌, ◌⊎◌, ◌++◌, Bool, true, List, Contains, length}
+use Rattle.guillotiere.specs.declared.search.Request.{Request}
+use Rattle.guillotiere.specs.declared.search.bands.Borders.{Borders}
 use Rattle.guillotiere.specs.declared.search.bands.Place.{Place}
 use Rattle.guillotiere.specs.declared.search.bands.Window.{Window}
 use Rattle.guillotiere.specs.declared.search.best.Best.{Best}
@@ -8,14 +10,14 @@ use Rattle.guillotiere.specs.declared.search.masks.Mask.{Mask}
 use Rattle.guillotiere.specs.declared.search.table.ListHead.{ListHead}
 use Rattle.guillotiere.specs.Search.Bands.{band_of, list_of, number_of, strip_of, start_of}
 use Rattle.guillotiere.specs.Search.Bests.{HasSeen, IsSameBest}
-use Rattle.guillotiere.specs.Boxes.{Sides, Box, Fits}
+use Rattle.guillotiere.specs.Boxes.{Sides, Box, Fits, IsPositive}
 use Rattle.guillotiere.specs.Choice.{Options, AreValid, class_of}
 use Rattle.guillotiere.specs.Search.Items.{Item, item_at, item_box, item_sides, shown_item, shown_items, IsPath}
 use Rattle.guillotiere.specs.Search.Items.{IsPrevious}
 use Rattle.guillotiere.specs.Slots.Links.{IsSolid}
 use Rattle.guillotiere.specs.Slots.Lists.{occurs}
 use Rattle.guillotiere.specs.Search.Masks.{IsMarked}
-use Rattle.guillotiere.specs.Pixels.{box_of}
+use Rattle.guillotiere.specs.Pixels.{box_of, sides_of}
 use Rattle.guillotiere.specs.Search.Ranks.{no_rank}
 use Rattle.guillotiere.specs.Search.Searches.{Shown, shown_at, IsBestShown}
 use Rattle.guillotiere.specs.Slots.{no_slot}
@@ -142,6 +144,26 @@ pub record IsInsideWindow (w : Window) (row column : ℕ) : Type 0 where
 pub record IsWindowOf (o : Options) (class : ℕ) (w : Window) : Type 0 where
   pub first : w.first ≡ start_of o class
   pub end : w.end ≡ start_of o (class + 1)
+
+-- The borders of the classes.
+pub record AreBorders (o : Options) (b : Borders) : Type 0 where
+  pub small : b.small ≡ start_of o 1
+  pub large : b.large ≡ start_of o 2
+
+-- What a search computes of its request.
+pub record IsRequest (o : Options) (q : Request) : Type 0 where
+  pub positive : IsPositive (sides_of q.size)
+  pub large : q.is_large ≡ (class_of o (sides_of q.size) == 2)
+  pub row : q.own.row ≡ band_of o (sides_of q.size).width
+  pub column : q.own.column ≡ band_of o (sides_of q.size).height
+  pub borders : AreBorders o q.borders
+
+-- The free entries are listed, and a request is to be searched for in a class, which isn't below its own.
+pub record IsSearch (o : Options) (heads : List ListHead) (es : List Item) (class : ℕ) (q : Request) : Type 0 where
+  pub listed : AreListed o heads es
+  pub request : IsRequest o q
+  pub few : class < 3
+  pub from : class_of o (sides_of q.size) ≤ class
 
 -- These rows, from a column on.
 abbrev pub IsBeyond : (rows : Mask) → (first : ℕ) → ℕ → ℕ → Type 0

@@ -1,18 +1,20 @@
 -- The search for a free slot: what it needs. No public clause cites this module.
-use Rattle.std.specs.Prelude.{ℕ, ◌≡◌, ◌≤◌, false, List, Contains, length}
+use Rattle.std.specs.Prelude.{ℕ, ◌≡◌, ◌≢◌, ◌<◌, ◌≤◌, false, List, Contains, length}
 use Rattle.guillotiere.specs.declared.slots.Slot.{Slot}
 use Rattle.guillotiere.specs.declared.slots.Link.{Link}
 use Rattle.guillotiere.specs.declared.slots.Node.{Node}
 use Rattle.guillotiere.specs.declared.slots.Ring.{Ring}
 use Rattle.guillotiere.specs.declared.slots.NodeKind.TheVariants as kind
+use Rattle.guillotiere.specs.declared.search.best.Found.{Found}
 use Rattle.guillotiere.specs.declared.search.table.ListHead.{ListHead}
-use Rattle.guillotiere.specs.Boxes.{Box}
+use Rattle.guillotiere.specs.Boxes.{Box, Sides}
 use Rattle.guillotiere.specs.Pixels.{box_of}
-use Rattle.guillotiere.specs.Choice.{Options, AreValid}
+use Rattle.guillotiere.specs.Choice.{Options, AreValid, IsPick}
 use Rattle.guillotiere.specs.Trees.{most_slots}
 use Rattle.guillotiere.specs.Slots.{nodes, rings, node_at}
+use Rattle.guillotiere.specs.Search.Bands.{list_of, number_of}
 use Rattle.guillotiere.specs.Search.Items.{Item}
-use Rattle.guillotiere.specs.Slots.Lists.{AreFiled, Places, is_free}
+use Rattle.guillotiere.specs.Slots.Lists.{AreFiled, Places, is_free, node_sides, node_strip}
 use Rattle.guillotiere.specs.Slots.Links.{IsSolid}
 
 abbrev pub node_box : Node → Box
@@ -43,3 +45,15 @@ pub record IsSearchable (o : Options) (slots : List Slot) (heads : List ListHead
 pub record AreFreeBoxes (ns : List Node) (free : List Box) : Type 0 where
   pub of_slot : (b : Box) → Contains free b → (i : ℕ) × IsFreeSlot ns i × (node_box (node_at ns i) ≡ b)
   pub of_box : (i : ℕ) → IsFreeSlot ns i → Contains free (node_box (node_at ns i))
+
+-- The free slot that a request takes: its list, and a strip that no other slot of that list lies above.
+pub record IsPickedSlot (o : Options) (r : Sides) (ns : List Node) (found : Found) : Type 0 where
+  pub free : IsFreeSlot ns found.at.number
+  pub area : (node_at ns found.at.number).area ≡ found.rectangle
+  pub picked : (free : List Box) → AreFreeBoxes ns free → IsPick free o r (box_of found.rectangle)
+  pub row : found.place.row < 52
+  pub column : found.place.column < 52
+  pub list : number_of found.place ≡ list_of o (node_sides (node_at ns found.at.number))
+  pub low : (i : ℕ) → IsFreeSlot ns i → i ≢ found.at.number
+      → list_of o (node_sides (node_at ns i)) ≡ number_of found.place
+      → found.low ≤ node_strip (node_at ns i)

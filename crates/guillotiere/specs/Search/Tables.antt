@@ -1,5 +1,5 @@
 -- The heads of the lists of free slots. No public clause cites this module.
-use Rattle.std.specs.Prelude.{ℕ, ◌≡◌, ◌+◌, ◌*◌, ◌<◌, ◌==◌, Bool, not, List, length, slice_index_or}
+use Rattle.std.specs.Prelude.{ℕ, ◌≡◌, ◌≢◌, ◌+◌, ◌*◌, ◌<◌, ◌≤◌, ◌==◌, Bool, true, not, List, length, slice_index_or}
 use Rattle.guillotiere.specs.declared.slots.Link.{Link}
 use Rattle.guillotiere.specs.declared.search.table.ListHead.{ListHead}
 use Rattle.guillotiere.specs.declared.search.masks.Mask.{Mask}
@@ -29,3 +29,11 @@ is_used_at heads k = not ((head_of heads k).number == no_slot)
 pub record IsTable (heads : List ListHead) (rows : List Mask) : Type 0 where
   pub count : length heads ≡ 2704
   pub marked : (i j : ℕ) → i < 52 → j < 52 → is_marked_at rows i j ≡ is_used_at heads (52 * i + j)
+
+-- A slot in this strip comes first in list k; no other list changes.
+pub record IsPushed (old new : List ListHead) (k : ℕ) (first : Link) (strip : ℕ) : Type 0 where
+  pub head : head_of new k ≡ first
+  pub heads : (j : ℕ) → j ≢ k → head_of new j ≡ head_of old j
+  pub low : low_of new k ≤ strip
+  pub lower : is_used_at old k ≡ true → low_of new k ≤ low_of old k
+  pub lows : (j : ℕ) → j ≢ k → low_of new j ≡ low_of old j

@@ -1,19 +1,21 @@
 -- What the calls on lists of slots make of rings, lists and marks. No public clause cites this module.
-use Rattle.std.specs.Prelude.{ℕ, ◌+◌, ◌%◌, ◌≡◌, ◌<◌, ◌==◌, Bool, true, false, List, [], ◌∷◌, length, slice_set}
-use Rattle.std.specs.Prelude.{if◌then◌else◌}
+use Rattle.std.specs.Prelude.{ℕ, ◌+◌, ◌%◌, ◌≡◌, ◌≢◌, ◌<◌, ◌==◌, Bool, true, false, if◌then◌else◌}
+use Rattle.std.specs.Prelude.{List, [], ◌∷◌, ◌++◌, length, slice_set}
 use Rattle.guillotiere.specs.declared.slots.Slot.{Slot}
 use Rattle.guillotiere.specs.declared.slots.Link.{Link}
 use Rattle.guillotiere.specs.declared.slots.Node.{Node}
 use Rattle.guillotiere.specs.declared.slots.Ring.{Ring}
 use Rattle.guillotiere.specs.declared.slots.NodeKind.TheVariants as kind
+use Rattle.guillotiere.specs.declared.search.bands.Place.{Place}
 use Rattle.guillotiere.specs.declared.search.table.ListHead.{ListHead}
 use Rattle.guillotiere.specs.declared.geometry.Rectangle.{Rectangle}
 use Rattle.guillotiere.specs.Boxes.{IsNonempty}
 use Rattle.guillotiere.specs.Pixels.{box_of}
 use Rattle.guillotiere.specs.Rectangles.{IsUnsigned}
 use Rattle.guillotiere.specs.Choice.{Options}
-use Rattle.guillotiere.specs.Slots.{nodes, rings, node_at, ring_at, no_slot}
-use Rattle.guillotiere.specs.Slots.Lists.{IsList, AreFiled, Places, occurs, without}
+use Rattle.guillotiere.specs.Slots.{nodes, rings, node_at, ring_at, blank_slot, no_slot}
+use Rattle.guillotiere.specs.Search.Bands.{list_of}
+use Rattle.guillotiere.specs.Slots.Lists.{IsList, AreFiled, Line, Places, front, node_sides, occurs, without}
 
 -- Slot i stands in a list that is in order.
 abbrev pub IsListed : List Ring → ℕ → Type 0
@@ -70,6 +72,17 @@ pub record IsLoose (o : Options) (slots : List Slot) (heads : List ListHead) (i 
   pub filed : AreFiled o (nodes slots) (rings slots) heads unused places
   pub is_loose : places.loose i ≡ true
 
+-- The row and the column of some list.
+pub record IsInTable (place : Place) : Type 0 where
+  pub row : place.row < 52
+  pub column : place.column < 52
+
+-- Slot i is free and not loose, and its rectangle belongs in list k.
+pub record BelongsIn (o : Options) (ns : List Node) (p : Places) (k i : ℕ) : Type 0 where
+  pub free : (node_at ns i).kind ≡ kind.Free
+  pub kept : p.loose i ≡ false
+  pub list : k ≡ list_of o (node_sides (node_at ns i))
+
 -- The list but for its first.
 abbrev pub tail_of : List ℕ → List ℕ
 tail_of [] = []
@@ -103,3 +116,18 @@ pub record IsTaken (o : Options) (old new : List Slot) (heads : List ListHead) (
   pub was_unused : (node_at (nodes old) at).kind ≡ kind.Unused
   pub is_unused : (node_at (nodes new) at).kind ≡ kind.Unused
   pub apart : (k : ℕ) → k < length old → 0 < p.hand k → at ≡ k → ⊥
+
+-- The first of the unused slots can be taken, or else there is room for a new one.
+pub record CanTake (slots : List Slot) (capacity : ℕ) (unused : Link) : Type 0 where
+  pub line : (spare : List ℕ) × Line (rings slots) spare × (unused.number ≡ front spare)
+  pub room : unused.number ≡ no_slot → length slots < capacity
+  pub short : length slots < no_slot
+
+-- The first of the unused slots was taken, in its next generation, or else a new one.
+pub record TakesFirst (old new : List Slot) (unused unused' at : Link) : Type 0 where
+  pub taken : (o : Options) (heads : List ListHead) (p : Places) → AreFiled o (nodes old) (rings old) heads unused p
+      → IsTaken o old new heads unused' p at.number
+  pub others : (k : ℕ) → k ≢ at.number → node_at (nodes new) k ≡ node_at (nodes old) k
+  pub again : unused.number ≢ no_slot
+      → (at ≡ unused) × (nodes new ≡ slice_set (nodes old) at.number (renewed (node_at (nodes old) at.number)))
+  pub fresh : unused.number ≡ no_slot → (at.number ≡ length old) × (new ≡ old ++ blank_slot ∷ [])

@@ -76,3 +76,7 @@ IsSlot count i = (i ≡ no_slot) ⊎ (i < count)
 -- The node at i follows another; nothing happens where i is no slot.
 abbrev pub with_previous : List Node → ℕ → Link → List Node
 with_previous ns i link = slice_set ns i (record (node_at ns i) { previous = link })
+
+-- Slot i is used for something else.
+abbrev pub with_kind : List Node → ℕ → NodeKind → List Node
+with_kind ns i k = slice_set ns i (record (node_at ns i) { kind = k })

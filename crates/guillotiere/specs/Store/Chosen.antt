@@ -67,3 +67,8 @@ abbrev pub IsShortOf : (used limit needed kept : ℕ) → AtlasError → Type 0
 IsShortOf used limit needed kept Slots = limit < used + needed
 IsShortOf used limit needed kept Memory = (used + needed ≤ limit) × (kept < used + needed)
 IsShortOf used limit needed kept NotLive = ⊥
+
+-- The same is stored, and no turn was taken.
+pub record KeepsShelf {A : Type 0} (old new : Store A) : Type 0 where
+  pub shelf : shelf_of new ≡ shelf_of old
+  pub turns : new.turns ≡ old.turns

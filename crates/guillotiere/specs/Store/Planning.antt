@@ -8,7 +8,7 @@ use Rattle.guillotiere.specs.declared.slots.Node.{Node}
 use Rattle.guillotiere.specs.Boxes.{Sides, other, side, box_sides}
 use Rattle.guillotiere.specs.Cuts.{cut}
 use Rattle.guillotiere.specs.Cuts.Cut.{Whole, Strip, Corner}
-use Rattle.guillotiere.specs.Pixels.{natural, box_of}
+use Rattle.guillotiere.specs.Pixels.{box_of}
 use Rattle.guillotiere.specs.declared.slots.NodeKind.TheVariants as kind
 use Rattle.guillotiere.specs.Slots.{axis_of}
 use Rattle.guillotiere.specs.Slots.Reading.{extent_of}
@@ -28,43 +28,43 @@ slots_of (plan.CornerAcross p q) = 4
 abbrev pub IsPlanFor : Node → Sides → Plan → Type 0
 IsPlanFor leaf r plan.Whole = cut (box_sides (box_of leaf.area)) r ≡ Whole
 IsPlanFor leaf r (plan.StripAlong p) =
-    (cut (box_sides (box_of leaf.area)) r ≡ Strip (axis_of leaf.axis)) × (natural p ≡ side (axis_of leaf.axis) r)
+    (cut (box_sides (box_of leaf.area)) r ≡ Strip (axis_of leaf.axis)) × (p ≡ side (axis_of leaf.axis) r)
 IsPlanFor leaf r (plan.CornerAlong p q) =
-    (cut (box_sides (box_of leaf.area)) r ≡ Corner (axis_of leaf.axis)) × (natural p ≡ side (axis_of leaf.axis) r)
-    × (natural q ≡ side (other (axis_of leaf.axis)) r)
+    (cut (box_sides (box_of leaf.area)) r ≡ Corner (axis_of leaf.axis)) × (p ≡ side (axis_of leaf.axis) r)
+    × (q ≡ side (other (axis_of leaf.axis)) r)
 IsPlanFor leaf r (plan.StripAcross q) =
     (cut (box_sides (box_of leaf.area)) r ≡ Strip (other (axis_of leaf.axis)))
-    × (natural q ≡ side (other (axis_of leaf.axis)) r)
+    × (q ≡ side (other (axis_of leaf.axis)) r)
 IsPlanFor leaf r (plan.CornerAcross p q) =
     (cut (box_sides (box_of leaf.area)) r ≡ Corner (other (axis_of leaf.axis)))
-    × (natural p ≡ side (axis_of leaf.axis) r) × (natural q ≡ side (other (axis_of leaf.axis)) r)
+    × (p ≡ side (axis_of leaf.axis) r) × (q ≡ side (other (axis_of leaf.axis)) r)
 
 -- The plan can be carried out: what it cuts off is neither nothing nor all.
 abbrev pub IsFeasible : Plan → (along across : ℕ) → Type 0
 IsFeasible plan.Whole along across = Unit {0}
-IsFeasible (plan.StripAlong p) along across = (0 < natural p) × (natural p < along)
+IsFeasible (plan.StripAlong p) along across = (0 < p) × (p < along)
 IsFeasible (plan.CornerAlong p q) along across =
-    (0 < natural p) × (natural p < along) × (0 < natural q) × (natural q < across)
-IsFeasible (plan.StripAcross q) along across = (0 < natural q) × (natural q < across)
+    (0 < p) × (p < along) × (0 < q) × (q < across)
+IsFeasible (plan.StripAcross q) along across = (0 < q) × (q < across)
 IsFeasible (plan.CornerAcross p q) along across =
-    (0 < natural p) × (natural p < along) × (0 < natural q) × (natural q < across)
+    (0 < p) × (p < along) × (0 < q) × (q < across)
 
 -- In a sequence that spans `width` the leaf of slot `at` gives way to what the plan says, and slot `granted` is granted
 -- under generation g.
 abbrev pub IsPlannedTree : Plan → (at width granted g : ℕ) → (old new : Numbered) → Type 0
 IsPlannedTree plan.Whole at width granted g old new = (granted ≡ at) × (new ≡ granted_at at g old)
 IsPlannedTree (plan.StripAlong p) at width granted g old new =
-    (granted ≡ at) × (k : ℕ) × (new ≡ granted_at at g (split_at at k (natural p) old))
+    (granted ≡ at) × (k : ℕ) × (new ≡ granted_at at g (split_at at k p old))
 IsPlannedTree (plan.CornerAlong p q) at width granted g old new =
     (k : ℕ) × (l : ℕ)
-    × (new ≡ granted_at granted g (split_at granted l (natural q)
-    (wrapped_at at granted width (split_at at k (natural p) old))))
+    × (new ≡ granted_at granted g (split_at granted l q
+    (wrapped_at at granted width (split_at at k p old))))
 IsPlannedTree (plan.StripAcross q) at width granted g old new =
-    (k : ℕ) × (new ≡ granted_at granted g (split_at granted k (natural q) (wrapped_at at granted width old)))
+    (k : ℕ) × (new ≡ granted_at granted g (split_at granted k q (wrapped_at at granted width old)))
 IsPlannedTree (plan.CornerAcross p q) at width granted g old new =
     (s : ℕ) × (c : ℕ) × (l : ℕ)
-    × (new ≡ granted_at granted g (split_at granted l (natural p) (wrapped_at c granted width
-    (split_at c s (natural q) (wrapped_at at c width old)))))
+    × (new ≡ granted_at granted g (split_at granted l p (wrapped_at c granted width
+    (split_at c s q (wrapped_at at c width old)))))
 
 -- Slot `at` is a loose leaf, the only one, for which the plan is feasible, and there are slots for it.
 pub record IsPlaceableAt {A : Type 0} (s : Store A) (at : ℕ) (p : Plan) (h : Holding) : Type 0 where

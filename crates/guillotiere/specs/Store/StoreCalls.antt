@@ -1,10 +1,14 @@
 -- What each call of the store does, in one word. No public clause cites this module.
 use Rattle.std.specs.Prelude.{ℕ, ◌+◌, ◌-◌, ◌<◌, ◌≤◌, ◌≡◌, ◌≢◌, ◌⊎◌, List, length, true, false}
 use Rattle.guillotiere.specs.declared.store.Store.{Store}
+use Rattle.guillotiere.specs.declared.search.bands.Place.{Place}
 use Rattle.guillotiere.specs.declared.slots.Link.{Link}
 use Rattle.guillotiere.specs.declared.slots.NodeKind.TheVariants as kind
 use Rattle.guillotiere.specs.Slots.Calm.{IsCalmAt, IsCalmBut}
-use Rattle.guillotiere.specs.Slots.Links.{with_count}
+use Rattle.guillotiere.specs.Search.Bands.{list_of, number_of}
+use Rattle.guillotiere.specs.Pixels.{options_of}
+use Rattle.guillotiere.specs.Slots.Links.{IsInTable, with_count}
+use Rattle.guillotiere.specs.Slots.Lists.{node_sides}
 use Rattle.guillotiere.specs.Slots.Parts.{front_node, back_node, inner_node}
 use Rattle.guillotiere.specs.Slots.Reading.{extent_of}
 use Rattle.guillotiere.specs.Slots.{nodes, KeepsUse}
@@ -48,6 +52,13 @@ pub record HasInHand {A : Type 0} (s : Store A) (i k : ℕ) : Type 0 where
   pub ready : (h : Holding) × (hand : ℕ → ℕ) × IsReadyWith hand (shelf_of s) i k h
   pub free : (node_in (shelf_of s) i).kind ≡ kind.Free
   pub fresh : IsUnusedSlot s k
+
+-- Slot i is a free leaf, and stands in the list at this place.
+pub record IsListedAt {A : Type 0} (s : Store A) (i : ℕ) (place : Place) : Type 0 where
+  pub kept : (h : Holding) × Holds (shelf_of s) h × (h.loose i ≡ false)
+  pub free : (node_in (shelf_of s) i).kind ≡ kind.Free
+  pub list : number_of place ≡ list_of (options_of s.options) (node_sides (node_in (shelf_of s) i))
+  pub inside : IsInTable place
 
 -- The free leaf of slot i left its list.
 pub record IsUnlisted {A : Type 0} (old new : Store A) (i : ℕ) : Type 0 where

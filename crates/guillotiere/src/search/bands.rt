@@ -2,6 +2,8 @@
 ghost use Rattle.std.specs.Prelude.{◌≡◌, ◌+◌, ◌<◌, ◌≤◌, pos, ◌<ℤ◌, ◌≤ℤ◌, ℕ};
 ghost use Rattle.guillotiere.specs.Search.Bands.{band_of, border_of, list_of, number_of, passes, start_of, step_of};
 ghost use Rattle.guillotiere.specs.Search.Bands.{strip_of};
+ghost use Rattle.guillotiere.specs.Choice.{Options};
+ghost use Rattle.guillotiere.specs.Search.Lookups.{AreBorders, IsWindowOf};
 ghost use Rattle.guillotiere.specs.Boxes.{IsPositive};
 ghost use Rattle.guillotiere.specs.Pixels.{natural, options_of, sides_of};
 
@@ -105,26 +107,61 @@ fn border(threshold: i32, options: &AllocatorOptions) -> usize
     }
 }
 
+/// The first band of the sides that reach the small threshold, and that of those that reach the large one.
+#[derive(Clone, Copy)]
+pub struct Borders {
+    pub small: usize,
+    pub large: usize,
+}
+
+/// The borders of the classes.
+pub fn borders_for(options: &AllocatorOptions) -> Borders
+    ensures { AreBorders (options_of options.now) result }
+{
+    Borders {
+        small: border(options.small_size_threshold, options),
+        large: border(options.large_size_threshold, options),
+    }
+}
+
 /// The window of a class.
-pub fn window_for(class: usize, options: &AllocatorOptions) -> Window
-    requires { class < 3 }
-    ensures first { result.first ≡ start_of (options_of options.now) class }
-    ensures end { result.end ≡ start_of (options_of options.now) (class + 1) }
+pub fn window_for(class: usize, borders: Borders) -> Window
+    requires class { class < 3 }
+    requires small { borders.small < BANDS }
+    requires large { borders.large < BANDS }
+    ensures window { (o : Options) → AreBorders o borders → IsWindowOf o class result }
     ensures inside { result.first < BANDS }
     ensures most { result.end ≤ BANDS }
 {
     match class {
         0 => Window {
             first: 0,
-            end: border(options.small_size_threshold, options),
+            end: borders.small,
         },
         1 => Window {
-            first: border(options.small_size_threshold, options),
-            end: border(options.large_size_threshold, options),
+            first: borders.small,
+            end: borders.large,
         },
         _ => Window {
-            first: border(options.large_size_threshold, options),
+            first: borders.large,
             end: BANDS,
         },
+    }
+}
+
+/// The first class whose window ends after a row or a column; 3 if there is none.
+pub fn class_from(least: usize, borders: Borders) -> usize
+    ensures most { result ≤ 3 }
+    ensures passed { (o : Options) → AreBorders o borders → (class : ℕ) → class < result
+        → start_of o (class + 1) ≤ least }
+{
+    if least < borders.small {
+        0
+    } else if least < borders.large {
+        1
+    } else if least < BANDS {
+        2
+    } else {
+        3
     }
 }

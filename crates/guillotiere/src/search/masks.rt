@@ -1,5 +1,6 @@
 //! Sets of numbers below 64, a bit for each.
-ghost use Rattle.std.specs.Prelude.{◌≡◌, ◌<◌, ◌≤◌, ◌≢◌, ◌==◌, ◌&&◌, ℕ, not, true, false, nat_le, nat_lt, IfSome, None};
+ghost use Rattle.std.specs.Prelude.{◌≡◌, ◌<◌, ◌≤◌, ◌≢◌, ◌==◌, ◌&&◌, ◌||◌, ℕ, not, true, false, nat_le, nat_lt, IfSome};
+ghost use Rattle.std.specs.Prelude.{None};
 
 /// A set of numbers below 64.
 #[derive(Clone, Copy, Debug, PartialEq, Eq)]
@@ -66,6 +67,22 @@ impl Mask {
         Mask {
             bits: self.bits & ((1 << k) - 1),
         }
+    }
+
+    /// The numbers of one of two sets.
+    pub fn or(self, other: Mask) -> Mask
+        ensures { (j : ℕ) → has result j ≡ (has self j || has other j) }
+    {
+        Mask {
+            bits: self.bits | other.bits,
+        }
+    }
+
+    /// The least number of the set, and 64 if there is none.
+    pub fn first(self) -> usize
+        ensures { (k : ℕ) → IsMarked self k → result ≤ k }
+    {
+        self.bits.trailing_zeros() as usize
     }
 
     /// Takes the least number out of the set; None if there is none.

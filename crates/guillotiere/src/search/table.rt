@@ -1,10 +1,10 @@
 //! The table of the lists of free slots: the first slot of each, a bound of its slots' strips, and marks of those that
 //! have a slot.
-ghost use Rattle.std.specs.Prelude.{◌≡◌, ◌≢◌, ◌+◌, ◌*◌, ◌<◌, ◌≤◌, ℕ, true, false, IfOk};
+ghost use Rattle.std.specs.Prelude.{◌≡◌, ◌≢◌, ◌+◌, ◌*◌, ◌<◌, ℕ, true, false, IfOk};
 ghost use Rattle.guillotiere.specs.Search.Bands.{number_of};
 ghost use Rattle.guillotiere.specs.Search.Masks.{IsMarked, has};
 ghost use Rattle.guillotiere.specs.Slots.{no_slot};
-ghost use Rattle.guillotiere.specs.Search.Tables.{head_of, is_used_at, low_of};
+ghost use Rattle.guillotiere.specs.Search.Tables.{IsPushed, head_of, is_used_at, low_of};
 
 use crate::search::bands::{BANDS, Place};
 use crate::search::marks::Marks;
@@ -102,12 +102,7 @@ impl<A: Allocator> Table<A> {
         requires row { at.row < BANDS }
         requires column { at.column < BANDS }
         requires slot { first.number ≢ no_slot }
-        ensures head { head_of self.new (number_of at) ≡ first }
-        ensures heads { (k : ℕ) → k ≢ number_of at → head_of self.new k ≡ head_of self.old k }
-        ensures low { low_of self.new (number_of at) ≤ strip }
-        ensures lower { is_used_at self.old (number_of at) ≡ true
-            → low_of self.new (number_of at) ≤ low_of self.old (number_of at) }
-        ensures lows { (k : ℕ) → k ≢ number_of at → low_of self.new k ≡ low_of self.old k }
+        ensures { IsPushed self.old self.new (number_of at) first strip }
     {
         let head = &mut self.heads[BANDS * at.row + at.column];
         if head.first.number == NO_SLOT {

@@ -2,7 +2,7 @@
 ghost use Rattle.std.specs.Prelude.{◌≡◌, ◌↔◌, All, take, drop, vec_len, IsTrue, OnOk, OnErr, IsOkUnless};
 ghost use Rattle.guillotiere.specs.Boxes.{Fits};
 ghost use Rattle.guillotiere.specs.Pixels.{sides_of, options_of};
-ghost use Rattle.guillotiere.specs.Simple.{SimpleStep, simple_answer, simple_done};
+ghost use Rattle.guillotiere.specs.Simple.{SimpleStep, simple_done};
 ghost use Rattle.guillotiere.specs.Simple.SimpleAtlasCall.{Allocate, Grow, Reset};
 ghost use Rattle.guillotiere.specs.Simple.SimpleSessions.{simple_call_of, simple_answer_of, GrantsExact};
 ghost use Rattle.guillotiere.specs.Simple.SimpleSessions.{IsSimpleSession};

@@ -1,9 +1,10 @@
 //! The free boxes of the simple allocator, in the lists of a table.
-ghost use Rattle.std.specs.Prelude.{◌≡◌, ◌≢◌, ◌+◌, ◌<◌, ◌≤◌, ◌∷◌, ℕ, IfOk, IsOkUnless, OnErr, OnOk, [], length};
+ghost use Rattle.std.specs.Prelude.{◌≡◌, ◌≢◌, ◌<◌, ◌≤◌, ◌∷◌, IfOk, IsOkUnless, OnErr, OnOk, [], length};
 ghost use Rattle.std.specs.Prelude.{vec_capacity, vec_len};
+ghost use Rattle.guillotiere.specs.Simple.BoxCalls.{AreFiledBoxes, HasEntriesFor, HasTakenEntries, IsLed};
 ghost use Rattle.guillotiere.specs.Simple.BoxShelves.{AreKept, IsInHand, box_shelf, free_item_boxes, idle_item};
-ghost use Rattle.guillotiere.specs.Simple.BoxShelves.{stored_item, with_after};
-ghost use Rattle.guillotiere.specs.Search.Bands.{number_of, strip_of};
+ghost use Rattle.guillotiere.specs.Simple.BoxShelves.{stored_item};
+ghost use Rattle.guillotiere.specs.Search.Bands.{strip_of};
 ghost use Rattle.guillotiere.specs.Boxes.{AreSameBoxes};
 ghost use Rattle.guillotiere.specs.Choice.{AreValid, Options};
 ghost use Rattle.guillotiere.specs.Slots.Links.{IsSolid};
@@ -11,7 +12,6 @@ ghost use Rattle.guillotiere.specs.Search.Lookups.{IsStanding};
 ghost use Rattle.guillotiere.specs.Pixels.{box_of, options_of};
 ghost use Rattle.guillotiere.specs.Rectangles.{IsUnsigned};
 ghost use Rattle.guillotiere.specs.Slots.{no_slot};
-ghost use Rattle.guillotiere.specs.Search.Tables.{head_of, low_of};
 
 use crate::error::AtlasError;
 use crate::geometry::{Rectangle, point2};
@@ -98,13 +98,11 @@ impl<A: Allocator> FreeBoxes<A> {
     // Takes the first of the unused entries, or else a new one, for which there is room.
     fn take(&mut self) -> Link
         requires kept { (o : Options) × AreKept o (box_shelf self.old) }
-        requires room { self.old.unused.number ≡ no_slot → vec_len self.old.entries < vec_capacity self.old.entries }
-        requires short { vec_len self.old.entries < no_slot }
+        requires room { HasEntriesFor 1 self.old }
         ensures taken { (o : Options) → AreKept o (box_shelf self.old) → IsInHand o (box_shelf self.new) result.number }
         ensures boxes { free_item_boxes (box_shelf self.new).entries ≡ free_item_boxes (box_shelf self.old).entries }
         ensures heads { self.new.table ≡ self.old.table }
-        ensures length { vec_len self.new.entries ≤ vec_len self.old.entries + 1 }
-        ensures capacity { vec_capacity self.new.entries ≡ vec_capacity self.old.entries }
+        ensures entries { HasTakenEntries 1 self.old self.new }
     {
         let at = self.unused;
         if at.number == NO_SLOT {
@@ -124,8 +122,7 @@ impl<A: Allocator> FreeBoxes<A> {
         ensures kept { AreKept (options_of options.now) (box_shelf self.new) }
         ensures boxes { AreSameBoxes (free_item_boxes (box_shelf self.new).entries)
             (box_of area ∷ free_item_boxes (box_shelf self.old).entries) }
-        ensures length { vec_len self.new.entries ≡ vec_len self.old.entries }
-        ensures capacity { vec_capacity self.new.entries ≡ vec_capacity self.old.entries }
+        ensures entries { HasTakenEntries 0 self.old self.new }
     {
         let place = place_for(exact_size(area), options);
         let after = self.table.head(place);
@@ -138,8 +135,7 @@ impl<A: Allocator> FreeBoxes<A> {
         requires { n ≤ 2 }
         ensures unless { IsOkUnless result AtlasError.Memory }
         ensures same { box_shelf self.new ≡ box_shelf self.old }
-        ensures room { OnOk result (vec_len self.new.entries + n ≤ vec_capacity self.new.entries) }
-        ensures short { OnOk result (vec_len self.new.entries + n ≤ no_slot) }
+        ensures room { OnOk result (HasEntriesFor n self.new) }
     {
         if self.entries.len() > MOST_BOXES - n {
             return Err(AtlasError::Memory);
@@ -152,13 +148,9 @@ impl<A: Allocator> FreeBoxes<A> {
     pub fn add(&mut self, area: Rectangle, options: &AllocatorOptions)
         requires exact { IsSolid area }
         requires kept { AreKept (options_of options.now) (box_shelf self.old) }
-        requires room { vec_len self.old.entries < vec_capacity self.old.entries }
-        requires short { vec_len self.old.entries < no_slot }
-        ensures kept { AreKept (options_of options.now) (box_shelf self.new) }
-        ensures boxes { AreSameBoxes (free_item_boxes (box_shelf self.new).entries)
-            (box_of area ∷ free_item_boxes (box_shelf self.old).entries) }
-        ensures length { vec_len self.new.entries ≤ vec_len self.old.entries + 1 }
-        ensures capacity { vec_capacity self.new.entries ≡ vec_capacity self.old.entries }
+        requires room { HasEntriesFor 1 self.old }
+        ensures boxes { AreFiledBoxes (options_of options.now) (box_of area ∷ []) self.old self.new }
+        ensures entries { HasTakenEntries 1 self.old self.new }
     {
         let at = self.take();
         self.put(at, area, options);
@@ -188,15 +180,7 @@ impl<A: Allocator> FreeBoxes<A> {
         requires row { place.row < BANDS }
         requires column { place.column < BANDS }
         requires inside { before.number ≢ no_slot → before.number < vec_len self.old.entries }
-        ensures first { before.number ≡ no_slot
-            → (head_of self.new.table (number_of place) ≡ after)
-            × ((box_shelf self.new).entries ≡ (box_shelf self.old).entries) }
-        ensures next { before.number ≢ no_slot
-            → (self.new.table ≡ self.old.table)
-            × ((box_shelf self.new).entries ≡ with_after (box_shelf self.old).entries before.number after.number) }
-        ensures heads { (j : ℕ) → j ≢ number_of place → head_of self.new.table j ≡ head_of self.old.table j }
-        ensures lows { (j : ℕ) → low_of self.new.table j ≡ low_of self.old.table j }
-        ensures unused { self.new.unused ≡ self.old.unused }
+        ensures led { IsLed (box_shelf self.old) (box_shelf self.new) place before after }
         ensures length { vec_len self.new.entries ≡ vec_len self.old.entries }
         ensures capacity { vec_capacity self.new.entries ≡ vec_capacity self.old.entries }
     {
@@ -216,8 +200,7 @@ impl<A: Allocator> FreeBoxes<A> {
         ensures boxes { AreSameBoxes (box_of found.rectangle ∷ free_item_boxes (box_shelf self.new).entries)
             (free_item_boxes (box_shelf self.old).entries) }
         ensures unused { self.new.unused ≡ found.at }
-        ensures length { vec_len self.new.entries ≡ vec_len self.old.entries }
-        ensures capacity { vec_capacity self.new.entries ≡ vec_capacity self.old.entries }
+        ensures entries { HasTakenEntries 0 self.old self.new }
     {
         let after = self.entries[found.at.number as usize].after;
         self.lead(found.place, found.before, after);

@@ -1,7 +1,8 @@
 //! A simple allocator that grows or begins anew.
-ghost use Rattle.std.specs.Prelude.{◌≡◌, ◌≢◌, ◌<◌, ◌++◌, ℕ, [], ◌∷◌, List, All, map, Ok, OnOk, OnErr, IsOkUnless};
+ghost use Rattle.std.specs.Prelude.{◌≡◌, ◌≢◌, ◌<◌, ◌++◌, [], List, All, map, Ok, OnOk, OnErr, IsOkUnless};
 ghost use Rattle.guillotiere.specs.Boxes.{AreSameBoxes, Box, Fits, IsNonempty, IsPositive};
 ghost use Rattle.guillotiere.specs.Choice.{AreValid};
+ghost use Rattle.guillotiere.specs.Simple.BoxCalls.{AreFiledBoxes};
 ghost use Rattle.guillotiere.specs.Simple.BoxShelves.{AreKept, box_shelf, free_item_boxes};
 ghost use Rattle.guillotiere.specs.Simple.FreeLists.{kept_beyond};
 ghost use Rattle.guillotiere.specs.Pixels.{box_of, options_of, sides_of};
@@ -99,15 +100,11 @@ fn add_rest<A: Allocator>(
     new_size: Size,
     options: &AllocatorOptions,
 ) -> Result<(), AtlasError>
-    requires valid { AreValid (options_of options.now) }
-    requires positive { IsPositive (sides_of size) }
-    requires larger { Fits (sides_of size) (sides_of new_size) }
+    requires sizes { IsPositive (sides_of size) × Fits (sides_of size) (sides_of new_size) }
     requires kept { AreKept (options_of options.now) (box_shelf boxes.old) }
     ensures unless { IsOkUnless result AtlasError.Memory }
-    ensures kept { AreKept (options_of options.now) (box_shelf boxes.new) }
-    ensures ok { OnOk result
-        (AreSameBoxes (free_item_boxes (box_shelf boxes.new).entries)
-        (kept_beyond options.now size new_size ++ free_item_boxes (box_shelf boxes.old).entries)) }
+    ensures ok { OnOk result (AreFiledBoxes (options_of options.now) (kept_beyond options.now size new_size) boxes.old
+        boxes.new) }
     ensures err { OnErr result (box_shelf boxes.new ≡ box_shelf boxes.old) }
     ensures needed { OnErr result (kept_beyond options.now size new_size ≢ []) }
 {

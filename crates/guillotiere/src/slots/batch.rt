@@ -1,24 +1,13 @@
 //! A test of a list of ids, in time proportional to its length and without memory: the slots that the ids name are
 //! hidden one after another, so that an id that stands twice names none the second time, and shown again.
-ghost use Rattle.std.specs.Prelude.{◌≡◌, ◌≢◌, ◌<◌, ◌≤◌, ◌↔◌, List, IsTrue, length, take};
+ghost use Rattle.std.specs.Prelude.{◌≡◌, ◌≢◌, ◌≤◌, ◌↔◌, List, IsTrue, length, take};
 ghost use Rattle.guillotiere.specs.declared.slots.Node.{Node as TreePart};
 ghost use Rattle.guillotiere.specs.Slots.{nodes, rings};
-ghost use Rattle.guillotiere.specs.Batches.{AreHidable, AreNamedOnce, hidden, with_kind};
+ghost use Rattle.guillotiere.specs.Batches.{AreHidable, AreNamedOnce, hidden};
 
 use crate::allocation::AllocId;
 use crate::slots::walks::{named_slot, slot_number};
-use crate::slots::{Link, NodeKind, Slot, read_node, write_node};
-
-// What a slot is used for.
-fn set_kind(slots: &mut [Slot], at: Link, kind: NodeKind)
-    requires { at.number < length slots.old }
-    ensures written { nodes slots.new ≡ with_kind (nodes slots.old) at.number kind }
-    ensures same_rings { rings slots.new ≡ rings slots.old }
-{
-    let mut node = read_node(slots, at);
-    node.kind = kind;
-    write_node(slots, at, node);
-}
+use crate::slots::{Link, NodeKind, Slot, set_kind};
 
 // Hides the slots of ids, up to the first id that names none. The answer is how many were hidden.
 fn hide(slots: &mut [Slot], ids: &[AllocId]) -> usize

@@ -1,24 +1,25 @@
 //! The lists of free slots, by the bands of both sides, and the list of unused slots: links inside the slots.
-ghost use Rattle.std.specs.Prelude.{◌≡◌, ◌<◌, ℕ, true, false, List, [], ◌∷◌, ◌++◌, length, slice_set, vec_capacity};
-ghost use Rattle.std.specs.Prelude.{vec_len};
-ghost use Rattle.guillotiere.specs.Search.Bands.{list_of, strip_of};
+ghost use Rattle.std.specs.Prelude.{◌≡◌, ◌<◌, ℕ, true, false, List, ◌∷◌, length, slice_set, vec_capacity};
+ghost use Rattle.guillotiere.specs.Search.Bands.{list_of, number_of, strip_of};
 ghost use Rattle.guillotiere.specs.Boxes.{IsPositive, box_sides};
 ghost use Rattle.guillotiere.specs.Choice.{Options};
 ghost use Rattle.guillotiere.specs.Pixels.{box_of, options_of, sides_of};
 ghost use Rattle.guillotiere.specs.Slots.{blank_slot, nodes, rings, node_at, ring_at};
 ghost use Rattle.guillotiere.specs.Slots.Standing.{IsSlot};
 ghost use Rattle.guillotiere.specs.declared.slots.Link.{Link};
+ghost use Rattle.guillotiere.specs.declared.slots.Node.{Node};
 ghost use Rattle.guillotiere.specs.declared.search.table.ListHead.{ListHead};
-ghost use Rattle.guillotiere.specs.Slots.Lists.{AreFiled, IsList, Line, Places, front, node_sides, occurs, without};
+ghost use Rattle.guillotiere.specs.Slots.Lists.{AreFiled, IsList, Places, node_sides, occurs, without};
 ghost use Rattle.guillotiere.specs.declared.slots.NodeKind.TheVariants.{Free};
-ghost use Rattle.guillotiere.specs.Slots.Links.{IsSolid, IsFiledSlot, IsListed, IsLoose, IsTaken, IsUnlisted};
+ghost use Rattle.guillotiere.specs.Slots.Links.{BelongsIn, CanTake, IsInTable, IsSolid, IsFiledSlot, IsListed, IsLoose};
+ghost use Rattle.guillotiere.specs.Slots.Links.{IsUnlisted, TakesFirst};
 ghost use Rattle.guillotiere.specs.Slots.Links.{first_without, given_back, listed, renewed, unlisted, with_next};
 ghost use Rattle.guillotiere.specs.Slots.Links.{with_ring_previous};
 
 use crate::cut::Orientation;
 use crate::geometry::{Rectangle, Size, point2};
 use crate::options::AllocatorOptions;
-use crate::search::bands::{place_for, strip};
+use crate::search::bands::{Place, place_for, strip};
 use crate::search::table::Table;
 use crate::slots::{
     Link, NO_SLOT, Node, NodeKind, Ring, Slot, read_node, read_ring, write_node, write_ring,
@@ -132,6 +133,23 @@ pub fn unlist<A: Allocator>(
     }
 }
 
+/// Takes a slot out of the list where it stands; it is loose from then on.
+pub fn unlist_at<A: Allocator>(slots: &mut [Slot], lists: &mut Table<A>, at: Link, place: Place)
+    requires listed { IsListed (rings slots.old) at.number }
+    requires place { IsInTable place }
+    requires short { length slots.old < NO_SLOT }
+    ensures filed { (o : Options) (ns : List Node) (unused : Link) (p : Places)
+        → AreFiled o ns (rings slots.old) lists.old unused p → BelongsIn o ns p (number_of place) at.number
+        → AreFiled o ns (rings slots.new) lists.new unused (unlisted p at.number) }
+    ensures same_nodes { nodes slots.new ≡ nodes slots.old }
+{
+    let ring = read_ring(slots, at);
+    unlink(slots, at, ring);
+    if ring.previous.number == NO_SLOT {
+        lists.set_head(place, ring.next);
+    }
+}
+
 /// Puts a free and loose slot, whose rectangle is exact, into its list.
 pub fn enlist<A: Allocator>(
     slots: &mut [Slot],
@@ -152,8 +170,9 @@ pub fn enlist<A: Allocator>(
 {
     let node = read_node(slots, at);
     let place = place_for(exact_size(node.area), options);
-    push_front(slots, lists.head(place), at);
+    let first = lists.head(place);
     lists.push(place, at, strip_in(node.area));
+    push_front(slots, first, at);
 }
 
 // A slot that was never taken.
@@ -197,20 +216,8 @@ fn renew(slots: &mut [Slot], at: Link)
 /// Takes the first of the unused slots, whose generation rises, or else a new one, for which there is room. It is in
 /// hand from then on.
 pub fn take_slot<A: Allocator>(slots: &mut Vec<Slot, A>, unused: &mut Link) -> Link
-    requires listed { (spare : List ℕ) × Line (rings slots.old.items) spare × (unused.old.number ≡ front spare) }
-    requires room { unused.old.number ≡ NO_SLOT → vec_len slots.old < vec_capacity slots.old }
-    requires short { vec_len slots.old < NO_SLOT }
-    ensures taken { (o : Options) (heads : List ListHead) (p : Places)
-        → AreFiled o (nodes slots.old.items) (rings slots.old.items) heads unused.old p
-        → IsTaken o slots.old.items slots.new.items heads unused.new p result.number }
-    ensures others { (k : ℕ) → (k ≡ result.number → ⊥)
-        → node_at (nodes slots.new.items) k ≡ node_at (nodes slots.old.items) k }
-    ensures again { (unused.old.number ≡ NO_SLOT → ⊥)
-        → (result ≡ unused.old)
-        × (nodes slots.new.items
-        ≡ slice_set (nodes slots.old.items) result.number (renewed (node_at (nodes slots.old.items) result.number))) }
-    ensures fresh { unused.old.number ≡ NO_SLOT
-        → (result.number ≡ vec_len slots.old) × (slots.new.items ≡ slots.old.items ++ blank_slot ∷ []) }
+    requires { CanTake slots.old.items (vec_capacity slots.old) unused.old }
+    ensures taken { TakesFirst slots.old.items slots.new.items unused.old unused.new result }
     ensures capacity { vec_capacity slots.new ≡ vec_capacity slots.old }
 {
     let at = *unused;

@@ -2,14 +2,18 @@
 //! its own, or is granted. They leave the lists alone.
 ghost use Rattle.std.specs.Prelude.{◌≡◌, ◌<◌, length};
 ghost use Rattle.guillotiere.specs.declared.slots.NodeKind.TheVariants.{Free, Unused};
-ghost use Rattle.guillotiere.specs.Pixels.{natural};
-ghost use Rattle.guillotiere.specs.Slots.{nodes, node_at};
+ghost use Rattle.guillotiere.specs.Boxes.{box_sides, side};
+ghost use Rattle.guillotiere.specs.Pixels.{box_of, rectangle_of};
+ghost use Rattle.guillotiere.specs.Slots.{nodes, node_at, axis_of};
 ghost use Rattle.guillotiere.specs.Slots.SlotCalls.{CanSplitInto, IsLeafGranted, IsLeafSplit, IsLeafWrapped};
 ghost use Rattle.guillotiere.specs.Slots.Standing.{IsTree};
-ghost use Rattle.guillotiere.specs.Slots.Parts.{flipped};
+ghost use Rattle.guillotiere.specs.Slots.Parts.{back_part, flipped, front_part};
 
-use crate::cut::{Orientation, back, front};
-use crate::slots::{Link, NO_SLOT, Node, NodeKind, Slot, read_node, set_previous, write_node};
+use crate::cut::Orientation;
+use crate::geometry::{Rectangle, point2};
+use crate::slots::{
+    Link, NO_SLOT, Node, NodeKind, Slot, read_node, set_kind, set_previous, write_node,
+};
 
 /// A free leaf becomes allocated.
 pub fn grant_leaf(slots: &mut [Slot], at: Link)
@@ -17,9 +21,7 @@ pub fn grant_leaf(slots: &mut [Slot], at: Link)
     requires free { (node_at (nodes slots.old) at.number).kind ≡ Free }
     ensures { IsLeafGranted slots.old slots.new at.number }
 {
-    let mut node = read_node(slots, at);
-    node.kind = NodeKind::Alloc;
-    write_node(slots, at, node);
+    set_kind(slots, at, NodeKind::Alloc);
 }
 
 /// The other axis.
@@ -32,25 +34,46 @@ pub fn across(axis: Orientation) -> Orientation
     }
 }
 
+// The two parts of a leaf's rectangle that is cut after its first `extent` pixels along an axis.
+fn parts(area: Rectangle, axis: Orientation, extent: u32) -> (Rectangle, Rectangle)
+    requires exact { area ≡ rectangle_of (box_of area) }
+    requires less { extent < side (axis_of axis) (box_sides (box_of area)) }
+    ensures first { result.0 ≡ rectangle_of (front_part (axis_of axis) extent (box_of area)) }
+    ensures rest { result.1 ≡ rectangle_of (back_part (axis_of axis) extent (box_of area)) }
+{
+    let extent = extent as i32;
+    let Rectangle { min, max } = area;
+    let (end, start) = match axis {
+        Orientation::Horizontal => {
+            let x = min.x + extent;
+            (point2(x, max.y), point2(x, min.y))
+        }
+        Orientation::Vertical => {
+            let y = min.y + extent;
+            (point2(max.x, y), point2(min.x, y))
+        }
+    };
+    (Rectangle { min, max: end }, Rectangle { min: start, max })
+}
+
 /// The free leaf at `at` keeps its first `extent` pixels along its axis, and the unused slot `fresh` takes the rest as
 /// a free leaf after it.
-pub fn split_leaf(slots: &mut [Slot], at: Link, fresh: Link, extent: i32)
+pub fn split_leaf(slots: &mut [Slot], at: Link, fresh: Link, extent: u32)
     requires stands { IsTree (nodes slots.old) }
-    requires ready { CanSplitInto (nodes slots.old) at.number fresh.number (natural extent) }
+    requires ready { CanSplitInto (nodes slots.old) at.number fresh.number extent }
     requires inside { fresh.number < length slots.old }
     requires short { length slots.old < NO_SLOT }
-    ensures { IsLeafSplit slots.old slots.new at fresh (natural extent) }
+    ensures { IsLeafSplit slots.old slots.new at fresh extent }
 {
     let leaf = read_node(slots, at);
     let unused = read_node(slots, fresh);
-    let first = Node {
-        next: fresh,
-        area: front(leaf.area, leaf.axis, extent),
-        ..leaf
-    };
+    let (area, rest) = parts(leaf.area, leaf.axis, extent);
+    let mut first = leaf;
+    first.next = fresh;
+    first.area = area;
     let second = Node {
         previous: at,
-        area: back(leaf.area, leaf.axis, extent),
+        area: rest,
         kind: NodeKind::Free,
         generation: unused.generation,
         ..leaf
@@ -71,10 +94,6 @@ pub fn wrap_leaf(slots: &mut [Slot], at: Link, fresh: Link)
     let leaf = read_node(slots, at);
     let unused = read_node(slots, fresh);
     let none = Link::NONE;
-    let outer = Node {
-        kind: NodeKind::Container,
-        ..leaf
-    };
     let inner = Node {
         parent: at,
         previous: none,
@@ -84,6 +103,6 @@ pub fn wrap_leaf(slots: &mut [Slot], at: Link, fresh: Link)
         generation: unused.generation,
         ..leaf
     };
-    write_node(slots, at, outer);
+    set_kind(slots, at, NodeKind::Container);
     write_node(slots, fresh, inner);
 }

@@ -1,6 +1,6 @@
 //! Granting a request: the free slot that it takes, the slots that this needs, and the placing itself.
-ghost use Rattle.std.specs.Prelude.{◌≡◌, ◌+◌, ◌<◌, ◌≤◌, ◌⊎◌, ℕ, List, None, IfSome, OnOk, IfErr, vec_capacity, length};
-ghost use Rattle.guillotiere.specs.Boxes.{Box, IsPositive, Sides};
+ghost use Rattle.std.specs.Prelude.{◌≡◌, ◌+◌, ◌<◌, ◌≤◌, ◌⊎◌, List, None, IfSome, OnOk, IfErr, vec_capacity, length};
+ghost use Rattle.guillotiere.specs.Boxes.{Box, IsPositive};
 ghost use Rattle.guillotiere.specs.Choice.{IsFitting};
 ghost use Rattle.guillotiere.specs.Pixels.{sides_of};
 ghost use Rattle.guillotiere.specs.Slots.{nodes};
@@ -8,7 +8,7 @@ ghost use Rattle.guillotiere.specs.Trees.{most_slots};
 ghost use Rattle.guillotiere.specs.Search.Picks.{AreFreeBoxes};
 ghost use Rattle.guillotiere.specs.Stored.{Holding};
 ghost use Rattle.guillotiere.specs.Store.Holdings.{shelf_of};
-ghost use Rattle.guillotiere.specs.Store.Chosen.{CanGrant, IsAtRest, IsChosen, IsRequestGranted, IsShortOf};
+ghost use Rattle.guillotiere.specs.Store.Chosen.{CanGrant, IsAtRest, IsChosen, IsRequestGranted, IsShortOf, KeepsShelf};
 
 use crate::allocation::AllocId;
 use crate::error::AtlasError;
@@ -60,13 +60,11 @@ pub fn make_room<A: Allocator>(
     needed: u32,
 ) -> Result<(), AtlasError>
     requires used { used ≤ limit }
-    requires limited { limit ≤ most_slots }
-    requires short { length store.old.slots.items ≤ most_slots }
+    requires short { (limit ≤ most_slots) × (length store.old.slots.items ≤ most_slots) }
     ensures ok { OnOk result ((used + needed ≤ limit)
         × ((used + needed ≤ length store.new.slots.items) ⊎ (used + needed ≤ vec_capacity store.new.slots))) }
     ensures refused { IfErr result (IsShortOf used limit needed (length store.old.slots.items)) }
-    ensures same { shelf_of store.new ≡ shelf_of store.old }
-    ensures turns { store.new.turns ≡ store.old.turns }
+    ensures same { KeepsShelf store.old store.new }
 {
     if needed > limit - used {
         return Err(AtlasError::Slots);
@@ -84,7 +82,7 @@ pub fn grant<A: Allocator>(store: &mut Store<A>, chosen: Chosen) -> AllocId
     requires { CanGrant store.old chosen }
     ensures { IsRequestGranted store.old store.new chosen result }
 {
-    store.unlist(chosen.at);
+    store.unlist_at(chosen.at, chosen.place);
     store.sharpen(chosen.place, chosen.low);
     let slot = place(store, chosen.at, chosen.plan);
     let node = store.node(slot);

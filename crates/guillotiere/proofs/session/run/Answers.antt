@@ -1,4 +1,5 @@
-use Rattle.std.proofs.Common.{[], ◌∷◌, length, length-append, map, take, drop, vec_len, sym, ap, subst, subst₂, ◌∙◌, arith, All}
+use Rattle.std.proofs.Common.{[], ◌∷◌, length, length-append, map, take, drop, vec_len, sym, ap, subst, subst₂, ◌∙◌}
+use Rattle.std.proofs.Common.{arith, All}
 use Rattle.std.proofs.lemmas.List.{take_all, map-append}
 use Rattle.std.proofs.lemmas.List.Elements.{All-append, All-cons, All-nil}
 use Rattle.guillotiere.specs.Sessions.{call_of, reply_of, calls_of, replies_of, IsExactReply}

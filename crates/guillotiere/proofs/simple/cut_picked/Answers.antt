@@ -15,4 +15,4 @@ returns-clause-ok g c =
     (ap (λ (v : BoxShelf). free_item_boxes v.entries) c.in_ok-make_room.ensures.same) c.remove.ensures.boxes in
     cut-same o r (sides_of c.args.size) c.guillotine-rest.result (free_item_boxes es) (free_item_boxes (map stored_item c.remove.new.self.entries.items))
     (free_item_boxes (map stored_item c.keep.new.boxes.entries.items)) (free_item_boxes (map stored_item c.keep-2.new.boxes.entries.items))
-    (c.guillotine-rest.ensures.boxes (box_of r) exact.unsigned) took c.keep.ensures.boxes c.keep-2.ensures.boxes
+    (c.guillotine-rest.ensures.boxes (box_of r) exact.unsigned) took c.keep.ensures.boxes.boxes c.keep-2.ensures.boxes.boxes

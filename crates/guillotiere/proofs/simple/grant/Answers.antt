@@ -1,4 +1,4 @@
-use Rattle.std.proofs.Common.{rules, refl, ap, subst, map, ◌≡◌, sym, List}
+use Rattle.std.proofs.Common.{rules, refl, ap, subst, map, ◌≡◌, sym, List, arith}
 use Rattle.guillotiere.specs.Boxes.{Box}
 use Rattle.guillotiere.specs.Simple.BoxShelves.{BoxShelf, free_item_boxes, stored_item}
 use Rattle.guillotiere.specs.Choice.{HasRoom, IsFitting, IsPick}
@@ -12,13 +12,7 @@ use Rattle.guillotiere.proofs.SimpleLemmas.GrantingBoxes.{simply_grants}
 use Rattle.guillotiere.proofs.simple.grant.Goals as goal
 
 pub granted-rectangle-requires-clause-measurable : goal.granted-rectangle-requires-clause-measurable
-granted-rectangle-requires-clause-measurable g c =
-    let o = options_of c.args.options.now in
-    let es = map stored_item c.args.boxes.now.entries.items in
-    let found = c.in-Some-pick.found in
-    let standing = subst (λ xs. IsStanding o c.args.boxes.now.table (map stored_item xs) found) c.deref.ensures.value c.in-Some-pick.ensures.standing in
-    let exact = picked-exact o c.args.boxes.now.table es found c.requires.kept.listed standing in
-    unsigned-measurable found.rectangle exact.unsigned (search rules) (search rules) (search rules) (search rules)
+granted-rectangle-requires-clause-measurable g c = grind (arith, picked-exact, unsigned-measurable)
 
 pub granted-rectangle-requires-clause-fits : goal.granted-rectangle-requires-clause-fits
 granted-rectangle-requires-clause-fits g c =
@@ -26,29 +20,33 @@ granted-rectangle-requires-clause-fits g c =
     let es = map stored_item c.args.boxes.now.entries.items in
     let found = c.in-Some-pick.found in
     let standing = subst (λ xs. IsStanding o c.args.boxes.now.table (map stored_item xs) found) c.deref.ensures.value c.in-Some-pick.ensures.standing in
-    let exact = picked-exact o c.args.boxes.now.table es found c.requires.kept.listed standing in
+    let exact = picked-exact o c.args.boxes.now.table es found c.requires.listed standing in
     let r = sides_of c.in-Some.size in
     let all = subst (λ xs. (free : List Box) → AreFreeItems (map stored_item xs) free → IsPick free o r (box_of found.rectangle)) c.deref.ensures.value c.in-Some-pick.ensures.picked in
     let pick = all (free_item_boxes es) (are-free es) in
-    unsigned-fits c.in-Some.size found.rectangle exact.unsigned (size-positive o (sides_of c.args.requested_size) c.in-Some.size c.requires.valid c.in-Some.ensures)
+    unsigned-fits c.in-Some.size found.rectangle exact.unsigned (size-positive o (sides_of c.args.requested_size) c.in-Some.size c.requires.listed.valid c.in-Some.ensures)
     pick.best.candidate.fitting.fits
 
-pub cut_picked-requires-clause-fits : goal.cut_picked-requires-clause-fits
-cut_picked-requires-clause-fits g c =
+pub cut_picked-requires : goal.cut_picked-requires
+cut_picked-requires g c =
     let o = options_of c.args.options.now in
     let es = map stored_item c.args.boxes.now.entries.items in
     let found = c.in-Some-pick.found in
     let r = sides_of c.in-Some.size in
     let all = subst (λ xs. (free : List Box) → AreFreeItems (map stored_item xs) free → IsPick free o r (box_of found.rectangle)) c.deref.ensures.value c.in-Some-pick.ensures.picked in
-    let pick = all (free_item_boxes es) (are-free es) in
-    pick.best.candidate.fitting.fits
+    record {
+      kept = c.requires;
+      standing = subst (λ xs. IsStanding o c.args.boxes.now.table (map stored_item xs) found) c.deref.ensures.value c.in-Some-pick.ensures.standing;
+      positive = size-positive o (sides_of c.args.requested_size) c.in-Some.size c.requires.listed.valid c.in-Some.ensures;
+      fits = (all (free_item_boxes es) (are-free es)).best.candidate.fitting.fits;
+    }
 
 pub returns-in_default-pick-clause-step : goal.returns-in_default-pick-clause-step
 returns-in_default-pick-clause-step g c size wide high simple =
     let o = options_of c.args.options.now in
     let es = map stored_item c.args.boxes.now.entries.items in
     let r = sides_of c.in-Some.size in
-    let none = subst (λ xs. (free : List Box) → AreFreeItems (map stored_item xs) free → (b : Box) → IsFitting free r b → ⊥) c.deref.ensures.value (c.in_default-pick.ensures.no_room refl) in (
+    let none = subst (λ xs. (free : List Box) → AreFreeItems (map stored_item xs) free → (b : Box) → IsFitting free r b → ⊥) c.deref.ensures.value (c.in_default-pick.ensures.none refl) in (
       λ room. none (free_item_boxes es) (are-free es) room.box (subst (λ q. IsFitting (free_item_boxes es) q room.box) (sym (ap sides_of c.in-Some.ensures.1)) room.fitting),
       refl,
     )
@@ -61,11 +59,7 @@ returns-in_err-cut_picked-clause-step g c size wide high simple =
     let r = sides_of c.in-Some.size in
     let all = subst (λ xs. (free : List Box) → AreFreeItems (map stored_item xs) free → IsPick free o r (box_of found.rectangle)) c.deref.ensures.value c.in-Some-pick.ensures.picked in
     let pick = all (free_item_boxes es) (are-free es) in
-    let room : HasRoom (free_item_boxes es) o (sides_of c.args.requested_size) = record {
-      positive = c.in-Some.ensures.0.positive;
-      box = box_of found.rectangle;
-      fitting = subst (λ q. IsFitting (free_item_boxes es) q (box_of found.rectangle)) (ap sides_of c.in-Some.ensures.1) pick.best.candidate.fitting;
-    } in
+    let room : HasRoom (free_item_boxes es) o (sides_of c.args.requested_size) = grind arith in
     let same : simple_state_of (map stored_item c.cut_picked.new.boxes.entries.items) size c.args.options.now ≡ simple_state_of es size c.args.options.now =
     ap (λ (v : BoxShelf). simple_state_of v.entries size c.args.options.now) c.in_err-cut_picked.ensures.err in
     search (rules, room, same)
@@ -76,7 +70,7 @@ returns-clause-step g c size wide high simple =
     let es = map stored_item c.args.boxes.now.entries.items in
     let found = c.in-Some-pick.found in
     let standing = subst (λ xs. IsStanding o c.args.boxes.now.table (map stored_item xs) found) c.deref.ensures.value c.in-Some-pick.ensures.standing in
-    let exact = picked-exact o c.args.boxes.now.table es found c.requires.kept.listed standing in
+    let exact = picked-exact o c.args.boxes.now.table es found c.requires.listed standing in
     let r = sides_of c.in-Some.size in
     let all = subst (λ xs. (free : List Box) → AreFreeItems (map stored_item xs) free → IsPick free o r (box_of found.rectangle)) c.deref.ensures.value c.in-Some-pick.ensures.picked in
     let pick = all (free_item_boxes es) (are-free es) in

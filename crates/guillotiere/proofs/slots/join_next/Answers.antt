@@ -19,15 +19,15 @@ returns-clause-joined c =
     let short : length (nodes c.args.slots.now) < no_slot = simp length-map c.requires.short in
     let next : c.read_node-this.result.next.number ≡ (node_at (nodes c.args.slots.now) c.args.slot.number).next.number =
     ap (λ (n : Node). n.next.number) c.read_node-this.ensures in
-    let w = join_next_is (nodes c.args.slots.now) _ _ (nodes c.write_node-2.new.slots) c.args.slot c.read_node-this.result
+    let w = join_next_is (nodes c.args.slots.now) _ _ (nodes c.set_kind.new.slots) c.args.slot c.read_node-this.result
     c.read_node-next.result short c.requires.stands c.requires.free c.read_node-this.ensures c.read_node-next.ensures
-    c.write_node.ensures.written c.set_previous.ensures.written c.write_node-2.ensures.written in
-    subst (λ (j : ℕ). IsNextJoined c.args.slots.now c.write_node-2.new.slots c.args.slot.number j) (sym next) (record {
+    c.write_node.ensures.written c.set_previous.ensures.written c.set_kind.ensures.written in
+    subst (λ (j : ℕ). IsNextJoined c.args.slots.now c.set_kind.new.slots c.args.slot.number j) (sym next) (record {
       tree = Stands-joined _ _ _ _ _ w;
       calm = λ k but which. calm-joined _ _ _ _ _ k w which but;
       apart = w.apart;
       leaf = w.this;
       given = w.given;
       others = joined-use _ _ _ _ _ w;
-      same_rings = c.write_node-2.ensures.same_rings ∙ c.set_previous.ensures.same_rings ∙ c.write_node.ensures.same_rings;
+      same_rings = c.set_kind.ensures.same_rings ∙ c.set_previous.ensures.same_rings ∙ c.write_node.ensures.same_rings;
     })

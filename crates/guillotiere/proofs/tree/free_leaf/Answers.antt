@@ -1,5 +1,4 @@
-use Rattle.std.proofs.Common.{◌∙◌, arith, ap, ◌<◌, length}
-use Rattle.guillotiere.specs.declared.store.turns.Turns.{Turns}
+use Rattle.std.proofs.Common.{arith, ◌<◌, length}
 use Rattle.guillotiere.specs.Store.Holdings.{shelf_of, node_in}
 use Rattle.guillotiere.proofs.StoreLemmas.Turning.{freeing-marked, freeing-turned, freeing-short, freed-listed, loose-same, keeps-room}
 use Rattle.guillotiere.proofs.tree.free_leaf.Goals as goal
@@ -12,9 +11,7 @@ loop-next-init g c = record {
 }
 
 pub turn-requires : goal.turn-requires
-turn-requires g c =
-    let t = c.loop-next.invariant.freeing c.requires.0 c.requires.1 in
-    (t.0, t.1.settling)
+turn-requires g c = grind arith
 
 pub overflow_add-given : goal.overflow_add-given
 overflow_add-given g c =
@@ -40,9 +37,7 @@ loop-next-preserved g c = record {
 }
 
 pub list-requires : goal.list-requires
-list-requires g c =
-    let t = c.loop-next.invariant.freeing c.requires.0 c.requires.1 in
-    (t.0, loose-same (shelf_of c.loop-next.store) (shelf_of c.turn.new.store) c.loop-next.at.number t.0 (c.turn.ensures.settled c.in_default.is).same t.1.settling)
+list-requires g c = grind (arith, loose-same)
 
 pub returns-clause-freed : goal.returns-clause-freed
 returns-clause-freed g c =
@@ -53,9 +48,7 @@ returns-clause-freed g c =
     (_, freed-listed (shelf_of c.args.store.now) (shelf_of c.loop-next.store) (shelf_of c.list.new.self) c.args.slot.number c.loop-next.at.number c.loop-next.given h t.0 k.0 w t.1 ((c.turn.ensures.settled c.in_default.is).normal t.0 t.1.settling) k.1)
 
 pub returns-clause-turns : goal.returns-clause-turns
-returns-clause-turns g c =
-    ap (λ (n : Turns). n.count) (c.list.ensures.turns ∙ (c.turn.ensures.settled c.in_default.is).uncounted) ∙ c.loop-next.invariant.turns
+returns-clause-turns g c = grind arith
 
 pub returns-clause-room : goal.returns-clause-room
-returns-clause-room g c =
-    keeps-room c.args.store.now c.turn.new.store c.list.new.self (keeps-room c.args.store.now c.loop-next.store c.turn.new.store c.loop-next.invariant.room c.turn.ensures.room) c.list.ensures.room
+returns-clause-room g c = grind (arith, keeps-room)

@@ -1,4 +1,4 @@
-use Rattle.std.proofs.Common.{◌≡◌, true, false, refl, sym, ◌∙◌}
+use Rattle.std.proofs.Common.{◌≡◌, true, false, refl, arith}
 use denote.Enum.Bare.{sameb}
 use Rattle.guillotiere.specs.contracts.cut.Orientation.{the_type}
 use Rattle.guillotiere.specs.declared.cut.Orientation.{Orientation}
@@ -20,7 +20,4 @@ by_other Vertical Horizontal e = refl
 by_other Vertical Vertical e = cc
 
 pub returns : goal.returns
-returns c = record {
-  along = λ e. sym c.orientation_of.ensures ∙ by_axis c.orientation_of.result c.args.axis (sym c.eq.ensures ∙ e);
-  across = λ e. sym c.orientation_of.ensures ∙ by_other c.orientation_of.result c.args.axis (sym c.eq.ensures ∙ e);
-}
+returns c = grind (arith, by_axis, by_other)

@@ -1,19 +1,17 @@
-use Rattle.std.proofs.Common.{◌∙◌, w32}
-use Rattle.std.proofs.lemmas.Int.{to_z-of_z}
+use Rattle.std.proofs.Common.{◌∙◌}
 use Rattle.guillotiere.proofs.StoreLemmas.PlacingChains.{strip_across-grant, strip_across-list, strip_across-planned}
 use Rattle.guillotiere.proofs.tree.strip_across.Goals as goal
 
 pub grant-requires : goal.grant-requires
-grant-requires g c = strip_across-grant (to_z-of_z w32 c.args.across c.ranges.across) c.wrap_two.ensures c.requires.1
+grant-requires g c = strip_across-grant c.wrap_two.ensures c.requires.1
 
 pub list-requires : goal.list-requires
-list-requires g c =
-    strip_across-list (to_z-of_z w32 c.args.across c.ranges.across) c.wrap_two.ensures c.requires.1 c.grant.ensures
+list-requires g c = strip_across-list c.wrap_two.ensures c.requires.1 c.grant.ensures
 
 pub returns : goal.returns
 returns g c = record {
   kept = λ h s.
-      strip_across-planned (to_z-of_z w32 c.args.across c.ranges.across) c.wrap_two.ensures s c.grant.ensures c.list.ensures;
+      strip_across-planned c.wrap_two.ensures s c.grant.ensures c.list.ensures;
   options = c.list.ensures.room.options ∙ c.grant.ensures.room.options ∙ c.wrap_two.ensures.options;
   turns = c.list.ensures.turns ∙ c.grant.ensures.turns ∙ c.wrap_two.ensures.turns;
 }

@@ -1,19 +1,17 @@
-use Rattle.std.proofs.Common.{◌∙◌, w32}
-use Rattle.std.proofs.lemmas.Int.{to_z-of_z}
+use Rattle.std.proofs.Common.{◌∙◌}
 use Rattle.guillotiere.proofs.StoreLemmas.PlacingChains.{strip_along-grant, strip_along-list, strip_along-planned}
 use Rattle.guillotiere.proofs.tree.strip_along.Goals as goal
 
 pub grant-requires : goal.grant-requires
-grant-requires g c = strip_along-grant (to_z-of_z w32 c.args.along c.ranges.along) c.split-split.ensures c.requires.1
+grant-requires g c = strip_along-grant c.split-split.ensures c.requires.1
 
 pub list-requires : goal.list-requires
-list-requires g c =
-    strip_along-list (to_z-of_z w32 c.args.along c.ranges.along) c.split-split.ensures c.requires.1 c.grant.ensures
+list-requires g c = strip_along-list c.split-split.ensures c.requires.1 c.grant.ensures
 
 pub returns : goal.returns
 returns g c = record {
   kept = λ h s.
-      strip_along-planned (to_z-of_z w32 c.args.along c.ranges.along) c.split-split.ensures s c.grant.ensures c.list.ensures;
+      strip_along-planned c.split-split.ensures s c.grant.ensures c.list.ensures;
   options = c.list.ensures.room.options ∙ c.grant.ensures.room.options ∙ c.split-split.ensures.options;
   turns = c.list.ensures.turns ∙ c.grant.ensures.turns ∙ c.split-split.ensures.turns;
 }

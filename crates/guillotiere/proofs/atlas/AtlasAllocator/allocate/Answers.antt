@@ -1,14 +1,14 @@
 use Rattle.std.proofs.Common.{rules, ◌≡◌, refl, subst, arith}
 use Rattle.std.specs.Prelude.{Err}
 use Rattle.guillotiere.specs.Pixels.{box_of, sides_of}
+use Rattle.guillotiere.specs.Replies.{grant_of}
+use Rattle.guillotiere.specs.States.{IsSound}
+use Rattle.guillotiere.specs.Steps.AtlasReply.{Allocated}
+use Rattle.guillotiere.specs.Stored.{state_of}
 use Rattle.guillotiere.proofs.AtlasLemmas.Observing.{used-IsAtlas}
 use Rattle.guillotiere.proofs.SimpleLemmas.Storing.{natural-fits}
 use Rattle.guillotiere.proofs.SimpleLemmas.CuttingFromLists.{sides_of-size, unsigned-measurable, unsigned_of}
 use Rattle.guillotiere.proofs.AtlasLemmas.GrantedAtlas.{no_room-unrounded, no_room-none, area-unsigned, area-fits, refused-step, some-grantable, grant-done}
-use Rattle.guillotiere.specs.States.{IsSound}
-use Rattle.guillotiere.specs.Stored.{state_of}
-use Rattle.guillotiere.specs.Steps.AtlasReply.{Allocated}
-use Rattle.guillotiere.specs.Replies.{grant_of}
 use Rattle.guillotiere.proofs.StepLemmas.CallerSteps.{grant_adds, grant_guarded, request_keeps}
 use Rattle.guillotiere.proofs.atlas.AtlasAllocator.allocate.Goals as goal
 
@@ -34,7 +34,7 @@ returns-in_err-make_room-clause-step g c =
     let same : c.from_residual.result ≡ Err c.in_err-make_room.field-0.0 = search rules in
     rw (← c.self.view_is)
     (refused-step _ c.self.invariant (sides_of c.args.requested_size) c.in-Some.size c.in-Some.ensures c.in-Some-choose.chosen c.in-Some-choose.ensures.some
-    c.make_room.new.store c.make_room.ensures.same c.slots_needed-needed.result c.slots_needed-needed.ensures c.from_residual.result c.in_err-make_room.field-0.0 same c.in_err-make_room.ensures.refused c.make_room.new.store.turns.count c.self.inside.store.turns.count)
+    c.make_room.new.store c.make_room.ensures.same.shelf c.slots_needed-needed.result c.slots_needed-needed.ensures c.from_residual.result c.in_err-make_room.field-0.0 same c.in_err-make_room.ensures.refused c.make_room.new.store.turns.count c.self.inside.store.turns.count)
 
 pub granted-rectangle-requires-clause-measurable : goal.granted-rectangle-requires-clause-measurable
 granted-rectangle-requires-clause-measurable g c =
@@ -49,18 +49,18 @@ granted-rectangle-requires-clause-fits g c =
 pub grant-id-requires : goal.grant-id-requires
 grant-id-requires g c =
     some-grantable _ c.self.invariant (sides_of c.args.requested_size) c.in-Some.size c.in-Some.ensures c.in-Some-choose.chosen c.in-Some-choose.ensures.some
-    c.make_room.new.store c.make_room.ensures.same c.slots_needed-needed.result c.slots_needed-needed.ensures c.in_ok-make_room.ensures.ok
+    c.make_room.new.store c.make_room.ensures.same.shelf c.slots_needed-needed.result c.slots_needed-needed.ensures c.in_ok-make_room.ensures.ok
 
 pub invariant_of-self-2 : goal.invariant_of-self-2
 invariant_of-self-2 g c =
     (grant-done _ c.self.invariant (sides_of c.args.requested_size) c.in-Some.size c.in-Some.ensures c.in-Some-choose.chosen c.in-Some-choose.ensures.some
-    c.make_room.new.store c.make_room.ensures.same c.slots_needed-needed.result c.slots_needed-needed.ensures c.in_ok-make_room.ensures.ok
+    c.make_room.new.store c.make_room.ensures.same.shelf c.slots_needed-needed.result c.slots_needed-needed.ensures c.in_ok-make_room.ensures.ok
     c.grant-id.new.store c.grant-id.result c.granted-rectangle.result c.grant-id.ensures c.granted-rectangle.ensures.boxes).atlas
 
 pub returns-clause-step : goal.returns-clause-step
 returns-clause-step g c =
     let done = grant-done _ c.self.invariant (sides_of c.args.requested_size) c.in-Some.size c.in-Some.ensures c.in-Some-choose.chosen c.in-Some-choose.ensures.some
-    c.make_room.new.store c.make_room.ensures.same c.slots_needed-needed.result c.slots_needed-needed.ensures c.in_ok-make_room.ensures.ok
+    c.make_room.new.store c.make_room.ensures.same.shelf c.slots_needed-needed.result c.slots_needed-needed.ensures c.in_ok-make_room.ensures.ok
     c.grant-id.new.store c.grant-id.result c.granted-rectangle.result c.grant-id.ensures c.granted-rectangle.ensures.boxes in
     rw (← c.self.view_is) (done.granted c.grant-id.new.store.turns.count c.self.inside.store.turns.count)
 

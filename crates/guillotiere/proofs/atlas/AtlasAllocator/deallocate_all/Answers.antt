@@ -1,20 +1,11 @@
-use Rattle.std.proofs.Common.{◌+◌, ap, sym, subst, ◌∙◌, arith, drop, length}
-use Rattle.guillotiere.specs.States.{used_in}
+use Rattle.std.proofs.Common.{◌+◌, ap, sym, ◌∙◌, arith, drop}
 use Rattle.guillotiere.specs.Stored.{state_of}
-use Rattle.guillotiere.specs.Batches.{AreLiveOnce}
 use Rattle.guillotiere.proofs.AtlasLemmas.FreedLists.{after_each, each-all, once-after, head-live, each-next, each-none}
 use Rattle.guillotiere.proofs.StepLemmas.CallerSteps.{batch_leaves}
 use Rattle.guillotiere.proofs.atlas.AtlasAllocator.deallocate_all.Goals as goal
 
 pub loop-id-init : goal.loop-id-init
-loop-id-init g c =
-    let same = c.are_live_once.ensures.same in
-    record {
-      live = subst (λ v. AreLiveOnce (state_of v) c.args.ids.now) (sym same) (c.are_live_once.ensures.live.0 c.if-not-are_live_once.false);
-      each = ap (λ v. after_each (state_of v) c.args.ids.now) same;
-      turns = omega (arith, ap (λ v. v.turns + used_in (state_of v)) same);
-      none = λ _. same;
-    }
+loop-id-init g c = grind (arith, after_each)
 
 pub free-requires : goal.free-requires
 free-requires g c =
@@ -34,13 +25,10 @@ loop-id-preserved g c =
     }
 
 pub returns-clause-freed : goal.returns-clause-freed
-returns-clause-freed g c =
-    let sound = c.are_live_once.ensures.sound in
-    sym (each-none (state_of c.loop-id.self) c.args.ids.now c.loop-id.id-index (omega (arith, c.loop-id-test.false))) ∙ c.loop-id.invariant.each ∙ each-all (state_of c.args.self.now) c.args.ids.now sound
+returns-clause-freed g c = grind (arith, each-none, each-all)
 
 pub returns-clause-none : goal.returns-clause-none
-returns-clause-none g c =
-    λ e. c.loop-id.invariant.none (omega (arith, c.loop-id.auto.id-index-end, ap length e))
+returns-clause-none g c = grind arith
 
 pub returns-clause-turns : goal.returns-clause-turns
 returns-clause-turns g c = omega (arith, c.loop-id.invariant.turns, c.loop-id.auto.id-index-end)

@@ -1,7 +1,7 @@
 use Rattle.std.proofs.Common.{All, subst}
+use Rattle.guillotiere.specs.Slots.{nodes}
 use Rattle.guillotiere.specs.Stored.{state_of}
 use Rattle.guillotiere.specs.Visits.{AreGrants, CalledAtGrant, allocated_from}
-use Rattle.guillotiere.specs.Slots.{nodes}
 use Rattle.guillotiere.specs.Walks.{IsShownGrant, TakesAtGrant}
 use Rattle.guillotiere.proofs.ListLemmas.AlongLists.{along-all, shown-IsAtlas}
 use Rattle.guillotiere.proofs.AtlasLemmas.ShownLists.{grants-IsAtlas}

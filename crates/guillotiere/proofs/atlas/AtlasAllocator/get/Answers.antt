@@ -1,4 +1,4 @@
-use Rattle.std.proofs.Common.{sym, subst, ◌∙◌}
+use Rattle.std.proofs.Common.{rules, subst}
 use Rattle.guillotiere.specs.States.{IsSound}
 use Rattle.guillotiere.specs.Stored.{state_of}
 use Rattle.guillotiere.proofs.AtlasLemmas.NamedSlots.{named-found, named-missed}
@@ -6,14 +6,10 @@ use Rattle.guillotiere.proofs.StepLemmas.LyingApart.{shown_live, shown_within}
 use Rattle.guillotiere.proofs.atlas.AtlasAllocator.get.Goals as goal
 
 pub returns-in_err-at-clause-rectangle : goal.returns-in_err-at-clause-rectangle
-returns-in_err-at-clause-rectangle g c =
-    rw (← c.self.view_is)
-    (c.from_residual.ensures ∙ sym (named-missed _ c.self.invariant c.args.id _ c.deref.ensures.value c.in_err-at.ensures.none))
+returns-in_err-at-clause-rectangle g c = search (rules, named-missed)
 
 pub returns-clause-rectangle : goal.returns-clause-rectangle
-returns-clause-rectangle g c =
-    rw (← c.self.view_is)
-    (sym (named-found _ c.self.invariant c.args.id _ c.in_ok-at.at c.index.result.now c.deref.ensures.value c.in_ok-at.ensures.named c.in_ok-at.ensures.found c.in_ok-at.ensures.inside c.index.ensures))
+returns-clause-rectangle g c = search (rules, named-found)
 
 pub returns-in_err-at-clause-live : goal.returns-in_err-at-clause-live
 returns-in_err-at-clause-live g c = shown_live (state_of c.args.self.now) c.args.id _ (returns-in_err-at-clause-rectangle g c)
@@ -22,9 +18,7 @@ pub returns-clause-live : goal.returns-clause-live
 returns-clause-live g c = shown_live (state_of c.args.self.now) c.args.id _ (returns-clause-rectangle g c)
 
 pub returns-in_err-at-clause-within : goal.returns-in_err-at-clause-within
-returns-in_err-at-clause-within g c =
-    shown_within (state_of c.args.self.now) (subst (λ w. IsSound (state_of w)) c.self.view_is c.self.invariant.sound) c.args.id _
-    (returns-in_err-at-clause-rectangle g c)
+returns-in_err-at-clause-within g c = search (rules, shown_within, returns-in_err-at-clause-rectangle)
 
 pub returns-clause-within : goal.returns-clause-within
 returns-clause-within g c =

@@ -1,14 +1,13 @@
 use Rattle.std.proofs.Common.{rules, ◌≡◌, [], sym, subst, ◌∙◌, arith}
-use Rattle.std.specs.Prelude.{Err}
 use Rattle.std.proofs.lemmas.Bool.{false≢true}
+use Rattle.std.specs.Prelude.{Err}
 use Rattle.guillotiere.specs.Boxes.{Fits}
 use Rattle.guillotiere.specs.Pixels.{sides_of}
-use Rattle.guillotiere.specs.States.{live_in}
+use Rattle.guillotiere.specs.States.{live_in, IsSound}
+use Rattle.guillotiere.specs.Steps.AtlasReply.{Done}
 use Rattle.guillotiere.specs.Stored.{state_of}
 use Rattle.guillotiere.proofs.AtlasLemmas.Observing.{used-IsAtlas}
 use Rattle.guillotiere.proofs.AtlasLemmas.GrownAtlas.{tree-here, some-plan, fits-from, refused-step, some-growable, grow-done}
-use Rattle.guillotiere.specs.States.{IsSound}
-use Rattle.guillotiere.specs.Steps.AtlasReply.{Done}
 use Rattle.guillotiere.proofs.StepLemmas.CallerSteps.{growth_keeps}
 use Rattle.guillotiere.proofs.atlas.AtlasAllocator.grow.Goals as goal
 
@@ -36,7 +35,7 @@ returns-in_err-make_room-clause-step g c =
     let same : c.from_residual.result ≡ Err c.in_err-make_room.field-0.0 = search rules in
     rw (← c.self.view_is)
     (refused-step _ c.self.invariant c.args.new_size larger c.growth_for-growth.result c.growth_for-growth.ensures some c.slots_for-added.result c.slots_for-added.ensures.need
-    c.make_room.new.store c.make_room.ensures.same c.from_residual.result c.in_err-make_room.field-0.0 same c.in_err-make_room.ensures.refused c.make_room.new.store.turns.count c.self.inside.store.turns.count)
+    c.make_room.new.store c.make_room.ensures.same.shelf c.from_residual.result c.in_err-make_room.field-0.0 same c.in_err-make_room.ensures.refused c.make_room.new.store.turns.count c.self.inside.store.turns.count)
 
 pub grow_tree-self-inside-requires : goal.grow_tree-self-inside-requires
 grow_tree-self-inside-requires g c =
@@ -44,7 +43,7 @@ grow_tree-self-inside-requires g c =
     let busy : live_in (state_of c.args.self.now) ≡ [] → ⊥ = λ none. false≢true (sym c.if-is_empty.false ∙ c.is_empty.ensures.empty.1 none) in
     let some = subst (λ w. live_in (state_of w) ≡ [] → ⊥) (sym c.self.view_is) busy in
     some-growable _ c.self.invariant c.args.new_size larger c.growth_for-growth.result c.growth_for-growth.ensures some c.slots_for-added.result c.slots_for-added.ensures.need
-    c.make_room.new.store c.make_room.ensures.same c.in_ok-make_room.ensures.ok
+    c.make_room.new.store c.make_room.ensures.same.shelf c.in_ok-make_room.ensures.ok
 
 pub invariant_of-self-2 : goal.invariant_of-self-2
 invariant_of-self-2 g c =
@@ -52,7 +51,7 @@ invariant_of-self-2 g c =
     let busy : live_in (state_of c.args.self.now) ≡ [] → ⊥ = λ none. false≢true (sym c.if-is_empty.false ∙ c.is_empty.ensures.empty.1 none) in
     let some = subst (λ w. live_in (state_of w) ≡ [] → ⊥) (sym c.self.view_is) busy in
     (grow-done _ c.self.invariant c.args.new_size larger c.growth_for-growth.result c.growth_for-growth.ensures some c.slots_for-added.result c.slots_for-added.ensures.need
-    c.make_room.new.store c.make_room.ensures.same c.in_ok-make_room.ensures.ok
+    c.make_room.new.store c.make_room.ensures.same.shelf c.in_ok-make_room.ensures.ok
     c.grow_tree-self-inside.new.store c.grow_tree-self-inside.result c.grow_tree-self-inside.ensures).atlas
 
 pub returns-clause-step : goal.returns-clause-step
@@ -61,7 +60,7 @@ returns-clause-step g c =
     let busy : live_in (state_of c.args.self.now) ≡ [] → ⊥ = λ none. false≢true (sym c.if-is_empty.false ∙ c.is_empty.ensures.empty.1 none) in
     let some = subst (λ w. live_in (state_of w) ≡ [] → ⊥) (sym c.self.view_is) busy in
     rw (← c.self.view_is) ((grow-done _ c.self.invariant c.args.new_size larger c.growth_for-growth.result c.growth_for-growth.ensures some c.slots_for-added.result c.slots_for-added.ensures.need
-    c.make_room.new.store c.make_room.ensures.same c.in_ok-make_room.ensures.ok
+    c.make_room.new.store c.make_room.ensures.same.shelf c.in_ok-make_room.ensures.ok
     c.grow_tree-self-inside.new.store c.grow_tree-self-inside.result c.grow_tree-self-inside.ensures).step c.grow_tree-self-inside.new.store.turns.count c.self.inside.store.turns.count)
 
 pub returns-clause-keeps : goal.returns-clause-keeps

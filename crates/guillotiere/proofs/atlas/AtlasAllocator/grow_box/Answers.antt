@@ -1,12 +1,11 @@
 use Rattle.std.proofs.Common.{◌≡◌, [], subst, sym}
 use Rattle.guillotiere.specs.Boxes.{Fits}
 use Rattle.guillotiere.specs.Pixels.{sides_of}
-use Rattle.guillotiere.specs.States.{live_in}
-use Rattle.guillotiere.specs.Stored.{state_of}
-use Rattle.guillotiere.specs.Store.Holdings.{shelf_of}
-use Rattle.guillotiere.proofs.AtlasLemmas.GrownAtlas.{tree-here, lone-here, box-done}
-use Rattle.guillotiere.specs.States.{IsSound}
+use Rattle.guillotiere.specs.States.{live_in, IsSound}
 use Rattle.guillotiere.specs.Steps.AtlasReply.{Done}
+use Rattle.guillotiere.specs.Store.Holdings.{shelf_of}
+use Rattle.guillotiere.specs.Stored.{state_of}
+use Rattle.guillotiere.proofs.AtlasLemmas.GrownAtlas.{tree-here, lone-here, box-done}
 use Rattle.guillotiere.proofs.StepLemmas.CallerSteps.{growth_keeps}
 use Rattle.guillotiere.proofs.atlas.AtlasAllocator.grow_box.Goals as goal
 

@@ -1,7 +1,7 @@
 use Rattle.std.proofs.Common.{rules, ◌≡◌, sym, ap, ◌∙◌}
 use Rattle.std.proofs.lemmas.Bool.{eqb-true, eq-eqb, true≢false}
-use denote.Enum.Bare.{sameb}
 use Rattle.guillotiere.specs.contracts.slots.NodeKind.{the_type}
+use denote.Enum.Bare.{sameb}
 use Rattle.guillotiere.specs.declared.slots.NodeKind.TheVariants as kind
 use Rattle.guillotiere.proofs.AtlasLemmas.Observing.{first-IsAtlas, idle-read, none_live-read}
 use Rattle.guillotiere.proofs.ListLemmas.CallerLemmas.{empty_count}

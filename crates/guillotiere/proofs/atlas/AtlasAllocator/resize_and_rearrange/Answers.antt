@@ -1,10 +1,8 @@
-use Rattle.std.proofs.Common.{refl, ap, subst, ◌∙◌}
+use Rattle.std.proofs.Common.{rules, refl, ap, subst, ◌∙◌}
 use Rattle.guillotiere.specs.Pixels.{sides_of}
-use Rattle.guillotiere.specs.States.{IsSound, started}
 use Rattle.guillotiere.specs.Rearranging.{rearrangement_of}
+use Rattle.guillotiere.specs.States.{IsSound, started}
 use Rattle.guillotiere.specs.Stored.{state_of}
-use Rattle.guillotiere.specs.Steps.AtlasCall.{ResizeAndRearrange}
-use Rattle.guillotiere.specs.Steps.AtlasReply.{Changed}
 use Rattle.guillotiere.proofs.StepLemmas.StepKeeping.{steps_keep}
 use Rattle.guillotiere.proofs.AtlasLemmas.RearrangedAtlas.{atlas-rearranged, atlas-moved, atlas-sides}
 use Rattle.guillotiere.proofs.atlas.AtlasAllocator.resize_and_rearrange.Goals as goal
@@ -30,7 +28,4 @@ returns-clause-sides g c =
     (subst (λ v. IsSound (state_of v)) c.self.view_is c.self.invariant.sound) c.in_ok-list.list.changes.items refl
 
 pub returns-clause-sound : goal.returns-clause-sound
-returns-clause-sound g c =
-    steps_keep (state_of c.args.self.now) (state_of c.become_like.new.self) (ResizeAndRearrange (sides_of c.args.new_size))
-    (Changed (rearrangement_of c.in_ok-list.list)) (subst (λ v. IsSound (state_of v)) c.self.view_is c.self.invariant.sound)
-    (returns-clause-step g c)
+returns-clause-sound g c = search (rules, steps_keep, returns-clause-step)

@@ -1,4 +1,5 @@
-use Rattle.std.proofs.Common.{rules, ◌≡◌, ◌<◌, length, Err, ap, ◌∙◌, arith}
+use Rattle.std.proofs.Common.{rules, ◌≡◌, ◌<◌, length, ap, ◌∙◌, arith}
+use Rattle.std.proofs.Common.{Err}
 use Rattle.guillotiere.proofs.AtlasLemmas.RefitLoops.{refitting-start, refitting-end, refitting-exact, refitting-same, refitting-change, refitting-failure, refitting-refusal}
 use Rattle.guillotiere.proofs.atlas.rearranging.refit.Goals as goal
 use Rattle.guillotiere.proofs.atlas.rearranging.refit.Goals.{in-Some+in_ok-push-in-Some, in-None}

@@ -1,4 +1,4 @@
-use Rattle.std.proofs.Common.{sym, subst, ◌∙◌}
+use Rattle.std.proofs.Common.{sym, subst, ◌∙◌, arith}
 use Rattle.guillotiere.specs.Boxes.{Fits}
 use Rattle.guillotiere.specs.Pixels.{sides_of}
 use Rattle.guillotiere.specs.Simple.BoxShelves.{box_shelf}
@@ -18,22 +18,20 @@ pub invariant_of-self-2 : goal.invariant_of-self-2
 invariant_of-self-2 g c =
     let a = c.self.inside in
     let fits = subst (λ w. Fits w.size (sides_of c.args.new_size)) (sym c.self.view_is) c.requires in
-    grown-stored (box_shelf a.boxes) (box_shelf c.add_rest.new.boxes) a.size c.args.new_size a.options c.self.invariant fits c.in_ok-add_rest.ensures.kept c.in_ok-add_rest.ensures.ok
+    grown-stored (box_shelf a.boxes) (box_shelf c.add_rest.new.boxes) a.size c.args.new_size a.options c.self.invariant fits c.in_ok-add_rest.ensures.ok.kept c.in_ok-add_rest.ensures.ok.boxes
 
 pub returns-clause-step : goal.returns-clause-step
-returns-clause-step g c =
-    let a = c.self.inside in
-    (c.requires, rw (← c.self.view_is) (grows-stored (box_shelf a.boxes).entries (box_shelf c.add_rest.new.boxes).entries a.size c.args.new_size a.options c.in_ok-add_rest.ensures.ok))
+returns-clause-step g c = grind (arith, grows-stored)
 
 pub returns-clause-guarded : goal.returns-clause-guarded
 returns-clause-guarded g c held guarded =
     let a = c.self.inside in
     let fits = subst (λ w. Fits w.size (sides_of c.args.new_size)) (sym c.self.view_is) c.requires in
     grow-guarded (simple_state_of (box_shelf a.boxes).entries (sides_of a.size) a.options) (simple_state_of (box_shelf c.add_rest.new.boxes).entries (sides_of c.args.new_size) a.options) (sides_of c.args.new_size) held
-    c.self.invariant.simple fits (grows-stored (box_shelf a.boxes).entries (box_shelf c.add_rest.new.boxes).entries a.size c.args.new_size a.options c.in_ok-add_rest.ensures.ok) (rw c.self.view_is guarded)
+    c.self.invariant.simple fits (grows-stored (box_shelf a.boxes).entries (box_shelf c.add_rest.new.boxes).entries a.size c.args.new_size a.options c.in_ok-add_rest.ensures.ok.boxes) (rw c.self.view_is guarded)
 
 pub returns-clause-simple : goal.returns-clause-simple
 returns-clause-simple g c =
     let a = c.self.inside in
     let fits = subst (λ w. Fits w.size (sides_of c.args.new_size)) (sym c.self.view_is) c.requires in
-    (grown-stored (box_shelf a.boxes) (box_shelf c.add_rest.new.boxes) a.size c.args.new_size a.options c.self.invariant fits c.in_ok-add_rest.ensures.kept c.in_ok-add_rest.ensures.ok).simple
+    (grown-stored (box_shelf a.boxes) (box_shelf c.add_rest.new.boxes) a.size c.args.new_size a.options c.self.invariant fits c.in_ok-add_rest.ensures.ok.kept c.in_ok-add_rest.ensures.ok.boxes).simple

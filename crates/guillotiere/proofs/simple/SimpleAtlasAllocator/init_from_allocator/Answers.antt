@@ -1,25 +1,19 @@
-use Rattle.std.proofs.Common.{◌++◌, map, sym, subst}
-use Rattle.std.specs.List.{All}
-use Rattle.guillotiere.specs.Boxes.{AreSameBoxes, IsNonempty}
+use Rattle.std.proofs.Common.{◌++◌, map, subst, arith}
+use Rattle.guillotiere.specs.Boxes.{AreSameBoxes}
 use Rattle.guillotiere.specs.Pixels.{box_of}
-use Rattle.guillotiere.specs.Rectangles.{IsUnsigned}
 use Rattle.guillotiere.specs.Slots.{nodes}
 use Rattle.guillotiere.specs.Stored as atlas
 use Rattle.guillotiere.specs.Visits.{free_areas}
-use Rattle.guillotiere.specs.Choice.{AreValid}
 use Rattle.guillotiere.specs.Simple.BoxShelves.{box_shelf, free_item_boxes}
 use Rattle.guillotiere.proofs.SimpleLemmas.SimpleSteps.{starts-guarded}
 use Rattle.guillotiere.proofs.SimpleLemmas.SimpleStarting.{areas-filed, starts-from, started-stored}
 use Rattle.guillotiere.proofs.simple.SimpleAtlasAllocator.init_from_allocator.Goals as goal
 
 pub file_free-requires-clause-areas : goal.file_free-requires-clause-areas
-file_free-requires-clause-areas g c =
-    subst (λ slots. All (λ r. IsUnsigned r × IsNonempty (box_of r)) (free_areas (nodes slots))) (sym c.as_slice.ensures.value)
-    (areas-filed (atlas.state_of c.args.source.now) _ c.size-size.ensures.sound c.store-store.ensures.areas)
+file_free-requires-clause-areas g c = grind (arith, areas-filed (atlas.state_of c.args.source.now))
 
 pub file_free-requires-clause-kept : goal.file_free-requires-clause-kept
-file_free-requires-clause-kept g c =
-    c.in_ok-boxes.ensures.kept _ (subst AreValid (sym c.store-store.ensures.options) c.size-size.ensures.sound.valid)
+file_free-requires-clause-kept g c = grind arith
 
 pub invariant_of-self : goal.invariant_of-self
 invariant_of-self g c =

@@ -1,25 +1,26 @@
-use Rattle.std.proofs.Common.{◌≡◌, ◌∙◌, ◌++◌, ap, subst, List}
+use Rattle.std.proofs.Common.{◌≡◌, ◌∙◌, ◌++◌, subst, List, arith}
 use Rattle.guillotiere.specs.Boxes.{Box, whole_box, AreSameBoxes}
-use Rattle.guillotiere.specs.Simple.BoxShelves.{BoxShelf, box_shelf, free_item_boxes}
+use Rattle.guillotiere.specs.Simple.BoxShelves.{box_shelf, free_item_boxes}
 use Rattle.guillotiere.specs.Simple.FreeLists.{kept_of}
 use Rattle.guillotiere.specs.Pixels.{box_of, options_of, sides_of}
 use Rattle.guillotiere.proofs.SimpleLemmas.SimpleSteps.{whole-positive}
 use Rattle.guillotiere.proofs.SimpleLemmas.SimpleLists.{rest-boxes, whole-exact}
 use Rattle.guillotiere.proofs.simple.changes.add_rest.Goals as goal
-use Rattle.guillotiere.proofs.simple.changes.add_rest.Goals.{then-is_kept+in_ok-make_room, else-is_kept+else-is_kept-2}
+
+pub is_kept-requires-clause-valid : goal.is_kept-requires-clause-valid
+is_kept-requires-clause-valid g c = c.requires.kept.listed.valid
 
 pub returns-clause-ok : goal.returns-clause-ok
 returns-clause-ok g c =
     let o = options_of c.args.options.now in
     let f = whole_box (sides_of c.args.new_size) in
     let is = c.guillotine-rest.ensures.boxes f
-    (c.from.ensures ∙ whole-exact c.args.new_size (whole-positive (sides_of c.args.size) (sides_of c.args.new_size) c.requires.positive c.requires.larger)) in
+    (c.from.ensures ∙ whole-exact c.args.new_size (whole-positive (sides_of c.args.size) (sides_of c.args.new_size) c.requires.sizes.0 c.requires.sizes.1)) in
     let old = free_item_boxes (box_shelf c.args.boxes.now).entries in
     let split = free_item_boxes (box_shelf c.keep.new.boxes).entries in
-    let same : free_item_boxes (box_shelf c.if-is_kept.boxes).entries ≡ old = elim c.if-is_kept.branch [
-      | then-is_kept+in_ok-make_room w ↦
-          ap (λ b. free_item_boxes (box_shelf b).entries) w.boxes-is ∙ ap (λ (v : BoxShelf). free_item_boxes v.entries) w.in_ok-make_room.ensures.same
-      | else-is_kept+else-is_kept-2 w ↦ ap (λ b. free_item_boxes (box_shelf b).entries) w.boxes-is
-    ] in
-    rest-boxes o f (sides_of c.args.size) c.guillotine-rest.result old split (free_item_boxes (box_shelf c.keep-2.new.boxes).entries) is
-    (subst (λ (l : List Box). AreSameBoxes split (kept_of o (box_of c.guillotine-rest.result.split) ++ l)) same c.keep.ensures.boxes) c.keep-2.ensures.boxes
+    let same : free_item_boxes (box_shelf c.if-is_kept.boxes).entries ≡ old = grind arith in
+    record {
+      kept = c.keep-2.ensures.boxes.kept;
+      boxes = rest-boxes o f (sides_of c.args.size) c.guillotine-rest.result old split (free_item_boxes (box_shelf c.keep-2.new.boxes).entries) is
+          (subst (λ (l : List Box). AreSameBoxes split (kept_of o (box_of c.guillotine-rest.result.split) ++ l)) same c.keep.ensures.boxes.boxes) c.keep-2.ensures.boxes.boxes;
+    }

@@ -24,8 +24,8 @@ loop-slot-preserved g c =
           let same = ap (λ (v : BoxShelf). free_item_boxes v.entries) w.in_ok-make_room.ensures.same in
           let next = next-filed (λ r. IsUnsigned r × IsNonempty (box_of r)) c.args.slots.now c.loop-slot.slot-index _ (free_item_boxes (box_shelf c.loop-slot.boxes).entries)
           (free_item_boxes (box_shelf w.make_room.new.self).entries) new all same
-          c.loop-slot-test.true (search rules) c.loop-slot.invariant.1 c.loop-slot.invariant.2 w.add.ensures.boxes in
-          rw w.boxes-is (w.add.ensures.kept, next.0, next.1)
+          c.loop-slot-test.true (search rules) c.loop-slot.invariant.1 c.loop-slot.invariant.2 w.add.ensures.boxes.boxes in
+          rw w.boxes-is (w.add.ensures.boxes.kept, next.0, next.1)
       | else-eq w ↦
           let e = passed-free c.args.slots.now c.loop-slot.slot-index _ c.eq.result c.loop-slot-test.true c.eq.ensures w.if-eq.false in
           rw w.boxes-is (

@@ -1,17 +1,15 @@
-use Rattle.std.proofs.Common.{◌∙◌}
+use Rattle.std.proofs.Common.{arith}
 use Rattle.guillotiere.specs.Slots.{nodes}
 use Rattle.guillotiere.proofs.AtlasLemmas.Hiding.{hidden-more, hidable-more, not-hidable}
 use Rattle.guillotiere.proofs.slots.batch.hide.Goals as goal
 
 pub returns-in-None-clause-last : goal.returns-in-None-clause-last
-returns-in-None-clause-last c =
-    λ _. not-hidable (nodes c.args.slots.now) (nodes c.loop-count.slots) c.args.ids.now c.loop-count.count c.index-ids-count.result c.loop-count-test.true c.index-ids-count.is c.loop-count.invariant.written c.in-None.ensures.none
+returns-in-None-clause-last c = grind (arith, not-hidable)
 
 pub loop-count-preserved : goal.loop-count-preserved
 loop-count-preserved c =
-    let i = c.loop-count.invariant in
-    record {
-      written = hidden-more (nodes c.args.slots.now) (nodes c.loop-count.slots) (nodes c.set_kind.new.slots) c.args.ids.now c.loop-count.count c.index-ids-count.result c.in-Some.at c.loop-count-test.true c.index-ids-count.is c.in-Some.ensures.found i.written c.set_kind.ensures.written;
-      named = hidable-more (nodes c.args.slots.now) (nodes c.loop-count.slots) c.args.ids.now c.loop-count.count c.index-ids-count.result c.loop-count-test.true c.index-ids-count.is i.written i.named c.in-Some.ensures.named;
-      same_rings = c.set_kind.ensures.same_rings ∙ i.same_rings;
-    }
+    grind (
+      arith,
+      hidden-more (nodes c.args.slots.now) (nodes c.loop-count.slots) (nodes c.set_kind.new.slots) c.args.ids.now c.loop-count.count c.index-ids-count.result c.in-Some.at c.loop-count-test.true c.index-ids-count.is c.in-Some.ensures.found,
+      hidable-more (nodes c.args.slots.now) (nodes c.loop-count.slots) c.args.ids.now c.loop-count.count c.index-ids-count.result c.loop-count-test.true c.index-ids-count.is,
+    )

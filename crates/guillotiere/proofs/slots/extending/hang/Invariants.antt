@@ -1,14 +1,15 @@
 use Rattle.std.proofs.Common.{◌≡◌, ℕ, length}
 use Rattle.guillotiere.specs.Slots.{nodes, rings, node_at, KeepsUse}
-use Rattle.guillotiere.specs.Slots.Numbered.{Numbered, first_slot}
-use Rattle.guillotiere.specs.Slots.Standing.{Sequence, Stands}
+use Rattle.guillotiere.specs.Slots.Numbered.{Numbered}
+use Rattle.guillotiere.specs.Slots.Standing.{Sequence}
+use Rattle.guillotiere.specs.Slots.SlotCalls.{BeginsAt}
 use Rattle.guillotiere.proofs.SlotLemmas.Following.{followers}
 use Rattle.guillotiere.proofs.SlotLemmas.Hanging.{IsHanging}
 use Rattle.guillotiere.proofs.slots.extending.hang.Given as goal
 
 abbrev pub invariant-loop-at : goal.invariant-loop-at
 invariant-loop-at l = record {
-  hanging : (s : Sequence) (n : Numbered) → Stands (nodes l.fn.slots) s n → first_slot n ≡ l.fn.first.number → IsHanging (nodes l.slots) l.container.number l.at.number s n;
+  hanging : (s : Sequence) (n : Numbered) → BeginsAt (nodes l.fn.slots) l.fn.first.number s n → IsHanging (nodes l.slots) l.container.number l.at.number s n;
   uses : (k : ℕ) → KeepsUse (node_at (nodes l.fn.slots) k) (node_at (nodes l.slots) k);
   same_rings : rings l.slots ≡ rings l.fn.slots;
 }

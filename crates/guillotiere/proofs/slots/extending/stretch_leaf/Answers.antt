@@ -6,8 +6,17 @@ use Rattle.guillotiere.proofs.SlotLemmas.Frames.{IsWritten-by}
 use Rattle.guillotiere.proofs.SlotLemmas.Stretching.{Stands-stretched}
 use Rattle.guillotiere.proofs.slots.extending.stretch_leaf.Goals as goal
 
-pub returns-clause-longer : goal.returns-clause-longer
-returns-clause-longer c =
+pub returns : goal.returns
+returns c =
     let at : c.args.at.number < length (nodes c.args.slots.now) = simp length-map c.requires.inside in
     let leaf = node_at (nodes c.args.slots.now) c.args.at.number in
-    Stands-stretched _ _ _ c.args.size c.requires.exact c.requires.free (IsWritten-by _ _ _ _ (record leaf { area = stretched_area leaf.area c.args.size }) c.write_node.ensures.written (rw c.read_node-leaf.ensures (search rules)) at)
+    let w = IsWritten-by (nodes c.args.slots.now) (nodes c.write_node.new.slots) c.args.at.number _
+    (record leaf { area = stretched_area leaf.area c.args.size }) c.write_node.ensures.written
+    (rw c.read_node-leaf.ensures (search rules)) at in
+    record {
+      longer = Stands-stretched _ _ _ c.args.size c.requires.exact c.requires.free w;
+      whole = search rules;
+      leaf = w.there;
+      others = w.others;
+      same_rings = c.write_node.ensures.same_rings;
+    }

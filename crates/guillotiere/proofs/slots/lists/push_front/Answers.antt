@@ -1,4 +1,4 @@
-use Rattle.std.proofs.Common.{◌<◌, length, refl}
+use Rattle.std.proofs.Common.{◌<◌, length, refl, arith}
 use Rattle.std.proofs.lemmas.List.{length-map}
 use Rattle.guillotiere.specs.Slots.{rings}
 use Rattle.guillotiere.proofs.StoreLemmas.Unlinking.{IsList-pushed, others-pushed}
@@ -11,6 +11,4 @@ returns-clause-list c =
     IsList-pushed (rings c.args.slots.now) _ _ c.args.first c.args.at _ short at refl refl c.write_ring.ensures.written c.set_ring_previous.ensures.written
 
 pub returns-clause-others : goal.returns-clause-others
-returns-clause-others c =
-    let short : length (rings c.args.slots.now) < 4294967295 = simp length-map c.requires.short in
-    others-pushed (rings c.args.slots.now) _ _ c.args.first c.args.at _ short c.write_ring.ensures.written c.set_ring_previous.ensures.written
+returns-clause-others c = grind (arith, length-map, others-pushed)

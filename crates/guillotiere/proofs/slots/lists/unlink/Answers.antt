@@ -1,18 +1,14 @@
-use Rattle.std.proofs.Common.{◌<◌, length}
+use Rattle.std.proofs.Common.{◌<◌, length, arith}
 use Rattle.std.proofs.lemmas.List.{length-map}
 use Rattle.guillotiere.specs.Slots.{rings}
 use Rattle.guillotiere.proofs.StoreLemmas.Unlinking.{can-unlink, unlinked-by, IsList-unlinked, others-unlinked}
 use Rattle.guillotiere.proofs.slots.lists.unlink.Goals as goal
 
 pub set_ring_next-requires-clause-inside : goal.set_ring_next-requires-clause-inside
-set_ring_next-requires-clause-inside c =
-    let short : length (rings c.args.slots.now) < 4294967295 = simp length-map c.requires.short in
-    rw c.requires.ring (simp length-map at ((can-unlink _ _ c.requires.listed short).previous))
+set_ring_next-requires-clause-inside c = grind (arith, length-map, can-unlink)
 
 pub set_ring_previous-requires-clause-inside : goal.set_ring_previous-requires-clause-inside
-set_ring_previous-requires-clause-inside c =
-    let short : length (rings c.args.slots.now) < 4294967295 = simp length-map c.requires.short in
-    rw (c.requires.ring, c.set_ring_next.auto.slots) (simp length-map at ((can-unlink _ _ c.requires.listed short).next))
+set_ring_previous-requires-clause-inside c = grind (arith, length-map, can-unlink)
 
 pub returns-clause-list : goal.returns-clause-list
 returns-clause-list c = λ first.

@@ -1,12 +1,11 @@
-use Rattle.std.proofs.Common.{rules}
+use Rattle.std.proofs.Common.{rules, arith}
 use Rattle.guillotiere.specs.Visits.{free_areas}
 use Rattle.guillotiere.proofs.AtlasLemmas.AreaSums.{free-more, free-past, more-shown, more-rest, more-sum, past-rest, past-sum}
 use Rattle.guillotiere.proofs.slots.walks.free_sum.Goals as goal
 use Rattle.guillotiere.proofs.slots.walks.free_sum.Goals.{then-eq, else-eq}
 
 pub area_of-sum-requires : goal.area_of-sum-requires
-area_of-sum-requires c =
-    more-shown free_areas c.args.slots.now c.loop-slot.slot-index _ (free-more c.args.slots.now c.loop-slot.slot-index _ c.loop-slot-test.true (search rules)) c.loop-slot.invariant.shown
+area_of-sum-requires c = grind (arith, more-shown, free-more)
 
 pub loop-slot-preserved : goal.loop-slot-preserved
 loop-slot-preserved c =
@@ -17,10 +16,5 @@ loop-slot-preserved c =
             sum = more-sum free_areas c.args.slots.now c.loop-slot.slot-index _ more c.loop-slot.sum c.if-eq.sum w.area_of-sum.result _ c.loop-slot.invariant.sum w.area_of-sum.ensures w.sum-is;
             shown = more-rest free_areas c.args.slots.now c.loop-slot.slot-index _ more c.loop-slot.invariant.shown;
           }
-      | else-eq w ↦
-          let past = free-past c.args.slots.now c.loop-slot.slot-index _ c.loop-slot-test.true c.eq.result c.eq.ensures w.if-eq.false in
-          record {
-            sum = past-sum free_areas c.args.slots.now c.loop-slot.slot-index past c.loop-slot.sum c.if-eq.sum _ c.loop-slot.invariant.sum w.sum-is;
-            shown = past-rest free_areas c.args.slots.now c.loop-slot.slot-index past c.loop-slot.invariant.shown;
-          }
+      | else-eq w ↦ grind (arith, free-past, past-sum, past-rest)
     ]

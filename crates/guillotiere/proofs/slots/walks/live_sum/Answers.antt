@@ -1,12 +1,11 @@
-use Rattle.std.proofs.Common.{rules}
+use Rattle.std.proofs.Common.{rules, arith}
 use Rattle.guillotiere.specs.Slots.Areas.{live_areas}
 use Rattle.guillotiere.proofs.AtlasLemmas.AreaSums.{live-more, live-past, more-shown, more-rest, more-sum, past-rest, past-sum}
 use Rattle.guillotiere.proofs.slots.walks.live_sum.Goals as goal
 use Rattle.guillotiere.proofs.slots.walks.live_sum.Goals.{then-eq, else-eq}
 
 pub area_of-sum-requires : goal.area_of-sum-requires
-area_of-sum-requires c =
-    more-shown live_areas c.args.slots.now c.loop-slot.slot-index _ (live-more c.args.slots.now c.loop-slot.slot-index _ c.loop-slot-test.true (search rules)) c.loop-slot.invariant.shown
+area_of-sum-requires c = grind (arith, more-shown, live-more)
 
 pub loop-slot-preserved : goal.loop-slot-preserved
 loop-slot-preserved c =
@@ -17,10 +16,5 @@ loop-slot-preserved c =
             sum = more-sum live_areas c.args.slots.now c.loop-slot.slot-index _ more c.loop-slot.sum c.if-eq.sum w.area_of-sum.result _ c.loop-slot.invariant.sum w.area_of-sum.ensures w.sum-is;
             shown = more-rest live_areas c.args.slots.now c.loop-slot.slot-index _ more c.loop-slot.invariant.shown;
           }
-      | else-eq w ↦
-          let past = live-past c.args.slots.now c.loop-slot.slot-index _ c.loop-slot-test.true c.eq.result c.eq.ensures w.if-eq.false in
-          record {
-            sum = past-sum live_areas c.args.slots.now c.loop-slot.slot-index past c.loop-slot.sum c.if-eq.sum _ c.loop-slot.invariant.sum w.sum-is;
-            shown = past-rest live_areas c.args.slots.now c.loop-slot.slot-index past c.loop-slot.invariant.shown;
-          }
+      | else-eq w ↦ grind (arith, live-past, past-sum, past-rest)
     ]

@@ -4,18 +4,14 @@ use Rattle.guillotiere.specs.Pixels.{sides_of}
 use Rattle.guillotiere.specs.Slots.{nodes, node_at}
 use Rattle.guillotiere.specs.Store.Holdings.{shelf_of}
 use Rattle.guillotiere.proofs.StoreLemmas.StoreFacts.{are-slots, across-call, slots-room}
-use Rattle.guillotiere.proofs.StoreLemmas.ExtendingSteps.{sides-fit, end-used, end-inside, appended-holds}
+use Rattle.guillotiere.proofs.StoreLemmas.ExtendingSteps.{sides-fit, appendable-slots, appended-holds}
 use Rattle.guillotiere.proofs.store.Store.append_with.Goals as goal
 
-pub append_leaf-requires-clause-inside : goal.append_leaf-requires-clause-inside
-append_leaf-requires-clause-inside g c =
+pub append_leaf-requires-clause-ready : goal.append_leaf-requires-clause-ready
+append_leaf-requires-clause-ready g c =
     let r : _ = c.requires.ready in
-    end-inside r.1 (shelf_of c.args.self.now) c.deref_mut.result.now (sides_of c.args.size) r.2 c.args.last.number r.0 c.deref_mut.ensures.value r.3.holds r.3.end
-
-pub append_leaf-requires-clause-used : goal.append_leaf-requires-clause-used
-append_leaf-requires-clause-used g c =
-    let r : _ = c.requires.ready in
-    end-used r.1 (shelf_of c.args.self.now) c.deref_mut.result.now (sides_of c.args.size) r.2 c.args.last.number r.0 c.deref_mut.ensures.value r.3.holds r.3.end
+    appendable-slots r.1 (shelf_of c.args.self.now) c.deref_mut.result.now (sides_of c.args.size) r.2 c.args.last.number c.args.fresh.number r.0
+    c.deref_mut.ensures.value c.requires.fresh.unused r.3
 
 pub returns : goal.returns
 returns g c =
@@ -23,8 +19,7 @@ returns g c =
     record {
       kept = λ h hand d a.
           appended-holds (shelf_of c.args.self.now) c.deref_mut.result.now c.append_leaf.new.slots _ c.args.last.number c.args.fresh.number
-          (sides_of c.args.size) slots (sides-fit c.args.size (search rules) (search rules)) c.append_leaf.ensures.tree c.requires.fresh.unused
-          c.append_leaf.ensures.free c.append_leaf.ensures.others c.append_leaf.ensures.same_rings h hand d a.holds a.in_hand a.end a.more;
+          c.args.size slots (sides-fit c.args.size (search rules) (search rules)) c.requires.fresh.unused c.append_leaf.ensures h hand d a;
       free = across-call (λ a b. (node_at (nodes b) c.args.fresh.number).kind ≡ Free) slots c.append_leaf.ensures.free;
       room = slots-room c.args.self.now _ slots refl refl;
       turns = refl;

@@ -1,4 +1,4 @@
-use Rattle.std.proofs.Common.{◌≡◌, ◌∙◌, ap, List, refl, subst, sym}
+use Rattle.std.proofs.Common.{◌≡◌, ◌∙◌, ap, List, refl, subst, sym, arith}
 use Rattle.std.proofs.lemmas.List.{with_items_is}
 use Rattle.std.specs.Vec.{with_items}
 use Rattle.guillotiere.specs.declared.slots.Slot.{Slot}
@@ -23,18 +23,14 @@ module _ (g : given.Over) (c : goal.After-tick g) where
   new = (with_items (with_items c.args.self.now.slots c.lift-container.new.slots) c.give_back.new.slots).items
 
   first : AreSlots own c.deref_mut.result.now c.lift-container.new.slots mid
-  first = record {
-    given = c.deref_mut.ensures.value;
-    left = with_items_is c.args.self.now.slots c.lift-container.new.slots (c.lift-container.auto.slots ∙ c.deref_mut.ensures.len);
-    long = c.lift-container.auto.slots;
-  }
+  first = grind (arith, with_items_is)
 
   last : AreSlots mid c.deref_mut-2.result.now c.give_back.new.slots new
-  last = record {
-    given = c.deref_mut-2.ensures.value;
-    left = with_items_is (with_items c.args.self.now.slots c.lift-container.new.slots) c.give_back.new.slots (c.give_back.auto.slots ∙ c.deref_mut-2.ensures.len);
-    long = c.give_back.auto.slots;
-  }
+  last =
+      grind (
+        arith,
+        with_items_is (with_items c.args.self.now.slots c.lift-container.new.slots) c.give_back.new.slots (c.give_back.auto.slots ∙ c.deref_mut-2.ensures.len),
+      )
 
   lifted : IsChildLifted own mid c.lift-container.result.number c.args.child.number
   lifted = over-shelf (λ old left. IsChildLifted old left c.lift-container.result.number c.args.child.number) _ _ _ _ first c.lift-container.ensures.lifted

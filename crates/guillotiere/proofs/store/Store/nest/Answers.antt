@@ -1,4 +1,4 @@
-use Rattle.std.proofs.Common.{◌∙◌, ◌≡◌, ◌≢◌, ◌+◌, ap, ℕ, subst, sym, arith}
+use Rattle.std.proofs.Common.{◌∙◌, ◌≡◌, ◌≢◌, ◌+◌, ℕ, subst, arith}
 use Rattle.guillotiere.specs.Pixels.{sides_of}
 use Rattle.guillotiere.specs.Slots.Links.{with_count, tail_of}
 use Rattle.guillotiere.specs.Stored.{Holding, HoldsWith}
@@ -72,9 +72,7 @@ append_with-requires-clause-fresh g c =
     let apart : w ≢ s =
     c.take-container.ensures.apart (after_take r.0) (with_count (λ i. 0) s 1) s one (omega (arith, with_count-same (λ i. 0) s 1)) c.take-strip.ensures.fresh.inside in
     record {
-      unused =
-          c.wrap_top_with.ensures.unused s (λ e. apart (sym e))
-          (ap (λ n. n.kind) (c.take-container.ensures.others s (λ e. apart (sym e))) ∙ c.take-strip.ensures.fresh.unused);
+      unused = grind arith;
       inside = omega (arith, c.wrap_top_with.ensures.room.slots, c.take-container.ensures.longer, c.take-strip.ensures.fresh.inside);
     }
 

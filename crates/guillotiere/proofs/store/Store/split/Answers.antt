@@ -1,12 +1,9 @@
-use Rattle.std.proofs.Common.{◌≡◌, ◌≢◌, ◌∙◌, ap, refl, sym, ℕ, subst, w32}
-use Rattle.std.proofs.lemmas.Int.{to_z-of_z}
+use Rattle.std.proofs.Common.{◌≡◌, ◌≢◌, ◌∙◌, ap, refl, sym, ℕ, subst, arith}
 use Rattle.guillotiere.specs.declared.slots.Node.{Node}
-use Rattle.guillotiere.specs.Pixels.{natural}
 use Rattle.guillotiere.specs.Slots.Links.{with_count, tail_of}
 use Rattle.guillotiere.specs.Slots.Parts.{front_node}
 use Rattle.guillotiere.specs.Slots.{KeepsUse}
 use Rattle.guillotiere.specs.Store.Holdings.{shelf_of, node_in, across_of, after_take, after_split}
-use Rattle.guillotiere.specs.Store.StoreCalls.{IsSplitWith}
 use Rattle.guillotiere.proofs.StoreLemmas.PlacingSteps.{across-front}
 use Rattle.guillotiere.proofs.StoreLemmas.StoreTakes.{ready-taken, used-taken, slots-kept, rest-length, apart-leaf}
 use Rattle.guillotiere.proofs.store.Store.split.Goals as goal
@@ -30,11 +27,7 @@ split_with-requires-clause-hand g c =
     }
 
 pub split_with-requires-clause-less : goal.split_with-requires-clause-less
-split_with-requires-clause-less g c =
-    let at : ℕ = c.args.at.number in
-    let k : ℕ = c.take-fresh.result.number in
-    let apart : at ≢ k = apart-leaf (shelf_of c.args.self.now) at k c.requires.ready.1.kind c.take-fresh.ensures.was_unused in
-    rw (c.take-fresh.ensures.others at apart, to_z-of_z w32 c.args.extent c.ranges.extent) c.requires.less
+split_with-requires-clause-less g c = grind (arith, apart-leaf)
 
 pub returns : goal.returns
 returns g c =
@@ -44,9 +37,8 @@ returns g c =
     let take = c.take-fresh.ensures in
     let at : ℕ = c.args.at.number in
     let k : ℕ = c.take-fresh.result.number in
-    let p : ℕ = natural c.args.extent in
-    let cut : IsSplitWith mid new c.args.at c.take-fresh.result p =
-    subst (λ n. IsSplitWith mid new c.args.at c.take-fresh.result (natural n)) (to_z-of_z w32 c.args.extent c.ranges.extent) c.split_with.ensures in
+    let p : ℕ = c.args.extent in
+    let cut = c.split_with.ensures in
     let leaf = c.requires.ready.1 in
     let apart : at ≢ k = apart-leaf (shelf_of old) at k leaf.kind take.was_unused in
     let same : node_in (shelf_of mid) at ≡ node_in (shelf_of old) at = take.others at apart in

@@ -1,6 +1,4 @@
-use Rattle.std.proofs.Common.{ap, refl, subst, w32, ℕ}
-use Rattle.std.proofs.lemmas.Int.{to_z-of_z}
-use Rattle.guillotiere.specs.Pixels.{natural}
+use Rattle.std.proofs.Common.{refl, ℕ}
 use Rattle.guillotiere.specs.Slots.SlotCalls.{IsLeafSplit}
 use Rattle.guillotiere.specs.Store.Holdings.{shelf_of}
 use Rattle.guillotiere.proofs.StoreLemmas.StoreFacts.{are-slots, slots-room}
@@ -9,12 +7,9 @@ use Rattle.guillotiere.proofs.store.Store.split_with.Goals as goal
 
 pub returns : goal.returns
 returns g c =
-    let p : ℕ = natural c.args.extent in
+    let p : ℕ = c.args.extent in
     let slots = are-slots c.args.self.now c.deref_mut.ensures.value c.deref_mut.ensures.len c.split_leaf.auto.slots in
-    let split =
-    over-shelf (λ old new. IsLeafSplit old new c.args.at c.args.fresh p) _ _ _ _ slots
-    (subst (λ (x : ℕ). IsLeafSplit c.deref_mut.result.now c.split_leaf.new.slots c.args.at c.args.fresh x)
-    (ap natural (to_z-of_z w32 c.args.extent c.ranges.extent)) c.split_leaf.ensures) in
+    let split = over-shelf (λ old new. IsLeafSplit old new c.args.at c.args.fresh p) _ _ _ _ slots c.split_leaf.ensures in
     record {
       kept =
           split-holds (shelf_of c.args.self.now) _ c.args.at c.args.fresh p (long-over _ _ _ _ slots) split

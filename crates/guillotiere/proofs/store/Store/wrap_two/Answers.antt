@@ -1,14 +1,9 @@
-use Rattle.std.proofs.Common.{◌∙◌, ◌≡◌, ◌≢◌, ◌+◌, ap, ℕ, subst, sym, arith, w32}
-use Rattle.std.proofs.lemmas.Int.{to_z-of_z}
+use Rattle.std.proofs.Common.{◌∙◌, ◌≡◌, ◌≢◌, ◌+◌, ap, ℕ, subst, sym, arith}
 use Rattle.guillotiere.specs.declared.slots.Node.{Node}
-use Rattle.guillotiere.specs.Pixels.{natural}
 use Rattle.guillotiere.specs.Slots.Parts.{inner_node}
-use Rattle.guillotiere.specs.Slots.Reading.{extent_of}
-use Rattle.guillotiere.specs.Slots.{KeepsUse}
 use Rattle.guillotiere.specs.Slots.Links.{with_count, tail_of}
 use Rattle.guillotiere.specs.Stored.{Holding}
-use Rattle.guillotiere.specs.Store.Holdings.{shelf_of, node_in, across_of, HasSlotsFor, after_take, after_split, after_wrap}
-use Rattle.guillotiere.specs.Store.StoreCalls.{IsSplitWith}
+use Rattle.guillotiere.specs.Store.Holdings.{shelf_of, node_in, HasSlotsFor, after_take, after_split, after_wrap}
 use Rattle.guillotiere.proofs.StoreLemmas.Filing.{with_count-same}
 use Rattle.guillotiere.proofs.StoreLemmas.StoreSteps.{holds-hand}
 use Rattle.guillotiere.proofs.StoreLemmas.PlacingSteps.{across-front, across-inner, extent-inner}
@@ -71,30 +66,11 @@ split_with-requires-clause-hand g c =
             (c.take-front.ensures.taken (after_take h) (with_count (λ i. 0) b 1) taken) leaf.loose)),
       );
       free = ap (λ (n : Node). n.kind) wrap.inner;
-      fresh = record {
-        unused =
-            (wrap.others b (λ e. at_b (sym e)) (λ e. f_b (sym e))).kind
-            ∙ ap (λ (n : Node). n.kind) (c.take-front.ensures.others b (λ e. f_b (sym e))) ∙ c.take-back.ensures.fresh.unused;
-        inside = omega (arith, wrap.room.slots, c.take-front.ensures.longer, c.take-back.ensures.fresh.inside);
-      };
+      fresh = grind arith;
     }
 
 pub split_with-requires-clause-less : goal.split_with-requires-clause-less
-split_with-requires-clause-less g c =
-    let b : ℕ = c.take-back.result.number in
-    let f : ℕ = c.take-front.result.number in
-    let at : ℕ = c.args.at.number in
-    let leaf = c.requires.ready.1 in
-    let at_b : at ≢ b = apart-leaf (shelf_of c.args.self.now) at b leaf.kind c.take-back.ensures.was_unused in
-    let mid_free = ap (λ (n : Node). n.kind) (c.take-back.ensures.others at at_b) ∙ leaf.kind in
-    let at_f : at ≢ f = apart-leaf (shelf_of c.take-back.new.self) at f mid_free c.take-front.ensures.was_unused in
-    let u : Node = node_in (shelf_of c.take-front.new.self) f in
-    let same = c.take-front.ensures.others at at_f ∙ c.take-back.ensures.others at at_b in
-    let inner : node_in (shelf_of c.wrap_with.new.self) f ≡ inner_node (node_in (shelf_of c.args.self.now) at) c.args.at u =
-    c.wrap_with.ensures.inner ∙ ap (λ (n : Node). inner_node n c.args.at u) same in
-    let e : extent_of (node_in (shelf_of c.wrap_with.new.self) f) ≡ across_of (node_in (shelf_of c.args.self.now) at) =
-    ap extent_of inner ∙ extent-inner (node_in (shelf_of c.args.self.now) at) c.args.at u in
-    rw (to_z-of_z w32 c.args.extent c.ranges.extent) (omega (arith, e, c.requires.less))
+split_with-requires-clause-less g c = grind (arith, apart-leaf, extent-inner)
 
 pub returns : goal.returns
 returns g c =
@@ -103,12 +79,11 @@ returns g c =
     let b : ℕ = c.take-back.result.number in
     let f : ℕ = c.take-front.result.number in
     let at : ℕ = c.args.at.number in
-    let p : ℕ = natural c.args.extent in
+    let p : ℕ = c.args.extent in
     let back = c.take-back.ensures in
     let front = c.take-front.ensures in
     let wrap = c.wrap_with.ensures in
-    let cut : IsSplitWith c.wrap_with.new.self new c.take-front.result c.take-back.result p =
-    subst (λ n. IsSplitWith c.wrap_with.new.self new c.take-front.result c.take-back.result (natural n)) (to_z-of_z w32 c.args.extent c.ranges.extent) c.split_with.ensures in
+    let cut = c.split_with.ensures in
     let leaf = c.requires.ready.1 in
     let at_b : at ≢ b = apart-leaf (shelf_of old) at b leaf.kind back.was_unused in
     let mid_free = ap (λ (n : Node). n.kind) (back.others at at_b) ∙ leaf.kind in
@@ -139,17 +114,11 @@ returns g c =
             omega (arith, rest-length (tail_of h.spare), rest-length h.spare),
           );
       front = ap (λ (n : Node). n.kind) cut.front ∙ ap (λ (n : Node). n.kind) inner;
-      across =
-          ap across_of cut.front ∙ across-front (node_in (shelf_of c.wrap_with.new.self) f) p c.take-back.result ∙ ap across_of inner
-          ∙ across-inner (node_in (shelf_of old) at) c.args.at u;
+      across = grind (arith, across-front, across-inner);
       back = ap (λ (n : Node). n.kind) cut.back;
       front_apart = λ e. at_f (sym e);
       back_apart = (λ e. at_b (sym e), λ e. f_b (sym e));
-      others = λ j na nf nb.
-          let x = cut.others j nf nb in
-          let y = wrap.others j na nf in
-          subst (λ n. KeepsUse n (node_in (shelf_of new) j)) (front.others j nf ∙ back.others j nb)
-          (record { kind = x.kind ∙ y.kind; area = x.area ∙ y.area; generation = x.generation ∙ y.generation });
+      others = grind arith;
       options = cut.room.options ∙ wrap.room.options ∙ front.options ∙ back.options;
       turns = cut.turns ∙ wrap.turns ∙ front.turns ∙ back.turns;
     }

@@ -1,4 +1,4 @@
-use Rattle.std.proofs.Common.{ℕ, ◌-◌, ◌≡◌, ◌∙◌, sym, subst, ap}
+use Rattle.std.proofs.Common.{ℕ, ◌-◌, ◌≡◌, ◌∙◌, sym, subst, arith}
 use Rattle.guillotiere.specs.Boxes.{other, side}
 use Rattle.guillotiere.specs.Pixels.{sides_of}
 use Rattle.guillotiere.specs.Stored.{Holding}
@@ -51,14 +51,8 @@ returns-then-eq g c =
           let same = along-same old new h p w.growth (unequal-no p.middle p.from c.ne.result c.ne.ensures b.if-ne.false) in
           subst (λ s. IsMidwayIn s old new i n h) (sym b.store-is) (same-midway w same)
     ]) in
-    let options : c.if-ne.store.options ≡ c.args.store.now.options = elim c.if-ne.branch [
-      | then-ne b ↦ ap (λ s. s.options) b.store-is ∙ b.lengthen.ensures.options
-      | else-ne b ↦ ap (λ s. s.options) b.store-is
-    ] in
-    let turns : c.if-ne.store.turns ≡ c.args.store.now.turns = elim c.if-ne.branch [
-      | then-ne b ↦ ap (λ s. s.turns) b.store-is ∙ b.lengthen.ensures.turns
-      | else-ne b ↦ ap (λ s. s.turns) b.store-is
-    ] in
+    let options : c.if-ne.store.options ≡ c.args.store.now.options = grind arith in
+    let turns : c.if-ne.store.turns ≡ c.args.store.now.turns = grind arith in
     record {
       grown = λ h n w.
           let m = midway h n w in
@@ -82,14 +76,8 @@ returns g c =
           let same = along-same old new h p w.growth (unequal-no p.middle p.from c.ne.result c.ne.ensures b.if-ne.false) in
           subst (λ s. IsMidwayIn s old new i n h) (sym b.store-is) (same-midway w same)
     ]) in
-    let options : c.if-ne.store.options ≡ c.args.store.now.options = elim c.if-ne.branch [
-      | then-ne b ↦ ap (λ s. s.options) b.store-is ∙ b.lengthen.ensures.options
-      | else-ne b ↦ ap (λ s. s.options) b.store-is
-    ] in
-    let turns : c.if-ne.store.turns ≡ c.args.store.now.turns = elim c.if-ne.branch [
-      | then-ne b ↦ ap (λ s. s.turns) b.store-is ∙ b.lengthen.ensures.turns
-      | else-ne b ↦ ap (λ s. s.turns) b.store-is
-    ] in
+    let options : c.if-ne.store.options ≡ c.args.store.now.options = grind arith in
+    let turns : c.if-ne.store.turns ≡ c.args.store.now.turns = grind arith in
     record {
       grown = λ h n w.
           let m = midway h n w in

@@ -1,4 +1,4 @@
-use Rattle.std.proofs.Common.{◌≡◌, sym, ◌∙◌}
+use Rattle.std.proofs.Common.{◌≡◌, sym, ◌∙◌, arith}
 use Rattle.std.proofs.lemmas.Bool.{true≢false}
 use Rattle.guillotiere.specs.declared.slots.NodeKind.TheVariants.{Free}
 use Rattle.guillotiere.specs.Pixels.{sides_of}
@@ -19,10 +19,7 @@ list-requires g c =
     stretch-list c.requires.ready.3 (c.is_free.ensures.0 c.if-is_free.true) c.unlist.ensures c.stretch.ensures
 
 pub append-strip-requires-clause-ready : goal.append-strip-requires-clause-ready
-append-strip-requires-clause-ready g c =
-    let t = c.requires.ready in
-    let busy : (node_in (shelf_of c.args.store.now) c.args.last.number).kind ≡ Free → ⊥ = (λ f. true≢false (sym (c.is_free.ensures.1 f) ∙ c.if-is_free.false)) in
-    append-ready t.3 busy
+append-strip-requires-clause-ready g c = grind (arith, true≢false, append-ready)
 
 pub list-requires-else-is_free : goal.list-requires-else-is_free
 list-requires-else-is_free g c =

@@ -6,7 +6,7 @@ use Rattle.guillotiere.specs.Slots.Growing.{last_slot}
 use Rattle.guillotiere.proofs.StoreLemmas.GrownSlots.{last-slot}
 use Rattle.guillotiere.proofs.StoreLemmas.GrownStages.{unequal-yes, unequal-no, along-longer, along-same, across-longer, across-same, along_need, across_need, need-is, strip-longer, strip-same, top-wider, top-same}
 use Rattle.guillotiere.proofs.tree.growth.slots_for.Goals as goal
-use Rattle.guillotiere.proofs.tree.growth.slots_for.Goals.{then-ne, else-ne, then-has_strip, else-has_strip, then-ne-2, else-ne-2}
+use Rattle.guillotiere.proofs.tree.growth.slots_for.Goals.{then-ne, else-ne, then-ne-2, else-ne-2}
 
 pub is_free-requires-clause-slot : goal.is_free-requires-clause-slot
 is_free-requires-clause-slot g c =
@@ -23,10 +23,7 @@ returns-clause-need g c = λ h first t w busy.
     let old = sides_of p.from in
     let new = sides_of p.to in
     let v = shelf_of c.args.store.now in
-    let taken : c.if-has_strip.strip ≡ cond c.if-ne.has_strip 1 0 = elim c.if-has_strip.branch [
-      | then-has_strip b ↦ b.strip-is ∙ sym (ap (λ x. cond x 1 0) b.if-has_strip.true)
-      | else-has_strip b ↦ b.strip-is ∙ sym (ap (λ x. cond x 1 0) b.if-has_strip.false)
-    ] in
+    let taken : c.if-has_strip.strip ≡ cond c.if-ne.has_strip 1 0 = grind arith in
     let along : c.if-has_strip.strip ≡ along_need v (last_slot h.tree) old new h.sequence.axis = elim c.if-ne.branch [
       | then-ne b ↦ taken ∙ ap (λ x. cond x 1 0) b.has_strip-is ∙ strip-longer v old new h p w b.is_free.result b.is_free.ensures (along-longer old new h p w c.requires.fits (unequal-yes p.middle p.from c.ne.result c.ne.ensures b.if-ne.true))
       | else-ne b ↦ taken ∙ ap (λ x. cond x 1 0) (b.has_strip-is ∙ b.if-ne.false) ∙ sym (strip-same v old new h p w (along-same old new h p w (unequal-no p.middle p.from c.ne.result c.ne.ensures b.if-ne.false)))

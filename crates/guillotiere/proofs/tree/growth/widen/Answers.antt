@@ -1,11 +1,9 @@
-use Rattle.std.proofs.Common.{◌∙◌}
+use Rattle.std.proofs.Common.{◌∙◌, arith}
 use Rattle.guillotiere.proofs.StoreLemmas.GrownSlots.{nest-list, nest-widened}
 use Rattle.guillotiere.proofs.tree.growth.widen.Goals as goal
 
 pub nest-requires-clause-ready : goal.nest-requires-clause-ready
-nest-requires-clause-ready g c =
-    let t = c.requires.ready in
-    (t.0, t.1, t.2.nests, t.2.slots)
+nest-requires-clause-ready g c = grind arith
 
 pub list-requires : goal.list-requires
 list-requires g c = nest-list c.requires.ready.2 c.nest.ensures

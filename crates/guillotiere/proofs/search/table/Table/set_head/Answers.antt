@@ -1,5 +1,5 @@
-use Rattle.std.proofs.Common.{◌+◌, ◌*◌, ◌<◌, ◌∙◌, sym, ap, length, arith}
-use Rattle.guillotiere.specs.Search.Tables.{head_of, low_of}
+use Rattle.std.proofs.Common.{◌+◌, ◌*◌, ◌∙◌, sym, ap, arith}
+use Rattle.guillotiere.specs.Search.Tables.{head_of}
 use Rattle.guillotiere.proofs.SearchLemmas.TableHeads.{read-low, is_slot, slot-is, no_slot-is, kept-table, written-table, head_of-same, head_of-other, low_of-any}
 use Rattle.guillotiere.proofs.search.table.Table.set_head.Goals as goal
 
@@ -24,55 +24,28 @@ invariant_of-self-else-former g c =
     ∙ sym (slot-is c.args.first c.if-first-eq-NO_SLOT.false))
 
 pub returns-then-first-eq-NO_SLOT-clause-head : goal.returns-then-first-eq-NO_SLOT-clause-head
-returns-then-first-eq-NO_SLOT-clause-head g c =
-    let k = 52 * c.args.at.row + c.args.at.column in
-    let within : k < length c.self.inside.heads.items = omega (arith, c.self.invariant.count, c.requires.row, c.requires.column) in
-    head_of-same c.self.inside.heads.items k (record { first = c.args.first; low = c.index_mut.result.now.low }) within
+returns-then-first-eq-NO_SLOT-clause-head g c = grind (arith, head_of-same)
 
 pub returns-then-first-eq-NO_SLOT-clause-heads : goal.returns-then-first-eq-NO_SLOT-clause-heads
-returns-then-first-eq-NO_SLOT-clause-heads g c = λ j apart.
-    let k = 52 * c.args.at.row + c.args.at.column in
-    head_of-other c.self.inside.heads.items k (record { first = c.args.first; low = c.index_mut.result.now.low }) j apart ∙ ap (λ hs. head_of hs j) c.self.view_is
+returns-then-first-eq-NO_SLOT-clause-heads g c = grind (arith, head_of-other)
 
 pub returns-then-first-eq-NO_SLOT-clause-lows : goal.returns-then-first-eq-NO_SLOT-clause-lows
-returns-then-first-eq-NO_SLOT-clause-lows g c = λ j.
-    let k = 52 * c.args.at.row + c.args.at.column in
-    let within : k < length c.self.inside.heads.items = omega (arith, c.self.invariant.count, c.requires.row, c.requires.column) in
-    let e = c.index_mut.result.now in
-    low_of-any c.self.inside.heads.items k (record { first = c.args.first; low = e.low }) within (read-low c.self.inside.heads.items k e within c.index_mut.ensures.value) j ∙ ap (λ hs. low_of hs j) c.self.view_is
+returns-then-first-eq-NO_SLOT-clause-lows g c = grind (arith, low_of-any, read-low)
 
 pub returns-then-former-clause-head : goal.returns-then-former-clause-head
-returns-then-former-clause-head g c =
-    let k = 52 * c.args.at.row + c.args.at.column in
-    let within : k < length c.self.inside.heads.items = omega (arith, c.self.invariant.count, c.requires.row, c.requires.column) in
-    head_of-same c.self.inside.heads.items k (record { first = c.args.first; low = c.index_mut.result.now.low }) within
+returns-then-former-clause-head g c = grind (arith, head_of-same)
 
 pub returns-then-former-clause-heads : goal.returns-then-former-clause-heads
-returns-then-former-clause-heads g c = λ j apart.
-    let k = 52 * c.args.at.row + c.args.at.column in
-    head_of-other c.self.inside.heads.items k (record { first = c.args.first; low = c.index_mut.result.now.low }) j apart ∙ ap (λ hs. head_of hs j) c.self.view_is
+returns-then-former-clause-heads g c = grind (arith, head_of-other)
 
 pub returns-then-former-clause-lows : goal.returns-then-former-clause-lows
-returns-then-former-clause-lows g c = λ j.
-    let k = 52 * c.args.at.row + c.args.at.column in
-    let within : k < length c.self.inside.heads.items = omega (arith, c.self.invariant.count, c.requires.row, c.requires.column) in
-    let e = c.index_mut.result.now in
-    low_of-any c.self.inside.heads.items k (record { first = c.args.first; low = e.low }) within (read-low c.self.inside.heads.items k e within c.index_mut.ensures.value) j ∙ ap (λ hs. low_of hs j) c.self.view_is
+returns-then-former-clause-lows g c = grind (arith, low_of-any, read-low)
 
 pub returns-else-former-clause-head : goal.returns-else-former-clause-head
-returns-else-former-clause-head g c =
-    let k = 52 * c.args.at.row + c.args.at.column in
-    let within : k < length c.self.inside.heads.items = omega (arith, c.self.invariant.count, c.requires.row, c.requires.column) in
-    head_of-same c.self.inside.heads.items k (record { first = c.args.first; low = c.index_mut.result.now.low }) within
+returns-else-former-clause-head g c = grind (arith, head_of-same)
 
 pub returns-else-former-clause-heads : goal.returns-else-former-clause-heads
-returns-else-former-clause-heads g c = λ j apart.
-    let k = 52 * c.args.at.row + c.args.at.column in
-    head_of-other c.self.inside.heads.items k (record { first = c.args.first; low = c.index_mut.result.now.low }) j apart ∙ ap (λ hs. head_of hs j) c.self.view_is
+returns-else-former-clause-heads g c = grind (arith, head_of-other)
 
 pub returns-else-former-clause-lows : goal.returns-else-former-clause-lows
-returns-else-former-clause-lows g c = λ j.
-    let k = 52 * c.args.at.row + c.args.at.column in
-    let within : k < length c.self.inside.heads.items = omega (arith, c.self.invariant.count, c.requires.row, c.requires.column) in
-    let e = c.index_mut.result.now in
-    low_of-any c.self.inside.heads.items k (record { first = c.args.first; low = e.low }) within (read-low c.self.inside.heads.items k e within c.index_mut.ensures.value) j ∙ ap (λ hs. low_of hs j) c.self.view_is
+returns-else-former-clause-lows g c = grind (arith, low_of-any, read-low)

@@ -1,11 +1,10 @@
-use Rattle.std.proofs.Common.{◌<◌, ◌≤◌, ◌∙◌, List, ◌∷◌, map, subst, sym, ap, arith}
+use Rattle.std.proofs.Common.{◌<◌, ◌≤◌, ◌∙◌, List, map, subst, sym, ap, arith}
 use Rattle.std.proofs.lemmas.List.{map-set}
 use Rattle.guillotiere.specs.declared.slots.Link.{Link}
 use Rattle.guillotiere.specs.Search.Bands.{list_of, number_of}
-use Rattle.guillotiere.specs.Boxes.{AreSameBoxes}
-use Rattle.guillotiere.specs.Simple.BoxShelves.{AreKept, free_item_boxes, stored_item}
+use Rattle.guillotiere.specs.Simple.BoxShelves.{AreKept, stored_item}
 use Rattle.guillotiere.specs.Search.Items.{Item}
-use Rattle.guillotiere.specs.Pixels.{box_of, options_of}
+use Rattle.guillotiere.specs.Pixels.{options_of}
 use Rattle.guillotiere.specs.Search.Tables.{low_of}
 use Rattle.guillotiere.proofs.SimpleLemmas.BoxStoring.{put-kept, boxes-with, exact-width}
 use Rattle.guillotiere.proofs.simple.boxes.FreeBoxes.put.Goals as goal
@@ -27,9 +26,4 @@ returns-clause-kept g c =
     (ap (λ (l : Link). l.number) c.push.ensures.head) c.push.ensures.heads low c.push.ensures.lower c.push.ensures.lows)
 
 pub returns-clause-boxes : goal.returns-clause-boxes
-returns-clause-boxes g c =
-    let es = map stored_item c.args.self.now.entries.items in
-    let e = stored_item (record { area = c.args.area; after = c.head-after.result }) in
-    subst (λ (ts : List Item). AreSameBoxes (free_item_boxes ts) (box_of c.args.area ∷ free_item_boxes es))
-    (sym (map-set stored_item c.args.self.now.entries.items c.args.at.number (record { area = c.args.area; after = c.head-after.result })))
-    (boxes-with es c.args.at.number e c.requires.hand.inside c.requires.hand.idle (exact-width c.args.area c.requires.exact))
+returns-clause-boxes g c = grind (arith, map-set, boxes-with, exact-width)

@@ -30,19 +30,19 @@ returns-clause-kept g c =
     let standing = c.requires.standing in
     let inside : x < length bs = omega (arith, free-inside es x standing.free, length-map bs stored_item) in
     let read = ap (λ (t : Item). t.after) (read-item bs x c.index.result.now inside c.index.ensures) in
-    let heads_stay : (j : ℕ) → j ≢ k → head_of heads' j ≡ head_of heads j = λ j ne. c.set_low.ensures.heads j ∙ c.lead.ensures.heads j ne in
-    let lows_stay : (j : ℕ) → j ≢ k → low_of heads' j ≡ low_of heads j = λ j ne. c.set_low.ensures.lows j ne ∙ c.lead.ensures.lows j in
+    let heads_stay : (j : ℕ) → j ≢ k → head_of heads' j ≡ head_of heads j = λ j ne. c.set_low.ensures.heads j ∙ c.lead.ensures.led.heads j ne in
+    let lows_stay : (j : ℕ) → j ≢ k → low_of heads' j ≡ low_of heads j = λ j ne. c.set_low.ensures.lows j ne ∙ c.lead.ensures.led.lows j in
     subst (λ (ts : List Item). AreKept o (record { entries = ts; heads = heads'; unused = c.args.found.at }))
-    (sym (entries-are c.lead.new.self.entries.items x c.unused_box.result c.lead.new.self.unused c.args.self.now.unused c.unused_box.ensures c.lead.ensures.unused))
+    (sym (entries-are c.lead.new.self.entries.items x c.unused_box.result c.lead.new.self.unused c.args.self.now.unused c.unused_box.ensures c.lead.ensures.led.unused))
     (elim standing.before [
       | inl first ↦
-          let led = c.lead.ensures.first first.0 in
+          let led = c.lead.ensures.led.first first.0 in
           first-removed o heads heads' es es1 c.args.self.now.unused c.args.found c.requires.kept standing heads_stay c.set_low.ensures.low lows_stay
           (ap (λ (l : Link). l.number) (c.set_low.ensures.heads k ∙ led.0) ∙ read) first.1 led.1
       | inr next ↦
           let b = c.args.found.before.number in
           let some : b ≢ 4294967295 = λ z. absurd (omega (arith, z, free-inside es b next.0, c.requires.kept.listed.short)) in
-          let led = c.lead.ensures.next some in
+          let led = c.lead.ensures.led.next some in
           next-removed o heads heads' es es1 c.args.self.now.unused c.args.found c.requires.kept standing heads_stay c.set_low.ensures.low lows_stay
           b next.0 next.1 next.2 (c.set_low.ensures.heads k ∙ ap (λ hs. head_of hs k) led.0) (led.1 ∙ ap (with_after es b) read)
     ])
@@ -55,12 +55,12 @@ returns-clause-boxes g c =
     let standing = c.requires.standing in
     let links : IsSameButLinks es es1 =
     elim standing.before [
-      | inl first ↦ same-links es es1 (c.lead.ensures.first first.0).1
+      | inl first ↦ same-links es es1 (c.lead.ensures.led.first first.0).1
       | inr next ↦
           let b = c.args.found.before.number in
           let some : b ≢ 4294967295 = λ z. absurd (omega (arith, z, free-inside es b next.0, c.requires.kept.listed.short)) in
-          linked-after es es1 b c.index.result.now.after.number (free-inside es b next.0) (c.lead.ensures.next some).1
+          linked-after es es1 b c.index.result.now.after.number (free-inside es b next.0) (c.lead.ensures.led.next some).1
     ] in
     subst (λ (ts : List Item). AreSameBoxes (box_of c.args.found.rectangle ∷ free_item_boxes ts) (free_item_boxes es))
-    (sym (entries-are c.lead.new.self.entries.items x c.unused_box.result c.lead.new.self.unused c.args.self.now.unused c.unused_box.ensures c.lead.ensures.unused))
+    (sym (entries-are c.lead.new.self.entries.items x c.unused_box.result c.lead.new.self.unused c.args.self.now.unused c.unused_box.ensures c.lead.ensures.led.unused))
     (boxes-left es es1 x (idle_item c.args.self.now.unused.number) c.args.found.rectangle links standing.free standing.area refl)
