@@ -1,5 +1,5 @@
 //! Live rectangles lie apart, within the atlas.
-ghost use Rattle.std.specs.Prelude.{◌≡◌, ◌≢◌, ◌∷◌, [], IfOk, IfSome};
+ghost use Rattle.std.specs.Prelude.{◌≢◌, ◌∷◌, [], IfOk, IfSome};
 ghost use Rattle.guillotiere.specs.Boxes.{IsPositive, IsWithin, AreDisjoint};
 ghost use Rattle.guillotiere.specs.Pixels.{sides_of, box_of};
 ghost use Rattle.guillotiere.specs.States.{IsSound};

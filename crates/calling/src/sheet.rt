@@ -1,7 +1,7 @@
 //! A sheet of sprites over an atlas, whose clauses see the atlas's state.
-ghost use Rattle.std.specs.Prelude.{◌≡◌, ◌↔◌, ◌+◌, [], length, IsTrue, IsSome, Ok, IfOk, IfSome, OnErr, OnOk};
+ghost use Rattle.std.specs.Prelude.{◌≡◌, ◌↔◌, ◌+◌, [], IsTrue, Ok, IfOk, IfSome, OnErr};
 ghost use Rattle.guillotiere.specs.Boxes.{IsPositive};
-ghost use Rattle.guillotiere.specs.Pixels.{sides_of, box_of, IsMeasurable};
+ghost use Rattle.guillotiere.specs.Pixels.{sides_of, box_of};
 ghost use Rattle.guillotiere.specs.States.{State, live_in, IsLive};
 ghost use Rattle.guillotiere.specs.Callers.{AddsBox, KeepsLive, LeavesNoBox, rectangle_in};
 

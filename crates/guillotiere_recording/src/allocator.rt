@@ -1,5 +1,5 @@
 //! The recording allocator: an atlas that hands out names in place of ids, and records its calls.
-ghost use Rattle.std.specs.Prelude.{◌≡◌, ◌+◌, ◌<◌, ◌^◌, ◌↔◌, ◌⊎◌, [], OnErr, OnOk, IfErr, IfOk, IfSome, IsSome, OnSome};
+ghost use Rattle.std.specs.Prelude.{◌≡◌, ◌+◌, ◌<◌, ◌^◌, ◌↔◌, ◌⊎◌, OnErr, OnOk, IfErr, IfOk, IfSome};
 ghost use Rattle.std.specs.Prelude.{IsOkUnless, List, if◌then◌else◌, None, Some, Ok, Err};
 ghost use Rattle.std.specs.List.{FoldsTo};
 ghost use Rattle.std.specs.Fn.{CalledAt};

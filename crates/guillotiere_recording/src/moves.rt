@@ -1,5 +1,5 @@
 //! What a rearranging of the atlas did, under names in place of ids.
-ghost use Rattle.std.specs.Prelude.{◌≡◌, ◌≤◌, ℕ, IfOk, IsOkUnless, All, Contains, IsPermutation, List, map};
+ghost use Rattle.std.specs.Prelude.{◌≡◌, ◌≤◌, ℕ, IfOk, IsOkUnless, All, Contains, IsPermutation, map};
 ghost use Rattle.std.specs.List.Sorted.{IsNonDecreasingBy};
 ghost use Rattle.guillotiere.specs.declared.allocation.Allocation.{Allocation as Grant};
 ghost use Rattle.guillotiere.specs.declared.change.Change.{Change as Transfer};

@@ -1,5 +1,5 @@
 //! What entries show: each live name with the rectangle of its id.
-ghost use Rattle.std.specs.Prelude.{◌≡◌, IsSome, IfOk, IsOkUnless, All, List, map};
+ghost use Rattle.std.specs.Prelude.{◌≡◌, IsSome, IfOk, IsOkUnless, All, map};
 ghost use Rattle.std.specs.List.{FoldsTo};
 ghost use Rattle.guillotiere.specs.Stored.{state_of};
 ghost use Rattle.guillotiere.specs.Replies.{live_box};

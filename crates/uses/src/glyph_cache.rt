@@ -1,5 +1,5 @@
 //! A cache of glyphs in an atlas: the least recently used glyph is the first to go.
-ghost use Rattle.std.specs.Prelude.{◌≡◌, ℕ, ◌<◌, ◌≤◌, ◌+◌, ◌-◌, ◌*◌, ◌↔◌, [], count_by, drop, length, false, None};
+ghost use Rattle.std.specs.Prelude.{◌≡◌, ◌<◌, ◌≤◌, ◌+◌, ◌-◌, ◌*◌, ◌↔◌, [], count_by, drop, length, false, None};
 ghost use Rattle.std.specs.Prelude.{Some, Ok, option_map, IsTrue, IfErr, IfOk, IfSome, IfNone, OnSome, OnErr, OnOk};
 ghost use Rattle.std.specs.Prelude.{IsOkUnless, All, ◌+ℤ◌, ◌-ℤ◌, pos, FitsSigned};
 ghost use Rattle.std.specs.Int.{w32};

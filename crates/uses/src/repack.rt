@@ -4,7 +4,7 @@ ghost use Rattle.std.specs.Prelude.{Ok, IfErr, IfNone, IfOk, IfSome, IsOkUnless,
 ghost use Rattle.std.specs.List.{filter_map, HoldsAt};
 ghost use Rattle.guillotiere.specs.Boxes.{IsPositive, box_sides};
 ghost use Rattle.guillotiere.specs.Choice.{HasNoRoom, rounded};
-ghost use Rattle.guillotiere.specs.Pixels.{box_of, options_of, sides_of};
+ghost use Rattle.guillotiere.specs.Pixels.{box_of, sides_of};
 ghost use Rattle.guillotiere.specs.States.{free_in};
 ghost use Rattle.guillotiere.specs.Stored.{state_of};
 ghost use Rattle.guillotiere.specs.declared.error.AtlasError.TheVariants as error;
