@@ -1,10 +1,10 @@
 -- The checksum of answers.
 use Rattle.std.specs.Prelude.{ℕ, ◌+◌, ◌*◌, ◌%◌, ◌^◌, bit_xor, List, fold}
 use Rattle.std.specs.Int.{w32, cast_unsigned}
-use Rattle.guillotiere.specs.declared.allocation.Allocation.{Allocation}
-use Rattle.guillotiere.specs.declared.change.Change.{Change}
-use Rattle.guillotiere.specs.declared.geometry.Point.{Point}
-use Rattle.guillotiere.specs.declared.geometry.Rectangle.{Rectangle}
+use Rattle.guillotiere.specs.declared.Allocation.{Allocation}
+use Rattle.guillotiere.specs.declared.Change.{Change}
+use Rattle.guillotiere.specs.declared.Point.{Point}
+use Rattle.guillotiere.specs.declared.Rectangle.{Rectangle}
 
 -- A checksum after one more word: FNV-1a, by words of 64 bits.
 abbrev pub with_word : (checksum word : ℕ) → ℕ

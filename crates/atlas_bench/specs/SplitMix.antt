@@ -1,6 +1,6 @@
 -- The generator splitmix64 (Steele, Lea and Flood). Its state is one number.
 use Rattle.std.specs.Prelude.{ℕ, ◌+◌, ◌-◌, ◌*◌, ◌/◌, ◌%◌, ◌^◌, bit_xor, pos}
-use Rattle.guillotiere.specs.declared.geometry.Size.{Size}
+use Rattle.guillotiere.specs.declared.Size.{Size}
 
 -- The state after a step.
 abbrev pub next_state : ℕ → ℕ

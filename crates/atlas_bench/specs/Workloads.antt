@@ -1,6 +1,6 @@
 -- The workloads: their names, their greatest sizes and how many calls they make.
 use Rattle.std.specs.Prelude.{◌≡◌, ℕ, ◌+◌, ◌*◌, ◌^◌, ◌<◌, ◌≤◌, List, codes, nat_lt, if◌then◌else◌}
-use Rattle.guillotiere.specs.declared.geometry.Size.{Size}
+use Rattle.guillotiere.specs.declared.Size.{Size}
 use Rattle.atlas_bench.specs.SplitMix.{next_state, number_below, size_between}
 use Rattle.atlas_bench.specs.declared.workload.Workload.{Workload}
 use Rattle.atlas_bench.specs.declared.workload.Workload.TheVariants.{Glyph, Record, Sprite, SortedSprite, Checker}

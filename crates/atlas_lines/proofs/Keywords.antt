@@ -3,8 +3,8 @@ use Rattle.std.proofs.Common.{◌≡◌, ℕ, ◌≢◌, Bool, true, false, not,
 use Rattle.std.proofs.lemmas.Bool.{and_parts, eq-eqb, not-true, both_ways}
 use Rattle.std.proofs.lemmas.Slice.Eq.{bytes_eq-Decides}
 use Rattle.std.specs.Str.{bytes_eq}
-use Rattle.guillotiere.specs.declared.geometry.Size.{Size}
-use Rattle.guillotiere.specs.declared.options.AllocatorOptions.{AllocatorOptions}
+use Rattle.guillotiere.specs.declared.Size.{Size}
+use Rattle.guillotiere.specs.declared.AllocatorOptions.{AllocatorOptions}
 use Rattle.atlas_lines.specs.declared.commands.Command.{Command}
 use Rattle.atlas_lines.specs.declared.commands.Command.TheVariants.{Simple, Take, Atlas, Alloc, Live, Holes, AskSize, Free, Grow, Empty, Clear, Rearrange, Resize, FromAtlas, Record, Replay}
 use Rattle.atlas_lines.specs.Grammar.{SpellsSize, SpellsAtlas, SpellsId, SpellsArguments, Spells, keyword}

@@ -2,9 +2,9 @@
 use Rattle.std.proofs.Common.{◌≡◌, ◌⊎◌, ◌<◌, length, Some, ℕ, ℤ, List, [], ◌∷◌, ◌++◌, refl, sym, ap, ◌∙◌, subst, inl, inr, arith}
 use Rattle.std.specs.Char.{digit_value}
 use Rattle.std.specs.Str.Parse.{AllDigits}
-use Rattle.guillotiere.specs.declared.geometry.Size.{Size}
-use Rattle.guillotiere.specs.declared.options.AllocatorOptions.{AllocatorOptions}
-use Rattle.guillotiere.specs.declared.options.TheConstants.{DEFAULT_OPTIONS}
+use Rattle.guillotiere.specs.declared.Size.{Size}
+use Rattle.guillotiere.specs.declared.AllocatorOptions.{AllocatorOptions}
+use Rattle.guillotiere.specs.TheConstants.{DEFAULT_OPTIONS}
 use Rattle.atlas_lines.specs.Grammar.{SpellsNumber, SpellsNumbers, SpellsSize, SpellsAtlas}
 use Rattle.atlas_lines.specs.Words.{HasNoSpace, IsEmptyOrSpaced, BeginsWithWord, BeginsWithNumber, BeginsWithSize, SpellsOptions}
 

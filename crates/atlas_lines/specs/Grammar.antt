@@ -2,9 +2,9 @@
 use Rattle.std.specs.Prelude.{◌≡◌, ℕ, ◌<◌, ◌≤◌, ◌^◌, ℤ, pos, neg_ℤ, FitsSigned, ◌⊎◌, List, [], ◌∷◌, ◌++◌, length, codes}
 use Rattle.std.specs.Int.{w32}
 use Rattle.std.specs.Str.Parse.{IsNumeral, digits_value}
-use Rattle.guillotiere.specs.declared.geometry.Size.{Size}
-use Rattle.guillotiere.specs.declared.options.AllocatorOptions.{AllocatorOptions}
-use Rattle.guillotiere.specs.declared.options.TheConstants.{DEFAULT_OPTIONS}
+use Rattle.guillotiere.specs.declared.Size.{Size}
+use Rattle.guillotiere.specs.declared.AllocatorOptions.{AllocatorOptions}
+use Rattle.guillotiere.specs.TheConstants.{DEFAULT_OPTIONS}
 use Rattle.atlas_lines.specs.declared.commands.Command.{Command}
 use Rattle.atlas_lines.specs.declared.commands.Command.TheVariants.{Simple, Take, Atlas, Alloc, Live, Holes, AskSize}
 use Rattle.atlas_lines.specs.declared.commands.Command.TheVariants.{Free, Grow, Empty, Clear, Rearrange, Resize}

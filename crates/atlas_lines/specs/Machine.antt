@@ -1,14 +1,14 @@
 -- The tool as a machine: the reply to each command, by the steps of the allocators.
 use Rattle.std.specs.Prelude.{ℕ, ◌≡◌, ⊤, ◌+◌, ◌<◌, ◌^◌, ◌↔◌, IsTrue, List, [], map, length, slice_index_or, count_by}
 use Rattle.std.specs.Prelude.{Option, Some, None, Ok, Err}
-use Rattle.guillotiere.specs.declared.allocation.Allocation.{Allocation}
-use Rattle.guillotiere.specs.declared.change.Change.{Change}
-use Rattle.guillotiere.specs.declared.error.AtlasError.TheVariants.{Memory}
-use Rattle.guillotiere.specs.declared.geometry.Rectangle.{Rectangle}
-use Rattle.guillotiere.specs.declared.options.TheConstants.{DEFAULT_OPTIONS}
-use Rattle.guillotiere.specs.declared.geometry.Size.{Size}
-use Rattle.guillotiere.specs.declared.error.AtlasError.{AtlasError}
-use Rattle.guillotiere.specs.declared.error.AtlasError.TheVariants as refusal
+use Rattle.guillotiere.specs.declared.Allocation.{Allocation}
+use Rattle.guillotiere.specs.declared.Change.{Change}
+use Rattle.guillotiere.specs.declared.AtlasError.TheVariants.{Memory}
+use Rattle.guillotiere.specs.declared.Rectangle.{Rectangle}
+use Rattle.guillotiere.specs.TheConstants.{DEFAULT_OPTIONS}
+use Rattle.guillotiere.specs.declared.Size.{Size}
+use Rattle.guillotiere.specs.declared.AtlasError.{AtlasError}
+use Rattle.guillotiere.specs.declared.AtlasError.TheVariants as refusal
 use Rattle.guillotiere.specs.Boxes.{Sides, Box, IsPositive, Fits, AreSameBoxes}
 use Rattle.guillotiere.specs.Choice.{Options, AreValid, ComesFirst}
 use Rattle.guillotiere.specs.Pixels.{sides_of, size_of, options_of, rectangle_of}

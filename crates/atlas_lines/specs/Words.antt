@@ -1,8 +1,8 @@
 -- How the parser parts a line into words.
 use Rattle.std.specs.Prelude.{◌≡◌, ℕ, ◌≢◌, ℤ, List, [], ◌∷◌, ◌++◌, ⊤}
 use Rattle.std.specs.List.{AllByRecursion}
-use Rattle.guillotiere.specs.declared.geometry.Size.{Size}
-use Rattle.guillotiere.specs.declared.options.AllocatorOptions.{AllocatorOptions}
+use Rattle.guillotiere.specs.declared.Size.{Size}
+use Rattle.guillotiere.specs.declared.AllocatorOptions.{AllocatorOptions}
 use Rattle.atlas_lines.specs.declared.commands.Command.{Command}
 use Rattle.atlas_lines.specs.Grammar.{SpellsNumber, SpellsNumbers, SpellsArguments, keyword}
 

@@ -1,7 +1,7 @@
 //! The calls of an atlas, each answered by a reply.
 ghost use Rattle.std.specs.Prelude.{◌↔◌, IsTrue, IfOk, IsOkUnless};
 ghost use Rattle.std.specs.Result.{ForOk};
-ghost use Rattle.guillotiere.specs.declared.error.AtlasError.TheVariants as error;
+ghost use Rattle.guillotiere.specs.declared.AtlasError.TheVariants as error;
 ghost use Rattle.guillotiere.specs.Boxes.{Fits, IsPositive};
 ghost use Rattle.guillotiere.specs.Pixels.{sides_of};
 ghost use Rattle.guillotiere.specs.Rearranging.{AreExactChanges, change_reply};

@@ -1,6 +1,6 @@
 //! Laws over the definitions that the contracts of this crate cite, each the contract of a function that does nothing.
 ghost use Rattle.std.specs.Prelude.{◌≡◌, ℕ, List};
-ghost use Rattle.guillotiere.specs.declared.geometry.Rectangle.{Rectangle};
+ghost use Rattle.guillotiere.specs.declared.Rectangle.{Rectangle};
 ghost use Rattle.guillotiere.specs.States.{State, IsSound};
 ghost use Rattle.atlas_lines.specs.declared.commands.Command.{Command};
 ghost use Rattle.atlas_lines.specs.Grammar.{Spells};

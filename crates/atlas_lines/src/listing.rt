@@ -1,8 +1,8 @@
 //! Replies, gathered in a fixed buffer and written to a device in blocks.
 ghost use Rattle.std.specs.Prelude.{◌≡◌, ◌≤◌, ◌+◌, ◌++◌, [], true, false, not, length};
 ghost use Rattle.std.specs.Io.KnownBytes.{Appends};
-ghost use Rattle.guillotiere.specs.declared.allocation.Allocation.{Allocation};
-ghost use Rattle.guillotiere.specs.declared.geometry.Rectangle.{Rectangle};
+ghost use Rattle.guillotiere.specs.declared.Allocation.{Allocation};
+ghost use Rattle.guillotiere.specs.declared.Rectangle.{Rectangle};
 ghost use Rattle.atlas_lines.specs.Answers.{shown_by};
 ghost use Rattle.atlas_lines.specs.Blocks.{IsGathered};
 ghost use Rattle.atlas_lines.specs.Devices.{WritesBeginning};

@@ -1,7 +1,7 @@
 //! The words of a line, and the numbers that they spell.
 ghost use Rattle.std.specs.Prelude.{◌≡◌, ◌<◌, ℕ, ℤ, List, Some, IfSome, IsSomeAnd};
-ghost use Rattle.guillotiere.specs.declared.geometry.Size.{Size};
-ghost use Rattle.guillotiere.specs.declared.options.AllocatorOptions.{AllocatorOptions};
+ghost use Rattle.guillotiere.specs.declared.Size.{Size};
+ghost use Rattle.guillotiere.specs.declared.AllocatorOptions.{AllocatorOptions};
 ghost use Rattle.atlas_lines.specs.Grammar.{SpellsUnsigned, SpellsNumber, SpellsSize, SpellsAtlas, SpellsId};
 ghost use Rattle.atlas_lines.specs.Lines.{BeginsWithLine};
 ghost use Rattle.atlas_lines.specs.Words.{BeginsWithWord, BeginsWithNumber, BeginsWithSize, SpellsOptions};
@@ -138,25 +138,4 @@ pub fn id_argument(text: &[u8]) -> Option<AllocId>
         return None;
     }
     Some(AllocId::deserialize(unsigned(word)?))
-}
-
-#[cfg(test)]
-mod tests {
-    use super::*;
-
-    #[test]
-    fn parts_texts(rt: HostRuntime) {
-        let (line, rest) = first_line(b"ok\nid 0\n");
-        assert_eq!(rt; line, b"ok".as_slice());
-        assert_eq!(rt; rest, b"id 0\n".as_slice());
-        let (line, rest) = first_line(b"size 1");
-        assert_eq!(rt; line, b"size 1".as_slice());
-        assert_eq!(rt; rest, b"".as_slice());
-        let (word, rest) = first_word(b"box 3 0");
-        assert_eq!(rt; word, b"box".as_slice());
-        assert_eq!(rt; rest, b" 3 0".as_slice());
-        assert_eq!(rt; unsigned(b"4294967295"), Some(4294967295));
-        assert_eq!(rt; unsigned(b"4294967296"), None);
-        assert_eq!(rt; unsigned(b"+1"), None);
-    }
 }

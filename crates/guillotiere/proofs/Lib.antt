@@ -1,8 +1,11 @@
 pub mod SimpleLemmas
 pub mod SearchLemmas
-pub mod StepLemmas
-pub mod TreeLemmas
 pub mod ListLemmas
 pub mod SlotLemmas
 pub mod StoreLemmas
 pub mod AtlasLemmas
+pub mod Cutting
+pub mod Playing
+pub use Rattle.atlas_model.proofs.TreeLemmas
+pub use Rattle.atlas_model.proofs.StepLemmas
+pub use Rattle.atlas_model.proofs.ChoiceLemmas

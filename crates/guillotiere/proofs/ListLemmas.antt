@@ -1,6 +1,5 @@
 -- Lemmas of lists.
-pub mod Counting
 pub mod Occurrences
-pub mod CountSums
 pub mod AlongLists
-pub mod CallerLemmas
+pub use Rattle.atlas_model.proofs.ListLemmas.Counting
+pub use Rattle.atlas_model.proofs.ListLemmas.CallerLemmas

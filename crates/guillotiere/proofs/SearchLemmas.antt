@@ -6,9 +6,6 @@ pub mod MarkWrites
 pub mod BandSteps
 pub mod MaskBits
 pub mod Picking
-pub mod PickExistence
-pub mod WorkedPicks
-pub mod Rounding
 pub mod Choosing
 pub mod SlotLists
 pub mod Besting

@@ -4,9 +4,6 @@ pub mod CuttingBoxes
 pub mod BoxStoring
 pub mod CuttingFromLists
 pub mod Storing
-pub mod SimpleGrants
-pub mod SimpleSteps
-pub mod SimpleRunning
 pub mod SimplePlaying
 pub mod SimpleLists
 pub mod SimpleStarting

@@ -2,9 +2,9 @@
 use Rattle.std.specs.Prelude.{ℕ, ◌≡◌, true, false, List, [], ◌∷◌}
 use Rattle.guillotiere.specs.declared.slots.Node.{Node}
 use Rattle.guillotiere.specs.declared.slots.NodeKind.TheVariants as kind
-use Rattle.guillotiere.specs.Trees.{slot_of}
-use Rattle.guillotiere.specs.States.{State, IsLive}
-use Rattle.guillotiere.specs.Laws.TreeLaws.{is_among}
+use Rattle.atlas_model.specs.Trees.{slot_of}
+use Rattle.atlas_model.specs.States.{State, IsLive}
+use Rattle.atlas_model.specs.Laws.TreeLaws.{is_among}
 use Rattle.guillotiere.specs.Slots.Standing.{with_kind}
 use Rattle.guillotiere.specs.Visits.{is_named}
 

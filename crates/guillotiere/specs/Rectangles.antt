@@ -1,14 +1,14 @@
 -- Rectangles of the code, whose coordinates may lie below 0: the unit squares that they hold, and how one is cut.
 use Rattle.std.specs.Prelude.{◌≡◌, ℤ, pos, ◌+ℤ◌, ◌-ℤ◌, ◌≤ℤ◌, ◌<ℤ◌, int_le, int_lt, Bool, ◌&&◌, List, [], ◌∷◌, count_by}
-use Rattle.guillotiere.specs.declared.geometry.Size.{Size}
-use Rattle.guillotiere.specs.declared.geometry.Rectangle.{Rectangle}
+use Rattle.atlas_model.specs.declared.geometry.Size.{Size}
+use Rattle.atlas_model.specs.declared.geometry.Rectangle.{Rectangle}
 use Rattle.guillotiere.specs.declared.cut.Orientation.{Orientation}
 use Rattle.guillotiere.specs.declared.cut.Orientation.TheVariants as orientation
 use Rattle.guillotiere.specs.declared.cut.Rest.{Rest}
-use Rattle.guillotiere.specs.Boxes.{Axis, Sides, Box, box_sides}
-use Rattle.guillotiere.specs.Boxes.Axis.{Horizontal, Vertical}
-use Rattle.guillotiere.specs.Cuts.{cut_axis, split_along, leftover_along}
-use Rattle.guillotiere.specs.Pixels.{box_of, rectangle_of}
+use Rattle.atlas_model.specs.Boxes.{Axis, Sides, Box, box_sides}
+use Rattle.atlas_model.specs.Boxes.Axis.{Horizontal, Vertical}
+use Rattle.atlas_model.specs.Cuts.{cut_axis, split_along, leftover_along}
+use Rattle.atlas_model.specs.Pixels.{box_of, rectangle_of}
 
 abbrev pub axis_of : Orientation → Axis
 axis_of orientation.Horizontal = Horizontal

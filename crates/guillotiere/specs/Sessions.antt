@@ -4,17 +4,17 @@ use Rattle.guillotiere.specs.declared.session.Call.{Call}
 use Rattle.guillotiere.specs.declared.session.Call.TheVariants as call
 use Rattle.guillotiere.specs.declared.session.Reply.{Reply}
 use Rattle.guillotiere.specs.declared.session.Reply.TheVariants as reply
-use Rattle.guillotiere.specs.Pixels.{sides_of, options_of}
-use Rattle.guillotiere.specs.States.{used_in}
-use Rattle.guillotiere.specs.Steps.{AtlasCall, AtlasReply, Step}
-use Rattle.guillotiere.specs.Steps.AtlasCall.{Allocate, Deallocate, Grow, Clear, Reset, Rearrange, ResizeAndRearrange}
-use Rattle.guillotiere.specs.Steps.AtlasReply.{Allocated, NoRoom, Done, Changed, Refused, BadCall}
-use Rattle.guillotiere.specs.Laws.StepLaws.{is_refusal}
-use Rattle.guillotiere.specs.Runs.{Run, is_plain}
-use Rattle.guillotiere.specs.Laws.RunLaws.{IsInOrder, IsRunInOrder, LeavesNoTrace}
-use Rattle.guillotiere.specs.RunTurns.{turns_within}
-use Rattle.guillotiere.specs.Replies.{grant_of, IsExact}
-use Rattle.guillotiere.specs.Rearranging.{rearrangement_of, AreExactChanges}
+use Rattle.atlas_model.specs.Pixels.{sides_of, options_of}
+use Rattle.atlas_model.specs.States.{used_in}
+use Rattle.atlas_model.specs.Steps.{AtlasCall, AtlasReply, Step}
+use Rattle.atlas_model.specs.Steps.AtlasCall.{Allocate, Deallocate, Grow, Clear, Reset, Rearrange, ResizeAndRearrange}
+use Rattle.atlas_model.specs.Steps.AtlasReply.{Allocated, NoRoom, Done, Changed, Refused, BadCall}
+use Rattle.atlas_model.specs.Laws.StepLaws.{is_refusal}
+use Rattle.atlas_model.specs.Runs.{Run, is_plain}
+use Rattle.atlas_model.specs.Laws.RunLaws.{IsInOrder, IsRunInOrder, LeavesNoTrace}
+use Rattle.atlas_model.specs.RunTurns.{turns_within}
+use Rattle.atlas_model.specs.Replies.{grant_of, IsExact}
+use Rattle.atlas_model.specs.Rearranging.{rearrangement_of, AreExactChanges}
 use Rattle.guillotiere.specs.Stored.{AtlasValue, state_of}
 
 abbrev pub call_of : Call → AtlasCall

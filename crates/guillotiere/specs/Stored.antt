@@ -3,13 +3,13 @@ use Rattle.std.specs.Prelude.{ℕ, ◌≡◌, ◌+◌, ◌<◌, ◌≤◌, ◌^�
 use Rattle.guillotiere.specs.declared.slots.Slot.{Slot}
 use Rattle.guillotiere.specs.declared.slots.Link.{Link}
 use Rattle.guillotiere.specs.declared.search.table.ListHead.{ListHead}
-use Rattle.guillotiere.specs.declared.geometry.Size.{Size}
-use Rattle.guillotiere.specs.declared.options.AllocatorOptions.{AllocatorOptions}
-use Rattle.guillotiere.specs.Boxes.{other, side}
-use Rattle.guillotiere.specs.Pixels.{sides_of, size_of, options_of}
-use Rattle.guillotiere.specs.Choice.{AreValid}
-use Rattle.guillotiere.specs.Trees.{IsCut, total, most_slots}
-use Rattle.guillotiere.specs.States.{State, IsSound}
+use Rattle.atlas_model.specs.declared.geometry.Size.{Size}
+use Rattle.atlas_model.specs.declared.options.AllocatorOptions.{AllocatorOptions}
+use Rattle.atlas_model.specs.Boxes.{other, side}
+use Rattle.atlas_model.specs.Pixels.{sides_of, size_of, options_of}
+use Rattle.atlas_model.specs.Choice.{AreValid}
+use Rattle.atlas_model.specs.Trees.{IsCut, total, most_slots}
+use Rattle.atlas_model.specs.States.{State, IsSound}
 use Rattle.guillotiere.specs.Slots.{nodes, rings, no_slot}
 use Rattle.guillotiere.specs.Slots.Numbered.{Numbered, erase, first_slot, numbers}
 use Rattle.guillotiere.specs.Slots.Standing.{Sequence, Stands}

@@ -6,13 +6,13 @@ use Rattle.std.specs.Fn.{Mut, Called}
 use Rattle.guillotiere.specs.declared.slots.Node.{Node}
 use Rattle.guillotiere.specs.declared.slots.NodeKind.{NodeKind}
 use Rattle.guillotiere.specs.declared.slots.NodeKind.TheVariants as kind
-use Rattle.guillotiere.specs.declared.allocation.Allocation.{Allocation}
-use Rattle.guillotiere.specs.declared.geometry.Rectangle.{Rectangle}
-use Rattle.guillotiere.specs.Boxes.{AreSameBoxes}
-use Rattle.guillotiere.specs.Pixels.{box_of}
-use Rattle.guillotiere.specs.Trees.{most_slots, slot_of}
-use Rattle.guillotiere.specs.States.{State, free_in}
-use Rattle.guillotiere.specs.Replies.{IsLiveList, IsExact, grant_of}
+use Rattle.atlas_model.specs.declared.allocation.Allocation.{Allocation}
+use Rattle.atlas_model.specs.declared.geometry.Rectangle.{Rectangle}
+use Rattle.atlas_model.specs.Boxes.{AreSameBoxes}
+use Rattle.atlas_model.specs.Pixels.{box_of}
+use Rattle.atlas_model.specs.Trees.{most_slots, slot_of}
+use Rattle.atlas_model.specs.States.{State, free_in}
+use Rattle.atlas_model.specs.Replies.{IsLiveList, IsExact, grant_of}
 use Rattle.guillotiere.specs.Slots.{node_at}
 use Rattle.guillotiere.specs.Slots.Lists.{is_free}
 use Rattle.guillotiere.specs.Slots.Numbered.{id_of}

@@ -3,12 +3,12 @@ use Rattle.std.specs.Prelude.{ℕ, ◌≡◌, List, [], ◌∷◌, Option, Some,
 use Rattle.std.specs.Borrow.{Bor}
 use Rattle.std.specs.Fn.{Mut, CalledAt, Takes, TakesAt}
 use Rattle.std.specs.Iterator.{CallableAtEachTurn}
-use Rattle.guillotiere.specs.declared.allocation.Allocation.{Allocation}
-use Rattle.guillotiere.specs.declared.geometry.Rectangle.{Rectangle}
-use Rattle.guillotiere.specs.Boxes.{IsNonempty}
-use Rattle.guillotiere.specs.Pixels.{box_of, IsMeasurable}
-use Rattle.guillotiere.specs.States.{State}
-use Rattle.guillotiere.specs.Replies.{IsExact, live_box}
+use Rattle.atlas_model.specs.declared.allocation.Allocation.{Allocation}
+use Rattle.atlas_model.specs.declared.geometry.Rectangle.{Rectangle}
+use Rattle.atlas_model.specs.Boxes.{IsNonempty}
+use Rattle.atlas_model.specs.Pixels.{box_of, IsMeasurable}
+use Rattle.atlas_model.specs.States.{State}
+use Rattle.atlas_model.specs.Replies.{IsExact, live_box}
 use Rattle.guillotiere.specs.Visits.{CalledAtGrant}
 
 -- The first of a list, and the rest.

@@ -1,32 +1,27 @@
 //! The atlas allocator.
 ghost use Rattle.std.specs.Prelude.{◌≡◌, ◌≤◌, ◌<◌, ◌+◌, ◌-◌, ◌*◌, ◌↔◌, [], IsTrue, IfOk, IfSome, OnErr};
 ghost use Rattle.std.specs.Prelude.{IsOkUnless, OnOk, length, IsSome, option_map, None, Some, Ok, All, map};
-ghost use Rattle.guillotiere.specs.Boxes.{area, Fits, IsPositive, IsWithin};
-ghost use Rattle.guillotiere.specs.Choice.{AreValid};
-ghost use Rattle.guillotiere.specs.Pixels.{sides_of, size_of, options_of, rectangle_of, box_of};
-ghost use Rattle.guillotiere.specs.States.{live_in, used_in, started, after_freeing, IsSound, IsLive};
+ghost use Rattle.atlas_model.specs.Boxes.{area, Fits, IsPositive, IsWithin};
+ghost use Rattle.atlas_model.specs.Choice.{AreValid};
+ghost use Rattle.atlas_model.specs.Pixels.{sides_of, size_of, options_of, rectangle_of, box_of};
+ghost use Rattle.atlas_model.specs.States.{live_in, used_in, started, after_freeing, IsSound, IsLive};
 ghost use Rattle.guillotiere.specs.Visits.{AreFreeAreas, free_areas};
 ghost use Rattle.guillotiere.specs.Slots.{nodes};
-ghost use Rattle.guillotiere.specs.Changes.{only};
-ghost use Rattle.guillotiere.specs.Laws.TreeLaws.{is_among};
+ghost use Rattle.atlas_model.specs.Changes.{only};
+ghost use Rattle.atlas_model.specs.Laws.TreeLaws.{is_among};
 ghost use Rattle.guillotiere.specs.Batches.{AreLiveOnce};
-ghost use Rattle.guillotiere.specs.Laws.RunLaws.{IsTiled};
-ghost use Rattle.guillotiere.specs.Steps.{Step};
-ghost use Rattle.guillotiere.specs.Steps.AtlasCall.{Allocate, Deallocate, Grow, Clear, Reset, Rearrange};
-ghost use Rattle.guillotiere.specs.Steps.AtlasCall.{ResizeAndRearrange};
-ghost use Rattle.guillotiere.specs.Steps.AtlasReply.{Done};
+ghost use Rattle.atlas_model.specs.Laws.RunLaws.{IsTiled};
+ghost use Rattle.atlas_model.specs.Steps.{Step};
+ghost use Rattle.atlas_model.specs.Steps.AtlasCall.{Allocate, Deallocate, Grow, Clear, Reset, Rearrange};
+ghost use Rattle.atlas_model.specs.Steps.AtlasCall.{ResizeAndRearrange};
+ghost use Rattle.atlas_model.specs.Steps.AtlasReply.{Done};
 
 pub mod rearranging;
 pub mod walks;
 
-use crate::allocation::{AllocId, Allocation, SlotCount};
 use crate::atlas::rearranging::{refit, sort_for_refit};
-use crate::change::ChangeList;
 use crate::choice::rounded;
 use crate::cut::granted;
-use crate::error::AtlasError;
-use crate::geometry::{Rectangle, Size};
-use crate::options::{AllocatorOptions, DEFAULT_OPTIONS};
 use crate::search::table::Table;
 use crate::slots::batch::are_named_once;
 use crate::slots::walks::{named_slot, slot_number};
@@ -36,6 +31,10 @@ use crate::store::turns::Turns;
 use crate::tree::growth::{grow_tree, grow_whole, growth_for, slots_for};
 use crate::tree::requests::{choose, grant, make_room};
 use crate::tree::{free_leaf, slots_needed};
+use atlas_model::{
+    AllocId, Allocation, AllocatorOptions, AtlasError, ChangeList, DEFAULT_OPTIONS, Rectangle,
+    Size, SlotCount,
+};
 use std::alloc::{Allocator, Global};
 use std::marker::Model;
 use std::ops::Index;
@@ -73,13 +72,13 @@ impl<A: Allocator + Copy> Model for AtlasAllocator<A> {
 impl<A: Allocator + Copy> AtlasAllocator<A> {
     ghost use Rattle.guillotiere.specs.Stored.{state_of};
     ghost use Rattle.guillotiere.specs.Generations.{AreFirstGenerations};
-    ghost use Rattle.guillotiere.specs.Replies.{allocate_reply, done_reply, grant_of, live_box, IsExact};
-    ghost use Rattle.guillotiere.specs.Rearranging.{change_reply, rearrangement_of, AreExactChanges, KeepsSides};
-    ghost use Rattle.guillotiere.specs.Laws.StepLaws.{IsRearrangingStep};
-    ghost use Rattle.guillotiere.specs.Refits.{IsRefitOrder};
-    ghost use Rattle.guillotiere.specs.Refits.Refitted.{HasExactRectangle};
-    ghost use Rattle.guillotiere.specs.Callers.{AreGuarded, KeepsLive, AddsBox, JoinsGuarded, LeavesNoBox};
-    ghost use Rattle.guillotiere.specs.Callers.{LeavesNoBoxes, KeepsAll, AllLieApart, AllLieWithin};
+    ghost use Rattle.atlas_model.specs.Replies.{allocate_reply, done_reply, grant_of, live_box, IsExact};
+    ghost use Rattle.atlas_model.specs.Rearranging.{change_reply, rearrangement_of, AreExactChanges, KeepsSides};
+    ghost use Rattle.atlas_model.specs.Laws.StepLaws.{IsRearrangingStep};
+    ghost use Rattle.atlas_model.specs.Refits.{IsRefitOrder};
+    ghost use Rattle.atlas_model.specs.Refits.Refitted.{HasExactRectangle};
+    ghost use Rattle.atlas_model.specs.Callers.{AreGuarded, KeepsLive, AddsBox, JoinsGuarded, LeavesNoBox};
+    ghost use Rattle.atlas_model.specs.Callers.{LeavesNoBoxes, KeepsAll, AllLieApart, AllLieWithin};
 
     /// An atlas of this size, in pixels, with the default options: one free rectangle. Asks a size that isn't empty.
     /// `Memory` is the only error.
@@ -489,7 +488,7 @@ impl<A: Allocator + Copy> AtlasAllocator<A> {
 
 impl<A: Allocator + Copy> Index<AllocId> for AtlasAllocator<A> {
     ghost use Rattle.guillotiere.specs.Stored.{state_of};
-    ghost use Rattle.guillotiere.specs.Replies.{live_box};
+    ghost use Rattle.atlas_model.specs.Replies.{live_box};
 
     type Output = Rectangle;
 

@@ -1,13 +1,12 @@
 //! Rounded sizes and classes, and what a search compares of the boxes that it is shown.
 ghost use Rattle.std.specs.Prelude.{◌≡◌, ◌-◌, ◌<◌, ◌≤◌, pos, ◌<ℤ◌, ◌≤ℤ◌, ◌↔◌, IsTrue, SomeIff};
-ghost use Rattle.guillotiere.specs.Boxes.{Fits, IsNonempty, IsPositive, box_sides};
-ghost use Rattle.guillotiere.specs.Choice.{AreValid, class_of, least_margin, reaches, rounded, up};
-ghost use Rattle.guillotiere.specs.Pixels.{box_of, natural, options_of, sides_of, size_of};
+ghost use Rattle.atlas_model.specs.Boxes.{Fits, IsNonempty, IsPositive, box_sides};
+ghost use Rattle.atlas_model.specs.Choice.{AreValid, class_of, least_margin, reaches, rounded, up};
+ghost use Rattle.atlas_model.specs.Pixels.{box_of, natural, options_of, sides_of, size_of};
 ghost use Rattle.guillotiere.specs.Rectangles.{IsUnsigned};
 ghost use Rattle.guillotiere.specs.Search.Requests.{CanBeRounded, IsBefore};
 
-use crate::geometry::{Point, Rectangle, Size};
-use crate::options::AllocatorOptions;
+use atlas_model::{AllocatorOptions, Point, Rectangle, Size};
 
 // The least multiple of the alignment that is at least `side`, if an `i32` can hold it.
 fn rounded_side(side: i32, alignment: i32) -> Option<i32>

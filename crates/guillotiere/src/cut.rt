@@ -1,12 +1,12 @@
 //! How a rectangle is cut for a request that fits it.
 ghost use Rattle.std.specs.Prelude.{◌≡◌, ◌≤ℤ◌, ◌*◌, [], ◌∷◌, pos};
-ghost use Rattle.guillotiere.specs.Boxes.{Box, box_at};
-ghost use Rattle.guillotiere.specs.Cuts.{cap, cut_axis};
-ghost use Rattle.guillotiere.specs.Pixels.{IsMeasurable, natural, rectangle_of, sides_of};
+ghost use Rattle.atlas_model.specs.Boxes.{Box, box_at};
+ghost use Rattle.atlas_model.specs.Cuts.{cap, cut_axis};
+ghost use Rattle.atlas_model.specs.Pixels.{IsMeasurable, natural, rectangle_of, sides_of};
 ghost use Rattle.guillotiere.specs.Slots.Parts.{back_in, front_in, length_in};
 ghost use Rattle.guillotiere.specs.Rectangles.{FitsInto, IsRestOf, Tile, axis_of, granted_in, measured, rest_in};
 
-use crate::geometry::{Point, Rectangle, Size};
+use atlas_model::{Point, Rectangle, Size};
 
 /// Which way members of a sequence lie beside each other.
 #[derive(Clone, Copy, Debug, PartialEq, Eq, Hash)]

@@ -4,15 +4,9 @@
 //! across containers. And grids of equal cells are served better by other packers.
 #![tactic(auto)]
 
-mod allocation;
 mod atlas;
-mod change;
 mod choice;
 mod cut;
-mod error;
-mod geometry;
-pub mod laws;
-mod options;
 mod search;
 pub mod session;
 mod simple;
@@ -20,10 +14,9 @@ mod slots;
 mod store;
 mod tree;
 
-pub use allocation::{AllocId, Allocation, SlotCount};
 pub use atlas::AtlasAllocator;
-pub use change::{Change, ChangeList};
-pub use error::AtlasError;
-pub use geometry::{Point, Rectangle, Size, point2, size2};
-pub use options::{AllocatorOptions, DEFAULT_OPTIONS};
+pub use atlas_model::{
+    AllocId, Allocation, AllocatorOptions, AtlasError, Change, ChangeList, DEFAULT_OPTIONS, Point,
+    Rectangle, Size, SlotCount, laws, point2, size2,
+};
 pub use simple::SimpleAtlasAllocator;

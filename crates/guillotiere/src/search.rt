@@ -1,14 +1,14 @@
 //! The search for the free box that a request takes, through the lists of a table.
 ghost use Rattle.std.specs.Prelude.{◌≡◌, ◌+◌, ◌*◌, ◌<◌, ◌≤◌, ◌⊎◌, ℕ, true, map, List, None, IfSome};
 ghost use Rattle.guillotiere.specs.Search.Bands.{IsInWindow};
-ghost use Rattle.guillotiere.specs.Boxes.{Box, IsPositive, Sides};
-ghost use Rattle.guillotiere.specs.Choice.{IsFitting, IsPick, Options};
+ghost use Rattle.atlas_model.specs.Boxes.{Box, IsPositive, Sides};
+ghost use Rattle.atlas_model.specs.Choice.{IsFitting, IsPick, Options};
 ghost use Rattle.guillotiere.specs.Search.Items.{IsShowable};
 ghost use Rattle.guillotiere.specs.Search.Lookups.{AreFreeItems, AreListed, HasAdded, HasSearched};
 ghost use Rattle.guillotiere.specs.Search.Lookups.{HasShown, IsBeyond, IsInColumn, IsInRow, IsInsideWindow};
 ghost use Rattle.guillotiere.specs.Search.Lookups.{IsSearch, IsStanding, IsWindowOf};
 ghost use Rattle.guillotiere.specs.Search.Masks.{IsMarked};
-ghost use Rattle.guillotiere.specs.Pixels.{box_of, options_of, sides_of};
+ghost use Rattle.atlas_model.specs.Pixels.{box_of, options_of, sides_of};
 ghost use Rattle.guillotiere.specs.Search.Tables.{is_used_at};
 
 pub mod bands;
@@ -18,8 +18,6 @@ pub mod masks;
 pub mod table;
 
 use crate::choice::class;
-use crate::geometry::{Rectangle, Size};
-use crate::options::AllocatorOptions;
 use crate::search::bands::{
     BANDS, Borders, Place, Window, borders_for, class_from, place_for, window_for,
 };
@@ -27,6 +25,7 @@ use crate::search::best::{Best, Found};
 use crate::search::masks::Mask;
 use crate::search::table::Table;
 use crate::slots::{Link, NO_SLOT};
+use atlas_model::{AllocatorOptions, Rectangle, Size};
 use std::alloc::Allocator;
 
 // What a search computes of a request: its list, whether it is large, and the borders of the classes.

@@ -1,23 +1,19 @@
 //! Sessions: lists of calls of an atlas, and their replies.
 ghost use Rattle.std.specs.Prelude.{◌≡◌, ◌↔◌, true, All, take, drop, vec_len, IsTrue, IfOk, OnOk, OnErr, IsOkUnless};
-ghost use Rattle.guillotiere.specs.Boxes.{Fits, IsPositive};
-ghost use Rattle.guillotiere.specs.Pixels.{sides_of, options_of};
-ghost use Rattle.guillotiere.specs.Steps.{Step};
-ghost use Rattle.guillotiere.specs.Laws.StepLaws.{is_refusal};
+ghost use Rattle.atlas_model.specs.Boxes.{Fits, IsPositive};
+ghost use Rattle.atlas_model.specs.Pixels.{sides_of, options_of};
+ghost use Rattle.atlas_model.specs.Steps.{Step};
+ghost use Rattle.atlas_model.specs.Laws.StepLaws.{is_refusal};
 ghost use Rattle.guillotiere.specs.Stored.{state_of};
-ghost use Rattle.guillotiere.specs.Steps.AtlasCall.{Allocate, Deallocate, Grow, Reset, ResizeAndRearrange};
-ghost use Rattle.guillotiere.specs.Replies.{done_reply};
-ghost use Rattle.guillotiere.specs.Rearranging.{change_reply, AreExactChanges};
+ghost use Rattle.atlas_model.specs.Steps.AtlasCall.{Allocate, Deallocate, Grow, Reset, ResizeAndRearrange};
+ghost use Rattle.atlas_model.specs.Replies.{done_reply};
+ghost use Rattle.atlas_model.specs.Rearranging.{change_reply, AreExactChanges};
 ghost use Rattle.guillotiere.specs.Sessions.{call_of, reply_of, IsExactReply, TakesTurns, IsAnswered, IsSession};
 
 mod simple;
 
-use crate::allocation::{AllocId, Allocation};
 use crate::atlas::AtlasAllocator;
-use crate::change::ChangeList;
-use crate::error::AtlasError;
-use crate::geometry::Size;
-use crate::options::AllocatorOptions;
+use atlas_model::{AllocId, Allocation, AllocatorOptions, AtlasError, ChangeList, Size};
 pub use simple::{SimpleCall, SimpleReply, run_simple};
 use std::alloc::{Allocator, Global};
 

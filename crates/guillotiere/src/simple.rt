@@ -1,28 +1,26 @@
 //! An allocator that hands out boxes and never takes one back.
 ghost use Rattle.std.specs.Prelude.{◌≡◌, ◌↔◌, Any, IsTrue, true, ◌+◌, ◌<◌, ◌≤◌, ◌++◌, [], ◌∷◌, List};
 ghost use Rattle.std.specs.Prelude.{OnOk, OnErr, IfOk, IfSome, IsOkUnless};
-ghost use Rattle.guillotiere.specs.Boxes.{AreSameBoxes, Box, IsPositive, Sides, box_sides};
-ghost use Rattle.guillotiere.specs.Choice.{AreValid};
-ghost use Rattle.guillotiere.specs.Simple.BoxCalls.{AreFiledBoxes, HasEntriesFor, HasTakenEntries, IsFoundFor};
-ghost use Rattle.guillotiere.specs.Simple.BoxShelves.{AreKept, box_shelf, free_item_boxes};
-ghost use Rattle.guillotiere.specs.Simple.FreeLists.{kept_of, simple_state_of};
-ghost use Rattle.guillotiere.specs.Pixels.{box_of, options_of, rectangle_of, sides_of, size_of};
+ghost use Rattle.atlas_model.specs.Boxes.{AreSameBoxes, Box, IsPositive, Sides, box_sides};
+ghost use Rattle.atlas_model.specs.Choice.{AreValid};
+ghost use Rattle.guillotiere.specs.FreeBoxes.BoxCalls.{AreFiledBoxes, HasEntriesFor, HasTakenEntries, IsFoundFor};
+ghost use Rattle.guillotiere.specs.FreeBoxes.BoxShelves.{AreKept, box_shelf, free_item_boxes};
+ghost use Rattle.guillotiere.specs.FreeBoxes.FreeLists.{kept_of, simple_state_of};
+ghost use Rattle.atlas_model.specs.Pixels.{box_of, options_of, rectangle_of, sides_of, size_of};
 ghost use Rattle.guillotiere.specs.Rectangles.{IsUnsigned};
-ghost use Rattle.guillotiere.specs.Simple.{IsGuarded, IsSimple, SimpleStep, is_kept, kept_rest, simple_answer};
-ghost use Rattle.guillotiere.specs.Simple.{simple_start};
-ghost use Rattle.guillotiere.specs.Simple.SimpleAtlasCall.{Allocate};
+ghost use Rattle.atlas_model.specs.Simple.{IsGuarded, IsSimple, SimpleStep, is_kept, kept_rest, simple_answer};
+ghost use Rattle.atlas_model.specs.Simple.{simple_start};
+ghost use Rattle.atlas_model.specs.Simple.SimpleAtlasCall.{Allocate};
 
 pub mod boxes;
 mod changes;
 
 use crate::choice::rounded;
 use crate::cut::{granted, guillotine};
-use crate::error::AtlasError;
-use crate::geometry::{Rectangle, Size};
-use crate::options::{AllocatorOptions, DEFAULT_OPTIONS};
 use crate::search::best::Found;
 use crate::search::pick;
 use crate::simple::boxes::{FreeBox, FreeBoxes};
+use atlas_model::{AllocatorOptions, AtlasError, DEFAULT_OPTIONS, Rectangle, Size};
 use std::alloc::{Allocator, Global};
 use std::marker::Model;
 
@@ -42,10 +40,10 @@ pub struct SimpleAtlasAllocator<A: Allocator + Copy = Global> {
 }
 
 impl<A: Allocator + Copy> Model for SimpleAtlasAllocator<A> {
-    ghost use Rattle.guillotiere.specs.Simple.BoxShelves.{box_shelf};
-    ghost use Rattle.guillotiere.specs.Simple.FreeLists.{IsStoredState, simple_state_of};
-    ghost use Rattle.guillotiere.specs.Pixels.{sides_of};
-    ghost use Rattle.guillotiere.specs.Simple.{SimpleState};
+    ghost use Rattle.guillotiere.specs.FreeBoxes.BoxShelves.{box_shelf};
+    ghost use Rattle.guillotiere.specs.FreeBoxes.FreeLists.{IsStoredState, simple_state_of};
+    ghost use Rattle.atlas_model.specs.Pixels.{sides_of};
+    ghost use Rattle.atlas_model.specs.Simple.{SimpleState};
 
     ghost Value = { SimpleState };
 

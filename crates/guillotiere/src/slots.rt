@@ -13,7 +13,7 @@ pub mod placing;
 pub mod walks;
 
 use crate::cut::Orientation;
-use crate::geometry::Rectangle;
+use atlas_model::Rectangle;
 
 /// What a slot of an atlas is used for.
 #[derive(Clone, Copy, Debug, PartialEq, Eq, Hash)]

@@ -1,7 +1,7 @@
 //! The slots of an atlas with their lists: each call keeps the tree that the slots stand for, and the lists, in order.
 ghost use Rattle.std.specs.Prelude.{◌≡◌, ◌≢◌, ◌<◌, ◌≤◌, ◌↔◌, ℕ, true, false, IsTrue, IfOk, length};
 ghost use Rattle.guillotiere.specs.declared.slots.NodeKind.TheVariants.{Alloc, Free};
-ghost use Rattle.guillotiere.specs.Trees.{most_slots};
+ghost use Rattle.atlas_model.specs.Trees.{most_slots};
 ghost use Rattle.guillotiere.specs.Search.Bands.{number_of};
 ghost use Rattle.guillotiere.specs.Slots.{no_slot};
 ghost use Rattle.guillotiere.specs.Slots.Standing.{IsSlot};
@@ -12,13 +12,13 @@ pub mod extend;
 pub mod start;
 pub mod turns;
 
-use crate::options::AllocatorOptions;
 use crate::search::bands::Place;
 use crate::search::table::Table;
 use crate::slots::lists::{enlist, give_back, take_slot, unlist, unlist_at};
 use crate::slots::placing::{grant_leaf, split_leaf, wrap_leaf};
 use crate::slots::{Link, NO_SLOT, Node, NodeKind, Slot, join_next, lift, mark_free, read_node};
 use crate::store::turns::Turns;
+use atlas_model::AllocatorOptions;
 use std::alloc::{AllocError, Allocator};
 
 /// The slots, the lists that run through them, and the options by which free slots are listed. `turns` counts the

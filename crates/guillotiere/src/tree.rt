@@ -1,11 +1,11 @@
 //! Placing a request in the tree of slots, and freeing it, by the calls of `store`.
 ghost use Rattle.std.specs.Prelude.{◌≡◌, ◌+◌, ◌<◌, ◌≤◌, IfSome, None, true, false};
 ghost use Rattle.guillotiere.specs.declared.slots.Node.{Node};
-ghost use Rattle.guillotiere.specs.Boxes.{IsPositive, Fits, box_sides, side, other};
-ghost use Rattle.guillotiere.specs.Cuts.{cut, cut_axis};
-ghost use Rattle.guillotiere.specs.Cuts.Cut.{Whole, Strip, Corner};
+ghost use Rattle.atlas_model.specs.Boxes.{IsPositive, Fits, box_sides, side, other};
+ghost use Rattle.atlas_model.specs.Cuts.{cut, cut_axis};
+ghost use Rattle.atlas_model.specs.Cuts.Cut.{Whole, Strip, Corner};
 ghost use Rattle.guillotiere.specs.Slots.{axis_of};
-ghost use Rattle.guillotiere.specs.Pixels.{box_of, rectangle_of, sides_of};
+ghost use Rattle.atlas_model.specs.Pixels.{box_of, rectangle_of, sides_of};
 ghost use Rattle.guillotiere.specs.Slots.Reading.{extent_of};
 ghost use Rattle.guillotiere.specs.Stored.{Holding};
 ghost use Rattle.guillotiere.specs.Store.Holdings.{shelf_of, across_of, KeepsRoom};
@@ -16,10 +16,10 @@ pub mod growth;
 pub mod requests;
 
 use crate::cut::{Orientation, orientation_of};
-use crate::geometry::Size;
 use crate::slots::lists::exact_size;
 use crate::slots::{Link, NO_SLOT, Node};
 use crate::store::Store;
+use atlas_model::Size;
 use std::alloc::Allocator;
 
 /// How a free leaf gives way to a request that fits it, with the request's pixels along the leaf's sequence and across

@@ -5,9 +5,9 @@ use Rattle.std.proofs.lemmas.Bool.{eqb-true, eq-eqb}
 use Rattle.std.proofs.lemmas.List.{get_or_default}
 use Rattle.std.proofs.lemmas.List.Elements.{All-contains, All-push}
 use Rattle.std.proofs.lemmas.List.Quantifiers.{all_pairs_push, all_pairs_remove}
-use Rattle.guillotiere.specs.declared.geometry.Size.{Size}
-use Rattle.guillotiere.specs.declared.allocation.Allocation.{Allocation}
-use Rattle.guillotiere.specs.declared.options.AllocatorOptions.{AllocatorOptions}
+use Rattle.guillotiere.specs.declared.Size.{Size}
+use Rattle.guillotiere.specs.declared.Allocation.{Allocation}
+use Rattle.guillotiere.specs.declared.AllocatorOptions.{AllocatorOptions}
 use Rattle.guillotiere.specs.Boxes.{IsPositive}
 use Rattle.guillotiere.specs.Choice.{AreValid}
 use Rattle.guillotiere.specs.Pixels.{sides_of, options_of}

@@ -6,9 +6,9 @@ use Rattle.std.proofs.lemmas.Bool.{eqb-true, eq-eqb, cases_lt}
 use Rattle.std.proofs.lemmas.List.{get_or-map, get_or_default, length-map}
 use Rattle.std.proofs.lemmas.List.Elements.{All-contains, All-map, Contains-append_right}
 use Rattle.std.proofs.lemmas.List.Sorted.{All-permutation, Contains-permutation}
-use Rattle.guillotiere.specs.declared.allocation.Allocation.{Allocation}
-use Rattle.guillotiere.specs.declared.change.Change.{Change}
-use Rattle.guillotiere.specs.declared.change.ChangeList.{ChangeList}
+use Rattle.guillotiere.specs.declared.Allocation.{Allocation}
+use Rattle.guillotiere.specs.declared.Change.{Change}
+use Rattle.guillotiere.specs.declared.ChangeList.{ChangeList}
 use Rattle.guillotiere.specs.Trees.{Grant}
 use Rattle.guillotiere.specs.States.{State, IsLive, live_in}
 use Rattle.guillotiere.specs.Steps as atlas

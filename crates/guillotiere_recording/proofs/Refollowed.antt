@@ -5,10 +5,10 @@ use Rattle.std.specs.BTreeMap.{IsOrdered}
 use Rattle.std.proofs.lemmas.Bool.{eq-eqb}
 use Rattle.std.proofs.lemmas.List.{get_or_default, get_or-map, length-map}
 use Rattle.std.proofs.lemmas.List.Elements.{All-contains}
-use Rattle.guillotiere.specs.declared.geometry.Size.{Size}
-use Rattle.guillotiere.specs.declared.allocation.Allocation.{Allocation}
-use Rattle.guillotiere.specs.declared.change.Change.{Change}
-use Rattle.guillotiere.specs.declared.change.ChangeList.{ChangeList}
+use Rattle.guillotiere.specs.declared.Size.{Size}
+use Rattle.guillotiere.specs.declared.Allocation.{Allocation}
+use Rattle.guillotiere.specs.declared.Change.{Change}
+use Rattle.guillotiere.specs.declared.ChangeList.{ChangeList}
 use Rattle.guillotiere.specs.Boxes.{IsPositive}
 use Rattle.guillotiere.specs.Pixels.{sides_of}
 use Rattle.guillotiere.specs.Trees.{Grant, grant}

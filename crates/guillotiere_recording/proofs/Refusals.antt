@@ -2,8 +2,8 @@
 use Rattle.std.proofs.Common.{◌≡◌, ℕ, ◌<◌, ◌≤◌, ◌^◌, ◌⊎◌, inl, inr, arith, Result, Ok, Err, sym, subst, ◌∙◌}
 use Rattle.std.proofs.lemmas.Bool.{cases_order}
 use Rattle.std.specs.Result.{IsErrAnd}
-use Rattle.guillotiere.specs.declared.error.AtlasError.{AtlasError}
-use Rattle.guillotiere.specs.declared.error.AtlasError.TheVariants.{Memory, Slots, NotLive}
+use Rattle.guillotiere.specs.declared.AtlasError.{AtlasError}
+use Rattle.guillotiere.specs.declared.AtlasError.TheVariants.{Memory, Slots, NotLive}
 use Rattle.guillotiere.specs.States.{State, IsLive}
 use Rattle.guillotiere.specs.Steps as atlas
 use Rattle.guillotiere.specs.Steps.{AtlasCall, Step}

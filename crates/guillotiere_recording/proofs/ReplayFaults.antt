@@ -5,7 +5,7 @@ use Rattle.std.proofs.lemmas.Bool.{eqb-true, eq-eqb, false≢true}
 use Rattle.std.proofs.lemmas.List.{take_more, get_or_append_left, length-append}
 use Rattle.std.proofs.lemmas.List.Elements.{All-take, All-contains, All-cons, Contains-push, Contains-append_right}
 use Rattle.std.proofs.lemmas.Option.{get_or_from_slice_get, slice_get_within}
-use Rattle.guillotiere.specs.declared.error.AtlasError.TheVariants as refusal
+use Rattle.guillotiere.specs.declared.AtlasError.TheVariants as refusal
 use Rattle.guillotiere.specs.Boxes.{Sides, Fits}
 use Rattle.guillotiere.specs.Pixels.{sides_of, options_of, rectangle_of}
 use Rattle.guillotiere.specs.Trees.{Grant}

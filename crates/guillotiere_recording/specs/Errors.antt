@@ -1,6 +1,6 @@
 -- The refusals of an atlas, as a recording allocator answers them.
-use Rattle.guillotiere.specs.declared.error.AtlasError.{AtlasError}
-use Rattle.guillotiere.specs.declared.error.AtlasError.TheVariants.{Memory, Slots, NotLive}
+use Rattle.guillotiere.specs.declared.AtlasError.{AtlasError}
+use Rattle.guillotiere.specs.declared.AtlasError.TheVariants.{Memory, Slots, NotLive}
 use Rattle.guillotiere_recording.specs.declared.error.RecordingError.{RecordingError}
 use Rattle.guillotiere_recording.specs.declared.error.RecordingError.TheVariants as refusal
 

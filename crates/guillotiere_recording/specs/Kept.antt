@@ -3,7 +3,7 @@
 use Rattle.std.specs.Prelude.{◌≡◌, ℕ, ◌↔◌, List, Contains, Some, map}
 use Rattle.std.specs.Ordering.{nat_cmp}
 use Rattle.std.specs.BTreeMap.{get}
-use Rattle.guillotiere.specs.declared.change.ChangeList.{ChangeList}
+use Rattle.guillotiere.specs.declared.ChangeList.{ChangeList}
 use Rattle.guillotiere.specs.Rearranging.{rearrangement_of}
 use Rattle.guillotiere.specs.States.{State}
 use Rattle.guillotiere.specs.Steps.{AtlasCall, Step}

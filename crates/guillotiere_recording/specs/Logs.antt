@@ -1,7 +1,7 @@
 -- What is recorded, and what a log of events records.
 use Rattle.std.specs.Prelude.{List, [], ◌∷◌, ◌++◌, map}
-use Rattle.guillotiere.specs.declared.geometry.Size.{Size}
-use Rattle.guillotiere.specs.declared.options.AllocatorOptions.{AllocatorOptions}
+use Rattle.guillotiere.specs.declared.Size.{Size}
+use Rattle.guillotiere.specs.declared.AllocatorOptions.{AllocatorOptions}
 use Rattle.guillotiere_recording.specs.declared.log.Log.{Log}
 use Rattle.guillotiere_recording.specs.Events.{EventValue, event_of}
 

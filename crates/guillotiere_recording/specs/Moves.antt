@@ -1,9 +1,9 @@
 -- What a rearranging did, under names. No public clause cites this module.
 use Rattle.std.specs.Prelude.{◌≡◌, ℕ, ◌≤◌, List, All, map, IsPermutation}
 use Rattle.std.specs.List.Sorted.{IsNonDecreasingBy}
-use Rattle.guillotiere.specs.declared.allocation.Allocation.{Allocation}
-use Rattle.guillotiere.specs.declared.change.Change.{Change}
-use Rattle.guillotiere.specs.declared.change.ChangeList.{ChangeList}
+use Rattle.guillotiere.specs.declared.Allocation.{Allocation}
+use Rattle.guillotiere.specs.declared.Change.{Change}
+use Rattle.guillotiere.specs.declared.ChangeList.{ChangeList}
 use Rattle.guillotiere_recording.specs.declared.names.LiveName.{LiveName}
 use Rattle.guillotiere_recording.specs.declared.moves.Moved.{Moved}
 use Rattle.guillotiere_recording.specs.Names.{entries_of, name_among}

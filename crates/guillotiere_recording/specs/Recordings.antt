@@ -1,8 +1,8 @@
 -- What contracts see of recordings and of recording allocators.
 use Rattle.std.specs.Prelude.{◌≡◌, ℕ, zero, suc, ◌<◌, ◌≤◌, ◌^◌, List, [], ◌∷◌, ◌++◌, All, AllPairs, map}
-use Rattle.guillotiere.specs.declared.allocation.Allocation.{Allocation}
-use Rattle.guillotiere.specs.declared.geometry.Size.{Size}
-use Rattle.guillotiere.specs.declared.options.AllocatorOptions.{AllocatorOptions}
+use Rattle.guillotiere.specs.declared.Allocation.{Allocation}
+use Rattle.guillotiere.specs.declared.Size.{Size}
+use Rattle.guillotiere.specs.declared.AllocatorOptions.{AllocatorOptions}
 use Rattle.guillotiere.specs.Pixels.{sides_of, options_of}
 use Rattle.guillotiere.specs.Replies.{grant_of, IsExact}
 use Rattle.guillotiere.specs.States.{started}

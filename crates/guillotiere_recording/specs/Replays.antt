@@ -1,8 +1,8 @@
 -- What a replay of a recording answers: how the session ends, or the first event that can't be carried out as it says.
 use Rattle.std.specs.Prelude.{◌≡◌, ℕ, suc, Bool, true, false, List, map, take, count_by, Any, Some, None, slice_get}
-use Rattle.guillotiere.specs.declared.allocation.Allocation.{Allocation}
-use Rattle.guillotiere.specs.declared.change.Change.{Change}
-use Rattle.guillotiere.specs.declared.error.AtlasError.TheVariants as error
+use Rattle.guillotiere.specs.declared.Allocation.{Allocation}
+use Rattle.guillotiere.specs.declared.Change.{Change}
+use Rattle.guillotiere.specs.declared.AtlasError.TheVariants as error
 use Rattle.guillotiere.specs.Boxes.{Fits, IsPositive}
 use Rattle.guillotiere.specs.Pixels.{sides_of, rectangle_of}
 use Rattle.guillotiere.specs.Trees.{Grant}

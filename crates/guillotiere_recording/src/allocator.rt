@@ -3,10 +3,10 @@ ghost use Rattle.std.specs.Prelude.{◌≡◌, ◌+◌, ◌<◌, ◌^◌, ◌↔
 ghost use Rattle.std.specs.Prelude.{IsOkUnless, List, if◌then◌else◌, None, Some, Ok, Err};
 ghost use Rattle.std.specs.List.{FoldsTo};
 ghost use Rattle.std.specs.Fn.{CalledAt};
-ghost use Rattle.guillotiere.specs.declared.geometry.Rectangle.{Rectangle as Area};
-ghost use Rattle.guillotiere.specs.declared.allocation.Allocation.{Allocation as Grant};
-ghost use Rattle.guillotiere.specs.declared.options.TheConstants.{DEFAULT_OPTIONS as DEFAULT};
-ghost use Rattle.guillotiere.specs.declared.error.AtlasError.{AtlasError};
+ghost use Rattle.guillotiere.specs.declared.Rectangle.{Rectangle as Area};
+ghost use Rattle.guillotiere.specs.declared.Allocation.{Allocation as Grant};
+ghost use Rattle.guillotiere.specs.TheConstants.{DEFAULT_OPTIONS as DEFAULT};
+ghost use Rattle.guillotiere.specs.declared.AtlasError.{AtlasError};
 ghost use Rattle.guillotiere.specs.Boxes.{Fits, IsPositive};
 ghost use Rattle.guillotiere.specs.Choice.{AreValid};
 ghost use Rattle.guillotiere.specs.Pixels.{sides_of, size_of, options_of};

@@ -1,8 +1,8 @@
 //! What a rearranging of the atlas did, under names in place of ids.
 ghost use Rattle.std.specs.Prelude.{◌≡◌, ◌≤◌, ℕ, IfOk, IsOkUnless, All, Contains, IsPermutation, map};
 ghost use Rattle.std.specs.List.Sorted.{IsNonDecreasingBy};
-ghost use Rattle.guillotiere.specs.declared.allocation.Allocation.{Allocation as Grant};
-ghost use Rattle.guillotiere.specs.declared.change.Change.{Change as Transfer};
+ghost use Rattle.guillotiere.specs.declared.Allocation.{Allocation as Grant};
+ghost use Rattle.guillotiere.specs.declared.Change.{Change as Transfer};
 ghost use Rattle.guillotiere_recording.specs.declared.names.LiveName.{LiveName as Entry};
 ghost use Rattle.guillotiere_recording.specs.Names.{entries_of, name_among};
 ghost use Rattle.guillotiere_recording.specs.Moves.{change_under, failure_under, entry_under, AreEntered, IsMoved};

@@ -53,3 +53,5 @@ mod tool_replay;
 mod tool_rows;
 #[cfg(test)]
 mod tool_whole;
+#[cfg(test)]
+mod tool_words;

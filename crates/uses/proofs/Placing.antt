@@ -7,9 +7,9 @@ use Rattle.std.proofs.lemmas.Bool.{eq-eqb}
 use Rattle.std.proofs.lemmas.List.{map-append, reverse-append, take-append-drop, get_or-set_same, get_or-set_other}
 use Rattle.std.proofs.lemmas.List.Elements.{All-nil, All-cons, All-head, All-tail, All-push}
 use Rattle.std.proofs.lemmas.List.Sorted.{IsPermutation-reverse}
-use Rattle.guillotiere.specs.declared.geometry.Size.{Size}
-use Rattle.guillotiere.specs.declared.geometry.Rectangle.{Rectangle}
-use Rattle.guillotiere.specs.declared.options.TheConstants.{DEFAULT_OPTIONS}
+use Rattle.guillotiere.specs.declared.Size.{Size}
+use Rattle.guillotiere.specs.declared.Rectangle.{Rectangle}
+use Rattle.guillotiere.specs.TheConstants.{DEFAULT_OPTIONS}
 use Rattle.guillotiere.specs.Boxes.{Sides, Box, box_sides, covers, IsWithin, AreDisjoint}
 use Rattle.guillotiere.specs.Choice.{Options, rounded, HasNoRoom}
 use Rattle.guillotiere.specs.Pixels.{box_of, options_of, sides_of}
@@ -19,7 +19,7 @@ use Rattle.guillotiere.proofs.TreeLemmas.TreeBasics.{one_if}
 use Rattle.guillotiere.proofs.ListLemmas.Counting.{count_by-cons, count_by-append}
 use Rattle.guillotiere.proofs.ListLemmas.CallerLemmas.{count_by-permutation}
 use Rattle.guillotiere.proofs.StepLemmas.Refitting.{sides_at}
-use Rattle.guillotiere.proofs.SearchLemmas.Rounding.{up_same}
+use Rattle.guillotiere.proofs.ChoiceLemmas.Rounding.{up_same}
 use Rattle.uses.specs.Sheets.{sheet_sides, place_in, IsPlaceFor, OneFindsNoRoom, CannotTake, AreNumberedOnce, ArePlaced}
 
 -- What stands past the end of a list of sprites.

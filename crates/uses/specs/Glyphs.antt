@@ -1,8 +1,8 @@
 -- What a cache of glyphs holds, and what it keeps.
 use Rattle.std.specs.Prelude.{◌≡◌, ℕ, ◌+◌, ◌*◌, ◌<◌, ◌≤◌, ◌==◌, pos, ◌+ℤ◌, ◌-ℤ◌, ◌≤ℤ◌, Bool, List, ◌∷◌, [], ◌++◌, map}
 use Rattle.std.specs.Prelude.{find, count_by, drop, All, IsPermutation, Option, option_map}
-use Rattle.guillotiere.specs.declared.geometry.Rectangle.{Rectangle}
-use Rattle.guillotiere.specs.declared.options.TheConstants.{DEFAULT_OPTIONS}
+use Rattle.guillotiere.specs.declared.Rectangle.{Rectangle}
+use Rattle.guillotiere.specs.TheConstants.{DEFAULT_OPTIONS}
 use Rattle.guillotiere.specs.Boxes.{Sides, box_sides, AreDisjoint, Fits, IsPositive}
 use Rattle.guillotiere.specs.Pixels.{box_of, options_of}
 use Rattle.guillotiere.specs.Trees.{grant}

@@ -1,8 +1,8 @@
 -- A cache of pictures that repacks: what it holds, and what a repacking does with it.
 use Rattle.std.specs.Prelude.{ℕ, ◌≡◌, ◌==◌, ◌≤◌, List, ◌∷◌, ◌++◌, map, find, count_by, All, IsPermutation, Option, Some}
 use Rattle.std.specs.Prelude.{None, option_map}
-use Rattle.guillotiere.specs.declared.change.Change.{Change}
-use Rattle.guillotiere.specs.declared.geometry.Rectangle.{Rectangle}
+use Rattle.guillotiere.specs.declared.Change.{Change}
+use Rattle.guillotiere.specs.declared.Rectangle.{Rectangle}
 use Rattle.guillotiere.specs.Boxes.{Sides, IsWithin, AreDisjoint, box_sides}
 use Rattle.guillotiere.specs.Pixels.{box_of}
 use Rattle.guillotiere.specs.Replies.{grant_of}

@@ -1,6 +1,6 @@
 -- What a recorded session held and what its replay lists.
 use Rattle.std.specs.Prelude.{◌≡◌, true, List, map, All}
-use Rattle.guillotiere.specs.declared.allocation.Allocation.{Allocation}
+use Rattle.guillotiere.specs.declared.Allocation.{Allocation}
 use Rattle.guillotiere.specs.Replies.{grant_of}
 use Rattle.guillotiere_recording.specs.Books.{AreSameGrants}
 use Rattle.guillotiere_recording.specs.Events.{EventValue}

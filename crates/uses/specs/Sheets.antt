@@ -2,9 +2,9 @@
 use Rattle.std.specs.Prelude.{◌≡◌, ◌==◌, ℕ, pos, ◌*◌, ◌^◌, ◌<◌, ◌≤◌, ◌≤ℤ◌, ◌⊎◌, List, [], ◌∷◌, map, length, count_by}
 use Rattle.std.specs.Prelude.{slice_index_or, All, IsPermutation, Option, Some, None}
 use Rattle.std.specs.List.{AllZip, AllAdjacentBelow}
-use Rattle.guillotiere.specs.declared.geometry.Size.{Size}
-use Rattle.guillotiere.specs.declared.geometry.Rectangle.{Rectangle}
-use Rattle.guillotiere.specs.declared.options.TheConstants.{DEFAULT_OPTIONS}
+use Rattle.guillotiere.specs.declared.Size.{Size}
+use Rattle.guillotiere.specs.declared.Rectangle.{Rectangle}
+use Rattle.guillotiere.specs.TheConstants.{DEFAULT_OPTIONS}
 use Rattle.guillotiere.specs.Boxes.{Sides, Box, IsWithin, AreDisjoint, box_sides}
 use Rattle.guillotiere.specs.Choice.{HasNoRoom}
 use Rattle.guillotiere.specs.Pixels.{box_of, options_of, sides_of}

@@ -1,7 +1,7 @@
 -- Why an atlas can't do what it is asked to.
 use Rattle.std.specs.Prelude.{◌≡◌, ◌⊎◌}
-use Rattle.guillotiere.specs.declared.error.AtlasError.{AtlasError}
-use Rattle.guillotiere.specs.declared.error.AtlasError.TheVariants.{Memory, Slots}
+use Rattle.guillotiere.specs.declared.AtlasError.{AtlasError}
+use Rattle.guillotiere.specs.declared.AtlasError.TheVariants.{Memory, Slots}
 
 -- Memory was refused, or the slots of the atlas don't suffice.
 abbrev pub IsShortage : AtlasError → Type 0

@@ -4,9 +4,5 @@
 
 pub mod glyph_cache;
 pub mod repack;
-#[cfg(test)]
-mod repack_tests;
 pub mod replayed;
 pub mod sheet;
-#[cfg(test)]
-mod sheet_tests;

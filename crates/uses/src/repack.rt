@@ -7,7 +7,7 @@ ghost use Rattle.guillotiere.specs.Choice.{HasNoRoom, rounded};
 ghost use Rattle.guillotiere.specs.Pixels.{box_of, sides_of};
 ghost use Rattle.guillotiere.specs.States.{free_in};
 ghost use Rattle.guillotiere.specs.Stored.{state_of};
-ghost use Rattle.guillotiere.specs.declared.error.AtlasError.TheVariants as error;
+ghost use Rattle.guillotiere.specs.declared.AtlasError.TheVariants as error;
 ghost use Rattle.uses.specs.declared.repack.Held.{Held as Kept};
 ghost use Rattle.uses.specs.Pictures.{IsRepacked, IsTaken, picture_area, kept_by, loss_by, move_by};
 ghost use Rattle.uses.specs.Shortages.{IsShortage};

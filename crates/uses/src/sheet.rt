@@ -2,7 +2,7 @@
 ghost use Rattle.std.specs.Prelude.{◌≡◌, ◌<◌, length, map, option_map, All, IsPermutation, IfOk, IfSome, IsOkUnless};
 ghost use Rattle.std.specs.Bool.{OnFalse, OnTrue};
 ghost use Rattle.std.specs.List.{enumerate_from};
-ghost use Rattle.guillotiere.specs.declared.error.AtlasError.TheVariants as error;
+ghost use Rattle.guillotiere.specs.declared.AtlasError.TheVariants as error;
 ghost use Rattle.uses.specs.Sheets.{ArePlaced, ArePlaces, AreHighestFirst, AreNumberedOnce, CannotTake, IsSmallestFor};
 
 use guillotiere::{AtlasError, Rectangle, SimpleAtlasAllocator, Size, point2, size2};

@@ -6,28 +6,28 @@ use Rattle.std.proofs.lemmas.List.Elements.{All-nil, All-cons, All-head, All-res
 use Rattle.std.proofs.lemmas.List.Sums.{sum_by-cons, sum_by-append}
 use Rattle.std.proofs.lemmas.Nat.{mul-lt}
 use Rattle.std.specs.List.{sum_by}
-use Rattle.guillotiere.specs.Boxes.{Axis, Sides, area, other, side}
-use Rattle.guillotiere.specs.Boxes.Axis.{Horizontal, Vertical}
-use Rattle.guillotiere.specs.Pixels.{box_of, sides_of}
-use Rattle.guillotiere.specs.Replies.{grant_of}
+use Rattle.atlas_model.specs.Boxes.{Axis, Sides, area, other, side}
+use Rattle.atlas_model.specs.Boxes.Axis.{Horizontal, Vertical}
+use Rattle.atlas_model.specs.Pixels.{box_of, sides_of}
+use Rattle.atlas_model.specs.Replies.{grant_of}
 use Rattle.guillotiere.specs.Slots.{nodes}
 use Rattle.guillotiere.specs.Slots.Areas.{live_areas, area_sum}
 use Rattle.guillotiere.specs.Slots.Lists.{is_free}
 use Rattle.guillotiere.specs.Slots.Reading.{tree_of}
-use Rattle.guillotiere.specs.States.{live_in, free_in}
+use Rattle.atlas_model.specs.States.{live_in, free_in}
 use Rattle.guillotiere.specs.Stored.{Stored, IsAtlas, state_of}
-use Rattle.guillotiere.specs.Trees.{Grant, live, free_boxes}
+use Rattle.atlas_model.specs.Trees.{Grant, live, free_boxes}
 use Rattle.guillotiere.specs.Visits.{is_alloc, allocation_at, allocated_from, free_areas}
 use Rattle.guillotiere.specs.Walks.{IsShownArea}
 use Rattle.guillotiere.specs.contracts.slots.NodeKind.{the_type}
-use Rattle.guillotiere.specs.declared.allocation.Allocation.{Allocation}
-use Rattle.guillotiere.specs.declared.geometry.Rectangle.{Rectangle}
+use Rattle.atlas_model.specs.declared.allocation.Allocation.{Allocation}
+use Rattle.atlas_model.specs.declared.geometry.Rectangle.{Rectangle}
 use Rattle.guillotiere.specs.declared.slots.Node.{Node}
 use Rattle.guillotiere.specs.declared.slots.Slot.{Slot}
 use denote.Enum.Bare.{sameb}
 use Rattle.guillotiere.specs.declared.slots.NodeKind.TheVariants as kind
-use Rattle.guillotiere.proofs.TreeLemmas.BoxLists.{areas_of_boxes}
-use Rattle.guillotiere.proofs.ListLemmas.CountSums.{sum_by-counts}
+use Rattle.atlas_model.proofs.TreeLemmas.BoxLists.{areas_of_boxes}
+use Rattle.atlas_model.proofs.ListLemmas.CountSums.{sum_by-counts}
 use Rattle.guillotiere.proofs.AtlasLemmas.Observing.{live-IsAtlas, free-IsAtlas, tree_of-IsAtlas}
 use Rattle.guillotiere.proofs.AtlasLemmas.WalkSteps.{not_free, not_alloc}
 

@@ -3,28 +3,28 @@ use Rattle.std.proofs.Common.{ℕ, ◌+◌, ◌-◌, ◌/◌, ◌^◌, ◌<◌, 
 use Rattle.std.proofs.Common.{length, refl, sym, ap, subst, ◌∙◌, arith, Contains}
 use Rattle.std.proofs.lemmas.Bool.{and_parts, eqb-true, false≢true}
 use Rattle.std.specs.Option.{IfNone, is_some}
-use Rattle.guillotiere.specs.Changes.{nf, mark, only, release}
-use Rattle.guillotiere.specs.Pixels.{options_of}
+use Rattle.atlas_model.specs.Changes.{nf, mark, only, release}
+use Rattle.atlas_model.specs.Pixels.{options_of}
 use Rattle.guillotiere.specs.Slots.{nodes, node_at, use_count, no_slot}
 use Rattle.guillotiere.specs.Slots.Numbered.{Numbered, tally, first_slot, erase, id_of}
 use Rattle.guillotiere.specs.Slots.Reading.{tree_of}
-use Rattle.guillotiere.specs.States.{State, IsSound, after_freeing, used_in}
+use Rattle.atlas_model.specs.States.{State, IsSound, after_freeing, used_in}
 use Rattle.guillotiere.specs.Store.Freeing.{IsFreeable, IsFreed}
 use Rattle.guillotiere.specs.Stored.{Stored, Shelf, Holding, IsAtlas, state_of}
-use Rattle.guillotiere.specs.Trees.{Tree, ids, slot_of}
+use Rattle.atlas_model.specs.Trees.{Tree, ids, slot_of}
 use Rattle.guillotiere.specs.Visits.{is_named}
 use Rattle.guillotiere.specs.declared.slots.Node.{Node}
 use Rattle.guillotiere.specs.declared.slots.Slot.{Slot}
 use Rattle.std.specs.Option.{IfSome}
 use Rattle.guillotiere.specs.declared.slots.NodeKind.TheVariants as kind
-use Rattle.guillotiere.specs.Trees as tree
+use Rattle.atlas_model.specs.Trees as tree
 use Rattle.guillotiere.specs.Slots.Numbered.{End, Free, Alloc, Seq}
 use Rattle.guillotiere.proofs.SlotLemmas.Frames.{same-self}
 use Rattle.guillotiere.proofs.SlotLemmas.JoiningWrites.{none-unused, used-inside}
 use Rattle.guillotiere.proofs.SlotLemmas.Reading.{IsNonempty, tree_of-Stands}
 use Rattle.guillotiere.proofs.SlotLemmas.Normal.{numbers-erase}
-use Rattle.guillotiere.proofs.TreeLemmas.TreeCounts.{release_nodes}
-use Rattle.guillotiere.proofs.StepLemmas.StepKeeping.{freeing_sound}
+use Rattle.atlas_model.proofs.TreeLemmas.TreeCounts.{release_nodes}
+use Rattle.atlas_model.proofs.StepLemmas.StepKeeping.{freeing_sound}
 use Rattle.guillotiere.proofs.SlotLemmas.SlotIds.{id_slot, slot_id}
 use Rattle.guillotiere.proofs.AtlasLemmas.NamedSlots.{id_of-parts, is_alloc-true, named-true}
 use Rattle.guillotiere.proofs.AtlasLemmas.Observing.{nodes-short, nodes-below, members-IsAtlas, nonempty-IsAtlas, tree_of-IsAtlas}

@@ -2,43 +2,43 @@
 use Rattle.std.proofs.Common.{rules, ℕ, ◌+◌, ◌%◌, ◌^◌, ◌<◌, ◌≤◌, ◌≡◌, max, List, length, refl, sym, ap, subst, ◌∙◌, ◌⊎◌}
 use Rattle.std.proofs.Common.{inl, inr, arith, vec_capacity}
 use Rattle.std.specs.Prelude.{Err}
-use Rattle.guillotiere.specs.Boxes.{Sides, Box, box_at, box_sides, Fits, IsPositive}
-use Rattle.guillotiere.specs.Changes.{place}
-use Rattle.guillotiere.specs.Choice.{rounded, IsFitting, HasNoRoom}
-use Rattle.guillotiere.specs.Pixels.{box_of, rectangle_of, sides_of, size_of, options_of}
+use Rattle.atlas_model.specs.Boxes.{Sides, Box, box_at, box_sides, Fits, IsPositive}
+use Rattle.atlas_model.specs.Changes.{place}
+use Rattle.atlas_model.specs.Choice.{rounded, IsFitting, HasNoRoom}
+use Rattle.atlas_model.specs.Pixels.{box_of, rectangle_of, sides_of, size_of, options_of}
 use Rattle.guillotiere.specs.Rectangles.{FitsInto, IsUnsigned}
-use Rattle.guillotiere.specs.Replies.{allocate_reply}
+use Rattle.atlas_model.specs.Replies.{allocate_reply}
 use Rattle.guillotiere.specs.Search.Picks.{AreFreeBoxes}
 use Rattle.guillotiere.specs.Search.Requests.{CanBeRounded}
 use Rattle.guillotiere.specs.Slots.{nodes}
 use Rattle.guillotiere.specs.Slots.Numbered.{numbers}
 use Rattle.guillotiere.specs.Slots.Reading.{tree_of}
-use Rattle.guillotiere.specs.States.{State, free_in, after_placing}
-use Rattle.guillotiere.specs.Steps.{Step, Takes, Grants, nodes_with}
-use Rattle.guillotiere.specs.Steps.AtlasCall.{Allocate}
-use Rattle.guillotiere.specs.Steps.AtlasReply.{Refused}
+use Rattle.atlas_model.specs.States.{State, free_in, after_placing}
+use Rattle.atlas_model.specs.Steps.{Step, Takes, Grants, nodes_with}
+use Rattle.atlas_model.specs.Steps.AtlasCall.{Allocate}
+use Rattle.atlas_model.specs.Steps.AtlasReply.{Refused}
 use Rattle.guillotiere.specs.Store.Chosen.{CanGrant, IsAtRest, IsChosen, IsGrantable, IsGrantMade, IsRequestGranted}
 use Rattle.guillotiere.specs.Store.Chosen.{IsShortOf}
 use Rattle.guillotiere.specs.Store.Holdings.{shelf_of, node_in}
 use Rattle.guillotiere.specs.Store.Planning.{slots_of}
 use Rattle.guillotiere.specs.Stored.{Stored, Shelf, Holding, IsAtlas, state_of}
-use Rattle.guillotiere.specs.Trees.{ids, slot_count}
-use Rattle.guillotiere.specs.declared.allocation.Allocation.{Allocation}
-use Rattle.guillotiere.specs.declared.error.AtlasError.{AtlasError}
-use Rattle.guillotiere.specs.declared.error.AtlasError.TheVariants.{Memory, Slots, NotLive}
-use Rattle.guillotiere.specs.declared.geometry.Rectangle.{Rectangle}
-use Rattle.guillotiere.specs.declared.geometry.Size.{Size}
+use Rattle.atlas_model.specs.Trees.{ids, slot_count}
+use Rattle.atlas_model.specs.declared.allocation.Allocation.{Allocation}
+use Rattle.atlas_model.specs.declared.error.AtlasError.{AtlasError}
+use Rattle.atlas_model.specs.declared.error.AtlasError.TheVariants.{Memory, Slots, NotLive}
+use Rattle.atlas_model.specs.declared.geometry.Rectangle.{Rectangle}
+use Rattle.atlas_model.specs.declared.geometry.Size.{Size}
 use Rattle.guillotiere.specs.declared.store.Store.{Store}
 use Rattle.guillotiere.specs.declared.tree.requests.Chosen.{Chosen}
 use Rattle.std.specs.Prelude.{Option, Result}
-use Rattle.guillotiere.specs.Trees as tree
+use Rattle.atlas_model.specs.Trees as tree
 use Rattle.guillotiere.proofs.SearchLemmas.Picking.{no_room_unrounded}
-use Rattle.guillotiere.proofs.SearchLemmas.Rounding.{rounded_positive}
-use Rattle.guillotiere.proofs.TreeLemmas.BoxLists.{free_in_place}
+use Rattle.atlas_model.proofs.ChoiceLemmas.Rounding.{rounded_positive}
+use Rattle.atlas_model.proofs.TreeLemmas.BoxLists.{free_in_place}
 use Rattle.guillotiere.proofs.SlotLemmas.JoiningWrites.{used-inside}
 use Rattle.guillotiere.proofs.SlotLemmas.SlotIds.{slot_count-none, id_of-slot}
-use Rattle.guillotiere.proofs.TreeLemmas.TreeCounts.{place_nodes}
-use Rattle.guillotiere.proofs.StepLemmas.StepKeeping.{placing_sound}
+use Rattle.atlas_model.proofs.TreeLemmas.TreeCounts.{place_nodes}
+use Rattle.atlas_model.proofs.StepLemmas.StepKeeping.{placing_sound}
 use Rattle.guillotiere.proofs.StoreLemmas.SpareCounts.{spare-count}
 use Rattle.guillotiere.proofs.StoreLemmas.PlannedTrees.{IsPlacing, planned-tree, planned-used, need-read}
 use Rattle.guillotiere.proofs.StoreLemmas.PlannedSlots.{planned-first, planned-unused}

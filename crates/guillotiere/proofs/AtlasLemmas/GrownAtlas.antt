@@ -2,41 +2,41 @@
 use Rattle.std.proofs.Common.{ℕ, ◌+◌, ◌≤◌, ◌≡◌, max, true, false, [], length, refl, sym, ap, subst, ◌∙◌, ◌⊎◌, arith}
 use Rattle.std.proofs.Common.{vec_capacity}
 use Rattle.std.specs.Prelude.{Err}
-use Rattle.guillotiere.specs.Boxes.{Sides, Fits, IsPositive, side}
-use Rattle.guillotiere.specs.Changes.{grown, grown_members}
-use Rattle.guillotiere.specs.Pixels.{sides_of, size_of, options_of}
-use Rattle.guillotiere.specs.Replies.{done_reply}
+use Rattle.atlas_model.specs.Boxes.{Sides, Fits, IsPositive, side}
+use Rattle.atlas_model.specs.Changes.{grown, grown_members}
+use Rattle.atlas_model.specs.Pixels.{sides_of, size_of, options_of}
+use Rattle.atlas_model.specs.Replies.{done_reply}
 use Rattle.guillotiere.specs.Slots.{nodes}
 use Rattle.guillotiere.specs.Slots.Growing.{IsLone}
 use Rattle.guillotiere.specs.Slots.Numbered.{erase, first_slot, numbers}
 use Rattle.guillotiere.specs.Slots.Reading.{tree_of}
-use Rattle.guillotiere.specs.States.{State, IsSound, after_growth, live_in}
-use Rattle.guillotiere.specs.Steps.{Step, nodes_grown}
-use Rattle.guillotiere.specs.Steps.AtlasCall.{Grow}
-use Rattle.guillotiere.specs.Steps.AtlasReply.{Done, Refused}
+use Rattle.atlas_model.specs.States.{State, IsSound, after_growth, live_in}
+use Rattle.atlas_model.specs.Steps.{Step, nodes_grown}
+use Rattle.atlas_model.specs.Steps.AtlasCall.{Grow}
+use Rattle.atlas_model.specs.Steps.AtlasReply.{Done, Refused}
 use Rattle.guillotiere.specs.Store.Chosen.{IsShortOf}
 use Rattle.guillotiere.specs.Store.Growths.{CanGrow, IsTreeOf, IsGrowthOf, IsGrowable, IsGrownHolding, IsNeedOf}
 use Rattle.guillotiere.specs.Store.Growths.{IsTreeGrown}
 use Rattle.guillotiere.specs.Store.Holdings.{shelf_of}
 use Rattle.guillotiere.specs.Stored.{Stored, Shelf, Holding, IsAtlas, state_of}
-use Rattle.guillotiere.specs.Trees.{Tree, IsOneFree, is_one_free, live}
-use Rattle.guillotiere.specs.declared.error.AtlasError.{AtlasError}
-use Rattle.guillotiere.specs.declared.error.AtlasError.TheVariants.{Memory, Slots, NotLive}
-use Rattle.guillotiere.specs.declared.geometry.Size.{Size}
+use Rattle.atlas_model.specs.Trees.{Tree, IsOneFree, is_one_free, live}
+use Rattle.atlas_model.specs.declared.error.AtlasError.{AtlasError}
+use Rattle.atlas_model.specs.declared.error.AtlasError.TheVariants.{Memory, Slots, NotLive}
+use Rattle.atlas_model.specs.declared.geometry.Size.{Size}
 use Rattle.guillotiere.specs.declared.slots.Link.{Link}
 use Rattle.guillotiere.specs.declared.store.Store.{Store}
 use Rattle.guillotiere.specs.declared.tree.growth.Growth.{Growth}
 use Rattle.std.specs.Prelude.{Result}
-use Rattle.guillotiere.specs.Trees as tree
+use Rattle.atlas_model.specs.Trees as tree
 use Rattle.guillotiere.specs.Slots.Numbered as numbered
 use Rattle.guillotiere.proofs.SlotLemmas.Reading.{tree_of-Stands}
 use Rattle.guillotiere.proofs.SlotLemmas.Normal.{numbers-erase}
 use Rattle.guillotiere.proofs.StoreLemmas.SpareCounts.{spare-count}
 use Rattle.guillotiere.proofs.StoreLemmas.Sizes.{size_is}
-use Rattle.guillotiere.proofs.TreeLemmas.TreeBasics.{side_positive}
-use Rattle.guillotiere.proofs.TreeLemmas.TreeIdle.{nothing_live}
-use Rattle.guillotiere.proofs.TreeLemmas.TreeCounts.{grow_nodes}
-use Rattle.guillotiere.proofs.StepLemmas.StepKeeping.{growth_sound, limit_positive}
+use Rattle.atlas_model.proofs.TreeLemmas.TreeBasics.{side_positive}
+use Rattle.atlas_model.proofs.TreeLemmas.TreeIdle.{nothing_live}
+use Rattle.atlas_model.proofs.TreeLemmas.TreeCounts.{grow_nodes}
+use Rattle.atlas_model.proofs.StepLemmas.StepKeeping.{growth_sound, limit_positive}
 use Rattle.guillotiere.proofs.SimpleLemmas.CuttingFromLists.{sides_of-size}
 use Rattle.guillotiere.proofs.AtlasLemmas.Observing.{nodes-below, nonempty-total, one_leaf, tree_of-IsAtlas}
 

@@ -5,8 +5,8 @@ use Rattle.std.proofs.lemmas.Bool.{ne_eqb, eqb-false, true≢false}
 use Rattle.std.proofs.lemmas.List.{take_more, take_all, take-append-drop, get_or-set_same, get_or-set_other, length-set}
 use Rattle.std.proofs.lemmas.List.{set-set, set-get_or}
 use Rattle.guillotiere.specs.Batches.{AreNamedOnce, hidden, AreHidable}
-use Rattle.guillotiere.specs.Changes.{only}
-use Rattle.guillotiere.specs.Laws.TreeLaws.{is_among}
+use Rattle.atlas_model.specs.Changes.{only}
+use Rattle.atlas_model.specs.Laws.TreeLaws.{is_among}
 use Rattle.guillotiere.specs.Slots.{nodes, rings, node_at, blank_node, use_count}
 use Rattle.guillotiere.specs.Visits.{is_alloc, is_named}
 use Rattle.guillotiere.specs.Slots.Standing.{with_kind}

@@ -4,22 +4,22 @@ use Rattle.std.proofs.Common.{Result, Ok, IfOk}
 use Rattle.std.proofs.lemmas.List.Elements.{All-nil, All-cons, All-head, All-tail, All-contains, All-contains_itself}
 use Rattle.std.proofs.lemmas.List.Elements.{All-weaker}
 use Rattle.std.specs.List.{count_by}
-use Rattle.guillotiere.specs.Boxes.{Axis, Sides, Box, side, other, IsNonempty, IsWithin, same_box}
-use Rattle.guillotiere.specs.Boxes.Axis.{Horizontal, Vertical}
-use Rattle.guillotiere.specs.Pixels.{box_of, sides_of, IsMeasurable}
-use Rattle.guillotiere.specs.Replies.{IsExact, grant_of}
-use Rattle.guillotiere.specs.States.{State, live_in, free_in, IsSound}
+use Rattle.atlas_model.specs.Boxes.{Axis, Sides, Box, side, other, IsNonempty, IsWithin, same_box}
+use Rattle.atlas_model.specs.Boxes.Axis.{Horizontal, Vertical}
+use Rattle.atlas_model.specs.Pixels.{box_of, sides_of, IsMeasurable}
+use Rattle.atlas_model.specs.Replies.{IsExact, grant_of}
+use Rattle.atlas_model.specs.States.{State, live_in, free_in, IsSound}
 use Rattle.guillotiere.specs.Stored.{Stored, IsAtlas}
-use Rattle.guillotiere.specs.Trees.{Grant}
+use Rattle.atlas_model.specs.Trees.{Grant}
 use Rattle.guillotiere.specs.Visits.{AreGrants, AreFreeAreas}
-use Rattle.guillotiere.specs.declared.allocation.Allocation.{Allocation}
-use Rattle.guillotiere.specs.declared.geometry.Rectangle.{Rectangle}
+use Rattle.atlas_model.specs.declared.allocation.Allocation.{Allocation}
+use Rattle.atlas_model.specs.declared.geometry.Rectangle.{Rectangle}
 use Rattle.std.proofs.Common.{Err}
-use Rattle.guillotiere.proofs.TreeLemmas.TreeBasics.{same_box-true, same_box-itself}
+use Rattle.atlas_model.proofs.TreeLemmas.TreeBasics.{same_box-true, same_box-itself}
 use Rattle.guillotiere.proofs.AtlasLemmas.Observing.{tree_of-IsAtlas}
-use Rattle.guillotiere.proofs.ListLemmas.Counting.{count_some}
-use Rattle.guillotiere.proofs.TreeLemmas.BoxLists.{live_in_place, free_in_place, same_grant, same_grant-itself, same_grant-true}
-use Rattle.guillotiere.proofs.ListLemmas.CallerLemmas.{find-counted}
+use Rattle.atlas_model.proofs.ListLemmas.Counting.{count_some}
+use Rattle.atlas_model.proofs.TreeLemmas.BoxLists.{live_in_place, free_in_place, same_grant, same_grant-itself, same_grant-true}
+use Rattle.atlas_model.proofs.ListLemmas.CallerLemmas.{find-counted}
 
 -- What holds of a list holds of one with the same counts.
 module _ {X : Type 0} (same : X → X → Bool) (itself : (x : X) → same x x ≡ true) (told : (x y : X) → same x y ≡ true → x ≡ y) where

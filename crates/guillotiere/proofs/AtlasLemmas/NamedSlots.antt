@@ -5,22 +5,22 @@ use Rattle.std.proofs.Common.{subst, ◌∙◌, arith}
 use Rattle.std.proofs.lemmas.Bool.{and_parts, and_from, eqb-true, eq-eqb, false≢true}
 use Rattle.std.proofs.lemmas.List.{length-map}
 use Rattle.std.specs.List.{count_by}
-use Rattle.guillotiere.specs.Boxes.{Box, same_box}
-use Rattle.guillotiere.specs.Pixels.{box_of, rectangle_of, sides_of}
+use Rattle.atlas_model.specs.Boxes.{Box, same_box}
+use Rattle.atlas_model.specs.Pixels.{box_of, rectangle_of, sides_of}
 use Rattle.guillotiere.specs.Slots.{nodes, node_at, use_count}
 use Rattle.guillotiere.specs.Slots.Numbered.{id_of}
 use Rattle.guillotiere.specs.Slots.Reading.{tree_of}
 use Rattle.guillotiere.specs.Stored.{Stored, IsAtlas}
-use Rattle.guillotiere.specs.Trees.{Grant, grant, live}
+use Rattle.atlas_model.specs.Trees.{Grant, grant, live}
 use Rattle.guillotiere.specs.Visits.{is_alloc, is_named, named_area}
-use Rattle.guillotiere.specs.declared.geometry.Rectangle.{Rectangle}
+use Rattle.atlas_model.specs.declared.geometry.Rectangle.{Rectangle}
 use Rattle.guillotiere.specs.declared.slots.Node.{Node}
 use Rattle.guillotiere.specs.declared.slots.NodeKind.{NodeKind}
 use Rattle.guillotiere.specs.declared.slots.Slot.{Slot}
 use Rattle.std.specs.Prelude.{find}
 use Rattle.guillotiere.specs.declared.slots.NodeKind.TheVariants as kind
-use Rattle.guillotiere.proofs.TreeLemmas.TreeBasics.{one_if, same_box-true, same_box-itself}
-use Rattle.guillotiere.proofs.ListLemmas.Counting.{count_by-cons}
+use Rattle.atlas_model.proofs.TreeLemmas.TreeBasics.{one_if, same_box-true, same_box-itself}
+use Rattle.atlas_model.proofs.ListLemmas.Counting.{count_by-cons}
 use Rattle.guillotiere.proofs.SlotLemmas.JoiningWrites.{used-inside}
 use Rattle.guillotiere.proofs.SlotLemmas.SlotAreas.{Stands-exact}
 use Rattle.guillotiere.proofs.SlotLemmas.SlotSums.{slot_sum}

@@ -2,24 +2,24 @@
 use Rattle.std.proofs.Common.{ℕ, ◌<◌, ◌≤◌, ◌≡◌, Bool, List, [], map, length, sym, ap, subst, ◌∙◌, arith}
 use Rattle.std.proofs.lemmas.List.{length-map}
 use Rattle.std.specs.List.{count_by}
-use Rattle.guillotiere.specs.Boxes.{Axis, Box, side, origin}
-use Rattle.guillotiere.specs.Boxes.Axis.{Horizontal, Vertical}
-use Rattle.guillotiere.specs.Pixels.{box_of, sides_of}
-use Rattle.guillotiere.specs.Replies.{grant_of}
+use Rattle.atlas_model.specs.Boxes.{Axis, Box, side, origin}
+use Rattle.atlas_model.specs.Boxes.Axis.{Horizontal, Vertical}
+use Rattle.atlas_model.specs.Pixels.{box_of, sides_of}
+use Rattle.atlas_model.specs.Replies.{grant_of}
 use Rattle.guillotiere.specs.Slots.{nodes, node_at, no_slot}
 use Rattle.guillotiere.specs.Slots.Numbered.{Numbered, first_slot, erase}
 use Rattle.guillotiere.specs.Slots.Reading.{tree_of}
 use Rattle.guillotiere.specs.Slots.Standing.{Sequence, Stands, spot}
 use Rattle.guillotiere.specs.Stored.{Stored, IsAtlas}
-use Rattle.guillotiere.specs.Trees.{Grant, Members, IsOneFree, total, live, free_boxes}
+use Rattle.atlas_model.specs.Trees.{Grant, Members, IsOneFree, total, live, free_boxes}
 use Rattle.guillotiere.specs.Visits.{allocated_from, free_areas}
 use Rattle.guillotiere.specs.declared.slots.Node.{Node}
 use Rattle.guillotiere.specs.declared.slots.Slot.{Slot}
 use Rattle.guillotiere.specs.declared.slots.NodeKind.TheVariants as kind
-use Rattle.guillotiere.specs.Trees as tree
+use Rattle.atlas_model.specs.Trees as tree
 use Rattle.guillotiere.specs.Slots.Numbered.{End, Free, Alloc, Seq}
-use Rattle.guillotiere.proofs.TreeLemmas.TreeBasics.{live_among, free_among}
-use Rattle.guillotiere.proofs.TreeLemmas.TreeIdle.{nothing_live}
+use Rattle.atlas_model.proofs.TreeLemmas.TreeBasics.{live_among, free_among}
+use Rattle.atlas_model.proofs.TreeLemmas.TreeIdle.{nothing_live}
 use Rattle.guillotiere.proofs.SlotLemmas.Frames.{same-self}
 use Rattle.guillotiere.proofs.SlotLemmas.JoiningWrites.{none-unused, used-inside}
 use Rattle.guillotiere.proofs.SlotLemmas.Reading.{IsNonempty, tree_of-Stands, members_of-Stands}

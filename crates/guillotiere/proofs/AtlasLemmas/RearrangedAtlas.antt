@@ -2,22 +2,22 @@
 use Rattle.std.proofs.Common.{rules, arith, ◌≡◌, List, map, All, IsPermutation, ap, sym, subst, [], ◌∷◌}
 use Rattle.std.proofs.lemmas.List.Elements.{All-nil, All-cons, All-head, All-tail}
 use Rattle.std.proofs.lemmas.List.Sorted.{All-permutation, IsPermutation-map}
-use Rattle.guillotiere.specs.Boxes.{Sides, IsPositive, box_sides}
-use Rattle.guillotiere.specs.Laws.StepLaws.{IsRearrangingStep}
-use Rattle.guillotiere.specs.Rearranging.{transfer_of, KeepsSides}
-use Rattle.guillotiere.specs.Refits.{Transfer, Rearrangement, IsRanked, IsRefitOrder}
-use Rattle.guillotiere.specs.Refits.Refitted.{HasExactRectangle, IsRefitOf}
-use Rattle.guillotiere.specs.Replies.{grant_of, AreRising}
-use Rattle.guillotiere.specs.States.{State, live_in, started, IsSound}
-use Rattle.guillotiere.specs.Steps.{Rearranges}
-use Rattle.guillotiere.specs.Steps.AtlasReply.{Changed}
+use Rattle.atlas_model.specs.Boxes.{Sides, IsPositive, box_sides}
+use Rattle.atlas_model.specs.Laws.StepLaws.{IsRearrangingStep}
+use Rattle.atlas_model.specs.Rearranging.{transfer_of, KeepsSides}
+use Rattle.atlas_model.specs.Refits.{Transfer, Rearrangement, IsRanked, IsRefitOrder}
+use Rattle.atlas_model.specs.Refits.Refitted.{HasExactRectangle, IsRefitOf}
+use Rattle.atlas_model.specs.Replies.{grant_of, AreRising}
+use Rattle.atlas_model.specs.States.{State, live_in, started, IsSound}
+use Rattle.atlas_model.specs.Steps.{Rearranges}
+use Rattle.atlas_model.specs.Steps.AtlasReply.{Changed}
 use Rattle.guillotiere.specs.Stored.{AtlasValue, state_of}
-use Rattle.guillotiere.specs.Trees.{Grant}
+use Rattle.atlas_model.specs.Trees.{Grant}
 use Rattle.guillotiere.specs.Visits.{AreGrants}
-use Rattle.guillotiere.specs.declared.allocation.Allocation.{Allocation}
-use Rattle.guillotiere.specs.declared.change.Change.{Change}
+use Rattle.atlas_model.specs.declared.allocation.Allocation.{Allocation}
+use Rattle.atlas_model.specs.declared.change.Change.{Change}
 use Rattle.guillotiere.proofs.AtlasLemmas.RefitRanks.{refit_order_of}
-use Rattle.guillotiere.proofs.StepLemmas.StepEffects.{rearranging_step}
+use Rattle.atlas_model.proofs.StepLemmas.StepEffects.{rearranging_step}
 
 -- What is allocated, put into order.
 pub order-sorted : (s : State) (found sorted : List Allocation) → AreGrants s found → IsPermutation found sorted

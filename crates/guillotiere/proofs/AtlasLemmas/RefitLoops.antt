@@ -5,18 +5,18 @@ use Rattle.std.proofs.Math.Seq.{take-suc-set, drop-cons}
 use Rattle.std.proofs.lemmas.List.{append-nil, drop-set-lt, drop_all, length-set, map_push}
 use Rattle.std.proofs.lemmas.List.Elements.{All-push}
 use Rattle.std.specs.Prelude.{IfErr}
-use Rattle.guillotiere.specs.Boxes.{Sides, box_sides}
-use Rattle.guillotiere.specs.Pixels.{box_of}
-use Rattle.guillotiere.specs.Rearranging.{IsExactChange}
-use Rattle.guillotiere.specs.Refits.Refitted.{HasExactRectangle, IsRefitOf, IsRefitRefusal, IsPartOfRefit, IsRefitting}
-use Rattle.guillotiere.specs.Refits.Refitted.{followed_by, moved_so_far}
-use Rattle.guillotiere.specs.Replies.{grant_of, allocate_reply, IsExact}
-use Rattle.guillotiere.specs.States.{State}
-use Rattle.guillotiere.specs.Steps.{Step}
-use Rattle.guillotiere.specs.Steps.AtlasCall.{Allocate}
-use Rattle.guillotiere.specs.declared.allocation.Allocation.{Allocation}
-use Rattle.guillotiere.specs.declared.change.Change.{Change}
-use Rattle.guillotiere.specs.declared.error.AtlasError.{AtlasError}
+use Rattle.atlas_model.specs.Boxes.{Sides, box_sides}
+use Rattle.atlas_model.specs.Pixels.{box_of}
+use Rattle.atlas_model.specs.Rearranging.{IsExactChange}
+use Rattle.atlas_model.specs.Refits.Refitted.{HasExactRectangle, IsRefitOf, IsRefitRefusal, IsPartOfRefit, IsRefitting}
+use Rattle.atlas_model.specs.Refits.Refitted.{followed_by, moved_so_far}
+use Rattle.atlas_model.specs.Replies.{grant_of, allocate_reply, IsExact}
+use Rattle.atlas_model.specs.States.{State}
+use Rattle.atlas_model.specs.Steps.{Step}
+use Rattle.atlas_model.specs.Steps.AtlasCall.{Allocate}
+use Rattle.atlas_model.specs.declared.allocation.Allocation.{Allocation}
+use Rattle.atlas_model.specs.declared.change.Change.{Change}
+use Rattle.atlas_model.specs.declared.error.AtlasError.{AtlasError}
 use Rattle.std.proofs.Common.{Err}
 use Rattle.std.specs.Prelude.{IfSome}
 use Rattle.std.proofs.Math.ListN.{set}

@@ -1,19 +1,19 @@
 -- Placing grants anew, one after another.
 use Rattle.std.proofs.Common.{◌≡◌, List, [], ◌∷◌, ◌++◌, refl, ap, sym, subst, ◌∙◌, inl, inr, append_assoc, arith}
 use Rattle.std.proofs.lemmas.List.{append-nil}
-use Rattle.guillotiere.specs.Boxes.{Box, box_at, box_sides}
-use Rattle.guillotiere.specs.Changes.{place}
-use Rattle.guillotiere.specs.Refits.{Rearrangement, no_changes, with_change, with_failure, refit_sides, Refits}
-use Rattle.guillotiere.specs.Refits.{RefitPasses}
-use Rattle.guillotiere.specs.Refits.Refitted.{IsRefitOf, IsRefitRefusal, IsPartOfRefit, followed_by}
-use Rattle.guillotiere.specs.States.{State, used_in}
-use Rattle.guillotiere.specs.Steps.{Step, Grants}
-use Rattle.guillotiere.specs.Steps.AtlasCall.{Allocate}
-use Rattle.guillotiere.specs.Steps.AtlasReply.{Allocated, NoRoom, Refused}
-use Rattle.guillotiere.specs.Trees.{Grant, grant}
-use Rattle.guillotiere.specs.declared.error.AtlasError.{AtlasError}
-use Rattle.guillotiere.specs.declared.error.AtlasError.TheVariants.{Memory, Slots, NotLive}
-use Rattle.guillotiere.proofs.TreeLemmas.TreeCounts.{place_nodes}
+use Rattle.atlas_model.specs.Boxes.{Box, box_at, box_sides}
+use Rattle.atlas_model.specs.Changes.{place}
+use Rattle.atlas_model.specs.Refits.{Rearrangement, no_changes, with_change, with_failure, refit_sides, Refits}
+use Rattle.atlas_model.specs.Refits.{RefitPasses}
+use Rattle.atlas_model.specs.Refits.Refitted.{IsRefitOf, IsRefitRefusal, IsPartOfRefit, followed_by}
+use Rattle.atlas_model.specs.States.{State, used_in}
+use Rattle.atlas_model.specs.Steps.{Step, Grants}
+use Rattle.atlas_model.specs.Steps.AtlasCall.{Allocate}
+use Rattle.atlas_model.specs.Steps.AtlasReply.{Allocated, NoRoom, Refused}
+use Rattle.atlas_model.specs.Trees.{Grant, grant}
+use Rattle.atlas_model.specs.declared.error.AtlasError.{AtlasError}
+use Rattle.atlas_model.specs.declared.error.AtlasError.TheVariants.{Memory, Slots, NotLive}
+use Rattle.atlas_model.proofs.TreeLemmas.TreeCounts.{place_nodes}
 
 abbrev pub one_change : (old new : Grant) → Rearrangement
 one_change old new = with_change old new no_changes

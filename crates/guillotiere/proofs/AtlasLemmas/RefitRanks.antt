@@ -11,16 +11,16 @@ use Rattle.std.specs.List.{count_by}
 use Rattle.std.specs.List.Sorted.{IsSortedByKey}
 use Rattle.std.specs.Ordering.{nat_cmp, ordering_then, is_lt}
 use Rattle.std.specs.declared.cmp.Reverse.{Reverse}
-use Rattle.guillotiere.specs.Boxes.{area}
-use Rattle.guillotiere.specs.Cuts.{cap}
-use Rattle.guillotiere.specs.Refits.{Precedes, IsRanked, IsRefitOrder}
-use Rattle.guillotiere.specs.Replies.{grant_of, AreRising, IsLiveList}
-use Rattle.guillotiere.specs.States.{State, live_in}
-use Rattle.guillotiere.specs.Trees.{Grant}
-use Rattle.guillotiere.specs.declared.allocation.Allocation.{Allocation}
-use Rattle.guillotiere.proofs.TreeLemmas.BoxLists.{same_grant, same_grant-itself, same_grant-true}
-use Rattle.guillotiere.proofs.ListLemmas.Counting.{count_by-cons, permuted_from_counts}
-use Rattle.guillotiere.proofs.TreeLemmas.TreeBasics.{one_if}
+use Rattle.atlas_model.specs.Boxes.{area}
+use Rattle.atlas_model.specs.Cuts.{cap}
+use Rattle.atlas_model.specs.Refits.{Precedes, IsRanked, IsRefitOrder}
+use Rattle.atlas_model.specs.Replies.{grant_of, AreRising, IsLiveList}
+use Rattle.atlas_model.specs.States.{State, live_in}
+use Rattle.atlas_model.specs.Trees.{Grant}
+use Rattle.atlas_model.specs.declared.allocation.Allocation.{Allocation}
+use Rattle.atlas_model.proofs.TreeLemmas.BoxLists.{same_grant, same_grant-itself, same_grant-true}
+use Rattle.atlas_model.proofs.ListLemmas.Counting.{count_by-cons, permuted_from_counts}
+use Rattle.atlas_model.proofs.TreeLemmas.TreeBasics.{one_if}
 
 abbrev slot_of : Grant → ℕ
 slot_of g = g.id % 2 ^ 24

@@ -2,13 +2,13 @@
 use Rattle.std.proofs.Common.{ℕ, suc, ◌+◌, ◌%◌, ◌^◌, ◌<◌, ◌≤◌, ◌≡◌, Bool, true, false, cond, List, [], ◌∷◌, map, length}
 use Rattle.std.proofs.Common.{All, IfOk, Result, Ok, refl, sym, subst, arith}
 use Rattle.std.proofs.lemmas.List.Elements.{All-nil, All-cons}
-use Rattle.guillotiere.specs.Replies.{grant_of, AreRising, IsExact}
+use Rattle.atlas_model.specs.Replies.{grant_of, AreRising, IsExact}
 use Rattle.guillotiere.specs.Slots.{nodes, node_at, use_count}
 use Rattle.guillotiere.specs.Slots.Lists.{is_free}
 use Rattle.guillotiere.specs.Stored.{Stored, IsAtlas, state_of}
-use Rattle.guillotiere.specs.Trees.{Grant}
+use Rattle.atlas_model.specs.Trees.{Grant}
 use Rattle.guillotiere.specs.Visits.{AreGrants, AreFreeAreas, is_alloc, allocation_at, allocated_from, free_areas}
-use Rattle.guillotiere.specs.declared.allocation.Allocation.{Allocation}
+use Rattle.atlas_model.specs.declared.allocation.Allocation.{Allocation}
 use Rattle.guillotiere.specs.declared.slots.Node.{Node}
 use Rattle.guillotiere.specs.declared.slots.NodeKind.{NodeKind}
 use Rattle.guillotiere.specs.declared.slots.Slot.{Slot}

@@ -13,7 +13,7 @@ use Rattle.guillotiere.specs.Slots.Numbered.{id_of}
 use Rattle.guillotiere.specs.Visits.{CalledAtGrant, is_alloc, allocation_at, allocated_from, free_areas}
 use Rattle.guillotiere.specs.Walks.{first_of, IsCallableAlong, IsCallableAlongGrants}
 use Rattle.guillotiere.specs.contracts.slots.NodeKind.{the_type}
-use Rattle.guillotiere.specs.declared.geometry.Rectangle.{Rectangle}
+use Rattle.atlas_model.specs.declared.geometry.Rectangle.{Rectangle}
 use Rattle.guillotiere.specs.declared.slots.NodeKind.{NodeKind}
 use Rattle.guillotiere.specs.declared.slots.Slot.{Slot}
 use denote.Enum.Bare.{sameb}

@@ -5,8 +5,8 @@ use Rattle.std.proofs.lemmas.Bool.{false≢true}
 use Rattle.std.proofs.lemmas.List.{length-map}
 use Rattle.std.proofs.lemmas.List.Elements.{All-nil, All-cons, All-head, All-rest, All-weaker}
 use Rattle.std.specs.Iterator.{Yields, CallableAtEachTurn}
-use Rattle.guillotiere.specs.Boxes.{Box}
-use Rattle.guillotiere.specs.Pixels.{box_of, rectangle_of}
+use Rattle.atlas_model.specs.Boxes.{Box}
+use Rattle.atlas_model.specs.Pixels.{box_of, rectangle_of}
 use Rattle.guillotiere.specs.Slots.{nodes, node_at, use_count}
 use Rattle.guillotiere.specs.Slots.Areas.{live_areas}
 use Rattle.guillotiere.specs.Slots.Lists.{is_free}
@@ -14,8 +14,8 @@ use Rattle.guillotiere.specs.Slots.Numbered.{id_of}
 use Rattle.guillotiere.specs.Stored.{Stored, IsAtlas, state_of}
 use Rattle.guillotiere.specs.Visits.{is_alloc, allocation_at, allocated_from, free_areas}
 use Rattle.guillotiere.specs.Walks.{first_of, IsShownArea, IsShownGrant}
-use Rattle.guillotiere.specs.declared.allocation.Allocation.{Allocation}
-use Rattle.guillotiere.specs.declared.geometry.Rectangle.{Rectangle}
+use Rattle.atlas_model.specs.declared.allocation.Allocation.{Allocation}
+use Rattle.atlas_model.specs.declared.geometry.Rectangle.{Rectangle}
 use Rattle.guillotiere.specs.declared.slots.Node.{Node}
 use Rattle.guillotiere.specs.declared.slots.NodeKind.{NodeKind}
 use Rattle.guillotiere.specs.declared.slots.Slot.{Slot}

@@ -9,12 +9,12 @@ use Rattle.guillotiere.specs.declared.search.best.Found.{Found}
 use Rattle.guillotiere.specs.declared.search.table.ListHead.{ListHead}
 use Rattle.guillotiere.specs.Search.Bands.{band_of, list_of, number_of, strip_of, IsInWindow}
 use Rattle.guillotiere.specs.Search.Bests.{HasSeen, IsSameBest}
-use Rattle.guillotiere.specs.Boxes.{Sides, IsPositive}
-use Rattle.guillotiere.specs.Choice.{Options, class_of}
+use Rattle.atlas_model.specs.Boxes.{Sides, IsPositive}
+use Rattle.atlas_model.specs.Choice.{Options, class_of}
 use Rattle.guillotiere.specs.Search.Items.{Item, item_at, item_box, item_sides, shown_item, shown_items, IsShowable}
 use Rattle.guillotiere.specs.Slots.Lists.{occurs}
 use Rattle.guillotiere.specs.Search.Lookups.{IsSpot, IsLowBut, HasShown, AreListed, IsStanding, HasAdded}
-use Rattle.guillotiere.specs.Pixels.{natural}
+use Rattle.atlas_model.specs.Pixels.{natural}
 use Rattle.guillotiere.specs.Search.Ranks.{no_rank}
 use Rattle.guillotiere.specs.Search.Searches.{Shown}
 use Rattle.guillotiere.specs.Search.Tables.{head_of, low_of, is_used_at}

@@ -6,8 +6,8 @@ use Rattle.guillotiere.specs.declared.search.best.Best.{Best}
 use Rattle.guillotiere.specs.declared.search.masks.Mask.{Mask}
 use Rattle.guillotiere.specs.declared.search.table.ListHead.{ListHead}
 use Rattle.guillotiere.specs.Search.Bands.{IsInWindow}
-use Rattle.guillotiere.specs.Boxes.{Sides}
-use Rattle.guillotiere.specs.Choice.{Options}
+use Rattle.atlas_model.specs.Boxes.{Sides}
+use Rattle.atlas_model.specs.Choice.{Options}
 use Rattle.guillotiere.specs.Search.Items.{Item}
 use Rattle.guillotiere.specs.Search.Lookups.{AreListed, HasAdded, IsInRow, IsInColumn, IsBeyond, IsInsideWindow, IsWindowOf}
 use Rattle.guillotiere.specs.Search.Masks.{has, IsMarked}

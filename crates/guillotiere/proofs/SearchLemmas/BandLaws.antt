@@ -3,9 +3,9 @@ use Rattle.std.proofs.Common.{◌≡◌, ℕ, zero, suc, ◌+◌, ◌-◌, ◌*�
 use Rattle.std.specs.Prelude.{if◌then◌else◌, int_le}
 use Rattle.std.proofs.lemmas.Bool.{cases_Bool, cond_both, cond-true, cond-false, ltb-true, ltb-false, leb-true, leb-false, le-leb, lt-leb, or_cases, or_from, or_parts, both_ways}
 use Rattle.std.proofs.lemmas.Int.{ints}
-use Rattle.guillotiere.specs.Boxes.{Sides, IsPositive}
-use Rattle.guillotiere.specs.Pixels.{natural}
-use Rattle.guillotiere.specs.Choice.{Options, AreValid, class_of, reaches}
+use Rattle.atlas_model.specs.Boxes.{Sides, IsPositive}
+use Rattle.atlas_model.specs.Pixels.{natural}
+use Rattle.atlas_model.specs.Choice.{Options, AreValid, class_of, reaches}
 use Rattle.guillotiere.specs.Search.Bands.{step_of, passes, band_of, list_of, border_of, start_of, IsInWindow}
 use Rattle.guillotiere.proofs.SearchLemmas.BandSteps.{step_of-most}
 

@@ -5,11 +5,11 @@ use Rattle.std.proofs.lemmas.Int.{ints}
 use Rattle.std.proofs.lemmas.List.Elements.{Contains-push_cases, Contains-append_left, Contains-append_cases}
 use Rattle.guillotiere.specs.declared.search.best.Best.{Best}
 use Rattle.guillotiere.specs.declared.search.best.Found.{Found}
-use Rattle.guillotiere.specs.declared.geometry.Rectangle.{Rectangle}
+use Rattle.atlas_model.specs.declared.geometry.Rectangle.{Rectangle}
 use Rattle.guillotiere.specs.Search.Bests.{IsAhead, IsKeptOf, HasSeen}
-use Rattle.guillotiere.specs.Boxes.{Sides, Box, box_sides, Fits, IsPositive}
-use Rattle.guillotiere.specs.Choice.{least_margin, HasEqualSide, ComesFirst}
-use Rattle.guillotiere.specs.Pixels.{natural, box_of, sides_of}
+use Rattle.atlas_model.specs.Boxes.{Sides, Box, box_sides, Fits, IsPositive}
+use Rattle.atlas_model.specs.Choice.{least_margin, HasEqualSide, ComesFirst}
+use Rattle.atlas_model.specs.Pixels.{natural, box_of, sides_of}
 use Rattle.guillotiere.specs.Search.Ranks.{rank_of, no_rank}
 use Rattle.guillotiere.specs.Rectangles.{IsUnsigned}
 use Rattle.guillotiere.specs.Search.Requests.{IsBetterMargin, PrecedesBox}

@@ -3,10 +3,10 @@ use Rattle.std.proofs.Common.{◌≡◌, ℕ, ◌-◌, ◌≤◌, ◌↔◌, ◌
 use Rattle.std.proofs.lemmas.Int.{ints}
 use Rattle.std.proofs.lemmas.Bool.{cases_lt}
 use Rattle.std.proofs.lemmas.List.Elements.{Contains-push, Contains-push_cases, Contains-append_left}
-use Rattle.guillotiere.specs.declared.geometry.Rectangle.{Rectangle}
-use Rattle.guillotiere.specs.Boxes.{Sides, Box, box_sides, Fits}
-use Rattle.guillotiere.specs.Choice.{least_margin, HasEqualSide, ComesFirst}
-use Rattle.guillotiere.specs.Pixels.{natural, box_of, rectangle_of}
+use Rattle.atlas_model.specs.declared.geometry.Rectangle.{Rectangle}
+use Rattle.atlas_model.specs.Boxes.{Sides, Box, box_sides, Fits}
+use Rattle.atlas_model.specs.Choice.{least_margin, HasEqualSide, ComesFirst}
+use Rattle.atlas_model.specs.Pixels.{natural, box_of, rectangle_of}
 use Rattle.guillotiere.specs.Search.Requests.{IsBefore, IsBetterMargin, PrecedesBox}
 use Rattle.guillotiere.specs.Rectangles.{IsUnsigned}
 use Rattle.guillotiere.specs.Search.Searches.{Shown, IsAsGood, IsBestShown, FitsNone}

@@ -5,19 +5,19 @@ use Rattle.std.proofs.lemmas.Bool.Decides.{nat_tests}
 use Rattle.guillotiere.specs.declared.search.bands.Borders.{Borders}
 use Rattle.guillotiere.specs.declared.search.bands.Place.{Place}
 use Rattle.guillotiere.specs.declared.search.bands.Window.{Window}
-use Rattle.guillotiere.specs.declared.geometry.Size.{Size}
+use Rattle.atlas_model.specs.declared.geometry.Size.{Size}
 use Rattle.guillotiere.specs.declared.search.best.Best.{Best}
 use Rattle.guillotiere.specs.declared.search.masks.Mask.{Mask}
 use Rattle.guillotiere.specs.declared.search.table.ListHead.{ListHead}
 use Rattle.guillotiere.specs.Search.Bands.{band_of, start_of}
 use Rattle.guillotiere.specs.Search.Bests.{HasSeen}
-use Rattle.guillotiere.specs.Boxes.{Sides, IsPositive}
-use Rattle.guillotiere.specs.Choice.{Options, AreValid, class_of, HasEqualSide}
+use Rattle.atlas_model.specs.Boxes.{Sides, IsPositive}
+use Rattle.atlas_model.specs.Choice.{Options, AreValid, class_of, HasEqualSide}
 use Rattle.guillotiere.specs.Search.Items.{Item, item_at, item_box, item_sides, shown_item, shown_items}
 use Rattle.guillotiere.specs.Slots.Lists.{occurs}
 use Rattle.guillotiere.specs.Search.Lookups.{AreBorders, AreListed, FitsItemsFrom, HasAdded, HasSearched, IsInRow, IsInColumn, IsBeyond, IsInsideWindow, IsSearch, IsWindowOf}
 use Rattle.guillotiere.specs.Search.Masks.{has, IsMarked}
-use Rattle.guillotiere.specs.Pixels.{sides_of}
+use Rattle.atlas_model.specs.Pixels.{sides_of}
 use Rattle.guillotiere.specs.Search.Searches.{Shown}
 use Rattle.guillotiere.specs.Search.Tables.{is_used_at}
 use Rattle.guillotiere.proofs.SearchLemmas.Adding.{added-then, added-weaker, positive-at, row_at, column_at, used-at}

@@ -4,7 +4,7 @@ use Rattle.std.specs.Prelude.{◌==◌}
 use Rattle.std.proofs.lemmas.Bool.{cases_eq, both_ways, cond-true, cond-false, eq-eqb, ne_eqb}
 use Rattle.guillotiere.specs.declared.search.table.ListHead.{ListHead}
 use Rattle.guillotiere.specs.Search.Bands.{list_of, strip_of}
-use Rattle.guillotiere.specs.Choice.{Options}
+use Rattle.atlas_model.specs.Choice.{Options}
 use Rattle.guillotiere.specs.Search.Items.{Item, item_at, item_box, item_sides, IsPath}
 use Rattle.guillotiere.specs.Slots.Links.{IsSolid, held_with}
 use Rattle.guillotiere.specs.Slots.Lists.{occurs, without}

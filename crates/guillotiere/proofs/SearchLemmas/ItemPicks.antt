@@ -4,11 +4,11 @@ use Rattle.std.specs.Prelude.{Contains}
 use Rattle.guillotiere.specs.declared.search.best.Best.{Best}
 use Rattle.guillotiere.specs.declared.search.best.Found.{Found}
 use Rattle.guillotiere.specs.declared.search.table.ListHead.{ListHead}
-use Rattle.guillotiere.specs.Boxes.{Sides, Box, Fits, box_sides}
-use Rattle.guillotiere.specs.Choice.{Options, class_of, IsFitting, IsPick}
+use Rattle.atlas_model.specs.Boxes.{Sides, Box, Fits, box_sides}
+use Rattle.atlas_model.specs.Choice.{Options, class_of, IsFitting, IsPick}
 use Rattle.guillotiere.specs.Search.Items.{Item, item_at, item_box, item_sides}
 use Rattle.guillotiere.specs.Search.Lookups.{HasSearched, IsBestIn, FitsNoneIn, FitsItemsFrom, AreFreeItems}
-use Rattle.guillotiere.specs.Pixels.{box_of}
+use Rattle.atlas_model.specs.Pixels.{box_of}
 use Rattle.guillotiere.specs.Search.Ranks.{no_rank}
 use Rattle.guillotiere.specs.Search.Searches.{Shown, shown_at, FitsOnlyFrom, AreOfClass}
 use Rattle.guillotiere.proofs.SearchLemmas.BandLaws.{class_of-most}

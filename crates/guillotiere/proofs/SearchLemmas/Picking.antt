@@ -5,8 +5,8 @@ use Rattle.std.specs.List.{Contains, All}
 use Rattle.std.proofs.lemmas.Int.{ints}
 use Rattle.std.proofs.lemmas.Bool.{eq-eqb, ne_eqb}
 use Rattle.std.proofs.lemmas.List.Elements.{All-contains}
-use Rattle.guillotiere.specs.Boxes.{Sides, Box, box_sides, Fits, IsNonempty, IsWithin}
-use Rattle.guillotiere.specs.Choice.{Options, up, rounded, reaches, class_of, HasEqualSide, IsFitting, IsCandidate, HasBetterMargin, IsPick, HasNoRoom}
+use Rattle.atlas_model.specs.Boxes.{Sides, Box, box_sides, Fits, IsNonempty, IsWithin}
+use Rattle.atlas_model.specs.Choice.{Options, up, rounded, reaches, class_of, HasEqualSide, IsFitting, IsCandidate, HasBetterMargin, IsPick, HasNoRoom}
 use Rattle.guillotiere.specs.Search.Requests.{CanBeRounded}
 use Rattle.guillotiere.specs.Search.Searches.{Shown, shown_at, IsAsGood, IsBestShown, FitsOnlyFrom, AreOfClass}
 use Rattle.guillotiere.proofs.SearchLemmas.Choosing.{margin-equal_side, equal_side-margin, equal_side_cases}

@@ -8,17 +8,17 @@ use Rattle.std.proofs.lemmas.List.{get_or-map}
 use Rattle.guillotiere.specs.declared.search.best.Best.{Best}
 use Rattle.guillotiere.specs.declared.search.best.Found.{Found}
 use Rattle.guillotiere.specs.declared.search.bands.Place.{Place}
-use Rattle.guillotiere.specs.declared.geometry.Rectangle.{Rectangle}
+use Rattle.atlas_model.specs.declared.geometry.Rectangle.{Rectangle}
 use Rattle.guillotiere.specs.declared.slots.Link.{Link}
 use Rattle.guillotiere.specs.Search.Bands.{strip_of}
 use Rattle.guillotiere.specs.Search.Bests.{HasSeen, IsLeast, IsLooked, IsSameBest}
-use Rattle.guillotiere.specs.Boxes.{Sides}
+use Rattle.atlas_model.specs.Boxes.{Sides}
 use Rattle.guillotiere.specs.Search.Items.{Item, no_item, item_at, shown_item, shown_items, IsPath, IsPrevious, IsShowable}
 use Rattle.guillotiere.specs.Slots.Links.{IsSolid}
 use Rattle.guillotiere.specs.Slots.Lists.{occurs}
 use Rattle.guillotiere.specs.Search.Lookups.{IsSpot, IsLowBut, HasShown}
 use Rattle.guillotiere.specs.Slots.Numbered.{same}
-use Rattle.guillotiere.specs.Pixels.{natural, box_of}
+use Rattle.atlas_model.specs.Pixels.{natural, box_of}
 use Rattle.guillotiere.specs.Search.Searches.{Shown, shown_at}
 use Rattle.guillotiere.specs.Slots.{no_slot}
 use Rattle.guillotiere.proofs.ListLemmas.Occurrences.{same-self, same-ne}

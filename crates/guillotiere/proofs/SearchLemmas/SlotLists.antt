@@ -6,9 +6,9 @@ use Rattle.guillotiere.specs.declared.slots.Slot.{Slot}
 use Rattle.guillotiere.specs.declared.search.table.ListHead.{ListHead}
 use Rattle.guillotiere.specs.declared.search.best.Found.{Found}
 use Rattle.guillotiere.specs.Search.Bands.{list_of, strip_of}
-use Rattle.guillotiere.specs.Boxes.{Box, Sides, box_sides}
-use Rattle.guillotiere.specs.Choice.{Options, IsPick}
-use Rattle.guillotiere.specs.Pixels.{box_of}
+use Rattle.atlas_model.specs.Boxes.{Box, Sides, box_sides}
+use Rattle.atlas_model.specs.Choice.{Options, IsPick}
+use Rattle.atlas_model.specs.Pixels.{box_of}
 use Rattle.guillotiere.specs.Search.Items.{Item, item_at, item_box, item_sides, IsPath}
 use Rattle.guillotiere.specs.Slots.Links.{IsSolid}
 use Rattle.guillotiere.specs.Slots.Lists.{Chain, front, is_free, node_sides, node_strip, occurs}

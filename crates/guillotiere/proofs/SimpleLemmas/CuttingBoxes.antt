@@ -5,17 +5,17 @@ use Rattle.std.proofs.lemmas.List.Elements.{filter-append}
 use Rattle.std.proofs.lemmas.List.Sums.{sum_by-cons, sum_by-append}
 use Rattle.guillotiere.specs.declared.search.best.Found.{Found}
 use Rattle.guillotiere.specs.declared.cut.Rest.{Rest}
-use Rattle.guillotiere.specs.declared.geometry.Rectangle.{Rectangle}
+use Rattle.atlas_model.specs.declared.geometry.Rectangle.{Rectangle}
 use Rattle.guillotiere.specs.declared.search.table.ListHead.{ListHead}
-use Rattle.guillotiere.specs.Boxes.{Box, Sides, AreSameBoxes}
-use Rattle.guillotiere.specs.Choice.{Options}
-use Rattle.guillotiere.specs.Simple.FreeLists.{kept_of}
+use Rattle.atlas_model.specs.Boxes.{Box, Sides, AreSameBoxes}
+use Rattle.atlas_model.specs.Choice.{Options}
+use Rattle.guillotiere.specs.FreeBoxes.FreeLists.{kept_of}
 use Rattle.guillotiere.specs.Search.Items.{Item}
 use Rattle.guillotiere.specs.Slots.Links.{IsSolid}
 use Rattle.guillotiere.specs.Search.Lookups.{AreListed, IsStanding}
-use Rattle.guillotiere.specs.Pixels.{box_of}
+use Rattle.atlas_model.specs.Pixels.{box_of}
 use Rattle.guillotiere.specs.Rectangles.{IsRestOf}
-use Rattle.guillotiere.specs.Simple.{kept_rest}
+use Rattle.atlas_model.specs.Simple.{kept_rest}
 
 -- The picked rectangle is exact.
 pub picked-exact : (o : Options) (heads : List ListHead) (es : List Item) (found : Found) → AreListed o heads es → IsStanding o heads es found → IsSolid found.rectangle

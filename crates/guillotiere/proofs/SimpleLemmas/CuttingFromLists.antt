@@ -1,11 +1,11 @@
 -- A picked box of the simple allocator gives way to what is kept of it.
 use Rattle.std.proofs.Common.{◌≡◌, ℕ, ◌-◌, ◌<◌, ◌≤◌, ℤ, pos, negsuc, ◌-ℤ◌, ◌≤ℤ◌, ◌<ℤ◌, FitsSigned, w32, refl, ap, sym, subst, arith}
 use Rattle.std.proofs.lemmas.Int.{ints}
-use Rattle.guillotiere.specs.declared.geometry.Size.{Size}
-use Rattle.guillotiere.specs.declared.geometry.Rectangle.{Rectangle}
-use Rattle.guillotiere.specs.Boxes.{Box, Sides, box_sides, Fits, IsPositive}
-use Rattle.guillotiere.specs.Choice.{Options, AreValid, rounded}
-use Rattle.guillotiere.specs.Pixels.{natural, box_of, rectangle_of, sides_of, size_of, IsMeasurable}
+use Rattle.atlas_model.specs.declared.geometry.Size.{Size}
+use Rattle.atlas_model.specs.declared.geometry.Rectangle.{Rectangle}
+use Rattle.atlas_model.specs.Boxes.{Box, Sides, box_sides, Fits, IsPositive}
+use Rattle.atlas_model.specs.Choice.{Options, AreValid, rounded}
+use Rattle.atlas_model.specs.Pixels.{natural, box_of, rectangle_of, sides_of, size_of, IsMeasurable}
 use Rattle.guillotiere.specs.Rectangles.{FitsInto, IsUnsigned}
 use Rattle.guillotiere.specs.Search.Requests.{CanBeRounded}
 use Rattle.guillotiere.proofs.SearchLemmas.Picking.{up-le}

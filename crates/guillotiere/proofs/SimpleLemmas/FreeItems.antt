@@ -2,8 +2,8 @@
 use Rattle.std.proofs.Common.{◌≡◌, ℕ, zero, suc, ◌<◌, inl, inr, true, false, List, [], ◌∷◌, length, get_or, refl, sym, subst, arith}
 use Rattle.std.specs.List.{Contains}
 use Rattle.std.proofs.lemmas.Bool.{cases_Bool, both_ways, cond-true, cond-false}
-use Rattle.guillotiere.specs.Boxes.{Box}
-use Rattle.guillotiere.specs.Simple.BoxShelves.{free_item_boxes}
+use Rattle.atlas_model.specs.Boxes.{Box}
+use Rattle.guillotiere.specs.FreeBoxes.BoxShelves.{free_item_boxes}
 use Rattle.guillotiere.specs.Search.Items.{Item, item_at, item_box}
 use Rattle.guillotiere.specs.Search.Lookups.{AreFreeItems}
 

@@ -1,16 +1,16 @@
 -- A request that the simple allocator grants.
 use Rattle.std.proofs.Common.{◌≡◌, List, ◌∷◌, ◌++◌, arith}
-use Rattle.guillotiere.specs.declared.geometry.Rectangle.{Rectangle}
-use Rattle.guillotiere.specs.declared.geometry.Size.{Size}
-use Rattle.guillotiere.specs.declared.options.AllocatorOptions.{AllocatorOptions}
-use Rattle.guillotiere.specs.Boxes.{Sides, box_at, AreSameBoxes}
-use Rattle.guillotiere.specs.Simple.BoxShelves.{free_item_boxes}
-use Rattle.guillotiere.specs.Choice.{rounded, IsPick}
-use Rattle.guillotiere.specs.Simple.FreeLists.{simple_state_of}
+use Rattle.atlas_model.specs.declared.geometry.Rectangle.{Rectangle}
+use Rattle.atlas_model.specs.declared.geometry.Size.{Size}
+use Rattle.atlas_model.specs.declared.options.AllocatorOptions.{AllocatorOptions}
+use Rattle.atlas_model.specs.Boxes.{Sides, box_at, AreSameBoxes}
+use Rattle.guillotiere.specs.FreeBoxes.BoxShelves.{free_item_boxes}
+use Rattle.atlas_model.specs.Choice.{rounded, IsPick}
+use Rattle.guillotiere.specs.FreeBoxes.FreeLists.{simple_state_of}
 use Rattle.guillotiere.specs.Search.Items.{Item}
-use Rattle.guillotiere.specs.Pixels.{box_of, rectangle_of, sides_of, size_of, options_of}
+use Rattle.atlas_model.specs.Pixels.{box_of, rectangle_of, sides_of, size_of, options_of}
 use Rattle.guillotiere.specs.Search.Requests.{CanBeRounded}
-use Rattle.guillotiere.specs.Simple.{kept_rest, SimplyGrants}
+use Rattle.atlas_model.specs.Simple.{kept_rest, SimplyGrants}
 
 pub simply_grants : (old new : List Item) (whole : Sides) (options : AllocatorOptions) (s : Sides) (size : Size) (picked granted : Rectangle)
     → CanBeRounded (options_of options) s × (size ≡ size_of (rounded (options_of options) s))

@@ -1,13 +1,13 @@
 -- Calls of a simple allocator made in turn.
 use Rattle.std.proofs.Common.{◌≡◌, ℕ, ◌+◌, ◌<◌, take, get_or, List, [], ◌∷◌, ◌++◌, length, map, suc, ap, refl, subst, arith}
 use Rattle.std.proofs.lemmas.List.{take_more, map-append, length-map}
-use Rattle.guillotiere.specs.States.{State}
-use Rattle.guillotiere.specs.Simple.{SimpleState, IsSimple, SimpleAtlasCall, SimpleAnswer, SimpleStep}
-use Rattle.guillotiere.specs.Simple.SimpleRuns.{SimpleRun}
-use Rattle.guillotiere.specs.Simple.SimpleSessions.{simple_calls_of, simple_answers_of, IsSimpleSession}
+use Rattle.atlas_model.specs.States.{State}
+use Rattle.atlas_model.specs.Simple.{SimpleState, IsSimple, SimpleAtlasCall, SimpleAnswer, SimpleStep}
+use Rattle.atlas_model.specs.Simple.SimpleRuns.{SimpleRun}
+use Rattle.guillotiere.specs.SimpleSessions.{simple_calls_of, simple_answers_of, IsSimpleSession}
 use Rattle.guillotiere.specs.declared.session.simple.SimpleCall.{SimpleCall}
 use Rattle.guillotiere.specs.declared.session.simple.SimpleReply.{SimpleReply}
-use Rattle.guillotiere.proofs.SimpleLemmas.SimpleRunning.{simple_runs_keep_guard}
+use Rattle.atlas_model.proofs.SimpleLemmas.SimpleRunning.{simple_runs_keep_guard}
 
 -- One step more at the end.
 pub run-more : (calls : List SimpleAtlasCall) (answers : List SimpleAnswer) (old mid new : SimpleState) (call : SimpleAtlasCall) (answer : SimpleAnswer)

@@ -6,26 +6,26 @@ use Rattle.std.proofs.lemmas.Bool.{and_parts}
 use Rattle.std.proofs.lemmas.Bool.Decides.{nat_tests, Decides-int_eq}
 use Rattle.std.proofs.lemmas.List.Elements.{All-nil, All-cons, All-head, All-tail, All-weaker}
 use Rattle.std.proofs.lemmas.List.Sums.{sum_by-append}
-use Rattle.guillotiere.specs.declared.geometry.Size.{Size}
-use Rattle.guillotiere.specs.declared.geometry.Rectangle.{Rectangle}
-use Rattle.guillotiere.specs.declared.options.AllocatorOptions.{AllocatorOptions}
-use Rattle.guillotiere.specs.Boxes.{Axis, Box, Sides, whole_box, Fits, IsPositive, IsNonempty, IsWithin, AreSameBoxes}
-use Rattle.guillotiere.specs.Boxes.Axis.{Horizontal, Vertical}
-use Rattle.guillotiere.specs.Cuts.{split_along, leftover_along}
-use Rattle.guillotiere.specs.Choice.{Options, AreValid}
-use Rattle.guillotiere.specs.Pixels.{box_of, sides_of, size_of, options_of}
+use Rattle.atlas_model.specs.declared.geometry.Size.{Size}
+use Rattle.atlas_model.specs.declared.geometry.Rectangle.{Rectangle}
+use Rattle.atlas_model.specs.declared.options.AllocatorOptions.{AllocatorOptions}
+use Rattle.atlas_model.specs.Boxes.{Axis, Box, Sides, whole_box, Fits, IsPositive, IsNonempty, IsWithin, AreSameBoxes}
+use Rattle.atlas_model.specs.Boxes.Axis.{Horizontal, Vertical}
+use Rattle.atlas_model.specs.Cuts.{split_along, leftover_along}
+use Rattle.atlas_model.specs.Choice.{Options, AreValid}
+use Rattle.atlas_model.specs.Pixels.{box_of, sides_of, size_of, options_of}
 use Rattle.guillotiere.specs.Rectangles.{IsUnsigned}
-use Rattle.guillotiere.specs.Replies.{IsExact}
-use Rattle.guillotiere.specs.States.{State, free_in, IsSound}
+use Rattle.atlas_model.specs.Replies.{IsExact}
+use Rattle.atlas_model.specs.States.{State, free_in, IsSound}
 use Rattle.guillotiere.specs.Visits.{AreFreeAreas}
-use Rattle.guillotiere.specs.Simple.{SimpleState, IsSimple, simple_start, SimplyGrows, StartsFrom, is_kept, kept_rest}
-use Rattle.guillotiere.specs.Simple.FreeLists.{IsStoredState, simple_state_of}
-use Rattle.guillotiere.specs.Simple.BoxShelves.{BoxShelf, free_item_boxes, AreKept}
+use Rattle.atlas_model.specs.Simple.{SimpleState, IsSimple, simple_start, SimplyGrows, StartsFrom, is_kept, kept_rest}
+use Rattle.guillotiere.specs.FreeBoxes.FreeLists.{IsStoredState, simple_state_of}
+use Rattle.guillotiere.specs.FreeBoxes.BoxShelves.{BoxShelf, free_item_boxes, AreKept}
 use Rattle.guillotiere.specs.Search.Items.{Item}
 use Rattle.guillotiere.proofs.SimpleLemmas.Storing.{whole_rectangle, whole-box}
-use Rattle.guillotiere.proofs.TreeLemmas.BoxLists.{free_in_place}
-use Rattle.guillotiere.proofs.SimpleLemmas.SimpleGrants.{start-simple, count-none, none-count, misplaced, well_placed, not_misplaced}
-use Rattle.guillotiere.proofs.SimpleLemmas.SimpleSteps.{grow-simple, starts-simple}
+use Rattle.atlas_model.proofs.TreeLemmas.BoxLists.{free_in_place}
+use Rattle.atlas_model.proofs.SimpleLemmas.SimpleGrants.{start-simple, count-none, none-count, misplaced, well_placed, not_misplaced}
+use Rattle.atlas_model.proofs.SimpleLemmas.SimpleSteps.{grow-simple, starts-simple}
 
 -- A growth.
 

@@ -4,12 +4,12 @@ use Rattle.std.specs.Bool.{IsTrue}
 use Rattle.std.specs.List.{Any, Contains}
 use Rattle.std.proofs.lemmas.Int.{ints}
 use Rattle.std.proofs.lemmas.List.Elements.{All-contains}
-use Rattle.guillotiere.specs.declared.geometry.Size.{Size}
-use Rattle.guillotiere.specs.declared.geometry.Rectangle.{Rectangle}
-use Rattle.guillotiere.specs.declared.error.AtlasError.{AtlasError}
-use Rattle.guillotiere.specs.declared.options.AllocatorOptions.{AllocatorOptions}
-use Rattle.guillotiere.specs.Boxes.{Box, Sides, box_sides, whole_box, IsPositive, IsNonempty, IsWithin}
-use Rattle.guillotiere.specs.Simple.BoxShelves.{BoxShelf, free_item_boxes, has_width, stored_item, AreKept}
+use Rattle.atlas_model.specs.declared.geometry.Size.{Size}
+use Rattle.atlas_model.specs.declared.geometry.Rectangle.{Rectangle}
+use Rattle.atlas_model.specs.declared.error.AtlasError.{AtlasError}
+use Rattle.atlas_model.specs.declared.options.AllocatorOptions.{AllocatorOptions}
+use Rattle.atlas_model.specs.Boxes.{Box, Sides, box_sides, whole_box, IsPositive, IsNonempty, IsWithin}
+use Rattle.guillotiere.specs.FreeBoxes.BoxShelves.{BoxShelf, free_item_boxes, has_width, stored_item, AreKept}
 use Rattle.guillotiere.specs.Search.Items.{Item, no_item, item_at, item_box}
 use Rattle.guillotiere.specs.Slots.Links.{IsSolid}
 use Rattle.guillotiere.specs.Search.Lookups.{AreListed}
@@ -18,13 +18,13 @@ use Rattle.guillotiere.specs.declared.search.table.ListHead.{ListHead}
 use Rattle.guillotiere.proofs.SimpleLemmas.BoxStoring.{exact-width, free-inside, read-item}
 use Rattle.guillotiere.proofs.SimpleLemmas.FreeItems.{are-free}
 use Rattle.std.proofs.lemmas.List.{get_or_default, length-map}
-use Rattle.guillotiere.specs.Choice.{Options}
-use Rattle.guillotiere.specs.Pixels.{natural, box_of, rectangle_of, sides_of, options_of}
+use Rattle.atlas_model.specs.Choice.{Options}
+use Rattle.atlas_model.specs.Pixels.{natural, box_of, rectangle_of, sides_of, options_of}
 use Rattle.guillotiere.specs.Rectangles.{IsUnsigned}
-use Rattle.guillotiere.specs.Simple.SimpleAtlasCall.{Allocate}
-use Rattle.guillotiere.specs.Simple.{SimpleStep, simple_answer}
-use Rattle.guillotiere.specs.Simple.FreeLists.{IsStoredState, simple_state_of}
-use Rattle.guillotiere.proofs.SimpleLemmas.SimpleSteps.{step-simple}
+use Rattle.atlas_model.specs.Simple.SimpleAtlasCall.{Allocate}
+use Rattle.atlas_model.specs.Simple.{SimpleStep, simple_answer}
+use Rattle.guillotiere.specs.FreeBoxes.FreeLists.{IsStoredState, simple_state_of}
+use Rattle.atlas_model.proofs.SimpleLemmas.SimpleSteps.{step-simple}
 use Rattle.guillotiere.proofs.StoreLemmas.Sizes.{size_is}
 
 pub natural-fits : (z : ℤ) → FitsSigned w32 z → natural z ≤ 2147483647

@@ -4,8 +4,8 @@ use Rattle.std.proofs.lemmas.Bool.{true≢false}
 use Rattle.guillotiere.specs.declared.slots.Node.{Node}
 use Rattle.guillotiere.specs.declared.slots.NodeKind.TheVariants as kind
 use Rattle.guillotiere.specs.Slots.{node_at, use_count, no_slot}
-use Rattle.guillotiere.specs.Trees as tree
-use Rattle.guillotiere.specs.Trees.{begins_free, is_idle, IsNormal}
+use Rattle.atlas_model.specs.Trees as tree
+use Rattle.atlas_model.specs.Trees.{begins_free, is_idle, IsNormal}
 use Rattle.guillotiere.specs.Slots.Numbered.{Numbered, tally, first_slot, erase, End, Free, Alloc, Seq}
 use Rattle.guillotiere.specs.Slots.Standing.{Sequence, Standing, Stands, inside}
 use Rattle.guillotiere.specs.Slots.Calm.{IsCalmAt, IsCalmBut, NoneEmpty}

@@ -7,16 +7,16 @@ use Rattle.guillotiere.specs.declared.slots.Slot.{Slot}
 use Rattle.guillotiere.specs.declared.slots.Link.{Link}
 use Rattle.guillotiere.specs.declared.slots.Node.{Node}
 use Rattle.guillotiere.specs.declared.search.table.ListHead.{ListHead}
-use Rattle.guillotiere.specs.declared.geometry.Rectangle.{Rectangle}
+use Rattle.atlas_model.specs.declared.geometry.Rectangle.{Rectangle}
 use Rattle.guillotiere.specs.declared.slots.NodeKind.{NodeKind}
 use Rattle.guillotiere.specs.declared.slots.NodeKind.TheVariants as kind
-use Rattle.guillotiere.specs.Boxes.{Box, IsNonempty, moved, origin}
-use Rattle.guillotiere.specs.Pixels.{box_of, rectangle_of}
-use Rattle.guillotiere.specs.Trees.{leaves, ungranted, IsCut}
+use Rattle.atlas_model.specs.Boxes.{Box, IsNonempty, moved, origin}
+use Rattle.atlas_model.specs.Pixels.{box_of, rectangle_of}
+use Rattle.atlas_model.specs.Trees.{leaves, ungranted, IsCut}
 use Rattle.guillotiere.specs.Slots.{nodes, rings, node_at, use_count, no_slot}
 use Rattle.guillotiere.specs.Slots.Numbered.{Numbered, tally, erase, End, Free, Alloc, Seq}
 use Rattle.guillotiere.specs.Slots.Standing.{Sequence, Standing, Stands, spot, member_box, inside}
-use Rattle.guillotiere.specs.Choice.{Options, AreValid}
+use Rattle.atlas_model.specs.Choice.{Options, AreValid}
 use Rattle.guillotiere.specs.Slots.Lists.{AreFiled, Places}
 use Rattle.guillotiere.specs.Slots.Links.{IsSolid}
 use Rattle.guillotiere.specs.Search.Picks.{node_box, IsFreeSlot, AreFreeBoxes, IsSearchable}

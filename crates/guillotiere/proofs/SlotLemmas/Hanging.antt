@@ -7,12 +7,12 @@ use Rattle.guillotiere.specs.declared.slots.NodeKind.{NodeKind}
 use Rattle.guillotiere.specs.declared.slots.NodeKind.TheVariants as kind
 use Rattle.guillotiere.specs.declared.slots.Slot.{Slot}
 use Rattle.guillotiere.specs.declared.cut.Orientation.{Orientation}
-use Rattle.guillotiere.specs.declared.geometry.Rectangle.{Rectangle}
-use Rattle.guillotiere.specs.declared.geometry.Size.{Size}
-use Rattle.guillotiere.specs.Boxes.{other}
-use Rattle.guillotiere.specs.Pixels.{rectangle_of, sides_of, size_of}
+use Rattle.atlas_model.specs.declared.geometry.Rectangle.{Rectangle}
+use Rattle.atlas_model.specs.declared.geometry.Size.{Size}
+use Rattle.atlas_model.specs.Boxes.{other}
+use Rattle.atlas_model.specs.Pixels.{rectangle_of, sides_of, size_of}
 use Rattle.guillotiere.specs.Slots.Parts.{flipped}
-use Rattle.guillotiere.specs.Trees.{total}
+use Rattle.atlas_model.specs.Trees.{total}
 use Rattle.guillotiere.specs.Slots.{nodes, node_at, use_count, no_slot, axis_of, KeepsUse}
 use Rattle.guillotiere.specs.Slots.Numbered.{Numbered, erase, tally, first_slot, same, End, Free, Alloc, Seq}
 use Rattle.guillotiere.specs.Slots.Standing.{Sequence, Standing, Stands, IsLinkedIn, inside, member_box}
@@ -21,7 +21,7 @@ use Rattle.guillotiere.specs.Slots.SlotCalls.{BeginsAt}
 use Rattle.guillotiere.proofs.AtlasLemmas.Observing.{nonempty-total}
 use Rattle.guillotiere.proofs.SlotLemmas.Frames.{Standing-same, IsWritten, IsWritten-by, same-self, same-ne, keeps-same, used-le, ne-from_same, ne-from_count}
 use Rattle.guillotiere.proofs.SlotLemmas.JoiningWrites.{none-unused}
-use Rattle.guillotiere.proofs.TreeLemmas.TreeBasics.{other_twice}
+use Rattle.atlas_model.proofs.TreeLemmas.TreeBasics.{other_twice}
 use Rattle.guillotiere.proofs.SlotLemmas.Wrapping.{axis_of-flipped}
 use Rattle.guillotiere.proofs.SlotLemmas.Reading.{first-axis}
 use Rattle.guillotiere.proofs.SlotLemmas.Following.{outermost, outermost-few, followers, followers-outermost, begins-inside}

@@ -1,7 +1,7 @@
 -- Two free neighbours become one.
 use Rattle.std.proofs.Common.{ℕ, ◌+◌, ◌<◌, ◌≤◌, ◌≡◌, List, refl, sym, ap, ◌∙◌, inl, inr, arith, add_assoc}
 use Rattle.guillotiere.specs.declared.slots.Node.{Node}
-use Rattle.guillotiere.specs.Pixels.{rectangle_of}
+use Rattle.atlas_model.specs.Pixels.{rectangle_of}
 use Rattle.guillotiere.specs.declared.slots.NodeKind.TheVariants as kind
 use Rattle.guillotiere.specs.Slots.{node_at, use_count, no_slot, KeepsUse}
 use Rattle.guillotiere.specs.Slots.Numbered.{Numbered, tally, first_slot, same, joined, grown_by, is_free_at, End, Free, Alloc, Seq}

@@ -4,17 +4,17 @@ use Rattle.std.specs.List.{count_by}
 use Rattle.guillotiere.specs.declared.slots.Node.{Node}
 use Rattle.guillotiere.specs.declared.slots.NodeKind.{NodeKind}
 use Rattle.guillotiere.specs.declared.slots.NodeKind.TheVariants as kind
-use Rattle.guillotiere.specs.Boxes.{Box, other, moved}
-use Rattle.guillotiere.specs.Pixels.{box_of}
-use Rattle.guillotiere.specs.Trees.{Grant, grant}
+use Rattle.atlas_model.specs.Boxes.{Box, other, moved}
+use Rattle.atlas_model.specs.Pixels.{box_of}
+use Rattle.atlas_model.specs.Trees.{Grant, grant}
 use Rattle.guillotiere.specs.Slots.{node_at, use_count, no_slot}
 use Rattle.guillotiere.specs.Slots.Lists.{is_free}
 use Rattle.guillotiere.specs.Slots.Numbered.{Numbered, weigh, id_of, erase, End, Free, Alloc, Seq}
 use Rattle.guillotiere.specs.Slots.Standing.{Sequence, Standing, Stands, inside, spot}
-use Rattle.guillotiere.specs.Replies.{grant_of}
+use Rattle.atlas_model.specs.Replies.{grant_of}
 use Rattle.guillotiere.specs.Visits.{is_alloc, allocated_from, free_areas}
-use Rattle.guillotiere.proofs.TreeLemmas.TreeBasics.{one_if, live_among, free_among, live_among-seq, free_among-seq}
-use Rattle.guillotiere.proofs.ListLemmas.Counting.{count_by-cons, count_by-append}
+use Rattle.atlas_model.proofs.TreeLemmas.TreeBasics.{one_if, live_among, free_among, live_among-seq, free_among-seq}
+use Rattle.atlas_model.proofs.ListLemmas.Counting.{count_by-cons, count_by-append}
 use Rattle.guillotiere.proofs.SlotLemmas.SlotSums.{slot_sum, weigh-Stands}
 use Rattle.guillotiere.proofs.SlotLemmas.Spots.{moved-spot, spot-other}
 

@@ -3,14 +3,14 @@ use Rattle.std.proofs.Common.{ℕ, ◌+◌, ◌<◌, ◌≡◌, List, refl, sym,
 use Rattle.std.proofs.lemmas.Bool.{cases_eq, eq-eqb, ne_eqb, cond-true, cond-false}
 use Rattle.guillotiere.specs.declared.slots.Node.{Node}
 use Rattle.guillotiere.specs.Slots.{node_at, no_slot}
-use Rattle.guillotiere.specs.Trees as tree
-use Rattle.guillotiere.specs.Changes.{free_before, seq_before, nf, mark, only}
+use Rattle.atlas_model.specs.Trees as tree
+use Rattle.atlas_model.specs.Changes.{free_before, seq_before, nf, mark, only}
 use Rattle.guillotiere.specs.Slots.Numbered.{Numbered, tally, same, is_free_at, is_seq_at, marked, joined, grown_by, lifted, lifted_to, erase, id_of, numbers, End, Free, Alloc, Seq}
 use Rattle.guillotiere.specs.Slots.Standing.{Sequence, Standing, inside}
 use Rattle.guillotiere.proofs.SlotLemmas.Frames.{same-self}
 use Rattle.guillotiere.proofs.SlotLemmas.Marking.{marked-absent}
 use Rattle.guillotiere.proofs.SlotLemmas.Editing.{IsKept, edited-keeps, joining, lifting, free_here, seq_here}
-use Rattle.guillotiere.proofs.TreeLemmas.TreeNormal.{free_before-twice}
+use Rattle.atlas_model.proofs.TreeLemmas.TreeNormal.{free_before-twice}
 
 -- A member that keeps its normal form keeps that of the whole.
 nf-kept : (is : Numbered → Bool) → IsKept is (λ a m n. nf (erase n) ≡ nf (erase m))

@@ -1,7 +1,7 @@
 -- What the calls on slots make of extents: they stay positive, and add up as before.
 use Rattle.std.proofs.Common.{ℕ, ◌+◌, ◌<◌, ◌≡◌, List, refl, arith, Bool}
 use Rattle.guillotiere.specs.declared.slots.Node.{Node}
-use Rattle.guillotiere.specs.Trees.{IsCut, total}
+use Rattle.atlas_model.specs.Trees.{IsCut, total}
 use Rattle.guillotiere.specs.Slots.{node_at, no_slot}
 use Rattle.guillotiere.specs.Slots.Numbered.{Numbered, erase, marked, grown_by, joined, lifted_to, lifted, granted_at, split_at, wrapped_at, wrapping, is_free_at, is_alloc_at, is_seq_at, End, Free, Alloc, Seq}
 use Rattle.guillotiere.specs.Slots.Standing.{Sequence, Standing, inside}

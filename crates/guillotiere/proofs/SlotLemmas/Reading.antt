@@ -4,11 +4,11 @@ use Rattle.std.proofs.lemmas.Bool.{cases_eq, cases_lt, and_parts, and_from, eqb-
 use Rattle.std.proofs.lemmas.List.{get_or_past}
 use Rattle.std.proofs.lemmas.List.Sums.{passes_at_first, fails_before_first}
 use Rattle.guillotiere.specs.declared.slots.Node.{Node}
-use Rattle.guillotiere.specs.Boxes.{Axis, side, box_sides}
-use Rattle.guillotiere.specs.Pixels.{box_of, rectangle_of}
+use Rattle.atlas_model.specs.Boxes.{Axis, side, box_sides}
+use Rattle.atlas_model.specs.Pixels.{box_of, rectangle_of}
 use Rattle.guillotiere.specs.declared.slots.NodeKind.TheVariants as kind
 use Rattle.guillotiere.specs.Slots.{axis_of, node_at, blank_node, use_count, no_slot}
-use Rattle.guillotiere.specs.Trees.{Members, Tree}
+use Rattle.atlas_model.specs.Trees.{Members, Tree}
 use Rattle.guillotiere.specs.Slots.Numbered.{Numbered, tally, first_slot, same, erase, numbers, End, Free, Alloc, Seq}
 use Rattle.guillotiere.specs.Slots.Standing.{Sequence, Standing, Stands, inside, member_box}
 use Rattle.guillotiere.specs.Slots.Reading.{extent_of, begins_in, first_member_of, read, numbered_of, tree_of}

@@ -4,9 +4,9 @@ use Rattle.std.proofs.lemmas.Bool.{cases_eq, true≢false}
 use Rattle.guillotiere.specs.declared.slots.Node.{Node}
 use Rattle.guillotiere.specs.declared.slots.NodeKind.TheVariants as kind
 use Rattle.guillotiere.specs.Slots.{node_at, no_slot}
-use Rattle.guillotiere.specs.Trees as tree
-use Rattle.guillotiere.specs.Trees.{Members, begins_free, is_idle, IsNormal}
-use Rattle.guillotiere.specs.Changes.{mark, only}
+use Rattle.atlas_model.specs.Trees as tree
+use Rattle.atlas_model.specs.Trees.{Members, begins_free, is_idle, IsNormal}
+use Rattle.atlas_model.specs.Changes.{mark, only}
 use Rattle.guillotiere.specs.Slots.Numbered.{Numbered, tally, first_slot, erase, id_of, marked, End, Free, Alloc, Seq}
 use Rattle.guillotiere.specs.Slots.Standing.{Sequence, Standing, Stands, inside}
 use Rattle.guillotiere.specs.Slots.Calm.{IsCalmAt, IsCalmBut, NoneEmpty}

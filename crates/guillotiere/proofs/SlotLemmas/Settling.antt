@@ -4,8 +4,8 @@ use Rattle.std.proofs.lemmas.Bool.{cases_eq}
 use Rattle.guillotiere.specs.declared.slots.Node.{Node}
 use Rattle.guillotiere.specs.declared.slots.NodeKind.TheVariants as kind
 use Rattle.guillotiere.specs.Slots.{node_at, use_count, no_slot}
-use Rattle.guillotiere.specs.Trees as tree
-use Rattle.guillotiere.specs.Trees.{IsNormal}
+use Rattle.atlas_model.specs.Trees as tree
+use Rattle.atlas_model.specs.Trees.{IsNormal}
 use Rattle.guillotiere.specs.Slots.Numbered.{Numbered, tally, first_slot, same, numbers, erase, marked, joined, grown_by, lifted, lifted_to, is_free_at, is_alloc_at, is_seq_at, End, Free, Alloc, Seq}
 use Rattle.guillotiere.specs.Slots.Standing.{Sequence, Standing, Stands, IsWhole, IsSlot, inside}
 use Rattle.guillotiere.proofs.SlotLemmas.Reading.{numbers-less}

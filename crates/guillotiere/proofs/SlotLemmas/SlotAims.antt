@@ -3,16 +3,16 @@ use Rattle.std.proofs.Common.{ℕ, ◌+◌, ◌*◌, ◌≤◌, ◌≡◌, ◌==
 use Rattle.std.proofs.lemmas.Bool.{eqb-true}
 use Rattle.guillotiere.specs.declared.slots.Node.{Node}
 use Rattle.guillotiere.specs.declared.slots.NodeKind.TheVariants as kind
-use Rattle.guillotiere.specs.Boxes.{Axis, Position, Sides, Box, other, side, sized, moved, box_at, box_sides, same_box, origin, Fits, IsPositive}
-use Rattle.guillotiere.specs.Pixels.{box_of, rectangle_of}
-use Rattle.guillotiere.specs.Cuts.{cut}
-use Rattle.guillotiere.specs.Trees.{Tree, IsWellFormed, free_boxes}
-use Rattle.guillotiere.specs.Changes.{need, needed, place_need}
+use Rattle.atlas_model.specs.Boxes.{Axis, Position, Sides, Box, other, side, sized, moved, box_at, box_sides, same_box, origin, Fits, IsPositive}
+use Rattle.atlas_model.specs.Pixels.{box_of, rectangle_of}
+use Rattle.atlas_model.specs.Cuts.{cut}
+use Rattle.atlas_model.specs.Trees.{Tree, IsWellFormed, free_boxes}
+use Rattle.atlas_model.specs.Changes.{need, needed, place_need}
 use Rattle.guillotiere.specs.Slots.{node_at, no_slot, axis_of}
 use Rattle.guillotiere.specs.Slots.Numbered.{Numbered, erase, End, Free, Alloc, Seq}
 use Rattle.guillotiere.specs.Slots.Standing.{Sequence, Standing, Stands, inside, member_box, spot}
-use Rattle.guillotiere.proofs.TreeLemmas.TreeBasics.{one_if, same_box-itself, free_among}
-use Rattle.guillotiere.proofs.TreeLemmas.TreePlacing.{hits, hits-seq, hits-free, hits_once}
+use Rattle.atlas_model.proofs.TreeLemmas.TreeBasics.{one_if, same_box-itself, free_among}
+use Rattle.atlas_model.proofs.TreeLemmas.TreePlacing.{hits, hits-seq, hits-free, hits_once}
 use Rattle.guillotiere.proofs.SlotLemmas.Weights.{free_tally, free_once}
 use Rattle.guillotiere.proofs.SlotLemmas.Spots.{moved-spot, spot-other, spot-origin}
 

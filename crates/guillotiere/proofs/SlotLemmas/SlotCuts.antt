@@ -2,11 +2,11 @@
 use Rattle.std.proofs.Common.{ℕ, ◌+◌, ◌-◌, ◌≡◌, ◌≢◌, true, false, List, refl, sym, ap, ap₂, ◌∙◌, arith}
 use Rattle.std.proofs.lemmas.Bool.{cond-true, cond-false}
 use Rattle.guillotiere.specs.declared.slots.Node.{Node}
-use Rattle.guillotiere.specs.Boxes.{Axis, Sides, Box, other, same_axis, side, box_sides}
-use Rattle.guillotiere.specs.Pixels.{box_of}
-use Rattle.guillotiere.specs.Cuts.{Cut, cut}
-use Rattle.guillotiere.specs.Cuts.Cut.{Whole, Strip, Corner}
-use Rattle.guillotiere.specs.Changes.{place}
+use Rattle.atlas_model.specs.Boxes.{Axis, Sides, Box, other, same_axis, side, box_sides}
+use Rattle.atlas_model.specs.Pixels.{box_of}
+use Rattle.atlas_model.specs.Cuts.{Cut, cut}
+use Rattle.atlas_model.specs.Cuts.Cut.{Whole, Strip, Corner}
+use Rattle.atlas_model.specs.Changes.{place}
 use Rattle.guillotiere.specs.Slots.{node_at, axis_of}
 use Rattle.guillotiere.specs.Slots.Numbered.{Numbered, weigh, tally, same, erase, id_of, granted_at, split_at, wrapped_at, End, Free, Alloc, Seq}
 use Rattle.guillotiere.specs.Slots.Standing.{Sequence}

@@ -7,14 +7,14 @@ use Rattle.std.proofs.lemmas.List.Sums.{sum_by-cons, sum_by-append}
 use Rattle.std.proofs.Math.Nat.{add-mul-mod_self_left, mod-eq_of_lt}
 use Rattle.guillotiere.specs.declared.slots.Node.{Node}
 use Rattle.guillotiere.specs.declared.slots.NodeKind.TheVariants as kind
-use Rattle.guillotiere.specs.Trees.{ids, slot_count}
+use Rattle.atlas_model.specs.Trees.{ids, slot_count}
 use Rattle.guillotiere.specs.Slots.{node_at, no_slot}
 use Rattle.guillotiere.specs.Slots.Numbered.{Numbered, tally, same, erase, id_of, End, Free, Alloc, Seq}
 use Rattle.guillotiere.specs.Slots.Standing.{Sequence, Standing, Stands, inside}
 use Rattle.guillotiere.proofs.SlotLemmas.Frames.{same-self, same-ne, split_pos}
 use Rattle.guillotiere.proofs.SlotLemmas.JoiningWrites.{used-inside}
-use Rattle.guillotiere.proofs.TreeLemmas.TreeBasics.{one_if}
-use Rattle.guillotiere.proofs.TreeLemmas.TreeIds.{Contains-first, Contains-later, Contains-none, Contains-cons_cases}
+use Rattle.atlas_model.proofs.TreeLemmas.TreeBasics.{one_if}
+use Rattle.atlas_model.proofs.TreeLemmas.TreeIds.{Contains-first, Contains-later, Contains-none, Contains-cons_cases}
 use Rattle.guillotiere.proofs.SlotLemmas.Weights.{alloc_tally}
 
 -- A member that is the allocated leaf of this id.

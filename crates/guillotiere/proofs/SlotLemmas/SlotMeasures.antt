@@ -3,12 +3,12 @@ use Rattle.std.proofs.Common.{ℕ, ◌+◌, ◌<◌, ◌^◌, List, inl, inr, ar
 use Rattle.std.proofs.lemmas.Bool.{cases_eq}
 use Rattle.std.proofs.lemmas.Int.{ints}
 use Rattle.guillotiere.specs.declared.slots.Node.{Node}
-use Rattle.guillotiere.specs.declared.geometry.Rectangle.{Rectangle}
-use Rattle.guillotiere.specs.Boxes.{Axis, Box, IsNonempty, box_at, sized}
-use Rattle.guillotiere.specs.Boxes.Axis.{Horizontal, Vertical}
-use Rattle.guillotiere.specs.Pixels.{rectangle_of, box_of, IsMeasurable}
+use Rattle.atlas_model.specs.declared.geometry.Rectangle.{Rectangle}
+use Rattle.atlas_model.specs.Boxes.{Axis, Box, IsNonempty, box_at, sized}
+use Rattle.atlas_model.specs.Boxes.Axis.{Horizontal, Vertical}
+use Rattle.atlas_model.specs.Pixels.{rectangle_of, box_of, IsMeasurable}
 use Rattle.guillotiere.specs.Slots.{nodes, node_at, use_count, no_slot}
-use Rattle.guillotiere.specs.Trees.{IsCut, total}
+use Rattle.atlas_model.specs.Trees.{IsCut, total}
 use Rattle.guillotiere.specs.Slots.Numbered.{Numbered, erase, tally, End, Free, Alloc, Seq}
 use Rattle.guillotiere.specs.Slots.Standing.{Sequence, Standing, inside, spot, member_box}
 use Rattle.guillotiere.specs.Stored.{Shelf, Holding, Holds}

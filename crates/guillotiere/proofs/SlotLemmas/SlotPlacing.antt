@@ -1,11 +1,11 @@
 -- The calls on slots by which a request is placed, one after another, make the model's placing.
 use Rattle.std.proofs.Common.{ℕ, ◌-◌, ◌≤◌, ◌≡◌, Bool, true, cond, refl, ap, ap₂, ◌∙◌, arith, eqb}
 use Rattle.std.proofs.lemmas.Bool.{eq-eqb, ne_eqb, cond-true, cond-false}
-use Rattle.guillotiere.specs.Boxes.{Axis, Position, Sides, Box, other, side, moved, box_sides}
-use Rattle.guillotiere.specs.Cuts.{Cut, cut}
-use Rattle.guillotiere.specs.Trees.{Members}
-use Rattle.guillotiere.specs.Trees as tree
-use Rattle.guillotiere.specs.Changes.{put, placed}
+use Rattle.atlas_model.specs.Boxes.{Axis, Position, Sides, Box, other, side, moved, box_sides}
+use Rattle.atlas_model.specs.Cuts.{Cut, cut}
+use Rattle.atlas_model.specs.Trees.{Members}
+use Rattle.atlas_model.specs.Trees as tree
+use Rattle.atlas_model.specs.Changes.{put, placed}
 use Rattle.guillotiere.specs.Slots.Numbered.{Numbered, weigh, is_free_at, erase, id_of, granted_at, split_at, wrapped_at, End, Free, Alloc, Seq}
 use Rattle.guillotiere.proofs.SlotLemmas.Frames.{same-self, ne-from_same}
 use Rattle.guillotiere.proofs.SlotLemmas.Weights.{free_tally, places-free}

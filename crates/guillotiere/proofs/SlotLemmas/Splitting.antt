@@ -3,7 +3,7 @@ use Rattle.std.proofs.Common.{ℕ, ◌+◌, ◌-◌, ◌<◌, ◌≤◌, ◌≡�
 use Rattle.guillotiere.specs.declared.slots.Link.{Link}
 use Rattle.guillotiere.specs.declared.slots.Node.{Node}
 use Rattle.guillotiere.specs.declared.slots.NodeKind.TheVariants as kind
-use Rattle.guillotiere.specs.Boxes.{side, box_sides}
+use Rattle.atlas_model.specs.Boxes.{side, box_sides}
 use Rattle.guillotiere.specs.Slots.{node_at, use_count, no_slot}
 use Rattle.guillotiere.specs.Slots.Numbered.{Numbered, weigh, tally, first_slot, same, split_at, is_free_at, Free}
 use Rattle.guillotiere.specs.Slots.Standing.{Sequence, Standing, Stands, member_box}

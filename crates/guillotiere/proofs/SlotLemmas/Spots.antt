@@ -1,7 +1,7 @@
 -- Where members lie, said in two ways.
 use Rattle.std.proofs.Common.{ℕ, ◌+◌, ◌≡◌, refl}
-use Rattle.guillotiere.specs.Boxes.{Axis, other, moved, origin}
-use Rattle.guillotiere.specs.Boxes.Axis.{Horizontal, Vertical}
+use Rattle.atlas_model.specs.Boxes.{Axis, other, moved, origin}
+use Rattle.atlas_model.specs.Boxes.Axis.{Horizontal, Vertical}
 use Rattle.guillotiere.specs.Slots.Standing.{spot}
 
 pub moved-spot : (a : Axis) (p start e : ℕ) → moved a (spot a p start) e ≡ spot a (p + e) start

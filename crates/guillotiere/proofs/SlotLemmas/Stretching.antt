@@ -7,14 +7,14 @@ use Rattle.guillotiere.specs.declared.slots.Link.{Link}
 use Rattle.guillotiere.specs.declared.slots.Node.{Node}
 use Rattle.guillotiere.specs.declared.slots.NodeKind.{NodeKind}
 use Rattle.guillotiere.specs.declared.slots.NodeKind.TheVariants as kind
-use Rattle.guillotiere.specs.declared.geometry.Size.{Size}
-use Rattle.guillotiere.specs.declared.geometry.Rectangle.{Rectangle}
+use Rattle.atlas_model.specs.declared.geometry.Size.{Size}
+use Rattle.atlas_model.specs.declared.geometry.Rectangle.{Rectangle}
 use Rattle.guillotiere.specs.declared.cut.Orientation.{Orientation}
 use Rattle.guillotiere.specs.declared.cut.Orientation.TheVariants as orientation
-use Rattle.guillotiere.specs.Boxes.{Axis, Sides, other, side, sized, box_at}
-use Rattle.guillotiere.specs.Boxes.Axis.{Horizontal, Vertical}
-use Rattle.guillotiere.specs.Pixels.{sides_of, size_of, rectangle_of}
-use Rattle.guillotiere.specs.Trees.{total}
+use Rattle.atlas_model.specs.Boxes.{Axis, Sides, other, side, sized, box_at}
+use Rattle.atlas_model.specs.Boxes.Axis.{Horizontal, Vertical}
+use Rattle.atlas_model.specs.Pixels.{sides_of, size_of, rectangle_of}
+use Rattle.atlas_model.specs.Trees.{total}
 use Rattle.guillotiere.specs.Slots.SlotCalls.{CanAppendTo}
 use Rattle.guillotiere.specs.Slots.{nodes, node_at, blank_node, use_count, no_slot, axis_of, KeepsUse}
 use Rattle.guillotiere.specs.Slots.Numbered.{Numbered, weigh, tally, same, erase, first_slot, End, Free, Alloc, Seq}

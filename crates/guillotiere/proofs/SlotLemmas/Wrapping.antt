@@ -5,7 +5,7 @@ use Rattle.guillotiere.specs.declared.slots.Node.{Node}
 use Rattle.guillotiere.specs.declared.slots.NodeKind.TheVariants as kind
 use Rattle.guillotiere.specs.declared.cut.Orientation.{Orientation}
 use Rattle.guillotiere.specs.declared.cut.Orientation.TheVariants as orientation
-use Rattle.guillotiere.specs.Boxes.{other}
+use Rattle.atlas_model.specs.Boxes.{other}
 use Rattle.guillotiere.specs.Slots.{node_at, use_count, no_slot, axis_of}
 use Rattle.guillotiere.specs.Slots.Numbered.{Numbered, weigh, tally, first_slot, same, wrapped_at, wrapping, is_free_at}
 use Rattle.guillotiere.specs.Slots.Standing.{Sequence, Standing, Stands, inside, member_box, with_kind}

@@ -8,10 +8,10 @@ use Rattle.guillotiere.specs.declared.slots.NodeKind.TheVariants as kind
 use Rattle.guillotiere.specs.declared.search.best.Found.{Found}
 use Rattle.guillotiere.specs.declared.tree.requests.Chosen.{Chosen}
 use Rattle.guillotiere.specs.declared.tree.Plan.{Plan}
-use Rattle.guillotiere.specs.Boxes.{Sides, Box, origin, box_sides, Fits}
-use Rattle.guillotiere.specs.Pixels.{box_of, rectangle_of, options_of}
-use Rattle.guillotiere.specs.Choice.{IsPick}
-use Rattle.guillotiere.specs.Trees.{ungranted, leaves}
+use Rattle.atlas_model.specs.Boxes.{Sides, Box, origin, box_sides, Fits}
+use Rattle.atlas_model.specs.Pixels.{box_of, rectangle_of, options_of}
+use Rattle.atlas_model.specs.Choice.{IsPick}
+use Rattle.atlas_model.specs.Trees.{ungranted, leaves}
 use Rattle.guillotiere.specs.Slots.{nodes, node_at}
 use Rattle.guillotiere.specs.Slots.Numbered.{erase, id_of}
 use Rattle.guillotiere.specs.Slots.Reading.{extent_of}

@@ -1,8 +1,8 @@
 -- Trees whose top sequence is extended: what the extents add up to, and which slot comes last.
 use Rattle.std.proofs.Common.{ℕ, ◌+◌, ◌<◌, ◌≤◌, ◌≡◌, refl, arith}
-use Rattle.guillotiere.specs.Boxes.{Axis, other}
-use Rattle.guillotiere.specs.Boxes.Axis.{Horizontal, Vertical}
-use Rattle.guillotiere.specs.Trees.{IsCut, total}
+use Rattle.atlas_model.specs.Boxes.{Axis, other}
+use Rattle.atlas_model.specs.Boxes.Axis.{Horizontal, Vertical}
+use Rattle.atlas_model.specs.Trees.{IsCut, total}
 use Rattle.guillotiere.specs.Slots.Numbered.{Numbered, erase, tally, End, Free, Alloc, Seq}
 use Rattle.guillotiere.specs.Slots.Growing.{last_after, last_slot, stretched, appended}
 use Rattle.guillotiere.proofs.SlotLemmas.Reading.{IsNonempty}

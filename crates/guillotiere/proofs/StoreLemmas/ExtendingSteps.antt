@@ -6,12 +6,12 @@ use Rattle.guillotiere.specs.declared.slots.Node.{Node}
 use Rattle.guillotiere.specs.declared.slots.Ring.{Ring}
 use Rattle.guillotiere.specs.declared.slots.NodeKind.TheVariants as kind
 use Rattle.guillotiere.specs.declared.search.table.ListHead.{ListHead}
-use Rattle.guillotiere.specs.declared.geometry.Size.{Size}
-use Rattle.guillotiere.specs.Boxes.{Axis, Sides, side, IsPositive}
-use Rattle.guillotiere.specs.Boxes.Axis.{Horizontal, Vertical}
-use Rattle.guillotiere.specs.Choice.{Options}
-use Rattle.guillotiere.specs.Pixels.{sides_of, options_of}
-use Rattle.guillotiere.specs.Trees.{IsCut, total}
+use Rattle.atlas_model.specs.declared.geometry.Size.{Size}
+use Rattle.atlas_model.specs.Boxes.{Axis, Sides, side, IsPositive}
+use Rattle.atlas_model.specs.Boxes.Axis.{Horizontal, Vertical}
+use Rattle.atlas_model.specs.Choice.{Options}
+use Rattle.atlas_model.specs.Pixels.{sides_of, options_of}
+use Rattle.atlas_model.specs.Trees.{IsCut, total}
 use Rattle.guillotiere.specs.Slots.{nodes, rings, node_at, use_count, KeepsUse, no_slot}
 use Rattle.guillotiere.specs.Slots.Numbered.{Numbered, erase}
 use Rattle.guillotiere.specs.Slots.Standing.{Sequence, Stands}

@@ -4,7 +4,7 @@ use Rattle.std.specs.Prelude.{if◌then◌else◌, ◌≢◌}
 use Rattle.std.proofs.lemmas.Bool.{cases_eq, cases_lt, cond_both, cond-true, cond-false, eq-eqb, ne_eqb, and_parts, and_from, and_right}
 use Rattle.std.proofs.lemmas.List.{length-map}
 use Rattle.guillotiere.specs.declared.slots.Slot.{Slot}
-use Rattle.guillotiere.specs.declared.geometry.Size.{Size}
+use Rattle.atlas_model.specs.declared.geometry.Size.{Size}
 use Rattle.guillotiere.specs.declared.slots.Link.{Link}
 use Rattle.guillotiere.specs.declared.slots.Node.{Node}
 use Rattle.guillotiere.specs.declared.slots.Ring.{Ring}
@@ -12,9 +12,9 @@ use Rattle.guillotiere.specs.declared.slots.NodeKind.{NodeKind}
 use Rattle.guillotiere.specs.declared.slots.NodeKind.TheVariants as kind
 use Rattle.guillotiere.specs.declared.search.table.ListHead.{ListHead}
 use Rattle.guillotiere.specs.declared.search.bands.Place.{Place}
-use Rattle.guillotiere.specs.Boxes.{box_sides}
-use Rattle.guillotiere.specs.Pixels.{sides_of, box_of}
-use Rattle.guillotiere.specs.Choice.{Options}
+use Rattle.atlas_model.specs.Boxes.{box_sides}
+use Rattle.atlas_model.specs.Pixels.{sides_of, box_of}
+use Rattle.atlas_model.specs.Choice.{Options}
 use Rattle.guillotiere.specs.Slots.{nodes, rings, node_at, ring_at, use_count}
 use Rattle.guillotiere.specs.Slots.Numbered.{same}
 use Rattle.guillotiere.specs.Slots.Lists.{IsList, IsFiled, AreFiled, Places, occurs, without, filed, node_sides, node_strip, is_free}

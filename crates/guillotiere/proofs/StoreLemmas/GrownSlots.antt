@@ -4,9 +4,9 @@ use Rattle.std.proofs.lemmas.Bool.{true≢false}
 use Rattle.std.proofs.lemmas.List.{length-map}
 use Rattle.guillotiere.specs.declared.store.Store.{Store}
 use Rattle.guillotiere.specs.declared.slots.NodeKind.TheVariants as kind
-use Rattle.guillotiere.specs.Boxes.{Sides, side, IsPositive}
-use Rattle.guillotiere.specs.Trees.{total}
-use Rattle.guillotiere.specs.Changes.{grown_members}
+use Rattle.atlas_model.specs.Boxes.{Sides, side, IsPositive}
+use Rattle.atlas_model.specs.Trees.{total}
+use Rattle.atlas_model.specs.Changes.{grown_members}
 use Rattle.guillotiere.specs.Slots.{nodes, no_slot}
 use Rattle.guillotiere.specs.Slots.Lists.{is_free, occurs}
 use Rattle.guillotiere.specs.Slots.Links.{with_mark}
@@ -21,7 +21,7 @@ use Rattle.guillotiere.specs.Store.Growths.{IsTreeOf, IsGrownHolding, IsLengthen
 use Rattle.guillotiere.proofs.StoreLemmas.Filing.{with_mark-same, with_mark-other}
 use Rattle.guillotiere.proofs.SlotLemmas.Reading.{IsNonempty}
 use Rattle.guillotiere.proofs.AtlasLemmas.Observing.{nonempty-total}
-use Rattle.guillotiere.proofs.TreeLemmas.TreeBasics.{side_positive}
+use Rattle.atlas_model.proofs.TreeLemmas.TreeBasics.{side_positive}
 use Rattle.guillotiere.proofs.StoreLemmas.PlacingChains.{fewer-slots}
 use Rattle.guillotiere.proofs.StoreLemmas.StoreTakes.{slots-kept}
 use Rattle.guillotiere.proofs.StoreLemmas.Turning.{keeps-room}

@@ -6,13 +6,13 @@ use Rattle.std.proofs.lemmas.Bool.{not-true, not-false, true≢false}
 use Rattle.std.proofs.lemmas.Bool.Decides.{Decides-and, Decides-like, Decides-int_eq}
 use Rattle.guillotiere.specs.declared.store.Store.{Store}
 use Rattle.guillotiere.specs.declared.slots.NodeKind.TheVariants as kind
-use Rattle.guillotiere.specs.declared.geometry.Size.{Size}
+use Rattle.atlas_model.specs.declared.geometry.Size.{Size}
 use Rattle.guillotiere.specs.declared.tree.growth.Growth.{Growth}
-use Rattle.guillotiere.specs.Boxes.{Axis, Sides, other, side, Fits}
-use Rattle.guillotiere.specs.Boxes.Axis.{Horizontal, Vertical}
-use Rattle.guillotiere.specs.Pixels.{sides_of}
-use Rattle.guillotiere.specs.Trees.{total, is_one_free}
-use Rattle.guillotiere.specs.Changes.{lengthened_to, widened, grown_members}
+use Rattle.atlas_model.specs.Boxes.{Axis, Sides, other, side, Fits}
+use Rattle.atlas_model.specs.Boxes.Axis.{Horizontal, Vertical}
+use Rattle.atlas_model.specs.Pixels.{sides_of}
+use Rattle.atlas_model.specs.Trees.{total, is_one_free}
+use Rattle.atlas_model.specs.Changes.{lengthened_to, widened, grown_members}
 use Rattle.guillotiere.specs.Slots.{nodes}
 use Rattle.guillotiere.specs.Slots.Numbered.{erase, first_slot}
 use Rattle.guillotiere.specs.Stored.{Shelf, Holding, Holds, IsLooseOnly}
@@ -21,8 +21,8 @@ use Rattle.guillotiere.specs.Slots.Growing.{IsEnd, IsSpanning, IsWider, last_slo
 use Rattle.guillotiere.specs.Store.Growths.{IsGrowthOf, IsGrowable, IsGrownHolding, IsLengthenable, IsLonger, IsNeedOf, IsWidenable, IsWidenedTo, middle_of, strip_need}
 use Rattle.guillotiere.proofs.SlotLemmas.Reading.{tree-by_parts}
 use Rattle.guillotiere.proofs.AtlasLemmas.Observing.{nonempty-total}
-use Rattle.guillotiere.proofs.TreeLemmas.TreeBasics.{longer_side, other_twice}
-use Rattle.guillotiere.proofs.TreeLemmas.TreeGrowth.{grown-other}
+use Rattle.atlas_model.proofs.TreeLemmas.TreeBasics.{longer_side, other_twice}
+use Rattle.atlas_model.proofs.TreeLemmas.TreeGrowth.{grown-other}
 use Rattle.guillotiere.proofs.StoreLemmas.GrownTrees.{if_longer, if_longer-more, if_longer-not, nodes-grown_by, lengthened_to-more, lengthened_to-same, total-lengthened_to, widened-more, widened-same}
 use Rattle.guillotiere.proofs.StoreLemmas.GrownSlots.{need-answer}
 

@@ -4,12 +4,12 @@ use Rattle.std.proofs.lemmas.Bool.{lt-ltb, le-ltb, ltb-true, ltb-false}
 use Rattle.guillotiere.specs.declared.slots.Node.{Node}
 use Rattle.guillotiere.specs.declared.slots.NodeKind.{NodeKind}
 use Rattle.guillotiere.specs.declared.slots.NodeKind.TheVariants as kind
-use Rattle.guillotiere.specs.Boxes.{Axis, Sides, other, side}
+use Rattle.atlas_model.specs.Boxes.{Axis, Sides, other, side}
 use Rattle.guillotiere.specs.Slots.{node_at, no_slot}
 use Rattle.guillotiere.specs.Slots.Lists.{is_free}
-use Rattle.guillotiere.specs.Trees.{Members, Tree, total, is_one_free, node_count}
-use Rattle.guillotiere.specs.Trees as tree
-use Rattle.guillotiere.specs.Changes.{lengthened, lengthened_to, widened, grown_members}
+use Rattle.atlas_model.specs.Trees.{Members, Tree, total, is_one_free, node_count}
+use Rattle.atlas_model.specs.Trees as tree
+use Rattle.atlas_model.specs.Changes.{lengthened, lengthened_to, widened, grown_members}
 use Rattle.guillotiere.specs.Slots.Numbered.{Numbered, End, Free, Alloc, Seq, erase, first_slot, id_of, numbers}
 use Rattle.guillotiere.specs.Slots.Standing.{Sequence, Standing, Stands}
 use Rattle.guillotiere.specs.Slots.Growing.{last_after, last_slot, stretched, appended}
@@ -18,10 +18,10 @@ use Rattle.guillotiere.proofs.SlotLemmas.Frames.{same-self}
 use Rattle.guillotiere.proofs.SlotLemmas.JoiningWrites.{used-inside}
 use Rattle.guillotiere.proofs.SlotLemmas.Reading.{IsNonempty}
 use Rattle.guillotiere.proofs.SlotLemmas.Normal.{numbers-erase}
-use Rattle.guillotiere.proofs.TreeLemmas.TreeKept.{total-lengthened}
+use Rattle.atlas_model.proofs.TreeLemmas.TreeKept.{total-lengthened}
 use Rattle.guillotiere.proofs.SlotLemmas.Stretching.{weigh-stretched, weigh-appended}
 use Rattle.guillotiere.proofs.StoreLemmas.ExtendedTrees.{last-member}
-use Rattle.guillotiere.proofs.TreeLemmas.TreeGrowth.{grown-other}
+use Rattle.atlas_model.proofs.TreeLemmas.TreeGrowth.{grown-other}
 
 -- The last member.
 

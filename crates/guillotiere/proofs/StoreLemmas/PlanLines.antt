@@ -1,10 +1,10 @@
 -- The plan of a request: its line of the cut table, and that it can be carried out.
 use Rattle.std.proofs.Common.{◌≡◌, Bool, refl, arith, eqb, cond, ◌&&◌, ◌||◌}
-use Rattle.guillotiere.specs.declared.geometry.Rectangle.{Rectangle}
-use Rattle.guillotiere.specs.Boxes.{Sides, box_sides, Fits, IsPositive}
-use Rattle.guillotiere.specs.Cuts.{cut, cut_axis}
-use Rattle.guillotiere.specs.Cuts.Cut.{Whole, Strip, Corner}
-use Rattle.guillotiere.specs.Pixels.{box_of, rectangle_of}
+use Rattle.atlas_model.specs.declared.geometry.Rectangle.{Rectangle}
+use Rattle.atlas_model.specs.Boxes.{Sides, box_sides, Fits, IsPositive}
+use Rattle.atlas_model.specs.Cuts.{cut, cut_axis}
+use Rattle.atlas_model.specs.Cuts.Cut.{Whole, Strip, Corner}
+use Rattle.atlas_model.specs.Pixels.{box_of, rectangle_of}
 use Rattle.guillotiere.specs.Slots.Links.{IsSolid}
 
 -- The line by the sides that are equal.

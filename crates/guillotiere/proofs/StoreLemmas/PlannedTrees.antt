@@ -3,10 +3,10 @@ use Rattle.std.proofs.Common.{ℕ, ◌+◌, ◌<◌, ◌≡◌, arith}
 use Rattle.std.proofs.lemmas.List.{length-map}
 use Rattle.guillotiere.specs.declared.tree.Plan.{Plan}
 use Rattle.guillotiere.specs.declared.slots.NodeKind.TheVariants as kind
-use Rattle.guillotiere.specs.Boxes.{Sides, other, side, box_sides, Fits, IsPositive}
-use Rattle.guillotiere.specs.Pixels.{box_of}
-use Rattle.guillotiere.specs.Trees.{IsWellFormed}
-use Rattle.guillotiere.specs.Changes.{place, place_need}
+use Rattle.atlas_model.specs.Boxes.{Sides, other, side, box_sides, Fits, IsPositive}
+use Rattle.atlas_model.specs.Pixels.{box_of}
+use Rattle.atlas_model.specs.Trees.{IsWellFormed}
+use Rattle.atlas_model.specs.Changes.{place, place_need}
 use Rattle.guillotiere.specs.Slots.{nodes, use_count}
 use Rattle.guillotiere.specs.Slots.Numbered.{numbers, id_of}
 use Rattle.guillotiere.specs.Slots.Reading.{tree_of}

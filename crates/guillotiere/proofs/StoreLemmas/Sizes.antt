@@ -1,8 +1,8 @@
 -- Sizes that aren't empty are the sides that they stand for.
 use Rattle.std.proofs.Common.{ℤ, pos, negsuc, ◌<◌, ◌≡◌, refl, arith}
-use Rattle.guillotiere.specs.declared.geometry.Size.{Size}
-use Rattle.guillotiere.specs.Boxes.{IsPositive}
-use Rattle.guillotiere.specs.Pixels.{natural, sides_of, size_of}
+use Rattle.atlas_model.specs.declared.geometry.Size.{Size}
+use Rattle.atlas_model.specs.Boxes.{IsPositive}
+use Rattle.atlas_model.specs.Pixels.{natural, sides_of, size_of}
 
 -- A side above 0 is the number that it stands for.
 pub side_is : (n : ℤ) → 0 < natural n → n ≡ pos (natural n)

@@ -3,10 +3,10 @@ use Rattle.std.proofs.Common.{ℕ, ◌+◌, ◌<◌, ◌≤◌, ◌≡◌, ◌�
 use Rattle.guillotiere.specs.declared.tree.Plan.{Plan}
 use Rattle.guillotiere.specs.declared.tree.Plan.TheVariants as plan
 use Rattle.guillotiere.specs.declared.slots.Node.{Node}
-use Rattle.guillotiere.specs.Boxes.{Axis, Sides, Box, other, same_axis, side}
-use Rattle.guillotiere.specs.Boxes.Axis.{Horizontal, Vertical}
-use Rattle.guillotiere.specs.Pixels.{box_of}
-use Rattle.guillotiere.specs.Changes.{place, place_need}
+use Rattle.atlas_model.specs.Boxes.{Axis, Sides, Box, other, same_axis, side}
+use Rattle.atlas_model.specs.Boxes.Axis.{Horizontal, Vertical}
+use Rattle.atlas_model.specs.Pixels.{box_of}
+use Rattle.atlas_model.specs.Changes.{place, place_need}
 use Rattle.guillotiere.specs.Slots.{node_at, axis_of}
 use Rattle.guillotiere.specs.Slots.Numbered.{Numbered, tally, numbers, same, id_of, granted_at, split_at, wrapped_at, wrapping, is_free_at}
 use Rattle.guillotiere.specs.Slots.Standing.{Sequence, Stands}
@@ -15,9 +15,9 @@ use Rattle.guillotiere.proofs.SlotLemmas.Frames.{same-self, used-le}
 use Rattle.guillotiere.proofs.SlotLemmas.Weights.{places, free_place}
 use Rattle.guillotiere.proofs.SlotLemmas.Editing.{splitting, free_here, weigh-more, places-next}
 use Rattle.guillotiere.proofs.SlotLemmas.Granting.{tally-granted}
-use Rattle.guillotiere.specs.Trees.{Tree, node_count}
+use Rattle.atlas_model.specs.Trees.{Tree, node_count}
 use Rattle.guillotiere.proofs.SlotLemmas.Normal.{numbers-erase}
-use Rattle.guillotiere.proofs.TreeLemmas.TreeCounts.{place_nodes}
+use Rattle.atlas_model.proofs.TreeLemmas.TreeCounts.{place_nodes}
 use Rattle.guillotiere.proofs.SlotLemmas.SlotAims.{IsChoice, IsFitting, tree_in, place_need-choice}
 use Rattle.guillotiere.proofs.SlotLemmas.SlotCuts.{whole-placed, strip_along-placed, strip_across-placed, corner_along-placed, corner_across-placed}
 

@@ -2,12 +2,12 @@
 use Rattle.std.proofs.Common.{ℕ, ◌<◌, ◌≤◌, ◌≡◌, ◌^◌, false, List, [], ◌∷◌, length, refl, arith}
 use Rattle.std.proofs.lemmas.Bool.{eq-eqb, ne_eqb}
 use Rattle.std.proofs.lemmas.List.Elements.{All-nil}
-use Rattle.guillotiere.specs.declared.geometry.Size.{Size}
-use Rattle.guillotiere.specs.Boxes.{IsPositive}
-use Rattle.guillotiere.specs.Pixels.{sides_of, options_of, rectangle_of}
-use Rattle.guillotiere.specs.Choice.{AreValid}
-use Rattle.guillotiere.specs.Changes.{fresh}
-use Rattle.guillotiere.specs.States.{started}
+use Rattle.atlas_model.specs.declared.geometry.Size.{Size}
+use Rattle.atlas_model.specs.Boxes.{IsPositive}
+use Rattle.atlas_model.specs.Pixels.{sides_of, options_of, rectangle_of}
+use Rattle.atlas_model.specs.Choice.{AreValid}
+use Rattle.atlas_model.specs.Changes.{fresh}
+use Rattle.atlas_model.specs.States.{started}
 use Rattle.guillotiere.specs.Slots.{nodes, no_slot}
 use Rattle.guillotiere.specs.Slots.Standing.{Stands, member_box}
 use Rattle.guillotiere.specs.Search.Tables.{is_used_at}
@@ -17,7 +17,7 @@ use Rattle.guillotiere.specs.Store.Holdings.{IsLooseLeaf}
 use Rattle.guillotiere.specs.Store.Starts.{one_free_slot, loose_holding, start_holding}
 use Rattle.guillotiere.proofs.SlotLemmas.Frames.{same-self, same-ne}
 use Rattle.guillotiere.proofs.SlotLemmas.Reading.{tree_of-Stands}
-use Rattle.guillotiere.proofs.StepLemmas.StepKeeping.{fresh_well_formed, fresh_normal}
+use Rattle.atlas_model.proofs.StepLemmas.StepKeeping.{fresh_well_formed, fresh_normal}
 use Rattle.guillotiere.proofs.StoreLemmas.Taking.{AreFiled-one}
 use Rattle.guillotiere.proofs.AtlasLemmas.Observing.{nodes-below}
 use Rattle.guillotiere.proofs.StoreLemmas.Sizes.{side_is, size_is}

@@ -7,8 +7,8 @@ use Rattle.guillotiere.specs.declared.slots.Node.{Node}
 use Rattle.guillotiere.specs.declared.slots.Ring.{Ring}
 use Rattle.guillotiere.specs.declared.slots.NodeKind.TheVariants as kind
 use Rattle.guillotiere.specs.declared.search.table.ListHead.{ListHead}
-use Rattle.guillotiere.specs.Choice.{Options}
-use Rattle.guillotiere.specs.Pixels.{options_of}
+use Rattle.atlas_model.specs.Choice.{Options}
+use Rattle.atlas_model.specs.Pixels.{options_of}
 use Rattle.guillotiere.specs.Search.Tables.{head_of, low_of}
 use Rattle.guillotiere.specs.Slots.{nodes, rings, node_at, use_count, KeepsUse, no_slot}
 use Rattle.guillotiere.specs.Slots.Numbered.{Numbered, joined, lifted, granted_at, split_at, wrapped_at}

@@ -9,7 +9,7 @@ use Rattle.guillotiere.specs.declared.slots.Ring.{Ring}
 use Rattle.guillotiere.specs.declared.slots.NodeKind.{NodeKind}
 use Rattle.guillotiere.specs.declared.slots.NodeKind.TheVariants as kind
 use Rattle.guillotiere.specs.declared.search.table.ListHead.{ListHead}
-use Rattle.guillotiere.specs.Choice.{Options}
+use Rattle.atlas_model.specs.Choice.{Options}
 use Rattle.guillotiere.specs.Slots.{nodes, rings, node_at, ring_at, use_count, no_slot, blank_node, blank_ring, blank_slot}
 use Rattle.guillotiere.specs.Slots.Lists.{AreFiled, Places, IsList, Line, occurs, front, filed, is_free}
 use Rattle.guillotiere.specs.Search.Tables.{head_of, is_used_at}

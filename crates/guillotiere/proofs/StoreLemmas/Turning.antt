@@ -5,8 +5,8 @@ use Rattle.std.proofs.lemmas.List.{length-map}
 use Rattle.guillotiere.specs.declared.slots.Node.{Node}
 use Rattle.guillotiere.specs.declared.slots.NodeKind.TheVariants as kind
 use Rattle.guillotiere.specs.declared.store.Store.{Store}
-use Rattle.guillotiere.specs.Trees.{IsNormal}
-use Rattle.guillotiere.specs.Changes.{nf}
+use Rattle.atlas_model.specs.Trees.{IsNormal}
+use Rattle.atlas_model.specs.Changes.{nf}
 use Rattle.guillotiere.specs.Slots.Calm.{IsCalmAt, IsCalmBut, NoneEmpty}
 use Rattle.guillotiere.specs.Slots.{nodes, rings, no_slot}
 use Rattle.guillotiere.specs.Slots.Numbered.{erase, numbers, same, tally, marked, lifted, first_slot}
@@ -22,7 +22,7 @@ use Rattle.guillotiere.proofs.SlotLemmas.JoiningWrites.{can-join, used-inside}
 use Rattle.guillotiere.proofs.SlotLemmas.Lifting.{first-lifted}
 use Rattle.guillotiere.proofs.SlotLemmas.Marking.{first-marked, numbers-marked}
 use Rattle.guillotiere.proofs.SlotLemmas.Releasing.{calm-Stands, full-from_normal, erase-marked_at}
-use Rattle.guillotiere.proofs.TreeLemmas.TreeNormal.{nf-normal}
+use Rattle.atlas_model.proofs.TreeLemmas.TreeNormal.{nf-normal}
 use Rattle.guillotiere.proofs.SlotLemmas.Normal.{nf-joined, nf-lifted}
 use Rattle.guillotiere.proofs.SlotLemmas.Reading.{numbers-less, numbers-few}
 use Rattle.guillotiere.proofs.SlotLemmas.Settling.{IsSettlingTree, full-joined, full-lifted, full-marked, settled, next-slot, previous-slot, previous-leads}

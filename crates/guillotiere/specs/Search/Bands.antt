@@ -2,9 +2,9 @@
 -- module.
 use Rattle.std.specs.Prelude.{ℕ, ◌+◌, ◌-◌, ◌*◌, ◌/◌, ◌<◌, ◌≤◌, ◌==◌, ◌⊎◌, ℤ, pos, int_le, nat_lt, min, if◌then◌else◌}
 use Rattle.guillotiere.specs.declared.search.bands.Place.{Place}
-use Rattle.guillotiere.specs.Boxes.{Sides}
-use Rattle.guillotiere.specs.Pixels.{natural}
-use Rattle.guillotiere.specs.Choice.{Options}
+use Rattle.atlas_model.specs.Boxes.{Sides}
+use Rattle.atlas_model.specs.Pixels.{natural}
+use Rattle.atlas_model.specs.Choice.{Options}
 
 -- The step of a side: one pixel each below 16, then 2 below 64, 8 below 128 and 64 below 256, and one for all above.
 unfoldable pub step_of : ℕ → ℕ

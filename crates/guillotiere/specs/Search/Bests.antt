@@ -2,10 +2,10 @@
 use Rattle.std.specs.Prelude.{◌≡◌, ℕ, ◌<◌, ◌⊎◌, pos, ◌≤ℤ◌, Bool, true, List, Contains}
 use Rattle.guillotiere.specs.declared.search.best.Found.{Found}
 use Rattle.guillotiere.specs.declared.search.best.Best.{Best}
-use Rattle.guillotiere.specs.declared.geometry.Point.{Point}
-use Rattle.guillotiere.specs.Boxes.{Sides, IsPositive}
-use Rattle.guillotiere.specs.Choice.{least_margin}
-use Rattle.guillotiere.specs.Pixels.{box_of, size_of}
+use Rattle.atlas_model.specs.declared.geometry.Point.{Point}
+use Rattle.atlas_model.specs.Boxes.{Sides, IsPositive}
+use Rattle.atlas_model.specs.Choice.{least_margin}
+use Rattle.atlas_model.specs.Pixels.{box_of, size_of}
 use Rattle.guillotiere.specs.Rectangles.{IsUnsigned}
 use Rattle.guillotiere.specs.Search.Ranks.{rank_of, no_rank}
 use Rattle.guillotiere.specs.Search.Requests.{IsBefore}

@@ -1,8 +1,8 @@
 -- The entries that a search reads: each has a rectangle and an entry after it. No public clause cites this module.
 use Rattle.std.specs.Prelude.{ℕ, ◌≡◌, ◌<◌, ◌≤◌, ◌⊎◌, pos, Bool, false, List, [], ◌∷◌, length, map, slice_index_or}
-use Rattle.guillotiere.specs.declared.geometry.Rectangle.{Rectangle}
-use Rattle.guillotiere.specs.Boxes.{Sides, Box, box_sides}
-use Rattle.guillotiere.specs.Pixels.{box_of}
+use Rattle.atlas_model.specs.declared.geometry.Rectangle.{Rectangle}
+use Rattle.atlas_model.specs.Boxes.{Sides, Box, box_sides}
+use Rattle.atlas_model.specs.Pixels.{box_of}
 use Rattle.guillotiere.specs.Slots.Links.{IsSolid}
 use Rattle.guillotiere.specs.Slots.Lists.{occurs}
 use Rattle.guillotiere.specs.Search.Searches.{Shown, shown_at}

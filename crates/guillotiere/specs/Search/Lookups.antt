@@ -10,14 +10,14 @@ use Rattle.guillotiere.specs.declared.search.masks.Mask.{Mask}
 use Rattle.guillotiere.specs.declared.search.table.ListHead.{ListHead}
 use Rattle.guillotiere.specs.Search.Bands.{band_of, list_of, number_of, strip_of, start_of}
 use Rattle.guillotiere.specs.Search.Bests.{HasSeen, IsSameBest}
-use Rattle.guillotiere.specs.Boxes.{Sides, Box, Fits, IsPositive}
-use Rattle.guillotiere.specs.Choice.{Options, AreValid, class_of}
+use Rattle.atlas_model.specs.Boxes.{Sides, Box, Fits, IsPositive}
+use Rattle.atlas_model.specs.Choice.{Options, AreValid, class_of}
 use Rattle.guillotiere.specs.Search.Items.{Item, item_at, item_box, item_sides, shown_item, shown_items, IsPath}
 use Rattle.guillotiere.specs.Search.Items.{IsPrevious}
 use Rattle.guillotiere.specs.Slots.Links.{IsSolid}
 use Rattle.guillotiere.specs.Slots.Lists.{occurs}
 use Rattle.guillotiere.specs.Search.Masks.{IsMarked}
-use Rattle.guillotiere.specs.Pixels.{box_of, sides_of}
+use Rattle.atlas_model.specs.Pixels.{box_of, sides_of}
 use Rattle.guillotiere.specs.Search.Ranks.{no_rank}
 use Rattle.guillotiere.specs.Search.Searches.{Shown, shown_at, IsBestShown}
 use Rattle.guillotiere.specs.Slots.{no_slot}

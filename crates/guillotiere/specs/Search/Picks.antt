@@ -7,10 +7,10 @@ use Rattle.guillotiere.specs.declared.slots.Ring.{Ring}
 use Rattle.guillotiere.specs.declared.slots.NodeKind.TheVariants as kind
 use Rattle.guillotiere.specs.declared.search.best.Found.{Found}
 use Rattle.guillotiere.specs.declared.search.table.ListHead.{ListHead}
-use Rattle.guillotiere.specs.Boxes.{Box, Sides}
-use Rattle.guillotiere.specs.Pixels.{box_of}
-use Rattle.guillotiere.specs.Choice.{Options, AreValid, IsPick}
-use Rattle.guillotiere.specs.Trees.{most_slots}
+use Rattle.atlas_model.specs.Boxes.{Box, Sides}
+use Rattle.atlas_model.specs.Pixels.{box_of}
+use Rattle.atlas_model.specs.Choice.{Options, AreValid, IsPick}
+use Rattle.atlas_model.specs.Trees.{most_slots}
 use Rattle.guillotiere.specs.Slots.{nodes, rings, node_at}
 use Rattle.guillotiere.specs.Search.Bands.{list_of, number_of}
 use Rattle.guillotiere.specs.Search.Items.{Item}

@@ -1,8 +1,8 @@
 -- Which requests the code can round, and how it compares two boxes.
 use Rattle.std.specs.Prelude.{◌≡◌, ◌≢◌, ◌≤◌, ℤ, pos, ◌<ℤ◌, Bool, true, false, ◌⊎◌}
-use Rattle.guillotiere.specs.declared.geometry.Point.{Point}
-use Rattle.guillotiere.specs.Boxes.{Sides, IsPositive}
-use Rattle.guillotiere.specs.Choice.{Options, rounded}
+use Rattle.atlas_model.specs.declared.geometry.Point.{Point}
+use Rattle.atlas_model.specs.Boxes.{Sides, IsPositive}
+use Rattle.atlas_model.specs.Choice.{Options, rounded}
 
 -- A positive request whose rounded sides an `i32` can hold.
 pub record CanBeRounded (o : Options) (s : Sides) : Type 0 where

@@ -1,7 +1,7 @@
 -- The search for the box that a request takes: the best of the boxes that it was shown, in any order.
 use Rattle.std.specs.Prelude.{◌≡◌, ℕ, ◌≤◌, Bool, true, false, ◌⊎◌, List, Contains}
-use Rattle.guillotiere.specs.Boxes.{Sides, Box, box_sides, Fits}
-use Rattle.guillotiere.specs.Choice.{Options, class_of, least_margin, HasEqualSide, IsFitting, ComesFirst}
+use Rattle.atlas_model.specs.Boxes.{Sides, Box, box_sides, Fits}
+use Rattle.atlas_model.specs.Choice.{Options, class_of, least_margin, HasEqualSide, IsFitting, ComesFirst}
 
 -- A box, and the number by which who shows it finds it again.
 pub record Shown : Type 0 where

@@ -1,9 +1,9 @@
 -- Areas of the leaves that slots hold. No public clause cites this module.
 use Rattle.std.specs.Prelude.{ℕ, List, [], ◌∷◌, sum_by, if◌then◌else◌}
 use Rattle.guillotiere.specs.declared.slots.Node.{Node}
-use Rattle.guillotiere.specs.declared.geometry.Rectangle.{Rectangle}
-use Rattle.guillotiere.specs.Boxes.{area}
-use Rattle.guillotiere.specs.Pixels.{box_of}
+use Rattle.atlas_model.specs.declared.geometry.Rectangle.{Rectangle}
+use Rattle.atlas_model.specs.Boxes.{area}
+use Rattle.atlas_model.specs.Pixels.{box_of}
 use Rattle.guillotiere.specs.Visits.{is_alloc}
 
 -- The rectangles of the allocated slots, in order.

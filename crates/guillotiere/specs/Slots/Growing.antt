@@ -1,9 +1,9 @@
 -- How the slots of an atlas that grows change. No public clause cites this module.
 use Rattle.std.specs.Prelude.{ℕ, ◌+◌, ◌<◌, ◌≡◌, true}
-use Rattle.guillotiere.specs.declared.geometry.Size.{Size}
-use Rattle.guillotiere.specs.declared.geometry.Rectangle.{Rectangle}
-use Rattle.guillotiere.specs.Boxes.{Axis, Sides, other, side}
-use Rattle.guillotiere.specs.Trees.{total}
+use Rattle.atlas_model.specs.declared.geometry.Size.{Size}
+use Rattle.atlas_model.specs.declared.geometry.Rectangle.{Rectangle}
+use Rattle.atlas_model.specs.Boxes.{Axis, Sides, other, side}
+use Rattle.atlas_model.specs.Trees.{total}
 use Rattle.guillotiere.specs.Slots.Links.{with_mark}
 use Rattle.guillotiere.specs.Slots.{no_slot}
 use Rattle.guillotiere.specs.Slots.Numbered.{Numbered, erase, first_slot, End, Free, Alloc, Seq}

@@ -8,11 +8,11 @@ use Rattle.guillotiere.specs.declared.slots.Ring.{Ring}
 use Rattle.guillotiere.specs.declared.slots.NodeKind.TheVariants as kind
 use Rattle.guillotiere.specs.declared.search.bands.Place.{Place}
 use Rattle.guillotiere.specs.declared.search.table.ListHead.{ListHead}
-use Rattle.guillotiere.specs.declared.geometry.Rectangle.{Rectangle}
-use Rattle.guillotiere.specs.Boxes.{IsNonempty}
-use Rattle.guillotiere.specs.Pixels.{box_of}
+use Rattle.atlas_model.specs.declared.geometry.Rectangle.{Rectangle}
+use Rattle.atlas_model.specs.Boxes.{IsNonempty}
+use Rattle.atlas_model.specs.Pixels.{box_of}
 use Rattle.guillotiere.specs.Rectangles.{IsUnsigned}
-use Rattle.guillotiere.specs.Choice.{Options}
+use Rattle.atlas_model.specs.Choice.{Options}
 use Rattle.guillotiere.specs.Slots.{nodes, rings, node_at, ring_at, blank_slot, no_slot}
 use Rattle.guillotiere.specs.Search.Bands.{list_of}
 use Rattle.guillotiere.specs.Slots.Lists.{IsList, AreFiled, Line, Places, front, node_sides, occurs, without}

@@ -7,9 +7,9 @@ use Rattle.guillotiere.specs.declared.slots.Ring.{Ring}
 use Rattle.guillotiere.specs.declared.slots.NodeKind.{NodeKind}
 use Rattle.guillotiere.specs.declared.slots.NodeKind.TheVariants as kind
 use Rattle.guillotiere.specs.declared.search.table.ListHead.{ListHead}
-use Rattle.guillotiere.specs.Boxes.{Sides, box_sides}
-use Rattle.guillotiere.specs.Pixels.{box_of}
-use Rattle.guillotiere.specs.Choice.{Options}
+use Rattle.atlas_model.specs.Boxes.{Sides, box_sides}
+use Rattle.atlas_model.specs.Pixels.{box_of}
+use Rattle.atlas_model.specs.Choice.{Options}
 use Rattle.guillotiere.specs.Search.Bands.{list_of, strip_of}
 use Rattle.guillotiere.specs.Search.Tables.{head_of, low_of}
 use Rattle.guillotiere.specs.Slots.{node_at, ring_at, use_count, no_slot}

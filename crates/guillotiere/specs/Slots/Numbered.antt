@@ -1,7 +1,7 @@
 -- The tree of cuts, each member with the number of its slot. No public clause cites this module.
 use Rattle.std.specs.Prelude.{ℕ, ◌+◌, ◌-◌, ◌*◌, ◌==◌, Bool, false, if◌then◌else◌}
-use Rattle.guillotiere.specs.Trees.{Members, most_slots}
-use Rattle.guillotiere.specs.Trees as tree
+use Rattle.atlas_model.specs.Trees.{Members, most_slots}
+use Rattle.atlas_model.specs.Trees as tree
 use Rattle.guillotiere.specs.Slots.{no_slot}
 
 -- An allocated member has the generation of its slot in place of its id.

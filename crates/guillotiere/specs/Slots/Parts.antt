@@ -3,12 +3,12 @@ use Rattle.std.specs.Prelude.{ℕ, ℤ, ◌+◌, ◌+ℤ◌, ◌-ℤ◌}
 use Rattle.guillotiere.specs.declared.slots.Link.{Link}
 use Rattle.guillotiere.specs.declared.slots.Node.{Node}
 use Rattle.guillotiere.specs.declared.slots.NodeKind.TheVariants as kind
-use Rattle.guillotiere.specs.declared.geometry.Rectangle.{Rectangle}
+use Rattle.atlas_model.specs.declared.geometry.Rectangle.{Rectangle}
 use Rattle.guillotiere.specs.declared.cut.Orientation.{Orientation}
 use Rattle.guillotiere.specs.declared.cut.Orientation.TheVariants as orientation
-use Rattle.guillotiere.specs.Boxes.{Axis, Box}
-use Rattle.guillotiere.specs.Boxes.Axis.{Horizontal, Vertical}
-use Rattle.guillotiere.specs.Pixels.{box_of, rectangle_of}
+use Rattle.atlas_model.specs.Boxes.{Axis, Box}
+use Rattle.atlas_model.specs.Boxes.Axis.{Horizontal, Vertical}
+use Rattle.atlas_model.specs.Pixels.{box_of, rectangle_of}
 use Rattle.guillotiere.specs.Slots.{axis_of, no_slot}
 
 -- How long a rectangle is along an axis.

@@ -4,9 +4,9 @@ use Rattle.std.specs.List.{position_or_len}
 use Rattle.guillotiere.specs.declared.slots.Node.{Node}
 use Rattle.guillotiere.specs.declared.slots.NodeKind.{NodeKind}
 use Rattle.guillotiere.specs.declared.slots.NodeKind.TheVariants as kind
-use Rattle.guillotiere.specs.Boxes.{side, box_sides}
-use Rattle.guillotiere.specs.Pixels.{box_of}
-use Rattle.guillotiere.specs.Trees.{Tree}
+use Rattle.atlas_model.specs.Boxes.{side, box_sides}
+use Rattle.atlas_model.specs.Pixels.{box_of}
+use Rattle.atlas_model.specs.Trees.{Tree}
 use Rattle.guillotiere.specs.Slots.{node_at, use_count, axis_of, no_slot}
 use Rattle.guillotiere.specs.Slots.Numbered.{Numbered, erase, End, Free, Alloc, Seq}
 

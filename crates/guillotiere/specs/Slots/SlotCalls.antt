@@ -4,10 +4,10 @@ use Rattle.guillotiere.specs.declared.slots.Slot.{Slot}
 use Rattle.guillotiere.specs.declared.slots.Link.{Link}
 use Rattle.guillotiere.specs.declared.slots.Node.{Node}
 use Rattle.guillotiere.specs.declared.slots.NodeKind.TheVariants as kind
-use Rattle.guillotiere.specs.declared.geometry.Size.{Size}
-use Rattle.guillotiere.specs.Boxes.{other, side}
-use Rattle.guillotiere.specs.Pixels.{sides_of}
-use Rattle.guillotiere.specs.Trees.{total}
+use Rattle.atlas_model.specs.declared.geometry.Size.{Size}
+use Rattle.atlas_model.specs.Boxes.{other, side}
+use Rattle.atlas_model.specs.Pixels.{sides_of}
+use Rattle.atlas_model.specs.Trees.{total}
 use Rattle.guillotiere.specs.Slots.{nodes, rings, node_at, no_slot, KeepsUse}
 use Rattle.guillotiere.specs.Slots.Numbered.{Numbered, marked, joined, lifted, granted_at, split_at, wrapped_at}
 use Rattle.guillotiere.specs.Slots.Numbered.{End, Free, Seq, erase, first_slot}

@@ -4,9 +4,9 @@ use Rattle.guillotiere.specs.declared.slots.Link.{Link}
 use Rattle.guillotiere.specs.declared.slots.Node.{Node}
 use Rattle.guillotiere.specs.declared.slots.NodeKind.{NodeKind}
 use Rattle.guillotiere.specs.declared.slots.NodeKind.TheVariants as kind
-use Rattle.guillotiere.specs.Boxes.{Axis, Position, Box, other, sized, box_at}
-use Rattle.guillotiere.specs.Boxes.Axis.{Horizontal, Vertical}
-use Rattle.guillotiere.specs.Pixels.{rectangle_of}
+use Rattle.atlas_model.specs.Boxes.{Axis, Position, Box, other, sized, box_at}
+use Rattle.atlas_model.specs.Boxes.Axis.{Horizontal, Vertical}
+use Rattle.atlas_model.specs.Pixels.{rectangle_of}
 use Rattle.guillotiere.specs.Slots.{node_at, use_count, axis_of, no_slot}
 use Rattle.guillotiere.specs.Slots.Numbered.{Numbered, tally, first_slot, End, Free, Alloc, Seq}
 

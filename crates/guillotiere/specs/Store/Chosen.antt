@@ -3,11 +3,11 @@ use Rattle.std.specs.Prelude.{ℕ, ◌+◌, ◌<◌, ◌≤◌, ◌≡◌, ◌�
 use Rattle.guillotiere.specs.declared.store.Store.{Store}
 use Rattle.guillotiere.specs.declared.tree.requests.Chosen.{Chosen}
 use Rattle.guillotiere.specs.declared.slots.NodeKind.TheVariants as kind
-use Rattle.guillotiere.specs.declared.error.AtlasError.{AtlasError}
-use Rattle.guillotiere.specs.declared.error.AtlasError.TheVariants.{Memory, Slots, NotLive}
-use Rattle.guillotiere.specs.Boxes.{Sides, Box}
-use Rattle.guillotiere.specs.Choice.{IsPick}
-use Rattle.guillotiere.specs.Pixels.{box_of, options_of}
+use Rattle.atlas_model.specs.declared.error.AtlasError.{AtlasError}
+use Rattle.atlas_model.specs.declared.error.AtlasError.TheVariants.{Memory, Slots, NotLive}
+use Rattle.atlas_model.specs.Boxes.{Sides, Box}
+use Rattle.atlas_model.specs.Choice.{IsPick}
+use Rattle.atlas_model.specs.Pixels.{box_of, options_of}
 use Rattle.guillotiere.specs.Slots.{nodes}
 use Rattle.guillotiere.specs.Slots.Numbered.{id_of}
 use Rattle.guillotiere.specs.Slots.Reading.{extent_of}

@@ -2,8 +2,8 @@
 use Rattle.std.specs.Prelude.{ℕ, ◌≡◌, ◌+◌, [], ◌∷◌}
 use Rattle.guillotiere.specs.declared.store.Store.{Store}
 use Rattle.guillotiere.specs.declared.slots.NodeKind.TheVariants as kind
-use Rattle.guillotiere.specs.Trees.{IsNormal}
-use Rattle.guillotiere.specs.Changes.{nf, mark, only}
+use Rattle.atlas_model.specs.Trees.{IsNormal}
+use Rattle.atlas_model.specs.Changes.{nf, mark, only}
 use Rattle.guillotiere.specs.Slots.Calm.{IsCalmBut, NoneEmpty}
 use Rattle.guillotiere.specs.Slots.{nodes}
 use Rattle.guillotiere.specs.Slots.Numbered.{erase, first_slot, numbers, id_of}

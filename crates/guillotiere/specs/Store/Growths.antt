@@ -2,11 +2,11 @@
 use Rattle.std.specs.Prelude.{ℕ, ◌+◌, ◌-◌, ◌<◌, ◌≡◌, Bool, true, false, [], length}
 use Rattle.guillotiere.specs.declared.store.Store.{Store}
 use Rattle.guillotiere.specs.declared.tree.growth.Growth.{Growth}
-use Rattle.guillotiere.specs.Boxes.{Axis, Sides, Fits, other, side, sized}
-use Rattle.guillotiere.specs.Pixels.{sides_of, size_of}
-use Rattle.guillotiere.specs.Trees.{Tree, is_one_free, node_count}
-use Rattle.guillotiere.specs.Trees as tree
-use Rattle.guillotiere.specs.Changes.{grown_members, lengthened}
+use Rattle.atlas_model.specs.Boxes.{Axis, Sides, Fits, other, side, sized}
+use Rattle.atlas_model.specs.Pixels.{sides_of, size_of}
+use Rattle.atlas_model.specs.Trees.{Tree, is_one_free, node_count}
+use Rattle.atlas_model.specs.Trees as tree
+use Rattle.atlas_model.specs.Changes.{grown_members, lengthened}
 use Rattle.guillotiere.specs.Slots.Lists.{is_free}
 use Rattle.guillotiere.specs.Slots.Numbered.{erase, first_slot, numbers}
 use Rattle.guillotiere.specs.Stored.{Shelf, Holding, Holds, IsLooseOnly}

@@ -3,10 +3,10 @@ use Rattle.std.specs.Prelude.{ℕ, ◌+◌, ◌≡◌, ◌≤◌, ◌⊎◌, Boo
 use Rattle.guillotiere.specs.declared.store.Store.{Store}
 use Rattle.guillotiere.specs.declared.slots.Node.{Node}
 use Rattle.guillotiere.specs.declared.slots.NodeKind.TheVariants as kind
-use Rattle.guillotiere.specs.Boxes.{side, other, box_sides}
-use Rattle.guillotiere.specs.Pixels.{box_of, options_of}
+use Rattle.atlas_model.specs.Boxes.{side, other, box_sides}
+use Rattle.atlas_model.specs.Pixels.{box_of, options_of}
 use Rattle.guillotiere.specs.Search.Bands.{list_of}
-use Rattle.guillotiere.specs.Trees.{most_slots}
+use Rattle.atlas_model.specs.Trees.{most_slots}
 use Rattle.guillotiere.specs.Slots.Lists.{node_sides, node_strip}
 use Rattle.guillotiere.specs.Slots.{nodes, node_at, axis_of}
 use Rattle.guillotiere.specs.Slots.Links.{with_mark, tail_of}

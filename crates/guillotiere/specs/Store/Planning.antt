@@ -5,10 +5,10 @@ use Rattle.guillotiere.specs.declared.store.Store.{Store}
 use Rattle.guillotiere.specs.declared.tree.Plan.{Plan}
 use Rattle.guillotiere.specs.declared.tree.Plan.TheVariants as plan
 use Rattle.guillotiere.specs.declared.slots.Node.{Node}
-use Rattle.guillotiere.specs.Boxes.{Sides, other, side, box_sides}
-use Rattle.guillotiere.specs.Cuts.{cut}
-use Rattle.guillotiere.specs.Cuts.Cut.{Whole, Strip, Corner}
-use Rattle.guillotiere.specs.Pixels.{box_of}
+use Rattle.atlas_model.specs.Boxes.{Sides, other, side, box_sides}
+use Rattle.atlas_model.specs.Cuts.{cut}
+use Rattle.atlas_model.specs.Cuts.Cut.{Whole, Strip, Corner}
+use Rattle.atlas_model.specs.Pixels.{box_of}
 use Rattle.guillotiere.specs.declared.slots.NodeKind.TheVariants as kind
 use Rattle.guillotiere.specs.Slots.{axis_of}
 use Rattle.guillotiere.specs.Slots.Reading.{extent_of}

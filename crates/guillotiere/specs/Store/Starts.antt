@@ -1,14 +1,14 @@
 -- The start of an atlas: one free slot. No public clause cites this module.
 use Rattle.std.specs.Prelude.{ℕ, ◌≡◌, pos, true, false, List, [], ◌∷◌, length, vec_capacity}
 use Rattle.guillotiere.specs.declared.store.Store.{Store}
-use Rattle.guillotiere.specs.declared.options.AllocatorOptions.{AllocatorOptions}
+use Rattle.atlas_model.specs.declared.options.AllocatorOptions.{AllocatorOptions}
 use Rattle.guillotiere.specs.declared.slots.Slot.{Slot}
 use Rattle.guillotiere.specs.declared.slots.NodeKind.TheVariants as kind
 use Rattle.guillotiere.specs.declared.cut.Orientation.TheVariants as orientation
-use Rattle.guillotiere.specs.declared.geometry.Size.{Size}
-use Rattle.guillotiere.specs.Boxes.{Sides}
-use Rattle.guillotiere.specs.Boxes.Axis.{Vertical}
-use Rattle.guillotiere.specs.Pixels.{sides_of}
+use Rattle.atlas_model.specs.declared.geometry.Size.{Size}
+use Rattle.atlas_model.specs.Boxes.{Sides}
+use Rattle.atlas_model.specs.Boxes.Axis.{Vertical}
+use Rattle.atlas_model.specs.Pixels.{sides_of}
 use Rattle.guillotiere.specs.Slots.{nodes, no_slot}
 use Rattle.guillotiere.specs.Slots.Numbered.{End, Free}
 use Rattle.guillotiere.specs.Slots.Links.{with_mark}

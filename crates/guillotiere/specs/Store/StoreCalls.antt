@@ -6,7 +6,7 @@ use Rattle.guillotiere.specs.declared.slots.Link.{Link}
 use Rattle.guillotiere.specs.declared.slots.NodeKind.TheVariants as kind
 use Rattle.guillotiere.specs.Slots.Calm.{IsCalmAt, IsCalmBut}
 use Rattle.guillotiere.specs.Search.Bands.{list_of, number_of}
-use Rattle.guillotiere.specs.Pixels.{options_of}
+use Rattle.atlas_model.specs.Pixels.{options_of}
 use Rattle.guillotiere.specs.Slots.Links.{IsInTable, with_count}
 use Rattle.guillotiere.specs.Slots.Lists.{node_sides}
 use Rattle.guillotiere.specs.Slots.Parts.{front_node, back_node, inner_node}

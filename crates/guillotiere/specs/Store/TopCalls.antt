@@ -2,7 +2,7 @@
 use Rattle.std.specs.Prelude.{ℕ, ◌<◌, ◌≡◌, ◌≢◌}
 use Rattle.guillotiere.specs.declared.store.Store.{Store}
 use Rattle.guillotiere.specs.declared.slots.NodeKind.TheVariants as kind
-use Rattle.guillotiere.specs.Boxes.{Sides}
+use Rattle.atlas_model.specs.Boxes.{Sides}
 use Rattle.guillotiere.specs.Slots.Links.{with_count}
 use Rattle.guillotiere.specs.Stored.{Shelf, Holding, Holds, HoldsWith}
 use Rattle.guillotiere.specs.Store.Holdings.{shelf_of, node_in, IsLooseLeaf, KeepsRoom}

@@ -1,21 +1,18 @@
 //! Placing what is allocated anew: the order in which it is taken, and the placing itself.
 ghost use Rattle.std.specs.Prelude.{◌≡◌, ◌-◌, All, IfErr, IfOk, IsPermutation, map};
-ghost use Rattle.guillotiere.specs.Boxes.{area, box_sides};
-ghost use Rattle.guillotiere.specs.Cuts.{cap};
-ghost use Rattle.guillotiere.specs.Pixels.{box_of, natural, sides_of};
-ghost use Rattle.guillotiere.specs.Refits.{IsRanked};
-ghost use Rattle.guillotiere.specs.Replies.{AreRising, IsExact, grant_of};
-ghost use Rattle.guillotiere.specs.Rearranging.{AreExactChanges, rearrangement_of};
-ghost use Rattle.guillotiere.specs.Refits.Refitted.{HasExactRectangle, IsRefitOf, IsRefitRefusal};
+ghost use Rattle.atlas_model.specs.Boxes.{area, box_sides};
+ghost use Rattle.atlas_model.specs.Cuts.{cap};
+ghost use Rattle.atlas_model.specs.Pixels.{box_of, natural, sides_of};
+ghost use Rattle.atlas_model.specs.Refits.{IsRanked};
+ghost use Rattle.atlas_model.specs.Replies.{AreRising, IsExact, grant_of};
+ghost use Rattle.atlas_model.specs.Rearranging.{AreExactChanges, rearrangement_of};
+ghost use Rattle.atlas_model.specs.Refits.Refitted.{HasExactRectangle, IsRefitOf, IsRefitRefusal};
 ghost use Rattle.guillotiere.specs.Stored.{state_of};
-ghost use Rattle.guillotiere.specs.Trees.{slot_of};
+ghost use Rattle.atlas_model.specs.Trees.{slot_of};
 
-use crate::allocation::Allocation;
 use crate::atlas::AtlasAllocator;
-use crate::change::{Change, ChangeList};
-use crate::error::AtlasError;
-use crate::geometry::{Rectangle, Size};
 use crate::slots::walks::slot_number;
+use atlas_model::{Allocation, AtlasError, Change, ChangeList, Rectangle, Size};
 use std::alloc::Allocator;
 use std::cmp::Reverse;
 

@@ -2,22 +2,20 @@
 ghost use Rattle.std.specs.Prelude.{◌≡◌, ◌+◌, ◌*◌, List, All, IfOk, IsOkUnless, sum_by};
 ghost use Rattle.std.specs.List.{FoldsTo};
 ghost use Rattle.std.specs.Fn.{CalledAt};
-ghost use Rattle.guillotiere.specs.declared.geometry.Rectangle.{Rectangle as Area};
-ghost use Rattle.guillotiere.specs.declared.allocation.Allocation.{Allocation as Grant};
-ghost use Rattle.guillotiere.specs.Boxes.{area};
-ghost use Rattle.guillotiere.specs.Pixels.{IsMeasurable};
-ghost use Rattle.guillotiere.specs.States.{live_in, free_in};
+ghost use Rattle.atlas_model.specs.declared.geometry.Rectangle.{Rectangle as Area};
+ghost use Rattle.atlas_model.specs.declared.allocation.Allocation.{Allocation as Grant};
+ghost use Rattle.atlas_model.specs.Boxes.{area};
+ghost use Rattle.atlas_model.specs.Pixels.{IsMeasurable};
+ghost use Rattle.atlas_model.specs.States.{live_in, free_in};
 ghost use Rattle.guillotiere.specs.Stored.{state_of};
 ghost use Rattle.guillotiere.specs.Visits.{AreFreeAreas, AreGrants, CalledAtGrant};
 ghost use Rattle.guillotiere.specs.Walks.{IsCallableAlong, IsCallableAlongGrants, IsShownArea, IsShownGrant};
 
-use crate::allocation::{AllocId, Allocation};
 use crate::atlas::AtlasAllocator;
-use crate::error::AtlasError;
-use crate::geometry::Rectangle;
 use crate::slots::walks::{
     free_sum, gather_allocated, gather_free, live_sum, visit_allocated, visit_free,
 };
+use atlas_model::{AllocId, Allocation, AtlasError, Rectangle};
 use std::alloc::Allocator;
 
 impl<A: Allocator + Copy> AtlasAllocator<A> {

@@ -2,13 +2,12 @@
 ghost use Rattle.std.specs.Prelude.{◌≡◌, ◌+◌, ◌<◌, ◌≤◌, pos, ◌<ℤ◌, ◌≤ℤ◌, ℕ};
 ghost use Rattle.guillotiere.specs.Search.Bands.{band_of, border_of, list_of, number_of, passes, start_of, step_of};
 ghost use Rattle.guillotiere.specs.Search.Bands.{strip_of};
-ghost use Rattle.guillotiere.specs.Choice.{Options};
+ghost use Rattle.atlas_model.specs.Choice.{Options};
 ghost use Rattle.guillotiere.specs.Search.Lookups.{AreBorders, IsWindowOf};
-ghost use Rattle.guillotiere.specs.Boxes.{IsPositive};
-ghost use Rattle.guillotiere.specs.Pixels.{natural, options_of, sides_of};
+ghost use Rattle.atlas_model.specs.Boxes.{IsPositive};
+ghost use Rattle.atlas_model.specs.Pixels.{natural, options_of, sides_of};
 
-use crate::geometry::Size;
-use crate::options::AllocatorOptions;
+use atlas_model::{AllocatorOptions, Size};
 
 /// How many bands a side may have: the lists have as many rows, and as many columns.
 pub const BANDS: usize = 52;

@@ -2,15 +2,15 @@
 ghost use Rattle.std.specs.Prelude.{◌≡◌, ◌≢◌, ◌<◌, ◌++◌, ◌∷◌, [], ℕ, Bool, true, false, List, pos, ◌≤ℤ◌, ◌↔◌, IsTrue};
 ghost use Rattle.std.specs.Prelude.{IfSome, None};
 ghost use Rattle.guillotiere.specs.Search.Bands.{strip_of};
-ghost use Rattle.guillotiere.specs.Boxes.{IsNonempty, IsPositive, Sides};
-ghost use Rattle.guillotiere.specs.Pixels.{box_of, natural, sides_of};
+ghost use Rattle.atlas_model.specs.Boxes.{IsNonempty, IsPositive, Sides};
+ghost use Rattle.atlas_model.specs.Pixels.{box_of, natural, sides_of};
 ghost use Rattle.guillotiere.specs.Search.Ranks.{no_rank, rank_of};
 ghost use Rattle.guillotiere.specs.Rectangles.{IsUnsigned};
 
 use crate::choice::{is_before, margin_in};
-use crate::geometry::{Point, Rectangle, Size, point2};
 use crate::search::bands::{Place, strip};
 use crate::slots::Link;
+use atlas_model::{Point, Rectangle, Size, point2};
 
 /// The free box that a request takes, and where it stands.
 #[derive(Clone, Copy)]

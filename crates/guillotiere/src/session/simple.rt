@@ -1,19 +1,17 @@
 //! Lists of calls of a simple allocator, and their replies.
 ghost use Rattle.std.specs.Prelude.{◌≡◌, ◌↔◌, All, take, drop, vec_len, IsTrue, OnOk, OnErr, IsOkUnless};
-ghost use Rattle.guillotiere.specs.Boxes.{Fits};
-ghost use Rattle.guillotiere.specs.Pixels.{sides_of, options_of};
-ghost use Rattle.guillotiere.specs.Simple.{SimpleStep, simple_done};
-ghost use Rattle.guillotiere.specs.Simple.SimpleAtlasCall.{Allocate, Grow, Reset};
-ghost use Rattle.guillotiere.specs.Simple.SimpleSessions.{simple_call_of, simple_answer_of, GrantsExact};
-ghost use Rattle.guillotiere.specs.Simple.SimpleSessions.{IsSimpleSession};
+ghost use Rattle.atlas_model.specs.Boxes.{Fits};
+ghost use Rattle.atlas_model.specs.Pixels.{sides_of, options_of};
+ghost use Rattle.atlas_model.specs.Simple.{SimpleStep, simple_done};
+ghost use Rattle.atlas_model.specs.Simple.SimpleAtlasCall.{Allocate, Grow, Reset};
+ghost use Rattle.guillotiere.specs.SimpleSessions.{simple_call_of, simple_answer_of, GrantsExact};
+ghost use Rattle.guillotiere.specs.SimpleSessions.{IsSimpleSession};
 ghost use Rattle.guillotiere.specs.Stored.{state_of};
 
 use super::is_positive;
 use crate::atlas::AtlasAllocator;
-use crate::error::AtlasError;
-use crate::geometry::{Rectangle, Size};
-use crate::options::AllocatorOptions;
 use crate::simple::SimpleAtlasAllocator;
+use atlas_model::{AllocatorOptions, AtlasError, Rectangle, Size};
 use std::alloc::Allocator;
 
 /// A call of a simple allocator, as data.

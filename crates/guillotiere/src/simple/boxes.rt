@@ -1,27 +1,25 @@
 //! The free boxes of the simple allocator, in the lists of a table.
 ghost use Rattle.std.specs.Prelude.{◌≡◌, ◌≢◌, ◌<◌, ◌≤◌, ◌∷◌, IfOk, IsOkUnless, OnErr, OnOk, [], length};
 ghost use Rattle.std.specs.Prelude.{vec_capacity, vec_len};
-ghost use Rattle.guillotiere.specs.Simple.BoxCalls.{AreFiledBoxes, HasEntriesFor, HasTakenEntries, IsLed};
-ghost use Rattle.guillotiere.specs.Simple.BoxShelves.{AreKept, IsInHand, box_shelf, free_item_boxes, idle_item};
-ghost use Rattle.guillotiere.specs.Simple.BoxShelves.{stored_item};
+ghost use Rattle.guillotiere.specs.FreeBoxes.BoxCalls.{AreFiledBoxes, HasEntriesFor, HasTakenEntries, IsLed};
+ghost use Rattle.guillotiere.specs.FreeBoxes.BoxShelves.{AreKept, IsInHand, box_shelf, free_item_boxes, idle_item};
+ghost use Rattle.guillotiere.specs.FreeBoxes.BoxShelves.{stored_item};
 ghost use Rattle.guillotiere.specs.Search.Bands.{strip_of};
-ghost use Rattle.guillotiere.specs.Boxes.{AreSameBoxes};
-ghost use Rattle.guillotiere.specs.Choice.{AreValid, Options};
+ghost use Rattle.atlas_model.specs.Boxes.{AreSameBoxes};
+ghost use Rattle.atlas_model.specs.Choice.{AreValid, Options};
 ghost use Rattle.guillotiere.specs.Slots.Links.{IsSolid};
 ghost use Rattle.guillotiere.specs.Search.Lookups.{IsStanding};
-ghost use Rattle.guillotiere.specs.Pixels.{box_of, options_of};
+ghost use Rattle.atlas_model.specs.Pixels.{box_of, options_of};
 ghost use Rattle.guillotiere.specs.Rectangles.{IsUnsigned};
 ghost use Rattle.guillotiere.specs.Slots.{no_slot};
 
-use crate::error::AtlasError;
-use crate::geometry::{Rectangle, point2};
-use crate::options::AllocatorOptions;
 use crate::search::Entry;
 use crate::search::bands::{BANDS, Place, place_for, strip};
 use crate::search::best::Found;
 use crate::search::table::Table;
 use crate::slots::lists::exact_size;
 use crate::slots::{Link, NO_SLOT};
+use atlas_model::{AllocatorOptions, AtlasError, Rectangle, point2};
 use std::alloc::Allocator;
 
 /// A free box and the entry after it in its list; or an unused entry, whose rectangle is empty, and the next one.
@@ -32,7 +30,7 @@ pub struct FreeBox {
 }
 
 impl Entry for FreeBox {
-    ghost use Rattle.guillotiere.specs.Simple.BoxShelves.{stored_item};
+    ghost use Rattle.guillotiere.specs.FreeBoxes.BoxShelves.{stored_item};
 
     ghost item = { stored_item };
 

@@ -1,14 +1,14 @@
 //! A simple allocator that grows or begins anew.
 ghost use Rattle.std.specs.Prelude.{◌≡◌, ◌≢◌, ◌<◌, ◌++◌, [], List, All, map, Ok, OnOk, OnErr, IsOkUnless};
-ghost use Rattle.guillotiere.specs.Boxes.{AreSameBoxes, Box, Fits, IsNonempty, IsPositive};
-ghost use Rattle.guillotiere.specs.Choice.{AreValid};
-ghost use Rattle.guillotiere.specs.Simple.BoxCalls.{AreFiledBoxes};
-ghost use Rattle.guillotiere.specs.Simple.BoxShelves.{AreKept, box_shelf, free_item_boxes};
-ghost use Rattle.guillotiere.specs.Simple.FreeLists.{kept_beyond};
-ghost use Rattle.guillotiere.specs.Pixels.{box_of, options_of, sides_of};
+ghost use Rattle.atlas_model.specs.Boxes.{AreSameBoxes, Box, Fits, IsNonempty, IsPositive};
+ghost use Rattle.atlas_model.specs.Choice.{AreValid};
+ghost use Rattle.guillotiere.specs.FreeBoxes.BoxCalls.{AreFiledBoxes};
+ghost use Rattle.guillotiere.specs.FreeBoxes.BoxShelves.{AreKept, box_shelf, free_item_boxes};
+ghost use Rattle.guillotiere.specs.FreeBoxes.FreeLists.{kept_beyond};
+ghost use Rattle.atlas_model.specs.Pixels.{box_of, options_of, sides_of};
 ghost use Rattle.guillotiere.specs.Rectangles.{IsUnsigned};
-ghost use Rattle.guillotiere.specs.Simple.{IsGuarded, IsSimple, SimpleStep, live_boxes, simple_done};
-ghost use Rattle.guillotiere.specs.Simple.SimpleAtlasCall.{Clear, Grow, Reset, Start};
+ghost use Rattle.atlas_model.specs.Simple.{IsGuarded, IsSimple, SimpleStep, live_boxes, simple_done};
+ghost use Rattle.atlas_model.specs.Simple.SimpleAtlasCall.{Clear, Grow, Reset, Start};
 ghost use Rattle.guillotiere.specs.Slots.{nodes};
 ghost use Rattle.guillotiere.specs.Stored.{state_of};
 ghost use Rattle.guillotiere.specs.Visits.{free_areas};
@@ -16,11 +16,9 @@ ghost use Rattle.guillotiere.specs.Visits.{free_areas};
 use super::{SimpleAtlasAllocator, is_kept, keep};
 use crate::atlas::AtlasAllocator;
 use crate::cut::guillotine;
-use crate::error::AtlasError;
-use crate::geometry::{Rectangle, Size};
-use crate::options::AllocatorOptions;
 use crate::simple::boxes::FreeBoxes;
 use crate::slots::{NodeKind, Slot};
+use atlas_model::{AllocatorOptions, AtlasError, Rectangle, Size};
 use std::alloc::Allocator;
 
 impl<A: Allocator + Copy> SimpleAtlasAllocator<A> {

@@ -5,9 +5,9 @@ ghost use Rattle.guillotiere.specs.declared.slots.Node.{Node as TreePart};
 ghost use Rattle.guillotiere.specs.Slots.{nodes, rings};
 ghost use Rattle.guillotiere.specs.Batches.{AreHidable, AreNamedOnce, hidden};
 
-use crate::allocation::AllocId;
 use crate::slots::walks::{named_slot, slot_number};
 use crate::slots::{Link, NodeKind, Slot, set_kind};
+use atlas_model::AllocId;
 
 // Hides the slots of ids, up to the first id that names none. The answer is how many were hidden.
 fn hide(slots: &mut [Slot], ids: &[AllocId]) -> usize

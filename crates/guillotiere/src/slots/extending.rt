@@ -3,16 +3,16 @@
 ghost use Rattle.std.specs.Prelude.{◌≡◌, ◌<◌, length};
 ghost use Rattle.guillotiere.specs.declared.slots.NodeKind.TheVariants.{Free};
 ghost use Rattle.guillotiere.specs.declared.cut.Orientation.TheVariants.{Horizontal, Vertical};
-ghost use Rattle.guillotiere.specs.Pixels.{sides_of, size_of};
+ghost use Rattle.atlas_model.specs.Pixels.{sides_of, size_of};
 ghost use Rattle.guillotiere.specs.Slots.{nodes, node_at};
 ghost use Rattle.guillotiere.specs.Slots.Growing.{stretched_area};
 ghost use Rattle.guillotiere.specs.Slots.SlotCalls.{CanAppendTo, CanWrapTop, HasFirst};
 ghost use Rattle.guillotiere.specs.Slots.SlotCalls.{IsLeafAppended, IsLeafStretched, IsTopHung, IsTopWrapped};
 
 use crate::cut::Orientation;
-use crate::geometry::{Rectangle, Size, point2};
 use crate::slots::placing::across;
 use crate::slots::{Link, NO_SLOT, Node, NodeKind, Slot, read_node, write_node};
+use atlas_model::{Rectangle, Size, point2};
 
 /// The free leaf at `at` reaches to the far corner of a size.
 pub fn stretch_leaf(slots: &mut [Slot], at: Link, size: Size)

@@ -1,9 +1,9 @@
 //! The lists of free slots, by the bands of both sides, and the list of unused slots: links inside the slots.
 ghost use Rattle.std.specs.Prelude.{◌≡◌, ◌<◌, ℕ, true, false, List, ◌∷◌, length, slice_set, vec_capacity};
 ghost use Rattle.guillotiere.specs.Search.Bands.{list_of, number_of, strip_of};
-ghost use Rattle.guillotiere.specs.Boxes.{IsPositive, box_sides};
-ghost use Rattle.guillotiere.specs.Choice.{Options};
-ghost use Rattle.guillotiere.specs.Pixels.{box_of, options_of, sides_of};
+ghost use Rattle.atlas_model.specs.Boxes.{IsPositive, box_sides};
+ghost use Rattle.atlas_model.specs.Choice.{Options};
+ghost use Rattle.atlas_model.specs.Pixels.{box_of, options_of, sides_of};
 ghost use Rattle.guillotiere.specs.Slots.{blank_slot, nodes, rings, node_at, ring_at};
 ghost use Rattle.guillotiere.specs.Slots.Standing.{IsSlot};
 ghost use Rattle.guillotiere.specs.declared.slots.Link.{Link};
@@ -17,13 +17,12 @@ ghost use Rattle.guillotiere.specs.Slots.Links.{first_without, given_back, liste
 ghost use Rattle.guillotiere.specs.Slots.Links.{with_ring_previous};
 
 use crate::cut::Orientation;
-use crate::geometry::{Rectangle, Size, point2};
-use crate::options::AllocatorOptions;
 use crate::search::bands::{Place, place_for, strip};
 use crate::search::table::Table;
 use crate::slots::{
     Link, NO_SLOT, Node, NodeKind, Ring, Slot, read_node, read_ring, write_node, write_ring,
 };
+use atlas_model::{AllocatorOptions, Rectangle, Size, point2};
 use std::alloc::Allocator;
 
 /// `next` comes after `at` in its list; nothing happens where `at` is no slot.

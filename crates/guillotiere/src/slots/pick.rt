@@ -1,17 +1,16 @@
 //! The free slot that a request takes: the search through the lists, which reads slots.
 ghost use Rattle.std.specs.Prelude.{◌≡◌, List, None, IfSome};
-ghost use Rattle.guillotiere.specs.Boxes.{Box, IsPositive};
-ghost use Rattle.guillotiere.specs.Choice.{IsFitting};
+ghost use Rattle.atlas_model.specs.Boxes.{Box, IsPositive};
+ghost use Rattle.atlas_model.specs.Choice.{IsFitting};
 ghost use Rattle.guillotiere.specs.Search.Picks.{AreFreeBoxes, IsPickedSlot, IsSearchable};
-ghost use Rattle.guillotiere.specs.Pixels.{options_of, sides_of};
+ghost use Rattle.atlas_model.specs.Pixels.{options_of, sides_of};
 ghost use Rattle.guillotiere.specs.Slots.{nodes};
 
-use crate::geometry::{Rectangle, Size};
-use crate::options::AllocatorOptions;
 use crate::search::best::Found;
 use crate::search::table::Table;
 use crate::search::{self, Entry};
 use crate::slots::{Link, Slot};
+use atlas_model::{AllocatorOptions, Rectangle, Size};
 use std::alloc::Allocator;
 
 impl Entry for Slot {

@@ -2,18 +2,18 @@
 //! its own, or is granted. They leave the lists alone.
 ghost use Rattle.std.specs.Prelude.{◌≡◌, ◌<◌, length};
 ghost use Rattle.guillotiere.specs.declared.slots.NodeKind.TheVariants.{Free, Unused};
-ghost use Rattle.guillotiere.specs.Boxes.{box_sides, side};
-ghost use Rattle.guillotiere.specs.Pixels.{box_of, rectangle_of};
+ghost use Rattle.atlas_model.specs.Boxes.{box_sides, side};
+ghost use Rattle.atlas_model.specs.Pixels.{box_of, rectangle_of};
 ghost use Rattle.guillotiere.specs.Slots.{nodes, node_at, axis_of};
 ghost use Rattle.guillotiere.specs.Slots.SlotCalls.{CanSplitInto, IsLeafGranted, IsLeafSplit, IsLeafWrapped};
 ghost use Rattle.guillotiere.specs.Slots.Standing.{IsTree};
 ghost use Rattle.guillotiere.specs.Slots.Parts.{back_part, flipped, front_part};
 
 use crate::cut::Orientation;
-use crate::geometry::{Rectangle, point2};
 use crate::slots::{
     Link, NO_SLOT, Node, NodeKind, Slot, read_node, set_kind, set_previous, write_node,
 };
+use atlas_model::{Rectangle, point2};
 
 /// A free leaf becomes allocated.
 pub fn grant_leaf(slots: &mut [Slot], at: Link)

@@ -3,18 +3,16 @@ ghost use Rattle.std.specs.Prelude.{◌≡◌, ◌<◌, ◌≤◌, ◌^◌, true
 ghost use Rattle.std.specs.List.{FoldsTo};
 ghost use Rattle.std.specs.Fn.{CalledAt};
 ghost use Rattle.guillotiere.specs.Slots.{nodes};
-ghost use Rattle.guillotiere.specs.Trees.{slot_of};
+ghost use Rattle.atlas_model.specs.Trees.{slot_of};
 ghost use Rattle.guillotiere.specs.Slots.Numbered.{id_of};
 ghost use Rattle.guillotiere.specs.Visits.{CalledAtGrant, allocated_from, free_areas, is_named};
 ghost use Rattle.guillotiere.specs.Walks.{IsCallableAlong, IsCallableAlongGrants, IsShownArea};
 ghost use Rattle.guillotiere.specs.Slots.Areas.{live_areas, area_sum};
-ghost use Rattle.guillotiere.specs.Boxes.{area};
-ghost use Rattle.guillotiere.specs.Pixels.{box_of};
+ghost use Rattle.atlas_model.specs.Boxes.{area};
+ghost use Rattle.atlas_model.specs.Pixels.{box_of};
 
-use crate::allocation::{AllocId, Allocation};
-use crate::error::AtlasError;
-use crate::geometry::Rectangle;
 use crate::slots::{MOST_SLOTS, NodeKind, Slot};
+use atlas_model::{AllocId, Allocation, AtlasError, Rectangle};
 use std::alloc::Allocator;
 
 /// The id of the slot with this number in this generation.

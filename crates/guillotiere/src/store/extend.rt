@@ -1,14 +1,14 @@
 //! The calls of a store by which the top sequence of an atlas is extended.
 ghost use Rattle.std.specs.Prelude.{◌≡◌, ℕ};
-ghost use Rattle.guillotiere.specs.Boxes.{IsPositive};
-ghost use Rattle.guillotiere.specs.Pixels.{sides_of, size_of};
+ghost use Rattle.atlas_model.specs.Boxes.{IsPositive};
+ghost use Rattle.atlas_model.specs.Pixels.{sides_of, size_of};
 ghost use Rattle.guillotiere.specs.Stored.{Holding};
 ghost use Rattle.guillotiere.specs.Slots.Growing.{IsEnd, IsLone};
 
-use crate::geometry::Size;
 use crate::slots::Link;
 use crate::slots::extending::{append_leaf, stretch_leaf, wrap_top};
 use crate::store::Store;
+use atlas_model::Size;
 use std::alloc::Allocator;
 
 impl<A: Allocator> Store<A> {

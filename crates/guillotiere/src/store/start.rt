@@ -1,15 +1,14 @@
 //! The start of an atlas: one free slot, as large as the atlas.
 ghost use Rattle.std.specs.Prelude.{◌≡◌, ◌<◌, vec_capacity};
-ghost use Rattle.guillotiere.specs.Boxes.{IsPositive};
-ghost use Rattle.guillotiere.specs.Choice.{AreValid};
-ghost use Rattle.guillotiere.specs.Pixels.{sides_of, options_of};
+ghost use Rattle.atlas_model.specs.Boxes.{IsPositive};
+ghost use Rattle.atlas_model.specs.Choice.{AreValid};
+ghost use Rattle.atlas_model.specs.Pixels.{sides_of, options_of};
 ghost use Rattle.guillotiere.specs.Store.Starts.{IsStarted, one_free_slot};
 
 use crate::cut::Orientation;
-use crate::geometry::{Rectangle, Size};
-use crate::options::AllocatorOptions;
 use crate::slots::{Link, Node, NodeKind, Ring, Slot};
 use crate::store::Store;
+use atlas_model::{AllocatorOptions, Rectangle, Size};
 use std::alloc::Allocator;
 
 // The one slot of an atlas of this size.

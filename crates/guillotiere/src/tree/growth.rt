@@ -1,8 +1,8 @@
 //! Growing the tree of an atlas, by the calls of `store` and `extend`.
 ghost use Rattle.std.specs.Prelude.{◌≡◌, ◌<◌, ℕ, false};
-ghost use Rattle.guillotiere.specs.Boxes.{IsPositive, Fits, Sides};
-ghost use Rattle.guillotiere.specs.Pixels.{sides_of, size_of};
-ghost use Rattle.guillotiere.specs.Trees.{is_one_free};
+ghost use Rattle.atlas_model.specs.Boxes.{IsPositive, Fits, Sides};
+ghost use Rattle.atlas_model.specs.Pixels.{sides_of, size_of};
+ghost use Rattle.atlas_model.specs.Trees.{is_one_free};
 ghost use Rattle.guillotiere.specs.Slots.Numbered.{erase};
 ghost use Rattle.guillotiere.specs.Slots.{axis_of};
 ghost use Rattle.guillotiere.specs.Stored.{Holding};
@@ -13,9 +13,9 @@ ghost use Rattle.guillotiere.specs.Store.Growths.{IsOneBox, IsBoxGrown, IsTreeGr
 ghost use Rattle.guillotiere.specs.Store.Growths.{middle_of};
 
 use crate::cut::Orientation;
-use crate::geometry::{Size, size2};
 use crate::slots::{Link, NO_SLOT};
 use crate::store::Store;
+use atlas_model::{Size, size2};
 use std::alloc::Allocator;
 
 /// How an atlas that isn't one free box grows: first along its top sequence, then across it.

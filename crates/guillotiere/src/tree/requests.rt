@@ -1,24 +1,22 @@
 //! Granting a request: the free slot that it takes, the slots that this needs, and the placing itself.
 ghost use Rattle.std.specs.Prelude.{◌≡◌, ◌+◌, ◌<◌, ◌≤◌, ◌⊎◌, List, None, IfSome, OnOk, IfErr, vec_capacity, length};
-ghost use Rattle.guillotiere.specs.Boxes.{Box, IsPositive};
-ghost use Rattle.guillotiere.specs.Choice.{IsFitting};
-ghost use Rattle.guillotiere.specs.Pixels.{sides_of};
+ghost use Rattle.atlas_model.specs.Boxes.{Box, IsPositive};
+ghost use Rattle.atlas_model.specs.Choice.{IsFitting};
+ghost use Rattle.atlas_model.specs.Pixels.{sides_of};
 ghost use Rattle.guillotiere.specs.Slots.{nodes};
-ghost use Rattle.guillotiere.specs.Trees.{most_slots};
+ghost use Rattle.atlas_model.specs.Trees.{most_slots};
 ghost use Rattle.guillotiere.specs.Search.Picks.{AreFreeBoxes};
 ghost use Rattle.guillotiere.specs.Stored.{Holding};
 ghost use Rattle.guillotiere.specs.Store.Holdings.{shelf_of};
 ghost use Rattle.guillotiere.specs.Store.Chosen.{CanGrant, IsAtRest, IsChosen, IsRequestGranted, IsShortOf, KeepsShelf};
 
-use crate::allocation::AllocId;
-use crate::error::AtlasError;
-use crate::geometry::{Rectangle, Size};
 use crate::search::bands::Place;
 use crate::slots::Link;
 use crate::slots::pick::pick;
 use crate::slots::walks::slot_id;
 use crate::store::Store;
 use crate::tree::{Plan, place, plan_for};
+use atlas_model::{AllocId, AtlasError, Rectangle, Size};
 use std::alloc::Allocator;
 
 /// The free slot that a request takes, its rectangle, the list where it stands, a strip that no other slot of that list

@@ -1,6 +1,6 @@
 use Rattle.std.proofs.Common.{Result, sym, subst}
-use Rattle.guillotiere.specs.declared.change.ChangeList.{ChangeList}
-use Rattle.guillotiere.specs.declared.error.AtlasError.{AtlasError}
+use Rattle.guillotiere.specs.declared.ChangeList.{ChangeList}
+use Rattle.guillotiere.specs.declared.AtlasError.{AtlasError}
 use Rattle.guillotiere.specs.Rearranging.{change_reply}
 use Rattle.atlas_lines.specs.Machine.{ToolReply, ShowsRearranging}
 use Rattle.atlas_lines.proofs.Lists.{changes_shown}

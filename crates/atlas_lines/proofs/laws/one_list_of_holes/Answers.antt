@@ -1,5 +1,5 @@
 use Rattle.std.proofs.Common.{List, ap}
-use Rattle.guillotiere.specs.declared.geometry.Rectangle.{Rectangle}
+use Rattle.guillotiere.specs.declared.Rectangle.{Rectangle}
 use Rattle.atlas_lines.specs.Machine.{ToolReply}
 use Rattle.atlas_lines.specs.Replies.{reply_text}
 use Rattle.atlas_lines.proofs.Holes.{same_holes}

@@ -1,4 +1,4 @@
-use Rattle.guillotiere.proofs.TreeLemmas.Cutting.{tiling}
+use Rattle.guillotiere.proofs.Cutting.{tiling}
 use Rattle.guillotiere.proofs.cut.guillotine.Goals as goal
 
 pub returns-clause-tiling : goal.returns-clause-tiling

@@ -1,6 +1,6 @@
 use Rattle.std.proofs.Common.{◌-ℤ◌, FitsSigned, w32, rules, arith}
 use Rattle.std.proofs.lemmas.Int.{to_z-of_z, ints}
-use Rattle.guillotiere.proofs.TreeLemmas.Cutting.{axis_horizontal, axis_vertical}
+use Rattle.guillotiere.proofs.Cutting.{axis_horizontal, axis_vertical}
 use Rattle.guillotiere.proofs.cut.orientation_of.Goals as goal
 
 pub returns-then-below-beside : goal.returns-then-below-beside

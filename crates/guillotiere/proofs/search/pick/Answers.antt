@@ -1,6 +1,6 @@
 use Rattle.std.proofs.Common.{map, ℕ, subst, sym, arith}
 use Rattle.guillotiere.specs.Search.Lookups.{FitsItemsFrom}
-use Rattle.guillotiere.specs.Pixels.{options_of, sides_of}
+use Rattle.atlas_model.specs.Pixels.{options_of, sides_of}
 use Rattle.guillotiere.proofs.SearchLemmas.ClassSearching.{fits-from, from-both, search-of}
 use Rattle.guillotiere.proofs.SearchLemmas.ItemPicks.{best-found, from-own, from-next, none-found, none-from, no_room-of_items, pick-of_items}
 use Rattle.guillotiere.proofs.search.pick.Goals as goal

@@ -1,6 +1,6 @@
 use Rattle.std.proofs.Common.{map}
 use Rattle.guillotiere.specs.Search.Lookups.{FitsItemsFrom}
-use Rattle.guillotiere.specs.Pixels.{options_of, sides_of}
+use Rattle.atlas_model.specs.Pixels.{options_of, sides_of}
 use Rattle.guillotiere.proofs.search.pick.Given as goal
 
 abbrev pub invariant-loop-number : goal.invariant-loop-number

@@ -1,5 +1,5 @@
 use Rattle.std.proofs.Common.{map, ◌<◌, ℕ, sym, subst}
-use Rattle.guillotiere.specs.Pixels.{sides_of}
+use Rattle.atlas_model.specs.Pixels.{sides_of}
 use Rattle.guillotiere.proofs.SearchLemmas.AddingLines.{inside-window}
 use Rattle.guillotiere.proofs.SearchLemmas.ClassSearching.{own-ends, borders-inside, added-apart, added-beyond, added-all, searched}
 use Rattle.guillotiere.proofs.search.search_class.Goals as goal

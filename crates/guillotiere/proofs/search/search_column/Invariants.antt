@@ -1,7 +1,7 @@
 use Rattle.std.proofs.Common.{map, ◌≡◌, ◌<◌, ℕ, false}
 use Rattle.guillotiere.specs.Search.Bands.{IsInWindow}
-use Rattle.guillotiere.specs.Boxes.{Sides}
-use Rattle.guillotiere.specs.Choice.{Options}
+use Rattle.atlas_model.specs.Boxes.{Sides}
+use Rattle.atlas_model.specs.Choice.{Options}
 use Rattle.guillotiere.specs.Search.Lookups.{AreListed, HasAdded, IsInColumn}
 use Rattle.guillotiere.specs.Search.Masks.{has, IsMarked}
 use Rattle.guillotiere.proofs.search.search_column.Given as goal

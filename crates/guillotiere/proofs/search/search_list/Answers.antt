@@ -2,7 +2,7 @@ use Rattle.std.proofs.Common.{map, subst, ◌<◌, ℕ}
 use Rattle.guillotiere.specs.declared.slots.Link.{Link}
 use Rattle.guillotiere.specs.Search.Bands.{strip_of}
 use Rattle.guillotiere.specs.Search.Lookups.{HasShown}
-use Rattle.guillotiere.specs.Pixels.{natural}
+use Rattle.atlas_model.specs.Pixels.{natural}
 use Rattle.guillotiere.proofs.SearchLemmas.Adding.{added-list, added-over}
 use Rattle.guillotiere.proofs.search.search_list.Goals as goal
 

@@ -1,6 +1,6 @@
 use Rattle.std.proofs.Common.{map, ◌≡◌, ◌<◌, ℕ, false}
-use Rattle.guillotiere.specs.Boxes.{Sides}
-use Rattle.guillotiere.specs.Choice.{Options}
+use Rattle.atlas_model.specs.Boxes.{Sides}
+use Rattle.atlas_model.specs.Choice.{Options}
 use Rattle.guillotiere.specs.Search.Lookups.{AreListed, HasAdded, IsBeyond, IsWindowOf}
 use Rattle.guillotiere.specs.Search.Masks.{has, IsMarked}
 use Rattle.guillotiere.proofs.search.search_rows.Given as goal

@@ -1,8 +1,8 @@
 use Rattle.std.proofs.Common.{◌≢◌, ◌<◌, ℕ, ◌∙◌, sym, ap, subst, map, length, arith}
 use Rattle.std.proofs.lemmas.List.{length-map}
-use Rattle.guillotiere.specs.declared.geometry.Rectangle.{Rectangle}
-use Rattle.guillotiere.specs.Boxes.{IsNonempty}
-use Rattle.guillotiere.specs.Pixels.{box_of}
+use Rattle.atlas_model.specs.declared.geometry.Rectangle.{Rectangle}
+use Rattle.atlas_model.specs.Boxes.{IsNonempty}
+use Rattle.atlas_model.specs.Pixels.{box_of}
 use Rattle.guillotiere.specs.Rectangles.{IsUnsigned}
 use Rattle.guillotiere.specs.Slots.{no_slot}
 use Rattle.guillotiere.specs.Search.Items.{Item}

@@ -1,8 +1,8 @@
 use Rattle.std.proofs.Common.{◌≡◌, ◌+◌, ◌≤◌, length, take, drop, vec_len, vec_capacity, All}
 use Rattle.guillotiere.specs.Sessions.{calls_of, replies_of, IsExactReply}
-use Rattle.guillotiere.specs.States.{IsSound}
+use Rattle.atlas_model.specs.States.{IsSound}
 use Rattle.guillotiere.specs.Stored.{state_of}
-use Rattle.guillotiere.proofs.StepLemmas.Playing.{IsPlayed}
+use Rattle.guillotiere.proofs.Playing.{IsPlayed}
 use Rattle.guillotiere.proofs.session.run.Given as goal
 
 abbrev pub invariant-loop-call : goal.invariant-loop-call

@@ -1,7 +1,7 @@
 use Rattle.std.proofs.Common.{List, ◌∷◌, map, subst, ap}
-use Rattle.guillotiere.specs.Boxes.{Box, AreSameBoxes}
-use Rattle.guillotiere.specs.Simple.BoxShelves.{BoxShelf, free_item_boxes, stored_item}
-use Rattle.guillotiere.specs.Pixels.{box_of, options_of, sides_of}
+use Rattle.atlas_model.specs.Boxes.{Box, AreSameBoxes}
+use Rattle.guillotiere.specs.FreeBoxes.BoxShelves.{BoxShelf, free_item_boxes, stored_item}
+use Rattle.atlas_model.specs.Pixels.{box_of, options_of, sides_of}
 use Rattle.guillotiere.proofs.SimpleLemmas.CuttingBoxes.{picked-exact, cut-same}
 use Rattle.guillotiere.proofs.simple.cut_picked.Goals as goal
 

@@ -3,7 +3,7 @@ use denote.Enum.Bare.{sameb}
 use Rattle.guillotiere.specs.contracts.cut.Orientation.{the_type}
 use Rattle.guillotiere.specs.declared.cut.Orientation.{Orientation}
 use Rattle.guillotiere.specs.declared.cut.Orientation.TheVariants.{Horizontal, Vertical}
-use Rattle.guillotiere.specs.Boxes.{other}
+use Rattle.atlas_model.specs.Boxes.{other}
 use Rattle.guillotiere.specs.Slots.{axis_of}
 use Rattle.guillotiere.proofs.tree.remains_along.Goals as goal
 

@@ -1,6 +1,6 @@
 use Rattle.std.proofs.Common.{◌∙◌, ap, ap₂, sym, subst, ◌≤◌, ◌++◌, ◌∷◌, [], get_or}
 use Rattle.std.proofs.lemmas.List.{map_more}
-use Rattle.guillotiere.specs.declared.change.Change.{Change}
+use Rattle.guillotiere.specs.declared.Change.{Change}
 use Rattle.guillotiere_recording.specs.Names.{entries_of, name_among}
 use Rattle.guillotiere_recording.specs.Moves.{entry_under}
 use Rattle.guillotiere_recording.proofs.Placing.{named_so}

@@ -1,6 +1,6 @@
 use Rattle.std.proofs.Common.{All, List, ◌∷◌, map, ◌++◌, append_assoc, ap, sym, subst, ◌∙◌}
 use Rattle.std.proofs.lemmas.List.Elements.{All-head, All-tail}
-use Rattle.guillotiere.specs.declared.allocation.Allocation.{Allocation}
+use Rattle.guillotiere.specs.declared.Allocation.{Allocation}
 use Rattle.guillotiere.specs.Stored.{state_of}
 use Rattle.guillotiere_recording.specs.Standing.{shown_entry}
 use Rattle.guillotiere_recording.proofs.ReplayEnds.{Entries, IsFound, shown_by}

@@ -1,5 +1,5 @@
 use Rattle.std.proofs.Common.{OnOk, sym, subst, Option}
-use Rattle.guillotiere.specs.declared.allocation.Allocation.{Allocation}
+use Rattle.guillotiere.specs.declared.Allocation.{Allocation}
 use Rattle.guillotiere_recording.specs.Events.EventValue.{Allocate}
 use Rattle.guillotiere_recording.specs.Standing.{CarriesOut}
 use Rattle.guillotiere_recording.proofs.steps.request_again.Goals as goal

@@ -1,7 +1,7 @@
 use Rattle.std.proofs.Common.{◌≡◌, ◌==◌, ◌∙◌, ◌++◌, ◌∷◌, [], Some, None, option_map, ap, sym, add-one, arith}
 use Rattle.std.specs.List.{find}
 use Rattle.std.proofs.lemmas.List.{length-append}
-use Rattle.guillotiere.specs.declared.change.Change.{Change}
+use Rattle.guillotiere.specs.declared.Change.{Change}
 use Rattle.uses.specs.declared.repack.Held.{Held}
 use Rattle.uses.specs.declared.repack.Move.{Move}
 use Rattle.uses.specs.Pictures.{move_by, loss, loss_by, kept_by}

@@ -1,15 +1,15 @@
 use Rattle.std.proofs.Common.{rules, ◌≡◌, refl, subst, arith}
 use Rattle.std.specs.Prelude.{Err}
-use Rattle.guillotiere.specs.Pixels.{box_of, sides_of}
-use Rattle.guillotiere.specs.Replies.{grant_of}
-use Rattle.guillotiere.specs.States.{IsSound}
-use Rattle.guillotiere.specs.Steps.AtlasReply.{Allocated}
+use Rattle.atlas_model.specs.Pixels.{box_of, sides_of}
+use Rattle.atlas_model.specs.Replies.{grant_of}
+use Rattle.atlas_model.specs.States.{IsSound}
+use Rattle.atlas_model.specs.Steps.AtlasReply.{Allocated}
 use Rattle.guillotiere.specs.Stored.{state_of}
 use Rattle.guillotiere.proofs.AtlasLemmas.Observing.{used-IsAtlas}
 use Rattle.guillotiere.proofs.SimpleLemmas.Storing.{natural-fits}
 use Rattle.guillotiere.proofs.SimpleLemmas.CuttingFromLists.{sides_of-size, unsigned-measurable, unsigned_of}
 use Rattle.guillotiere.proofs.AtlasLemmas.GrantedAtlas.{no_room-unrounded, no_room-none, area-unsigned, area-fits, refused-step, some-grantable, grant-done}
-use Rattle.guillotiere.proofs.StepLemmas.CallerSteps.{grant_adds, grant_guarded, request_keeps}
+use Rattle.atlas_model.proofs.StepLemmas.CallerSteps.{grant_adds, grant_guarded, request_keeps}
 use Rattle.guillotiere.proofs.atlas.AtlasAllocator.allocate.Goals as goal
 
 pub returns-in_default-clause-step : goal.returns-in_default-clause-step

@@ -1,5 +1,5 @@
 use Rattle.std.proofs.Common.{◌≤◌, subst}
-use Rattle.guillotiere.specs.States.{IsSound}
+use Rattle.atlas_model.specs.States.{IsSound}
 use Rattle.guillotiere.specs.Stored.{state_of}
 use Rattle.guillotiere.specs.Visits.{AreGrants}
 use Rattle.guillotiere.proofs.AtlasLemmas.ShownLists.{grants-IsAtlas, listed}

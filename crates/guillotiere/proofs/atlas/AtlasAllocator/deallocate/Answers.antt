@@ -1,8 +1,8 @@
 use Rattle.std.proofs.Common.{refl, sym, ◌∙◌}
 use Rattle.std.proofs.lemmas.Bool.{false≢true}
-use Rattle.guillotiere.specs.Steps.AtlasReply.{Done}
+use Rattle.atlas_model.specs.Steps.AtlasReply.{Done}
 use Rattle.guillotiere.specs.Stored.{state_of}
-use Rattle.guillotiere.proofs.StepLemmas.CallerSteps.{unlive_leaves, freeing_leaves, freeing_count}
+use Rattle.atlas_model.proofs.StepLemmas.CallerSteps.{unlive_leaves, freeing_leaves, freeing_count}
 use Rattle.guillotiere.proofs.atlas.AtlasAllocator.deallocate.Goals as goal
 
 pub returns-then-not-is_live-clause-leaves : goal.returns-then-not-is_live-clause-leaves

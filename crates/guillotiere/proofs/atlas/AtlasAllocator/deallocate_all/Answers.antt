@@ -1,7 +1,7 @@
 use Rattle.std.proofs.Common.{◌+◌, ap, sym, ◌∙◌, arith, drop}
 use Rattle.guillotiere.specs.Stored.{state_of}
 use Rattle.guillotiere.proofs.AtlasLemmas.FreedLists.{after_each, each-all, once-after, head-live, each-next, each-none}
-use Rattle.guillotiere.proofs.StepLemmas.CallerSteps.{batch_leaves}
+use Rattle.atlas_model.proofs.StepLemmas.CallerSteps.{batch_leaves}
 use Rattle.guillotiere.proofs.atlas.AtlasAllocator.deallocate_all.Goals as goal
 
 pub loop-id-init : goal.loop-id-init

@@ -1,6 +1,6 @@
 use Rattle.std.proofs.Common.{◌-◌, ◌∙◌, subst, sym, ap}
-use Rattle.guillotiere.specs.Changes.{only}
-use Rattle.guillotiere.specs.States.{IsLive, after_freeing}
+use Rattle.atlas_model.specs.Changes.{only}
+use Rattle.atlas_model.specs.States.{IsLive, after_freeing}
 use Rattle.guillotiere.specs.Store.Holdings.{shelf_of}
 use Rattle.guillotiere.specs.Stored.{state_of}
 use Rattle.guillotiere.proofs.AtlasLemmas.FreedAtlas.{freeable, frees-box, turns-sum}

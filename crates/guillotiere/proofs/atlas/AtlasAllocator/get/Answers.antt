@@ -1,8 +1,8 @@
 use Rattle.std.proofs.Common.{rules, subst}
-use Rattle.guillotiere.specs.States.{IsSound}
+use Rattle.atlas_model.specs.States.{IsSound}
 use Rattle.guillotiere.specs.Stored.{state_of}
 use Rattle.guillotiere.proofs.AtlasLemmas.NamedSlots.{named-found, named-missed}
-use Rattle.guillotiere.proofs.StepLemmas.LyingApart.{shown_live, shown_within}
+use Rattle.atlas_model.proofs.StepLemmas.LyingApart.{shown_live, shown_within}
 use Rattle.guillotiere.proofs.atlas.AtlasAllocator.get.Goals as goal
 
 pub returns-in_err-at-clause-rectangle : goal.returns-in_err-at-clause-rectangle

@@ -1,14 +1,14 @@
 use Rattle.std.proofs.Common.{rules, ◌≡◌, [], sym, subst, ◌∙◌, arith}
 use Rattle.std.proofs.lemmas.Bool.{false≢true}
 use Rattle.std.specs.Prelude.{Err}
-use Rattle.guillotiere.specs.Boxes.{Fits}
-use Rattle.guillotiere.specs.Pixels.{sides_of}
-use Rattle.guillotiere.specs.States.{live_in, IsSound}
-use Rattle.guillotiere.specs.Steps.AtlasReply.{Done}
+use Rattle.atlas_model.specs.Boxes.{Fits}
+use Rattle.atlas_model.specs.Pixels.{sides_of}
+use Rattle.atlas_model.specs.States.{live_in, IsSound}
+use Rattle.atlas_model.specs.Steps.AtlasReply.{Done}
 use Rattle.guillotiere.specs.Stored.{state_of}
 use Rattle.guillotiere.proofs.AtlasLemmas.Observing.{used-IsAtlas}
 use Rattle.guillotiere.proofs.AtlasLemmas.GrownAtlas.{tree-here, some-plan, fits-from, refused-step, some-growable, grow-done}
-use Rattle.guillotiere.proofs.StepLemmas.CallerSteps.{growth_keeps}
+use Rattle.atlas_model.proofs.StepLemmas.CallerSteps.{growth_keeps}
 use Rattle.guillotiere.proofs.atlas.AtlasAllocator.grow.Goals as goal
 
 pub growth_for-growth-requires-clause-tree : goal.growth_for-growth-requires-clause-tree

@@ -4,7 +4,7 @@ use Rattle.guillotiere.specs.contracts.slots.NodeKind.{the_type}
 use denote.Enum.Bare.{sameb}
 use Rattle.guillotiere.specs.declared.slots.NodeKind.TheVariants as kind
 use Rattle.guillotiere.proofs.AtlasLemmas.Observing.{first-IsAtlas, idle-read, none_live-read}
-use Rattle.guillotiere.proofs.ListLemmas.CallerLemmas.{empty_count}
+use Rattle.atlas_model.proofs.ListLemmas.CallerLemmas.{empty_count}
 use Rattle.guillotiere.proofs.atlas.AtlasAllocator.is_empty.Goals as goal
 
 pub node-first-requires : goal.node-first-requires

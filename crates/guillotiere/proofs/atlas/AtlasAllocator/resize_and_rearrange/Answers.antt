@@ -1,9 +1,9 @@
 use Rattle.std.proofs.Common.{rules, refl, ap, subst, ◌∙◌}
-use Rattle.guillotiere.specs.Pixels.{sides_of}
-use Rattle.guillotiere.specs.Rearranging.{rearrangement_of}
-use Rattle.guillotiere.specs.States.{IsSound, started}
+use Rattle.atlas_model.specs.Pixels.{sides_of}
+use Rattle.atlas_model.specs.Rearranging.{rearrangement_of}
+use Rattle.atlas_model.specs.States.{IsSound, started}
 use Rattle.guillotiere.specs.Stored.{state_of}
-use Rattle.guillotiere.proofs.StepLemmas.StepKeeping.{steps_keep}
+use Rattle.atlas_model.proofs.StepLemmas.StepKeeping.{steps_keep}
 use Rattle.guillotiere.proofs.AtlasLemmas.RearrangedAtlas.{atlas-rearranged, atlas-moved, atlas-sides}
 use Rattle.guillotiere.proofs.atlas.AtlasAllocator.resize_and_rearrange.Goals as goal
 

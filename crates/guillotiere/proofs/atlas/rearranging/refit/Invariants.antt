@@ -1,4 +1,4 @@
-use Rattle.guillotiere.specs.Refits.Refitted.{IsRefitting}
+use Rattle.atlas_model.specs.Refits.Refitted.{IsRefitting}
 use Rattle.guillotiere.specs.Stored.{state_of}
 use Rattle.guillotiere.proofs.atlas.rearranging.refit.Given as goal
 

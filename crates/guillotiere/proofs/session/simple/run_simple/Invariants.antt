@@ -1,7 +1,7 @@
 use Rattle.std.proofs.Common.{◌≡◌, ◌+◌, ◌≤◌, length, take, drop, vec_len, vec_capacity, All}
-use Rattle.guillotiere.specs.Simple.{IsSimple}
-use Rattle.guillotiere.specs.Simple.SimpleRuns.{SimpleRun}
-use Rattle.guillotiere.specs.Simple.SimpleSessions.{simple_calls_of, simple_answers_of, GrantsExact}
+use Rattle.atlas_model.specs.Simple.{IsSimple}
+use Rattle.atlas_model.specs.Simple.SimpleRuns.{SimpleRun}
+use Rattle.guillotiere.specs.SimpleSessions.{simple_calls_of, simple_answers_of, GrantsExact}
 use Rattle.guillotiere.specs.Stored.{state_of}
 use Rattle.guillotiere.proofs.session.simple.run_simple.Given as goal
 

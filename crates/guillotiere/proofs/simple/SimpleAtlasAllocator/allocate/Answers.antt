@@ -1,8 +1,8 @@
 use Rattle.std.proofs.Common.{rules}
-use Rattle.guillotiere.specs.Simple.BoxShelves.{box_shelf}
-use Rattle.guillotiere.specs.Pixels.{sides_of}
-use Rattle.guillotiere.specs.Simple.FreeLists.{simple_state_of}
-use Rattle.guillotiere.proofs.SimpleLemmas.SimpleGrants.{step-guarded}
+use Rattle.guillotiere.specs.FreeBoxes.BoxShelves.{box_shelf}
+use Rattle.atlas_model.specs.Pixels.{sides_of}
+use Rattle.guillotiere.specs.FreeBoxes.FreeLists.{simple_state_of}
+use Rattle.atlas_model.proofs.SimpleLemmas.SimpleGrants.{step-guarded}
 use Rattle.guillotiere.proofs.SimpleLemmas.Storing.{natural-fits, stored-step}
 use Rattle.guillotiere.proofs.simple.SimpleAtlasAllocator.allocate.Goals as goal
 

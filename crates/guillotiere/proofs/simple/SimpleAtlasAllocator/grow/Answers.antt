@@ -1,9 +1,9 @@
 use Rattle.std.proofs.Common.{sym, subst, ◌∙◌, arith}
-use Rattle.guillotiere.specs.Boxes.{Fits}
-use Rattle.guillotiere.specs.Pixels.{sides_of}
-use Rattle.guillotiere.specs.Simple.BoxShelves.{box_shelf}
-use Rattle.guillotiere.specs.Simple.FreeLists.{simple_state_of}
-use Rattle.guillotiere.proofs.SimpleLemmas.SimpleSteps.{grow-guarded}
+use Rattle.atlas_model.specs.Boxes.{Fits}
+use Rattle.atlas_model.specs.Pixels.{sides_of}
+use Rattle.guillotiere.specs.FreeBoxes.BoxShelves.{box_shelf}
+use Rattle.guillotiere.specs.FreeBoxes.FreeLists.{simple_state_of}
+use Rattle.atlas_model.proofs.SimpleLemmas.SimpleSteps.{grow-guarded}
 use Rattle.guillotiere.proofs.SimpleLemmas.SimpleStarting.{grows-stored, grown-stored, equal-grows, same-sides}
 use Rattle.guillotiere.proofs.simple.SimpleAtlasAllocator.grow.Goals as goal
 

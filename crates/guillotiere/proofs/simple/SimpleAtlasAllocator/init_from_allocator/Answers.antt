@@ -1,11 +1,11 @@
 use Rattle.std.proofs.Common.{◌++◌, map, subst, arith}
-use Rattle.guillotiere.specs.Boxes.{AreSameBoxes}
-use Rattle.guillotiere.specs.Pixels.{box_of}
+use Rattle.atlas_model.specs.Boxes.{AreSameBoxes}
+use Rattle.atlas_model.specs.Pixels.{box_of}
 use Rattle.guillotiere.specs.Slots.{nodes}
 use Rattle.guillotiere.specs.Stored as atlas
 use Rattle.guillotiere.specs.Visits.{free_areas}
-use Rattle.guillotiere.specs.Simple.BoxShelves.{box_shelf, free_item_boxes}
-use Rattle.guillotiere.proofs.SimpleLemmas.SimpleSteps.{starts-guarded}
+use Rattle.guillotiere.specs.FreeBoxes.BoxShelves.{box_shelf, free_item_boxes}
+use Rattle.atlas_model.proofs.SimpleLemmas.SimpleSteps.{starts-guarded}
 use Rattle.guillotiere.proofs.SimpleLemmas.SimpleStarting.{areas-filed, starts-from, started-stored}
 use Rattle.guillotiere.proofs.simple.SimpleAtlasAllocator.init_from_allocator.Goals as goal
 

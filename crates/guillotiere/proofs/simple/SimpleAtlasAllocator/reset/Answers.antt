@@ -1,5 +1,5 @@
 use Rattle.std.proofs.Common.{arith}
-use Rattle.guillotiere.proofs.SimpleLemmas.SimpleSteps.{none-guarded}
+use Rattle.atlas_model.proofs.SimpleLemmas.SimpleSteps.{none-guarded}
 use Rattle.guillotiere.proofs.SimpleLemmas.SimpleStarting.{restarted-stored}
 use Rattle.guillotiere.proofs.simple.SimpleAtlasAllocator.reset.Goals as goal
 

@@ -1,9 +1,9 @@
 use Rattle.std.proofs.Common.{◌≡◌, ◌∙◌, ◌++◌, subst, List, arith}
-use Rattle.guillotiere.specs.Boxes.{Box, whole_box, AreSameBoxes}
-use Rattle.guillotiere.specs.Simple.BoxShelves.{box_shelf, free_item_boxes}
-use Rattle.guillotiere.specs.Simple.FreeLists.{kept_of}
-use Rattle.guillotiere.specs.Pixels.{box_of, options_of, sides_of}
-use Rattle.guillotiere.proofs.SimpleLemmas.SimpleSteps.{whole-positive}
+use Rattle.atlas_model.specs.Boxes.{Box, whole_box, AreSameBoxes}
+use Rattle.guillotiere.specs.FreeBoxes.BoxShelves.{box_shelf, free_item_boxes}
+use Rattle.guillotiere.specs.FreeBoxes.FreeLists.{kept_of}
+use Rattle.atlas_model.specs.Pixels.{box_of, options_of, sides_of}
+use Rattle.atlas_model.proofs.SimpleLemmas.SimpleSteps.{whole-positive}
 use Rattle.guillotiere.proofs.SimpleLemmas.SimpleLists.{rest-boxes, whole-exact}
 use Rattle.guillotiere.proofs.simple.changes.add_rest.Goals as goal
 

@@ -1,8 +1,8 @@
 use Rattle.std.proofs.Common.{rules, ◌++◌, map, ap, subst}
 use Rattle.std.specs.List.{All}
-use Rattle.guillotiere.specs.Boxes.{AreSameBoxes, IsNonempty}
-use Rattle.guillotiere.specs.Simple.BoxShelves.{BoxShelf, box_shelf, free_item_boxes}
-use Rattle.guillotiere.specs.Pixels.{box_of}
+use Rattle.atlas_model.specs.Boxes.{AreSameBoxes, IsNonempty}
+use Rattle.guillotiere.specs.FreeBoxes.BoxShelves.{BoxShelf, box_shelf, free_item_boxes}
+use Rattle.atlas_model.specs.Pixels.{box_of}
 use Rattle.guillotiere.specs.Rectangles.{IsUnsigned}
 use Rattle.guillotiere.specs.Slots.{nodes}
 use Rattle.guillotiere.specs.Visits.{free_areas}

@@ -1,8 +1,8 @@
 use Rattle.std.proofs.Common.{◌++◌, map, drop}
 use Rattle.std.specs.List.{All}
-use Rattle.guillotiere.specs.Boxes.{AreSameBoxes, IsNonempty}
-use Rattle.guillotiere.specs.Simple.BoxShelves.{AreKept, box_shelf, free_item_boxes}
-use Rattle.guillotiere.specs.Pixels.{box_of, options_of}
+use Rattle.atlas_model.specs.Boxes.{AreSameBoxes, IsNonempty}
+use Rattle.guillotiere.specs.FreeBoxes.BoxShelves.{AreKept, box_shelf, free_item_boxes}
+use Rattle.atlas_model.specs.Pixels.{box_of, options_of}
 use Rattle.guillotiere.specs.Rectangles.{IsUnsigned}
 use Rattle.guillotiere.specs.Slots.{nodes}
 use Rattle.guillotiere.specs.Visits.{free_areas}

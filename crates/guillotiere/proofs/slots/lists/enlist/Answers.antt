@@ -3,7 +3,7 @@ use Rattle.std.proofs.lemmas.List.{length-map}
 use Rattle.guillotiere.specs.Slots.{nodes, rings}
 use Rattle.guillotiere.specs.Search.Bands.{number_of}
 use Rattle.guillotiere.specs.Slots.Lists.{node_strip}
-use Rattle.guillotiere.specs.Pixels.{options_of}
+use Rattle.atlas_model.specs.Pixels.{options_of}
 use Rattle.guillotiere.proofs.StoreLemmas.Filing.{IsPutIn, is-unlisted, number-is, listed-by, length-rings}
 use Rattle.guillotiere.proofs.slots.lists.enlist.Goals as goal
 

@@ -3,7 +3,7 @@ use Rattle.std.proofs.lemmas.Bool.{cond-true, cond-false, eq-eqb, ne_eqb}
 use Rattle.guillotiere.specs.Slots.{nodes, rings, node_at, no_slot}
 use Rattle.guillotiere.specs.Search.Bands.{number_of}
 use Rattle.guillotiere.specs.Search.Tables.{head_of}
-use Rattle.guillotiere.specs.Pixels.{options_of}
+use Rattle.atlas_model.specs.Pixels.{options_of}
 use Rattle.guillotiere.proofs.StoreLemmas.Filing.{list_for, is-listed, number-is, unlisted-by, length-rings}
 use Rattle.guillotiere.proofs.slots.lists.unlist.Goals as goal
 

@@ -1,4 +1,4 @@
-use Rattle.guillotiere.specs.Pixels.{options_of, sides_of}
+use Rattle.atlas_model.specs.Pixels.{options_of, sides_of}
 use Rattle.guillotiere.proofs.SearchLemmas.SlotLists.{listed-slots, free-items, IfSome_both, picked-slot}
 use Rattle.guillotiere.proofs.slots.pick.pick.Goals as goal
 

@@ -1,10 +1,10 @@
 use Rattle.std.proofs.Common.{◌<◌, ◌^◌, FitsSigned, w32, rules, arith}
 use Rattle.std.proofs.lemmas.Int.{ints}
-use Rattle.guillotiere.specs.declared.geometry.Rectangle.{Rectangle}
+use Rattle.atlas_model.specs.declared.geometry.Rectangle.{Rectangle}
 use Rattle.guillotiere.specs.declared.cut.Orientation.{Orientation}
 use Rattle.guillotiere.specs.declared.cut.Orientation.TheVariants.{Horizontal, Vertical}
-use Rattle.guillotiere.specs.Boxes.{box_sides, side}
-use Rattle.guillotiere.specs.Pixels.{box_of}
+use Rattle.atlas_model.specs.Boxes.{box_sides, side}
+use Rattle.atlas_model.specs.Pixels.{box_of}
 use Rattle.guillotiere.specs.Slots.{axis_of}
 use Rattle.guillotiere.proofs.SimpleLemmas.Storing.{natural-fits}
 use Rattle.guillotiere.proofs.slots.placing.parts.Goals as goal

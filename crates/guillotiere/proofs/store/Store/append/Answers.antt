@@ -2,7 +2,7 @@ use Rattle.std.proofs.Common.{◌∙◌, refl, ℕ}
 use Rattle.guillotiere.specs.Slots.Links.{with_count, tail_of}
 use Rattle.guillotiere.specs.Store.Holdings.{shelf_of, after_take}
 use Rattle.guillotiere.specs.Slots.Growing.{after_append}
-use Rattle.guillotiere.specs.Pixels.{sides_of}
+use Rattle.atlas_model.specs.Pixels.{sides_of}
 use Rattle.guillotiere.proofs.StoreLemmas.Filing.{with_count-same}
 use Rattle.guillotiere.proofs.StoreLemmas.StoreTakes.{used-taken, slots-kept, rest-length}
 use Rattle.guillotiere.proofs.StoreLemmas.ExtendingSteps.{end-taken}

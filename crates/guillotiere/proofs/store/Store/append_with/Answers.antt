@@ -1,6 +1,6 @@
 use Rattle.std.proofs.Common.{◌≡◌, refl, rules}
 use Rattle.guillotiere.specs.declared.slots.NodeKind.TheVariants.{Free}
-use Rattle.guillotiere.specs.Pixels.{sides_of}
+use Rattle.atlas_model.specs.Pixels.{sides_of}
 use Rattle.guillotiere.specs.Slots.{nodes, node_at}
 use Rattle.guillotiere.specs.Store.Holdings.{shelf_of}
 use Rattle.guillotiere.proofs.StoreLemmas.StoreFacts.{are-slots, across-call, slots-room}

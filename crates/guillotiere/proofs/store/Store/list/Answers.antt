@@ -1,5 +1,5 @@
 use Rattle.std.proofs.Common.{◌≡◌, false, refl}
-use Rattle.guillotiere.specs.Pixels.{options_of}
+use Rattle.atlas_model.specs.Pixels.{options_of}
 use Rattle.guillotiere.specs.Slots.{nodes, node_at}
 use Rattle.guillotiere.specs.Search.Bands.{list_of}
 use Rattle.guillotiere.specs.Slots.Lists.{node_sides}

@@ -1,5 +1,5 @@
 use Rattle.std.proofs.Common.{◌<◌, ◌^◌, ◌∙◌, refl, rules}
-use Rattle.guillotiere.specs.Pixels.{natural, sides_of}
+use Rattle.atlas_model.specs.Pixels.{natural, sides_of}
 use Rattle.guillotiere.specs.Store.Starts.{loose_holding}
 use Rattle.guillotiere.proofs.StoreLemmas.Starting.{whole_leaf}
 use Rattle.guillotiere.proofs.store.Store.start.Goals as goal

@@ -1,5 +1,5 @@
 use Rattle.std.proofs.Common.{ℕ, refl, vec_capacity}
-use Rattle.guillotiere.specs.Pixels.{options_of}
+use Rattle.atlas_model.specs.Pixels.{options_of}
 use Rattle.guillotiere.specs.Slots.Links.{IsTaken}
 use Rattle.guillotiere.specs.Stored.{places_of}
 use Rattle.guillotiere.specs.Store.Holdings.{shelf_of}

@@ -1,6 +1,6 @@
 use Rattle.std.proofs.Common.{◌≡◌, List, true, refl, subst, sym, arith}
 use Rattle.guillotiere.specs.declared.slots.Node.{Node}
-use Rattle.guillotiere.specs.Pixels.{options_of}
+use Rattle.atlas_model.specs.Pixels.{options_of}
 use Rattle.guillotiere.specs.Search.Bands.{number_of}
 use Rattle.guillotiere.specs.Slots.Links.{held_without, unlisted, with_mark}
 use Rattle.guillotiere.specs.Slots.Lists.{AreFiled}

@@ -1,5 +1,5 @@
 use Rattle.std.proofs.Common.{length}
-use Rattle.guillotiere.specs.Boxes.{Sides}
+use Rattle.atlas_model.specs.Boxes.{Sides}
 use Rattle.guillotiere.specs.Slots.{nodes}
 use Rattle.guillotiere.specs.Stored.{Holding}
 use Rattle.guillotiere.specs.Store.Holdings.{shelf_of}

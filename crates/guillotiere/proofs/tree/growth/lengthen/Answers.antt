@@ -1,7 +1,7 @@
 use Rattle.std.proofs.Common.{◌≡◌, sym, ◌∙◌, arith}
 use Rattle.std.proofs.lemmas.Bool.{true≢false}
 use Rattle.guillotiere.specs.declared.slots.NodeKind.TheVariants.{Free}
-use Rattle.guillotiere.specs.Pixels.{sides_of}
+use Rattle.atlas_model.specs.Pixels.{sides_of}
 use Rattle.guillotiere.specs.Store.Holdings.{shelf_of, node_in}
 use Rattle.guillotiere.proofs.StoreLemmas.GrownSlots.{end-slot, stretch-ready, stretch-list, stretch-lengthened, append-ready, append-list, append-lengthened}
 use Rattle.guillotiere.proofs.tree.growth.lengthen.Goals as goal

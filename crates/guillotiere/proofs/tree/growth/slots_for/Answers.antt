@@ -1,5 +1,5 @@
 use Rattle.std.proofs.Common.{◌≡◌, ap, cond, subst, sym, ◌∙◌, arith, length}
-use Rattle.guillotiere.specs.Pixels.{sides_of}
+use Rattle.atlas_model.specs.Pixels.{sides_of}
 use Rattle.guillotiere.specs.Store.Holdings.{shelf_of}
 use Rattle.guillotiere.specs.Slots.Standing.{IsSlot}
 use Rattle.guillotiere.specs.Slots.Growing.{last_slot}

@@ -1,4 +1,4 @@
-use Rattle.guillotiere.specs.Pixels.{sides_of}
+use Rattle.atlas_model.specs.Pixels.{sides_of}
 use Rattle.guillotiere.specs.Store.Holdings.{shelf_of}
 use Rattle.guillotiere.proofs.StoreLemmas.ChosenSlots.{rest-searchable, found-exact, found-fits, found-chosen}
 use Rattle.guillotiere.proofs.tree.requests.choose.Goals as goal

@@ -1,8 +1,8 @@
 use Rattle.std.proofs.Common.{Option, Some, None, IfSome, Ok, ap, subst, ◌∙◌, ◌++◌, ◌∷◌, []}
-use Rattle.guillotiere.specs.declared.allocation.Allocation.{Allocation}
+use Rattle.guillotiere.specs.declared.Allocation.{Allocation}
 use Rattle.guillotiere.specs.Pixels.{sides_of}
 use Rattle.guillotiere.specs.Replies.{allocate_reply, IsExact}
-use Rattle.guillotiere.specs.declared.error.AtlasError.TheVariants.{Slots}
+use Rattle.guillotiere.specs.declared.AtlasError.TheVariants.{Slots}
 use Rattle.guillotiere_recording.specs.Recordings.{SessionValue}
 use Rattle.guillotiere.specs.Stored.{state_of}
 use Rattle.guillotiere.specs.Steps as atlas

@@ -1,5 +1,5 @@
 use Rattle.std.proofs.Common.{◌≡◌, refl, ap, ap₂, sym, subst, ◌∙◌}
-use Rattle.guillotiere.specs.declared.error.AtlasError.TheVariants.{Slots}
+use Rattle.guillotiere.specs.declared.AtlasError.TheVariants.{Slots}
 use Rattle.guillotiere.specs.Pixels.{sides_of}
 use Rattle.guillotiere.specs.Rearranging.{rearrangement_of}
 use Rattle.guillotiere.specs.States.{State}

@@ -1,9 +1,9 @@
 use Rattle.std.proofs.Common.{◌≡◌, ◌≤ℤ◌, pos, ℤ, FitsSigned, w32, to_z, of_z, rules, arith, refl, subst, sym, ap, ◌∙◌}
 use Rattle.std.proofs.lemmas.Int.{to_z-of_z, ints}
 use Rattle.std.proofs.lemmas.Bool.{true≢false}
-use Rattle.guillotiere.specs.declared.geometry.Rectangle.{Rectangle}
-use Rattle.guillotiere.specs.Boxes.{Sides, Fits, box_sides}
-use Rattle.guillotiere.specs.Pixels.{box_of}
+use Rattle.atlas_model.specs.declared.geometry.Rectangle.{Rectangle}
+use Rattle.atlas_model.specs.Boxes.{Sides, Fits, box_sides}
+use Rattle.atlas_model.specs.Pixels.{box_of}
 use Rattle.guillotiere.proofs.SearchLemmas.Besting.{asked, ranked-asked, seen-unfit, seen-behind, seen-ahead, seen-unbeaten, margin-below, least-ahead}
 use Rattle.guillotiere.proofs.search.best.Best.look.Goals as goal
 

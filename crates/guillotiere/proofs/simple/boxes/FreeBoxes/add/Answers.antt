@@ -1,4 +1,4 @@
-use Rattle.guillotiere.specs.Pixels.{options_of}
+use Rattle.atlas_model.specs.Pixels.{options_of}
 use Rattle.guillotiere.proofs.simple.boxes.FreeBoxes.add.Goals as goal
 
 pub put-requires-clause-hand : goal.put-requires-clause-hand

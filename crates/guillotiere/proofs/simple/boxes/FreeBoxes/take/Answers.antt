@@ -1,6 +1,6 @@
 use Rattle.std.proofs.Common.{map, arith}
 use Rattle.std.proofs.lemmas.List.{map-append, length-map}
-use Rattle.guillotiere.specs.Simple.BoxShelves.{stored_item}
+use Rattle.guillotiere.specs.FreeBoxes.BoxShelves.{stored_item}
 use Rattle.guillotiere.proofs.SimpleLemmas.BoxStoring.{taken-new, taken-again, unused-inside, boxes-more, read-item}
 use Rattle.guillotiere.proofs.simple.boxes.FreeBoxes.take.Goals as goal
 

@@ -1,0 +1,4 @@
+-- Lemmas of lists.
+pub mod Counting
+pub mod CountSums
+pub mod CallerLemmas

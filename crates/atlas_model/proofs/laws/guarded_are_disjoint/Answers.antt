@@ -1,0 +1,5 @@
+use Rattle.atlas_model.proofs.SimpleLemmas.SimpleRunning.{guarded_are_disjoint}
+use Rattle.atlas_model.proofs.laws.guarded_are_disjoint.Goals as goal
+
+pub returns : goal.returns
+returns c = guarded_are_disjoint

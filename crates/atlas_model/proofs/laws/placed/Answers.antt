@@ -1,0 +1,5 @@
+use Rattle.atlas_model.proofs.StepLemmas.Refitting.{placings_keep_trees}
+use Rattle.atlas_model.proofs.laws.placed.Goals as goal
+
+pub returns : goal.returns
+returns c = placings_keep_trees

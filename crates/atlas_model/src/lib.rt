@@ -1,0 +1,16 @@
+//! What the allocators of `guillotiere` mean: points, sizes, rectangles, options, ids and errors, the model of an
+//! atlas as a tree of cuts (docs/MODEL.md), and the laws that hold of it. `guillotiere` gives all of it on.
+#![tactic(auto)]
+
+mod allocation;
+mod change;
+mod error;
+mod geometry;
+pub mod laws;
+mod options;
+
+pub use allocation::{AllocId, Allocation, SlotCount};
+pub use change::{Change, ChangeList};
+pub use error::AtlasError;
+pub use geometry::{Point, Rectangle, Size, point2, size2};
+pub use options::{AllocatorOptions, DEFAULT_OPTIONS};

@@ -1,5 +1,0 @@
-use Rattle.guillotiere.proofs.SimpleLemmas.SimpleRunning.{guarded_are_disjoint}
-use Rattle.guillotiere.proofs.laws.guarded_are_disjoint.Goals as goal
-
-pub returns : goal.returns
-returns c = guarded_are_disjoint

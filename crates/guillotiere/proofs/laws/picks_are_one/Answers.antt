@@ -1,5 +1,0 @@
-use Rattle.guillotiere.proofs.StepLemmas.StepEffects.{picks_are_one}
-use Rattle.guillotiere.proofs.laws.picks_are_one.Goals as goal
-
-pub returns : goal.returns
-returns c = picks_are_one

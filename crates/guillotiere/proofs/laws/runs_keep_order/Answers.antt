@@ -1,5 +1,0 @@
-use Rattle.guillotiere.proofs.StepLemmas.RunKeeping.{runs_keep_order}
-use Rattle.guillotiere.proofs.laws.runs_keep_order.Goals as goal
-
-pub returns : goal.returns
-returns c = runs_keep_order

@@ -1,0 +1,46 @@
+-- What private calls do to the free boxes of the simple allocator, in one word. No public clause cites this module.
+use Rattle.std.specs.Prelude.{ℕ, ◌≡◌, ◌≢◌, ◌+◌, ◌≤◌, ◌++◌, List, vec_len, vec_capacity}
+use Rattle.guillotiere.specs.declared.simple.boxes.FreeBoxes.{FreeBoxes}
+use Rattle.guillotiere.specs.declared.search.bands.Place.{Place}
+use Rattle.guillotiere.specs.declared.search.best.Found.{Found}
+use Rattle.guillotiere.specs.declared.slots.Link.{Link}
+use Rattle.atlas_model.specs.Boxes.{AreSameBoxes, Box, Fits, IsPositive, Sides, box_sides}
+use Rattle.atlas_model.specs.Choice.{Options}
+use Rattle.atlas_model.specs.Pixels.{box_of}
+use Rattle.guillotiere.specs.Search.Bands.{number_of}
+use Rattle.guillotiere.specs.Search.Lookups.{IsStanding}
+use Rattle.guillotiere.specs.Search.Tables.{head_of, low_of}
+use Rattle.guillotiere.specs.FreeBoxes.BoxShelves.{AreKept, BoxShelf, box_shelf, free_item_boxes, with_after}
+use Rattle.guillotiere.specs.Slots.{no_slot}
+
+-- There is room for n more entries, and each has a number.
+pub record HasEntriesFor {A : Type 0} (n : ℕ) (b : FreeBoxes A) : Type 0 where
+  pub room : vec_len b.entries + n ≤ vec_capacity b.entries
+  pub short : vec_len b.entries + n ≤ no_slot
+
+-- These boxes are free beside those of before.
+pub record AreFiledBoxes {A : Type 0} (o : Options) (added : List Box) (old new : FreeBoxes A) : Type 0 where
+  pub kept : AreKept o (box_shelf new)
+  pub boxes : AreSameBoxes (free_item_boxes (box_shelf new).entries) (added ++ free_item_boxes (box_shelf old).entries)
+
+-- At most n entries are new, in the room that there was.
+pub record HasTakenEntries {A : Type 0} (n : ℕ) (old new : FreeBoxes A) : Type 0 where
+  pub length : vec_len new.entries ≤ vec_len old.entries + n
+  pub capacity : vec_capacity new.entries ≡ vec_capacity old.entries
+
+-- A box that was found in its list fits a request.
+pub record IsFoundFor {A : Type 0} (o : Options) (found : Found) (r : Sides) (b : FreeBoxes A) : Type 0 where
+  pub kept : AreKept o (box_shelf b)
+  pub standing : IsStanding o (box_shelf b).heads (box_shelf b).entries found
+  pub positive : IsPositive r
+  pub fits : Fits r (box_sides (box_of found.rectangle))
+
+-- `after` comes after `before` in the list at a place, or first where that is none; no other list changes.
+pub record IsLed (s t : BoxShelf) (place : Place) (before after : Link) : Type 0 where
+  pub first : before.number ≡ no_slot
+      → (head_of t.heads (number_of place) ≡ after) × (t.entries ≡ s.entries)
+  pub next : before.number ≢ no_slot
+      → (t.heads ≡ s.heads) × (t.entries ≡ with_after s.entries before.number after.number)
+  pub heads : (j : ℕ) → j ≢ number_of place → head_of t.heads j ≡ head_of s.heads j
+  pub lows : (j : ℕ) → low_of t.heads j ≡ low_of s.heads j
+  pub unused : t.unused ≡ s.unused

@@ -1,0 +1,11 @@
+//! Tests of the programs of `uses`. Expected places are worked by hand, or recorded from the Rust crate `guillotiere` 0.7.0.
+#![tactic(auto)]
+
+#[cfg(test)]
+mod glyph_cache;
+#[cfg(test)]
+mod repack;
+#[cfg(test)]
+mod replayed;
+#[cfg(test)]
+mod sheet;
