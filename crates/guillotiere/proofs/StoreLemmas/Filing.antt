@@ -20,7 +20,7 @@ use Rattle.guillotiere.specs.Slots.Numbered.{same}
 use Rattle.guillotiere.specs.Slots.Lists.{IsList, IsFiled, AreFiled, Places, occurs, without, filed, node_sides, node_strip, is_free}
 use Rattle.guillotiere.specs.Search.Bands.{list_of, number_of}
 use Rattle.guillotiere.specs.Search.Tables.{head_of, low_of, is_used_at}
-use Rattle.guillotiere.specs.Slots.Links.{IsFiledSlot, IsLoose, IsListed, IsUnlisted, with_mark, with_count, held_with, unlisted, listed}
+use Rattle.guillotiere.specs.Slots.Links.{IsFiledSlot, IsLooseSlot, IsListed, IsUnlisted, with_mark, with_count, held_with, unlisted, listed}
 use Rattle.guillotiere.proofs.ListLemmas.Occurrences.{same-self, same-ne, ne-from_occurs, without-none, occurs-without}
 use Rattle.guillotiere.proofs.SearchLemmas.BandLaws.{list_of-most}
 use Rattle.guillotiere.proofs.StoreLemmas.Unlinking.{IsList-kept, Line-kept, Line-inside}
@@ -234,7 +234,7 @@ is-listed o slots heads i k free =
     (head_of heads m, k.places.held m, (k.filed.free m below).links, omega arith)
 
 -- No list holds a loose slot.
-pub is-unlisted : (o : Options) (slots : List Slot) (heads : List ListHead) (i m : ℕ) → IsLoose o slots heads i → m ≡ list_for o (node_at (nodes slots) i) → IsUnlisted (rings slots) (head_of heads m) i
+pub is-unlisted : (o : Options) (slots : List Slot) (heads : List ListHead) (i m : ℕ) → IsLooseSlot o slots heads i → m ≡ list_for o (node_at (nodes slots) i) → IsUnlisted (rings slots) (head_of heads m) i
 is-unlisted o slots heads i m k em =
     let below : m < 2704 = rw em (list_of-most o (node_sides (node_at (nodes slots) i))) in
     (k.places.held m, (k.filed.free m below).links, loose-nowhere o _ _ heads k.unused k.places k.filed m i below k.is_loose)

@@ -66,7 +66,7 @@ pub record IsFiledSlot (o : Options) (slots : List Slot) (heads : List ListHead)
   pub kept : places.loose i ≡ false
 
 -- The lists are in order, and slot i is loose.
-pub record IsLoose (o : Options) (slots : List Slot) (heads : List ListHead) (i : ℕ) : Type 0 where
+pub record IsLooseSlot (o : Options) (slots : List Slot) (heads : List ListHead) (i : ℕ) : Type 0 where
   pub unused : Link
   pub places : Places
   pub filed : AreFiled o (nodes slots) (rings slots) heads unused places

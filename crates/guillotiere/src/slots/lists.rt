@@ -11,8 +11,8 @@ ghost use Rattle.guillotiere.specs.declared.slots.Node.{Node};
 ghost use Rattle.guillotiere.specs.declared.search.table.ListHead.{ListHead};
 ghost use Rattle.guillotiere.specs.Slots.Lists.{AreFiled, IsList, Places, node_sides, occurs, without};
 ghost use Rattle.guillotiere.specs.declared.slots.NodeKind.TheVariants.{Free};
-ghost use Rattle.guillotiere.specs.Slots.Links.{BelongsIn, CanTake, IsInTable, IsSolid, IsFiledSlot, IsListed, IsLoose};
-ghost use Rattle.guillotiere.specs.Slots.Links.{IsUnlisted, TakesFirst};
+ghost use Rattle.guillotiere.specs.Slots.Links.{BelongsIn, CanTake, IsInTable, IsSolid, IsFiledSlot, IsListed};
+ghost use Rattle.guillotiere.specs.Slots.Links.{IsLooseSlot, IsUnlisted, TakesFirst};
 ghost use Rattle.guillotiere.specs.Slots.Links.{first_without, given_back, listed, renewed, unlisted, with_next};
 ghost use Rattle.guillotiere.specs.Slots.Links.{with_ring_previous};
 
@@ -158,7 +158,7 @@ pub fn enlist<A: Allocator>(
 )
     requires free { (node_at (nodes slots.old) at.number).kind ≡ Free }
     requires exact { IsSolid (node_at (nodes slots.old) at.number).area }
-    requires loose { IsLoose (options_of options.now) slots.old lists.old at.number }
+    requires loose { IsLooseSlot (options_of options.now) slots.old lists.old at.number }
     requires short { length slots.old < NO_SLOT }
     ensures filed { (unused : Link) (p : Places)
         → AreFiled (options_of options.now) (nodes slots.old) (rings slots.old) lists.old unused p
