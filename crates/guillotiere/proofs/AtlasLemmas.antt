@@ -1,11 +1,5 @@
 -- Lemmas of an atlas as it is stored.
-pub mod WalkSteps
-pub mod AreaSums
-pub mod Observing
-pub mod NamedSlots
 pub mod ShownLists
-pub mod FreedAtlas
-pub mod Hiding
 pub mod FreedLists
 pub mod GrantedAtlas
 pub mod GrownAtlas

@@ -1,11 +1,8 @@
 pub mod SimpleLemmas
-pub mod SearchLemmas
-pub mod ListLemmas
-pub mod SlotLemmas
-pub mod StoreLemmas
 pub mod AtlasLemmas
-pub mod Cutting
+pub mod PartLemmas
 pub mod Playing
 pub use Rattle.atlas_model.proofs.TreeLemmas
 pub use Rattle.atlas_model.proofs.StepLemmas
 pub use Rattle.atlas_model.proofs.ChoiceLemmas
+pub use Rattle.atlas_model.proofs.ListLemmas

@@ -10,7 +10,7 @@ use Rattle.atlas_model.specs.States.{State, used_in, IsSound}
 use Rattle.atlas_model.specs.Steps.{AtlasCall, AtlasReply, Step}
 use Rattle.atlas_model.specs.Steps.AtlasCall.{Deallocate}
 use Rattle.atlas_model.specs.Steps.AtlasReply.{Done}
-use Rattle.guillotiere.specs.Stored.{AtlasValue, state_of}
+use Rattle.atlas_store.specs.Stored.{AtlasValue, state_of}
 use Rattle.guillotiere.specs.declared.session.Call.{Call}
 use Rattle.guillotiere.specs.declared.session.Reply.{Reply}
 use Rattle.atlas_model.proofs.StepLemmas.RunKeeping.{runs_keep_order}

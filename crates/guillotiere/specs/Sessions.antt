@@ -15,7 +15,7 @@ use Rattle.atlas_model.specs.Laws.RunLaws.{IsInOrder, IsRunInOrder, LeavesNoTrac
 use Rattle.atlas_model.specs.RunTurns.{turns_within}
 use Rattle.atlas_model.specs.Replies.{grant_of, IsExact}
 use Rattle.atlas_model.specs.Rearranging.{rearrangement_of, AreExactChanges}
-use Rattle.guillotiere.specs.Stored.{AtlasValue, state_of}
+use Rattle.atlas_store.specs.Stored.{AtlasValue, state_of}
 
 abbrev pub call_of : Call → AtlasCall
 call_of (call.Allocate size) = Allocate (sides_of size)

@@ -5,11 +5,11 @@ ghost use Rattle.atlas_model.specs.Boxes.{area, Fits, IsPositive, IsWithin};
 ghost use Rattle.atlas_model.specs.Choice.{AreValid};
 ghost use Rattle.atlas_model.specs.Pixels.{sides_of, size_of, options_of, rectangle_of, box_of};
 ghost use Rattle.atlas_model.specs.States.{live_in, used_in, started, after_freeing, IsSound, IsLive};
-ghost use Rattle.guillotiere.specs.Visits.{AreFreeAreas, free_areas};
-ghost use Rattle.guillotiere.specs.Slots.{nodes};
+ghost use Rattle.atlas_store.specs.Visits.{AreFreeAreas, free_areas};
+ghost use Rattle.atlas_store.specs.Slots.{nodes};
 ghost use Rattle.atlas_model.specs.Changes.{only};
 ghost use Rattle.atlas_model.specs.Laws.TreeLaws.{is_among};
-ghost use Rattle.guillotiere.specs.Batches.{AreLiveOnce};
+ghost use Rattle.atlas_store.specs.Batches.{AreLiveOnce};
 ghost use Rattle.atlas_model.specs.Laws.RunLaws.{IsTiled};
 ghost use Rattle.atlas_model.specs.Steps.{Step};
 ghost use Rattle.atlas_model.specs.Steps.AtlasCall.{Allocate, Deallocate, Grow, Clear, Reset, Rearrange};
@@ -20,14 +20,6 @@ pub mod rearranging;
 pub mod walks;
 
 use crate::atlas::rearranging::{refit, sort_for_refit};
-use crate::choice::rounded;
-use crate::cut::granted;
-use crate::search::table::Table;
-use crate::slots::batch::are_named_once;
-use crate::slots::walks::{named_slot, slot_number};
-use crate::slots::{Link, MOST_SLOTS, NO_SLOT, NodeKind};
-use crate::store::Store;
-use crate::store::turns::Turns;
 use crate::tree::growth::{grow_tree, grow_whole, growth_for, slots_for};
 use crate::tree::requests::{choose, grant, make_room};
 use crate::tree::{free_leaf, slots_needed};
@@ -35,6 +27,14 @@ use atlas_model::{
     AllocId, Allocation, AllocatorOptions, AtlasError, ChangeList, DEFAULT_OPTIONS, Rectangle,
     Size, SlotCount,
 };
+use atlas_store::choice::rounded;
+use atlas_store::cut::granted;
+use atlas_store::search::table::Table;
+use atlas_store::slots::batch::are_named_once;
+use atlas_store::slots::walks::{named_slot, slot_number};
+use atlas_store::slots::{Link, MOST_SLOTS, NO_SLOT, NodeKind};
+use atlas_store::store::Store;
+use atlas_store::store::turns::Turns;
 use std::alloc::{Allocator, Global};
 use std::marker::Model;
 use std::ops::Index;
@@ -55,8 +55,8 @@ pub struct AtlasAllocator<A: Allocator + Copy = Global> {
 }
 
 impl<A: Allocator + Copy> Model for AtlasAllocator<A> {
-    ghost use Rattle.guillotiere.specs.Stored.{AtlasValue, IsAtlas};
-    ghost use Rattle.guillotiere.specs.Store.Holdings.{shelf_of};
+    ghost use Rattle.atlas_store.specs.Stored.{AtlasValue, IsAtlas};
+    ghost use Rattle.atlas_store.specs.Store.Holdings.{shelf_of};
 
     ghost Value = { AtlasValue };
 
@@ -70,8 +70,8 @@ impl<A: Allocator + Copy> Model for AtlasAllocator<A> {
 }
 
 impl<A: Allocator + Copy> AtlasAllocator<A> {
-    ghost use Rattle.guillotiere.specs.Stored.{state_of};
-    ghost use Rattle.guillotiere.specs.Generations.{AreFirstGenerations};
+    ghost use Rattle.atlas_store.specs.Stored.{state_of};
+    ghost use Rattle.atlas_store.specs.Generations.{AreFirstGenerations};
     ghost use Rattle.atlas_model.specs.Replies.{allocate_reply, done_reply, grant_of, live_box, IsExact};
     ghost use Rattle.atlas_model.specs.Rearranging.{change_reply, rearrangement_of, AreExactChanges, KeepsSides};
     ghost use Rattle.atlas_model.specs.Laws.StepLaws.{IsRearrangingStep};
@@ -487,7 +487,7 @@ impl<A: Allocator + Copy> AtlasAllocator<A> {
 }
 
 impl<A: Allocator + Copy> Index<AllocId> for AtlasAllocator<A> {
-    ghost use Rattle.guillotiere.specs.Stored.{state_of};
+    ghost use Rattle.atlas_store.specs.Stored.{state_of};
     ghost use Rattle.atlas_model.specs.Replies.{live_box};
 
     type Output = Rectangle;

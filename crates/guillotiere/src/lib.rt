@@ -5,13 +5,8 @@
 #![tactic(auto)]
 
 mod atlas;
-mod choice;
-mod cut;
-mod search;
 pub mod session;
 mod simple;
-mod slots;
-mod store;
 mod tree;
 
 pub use atlas::AtlasAllocator;

@@ -4,7 +4,7 @@ ghost use Rattle.atlas_model.specs.Boxes.{Fits, IsPositive};
 ghost use Rattle.atlas_model.specs.Pixels.{sides_of, options_of};
 ghost use Rattle.atlas_model.specs.Steps.{Step};
 ghost use Rattle.atlas_model.specs.Laws.StepLaws.{is_refusal};
-ghost use Rattle.guillotiere.specs.Stored.{state_of};
+ghost use Rattle.atlas_store.specs.Stored.{state_of};
 ghost use Rattle.atlas_model.specs.Steps.AtlasCall.{Allocate, Deallocate, Grow, Reset, ResizeAndRearrange};
 ghost use Rattle.atlas_model.specs.Replies.{done_reply};
 ghost use Rattle.atlas_model.specs.Rearranging.{change_reply, AreExactChanges};

@@ -7,7 +7,7 @@ ghost use Rattle.guillotiere.specs.FreeBoxes.BoxCalls.{AreFiledBoxes, HasEntries
 ghost use Rattle.guillotiere.specs.FreeBoxes.BoxShelves.{AreKept, box_shelf, free_item_boxes};
 ghost use Rattle.guillotiere.specs.FreeBoxes.FreeLists.{kept_of, simple_state_of};
 ghost use Rattle.atlas_model.specs.Pixels.{box_of, options_of, rectangle_of, sides_of, size_of};
-ghost use Rattle.guillotiere.specs.Rectangles.{IsUnsigned};
+ghost use Rattle.atlas_store.specs.Rectangles.{IsUnsigned};
 ghost use Rattle.atlas_model.specs.Simple.{IsGuarded, IsSimple, SimpleStep, is_kept, kept_rest, simple_answer};
 ghost use Rattle.atlas_model.specs.Simple.{simple_start};
 ghost use Rattle.atlas_model.specs.Simple.SimpleAtlasCall.{Allocate};
@@ -15,12 +15,12 @@ ghost use Rattle.atlas_model.specs.Simple.SimpleAtlasCall.{Allocate};
 pub mod boxes;
 mod changes;
 
-use crate::choice::rounded;
-use crate::cut::{granted, guillotine};
-use crate::search::best::Found;
-use crate::search::pick;
 use crate::simple::boxes::{FreeBox, FreeBoxes};
 use atlas_model::{AllocatorOptions, AtlasError, DEFAULT_OPTIONS, Rectangle, Size};
+use atlas_store::choice::rounded;
+use atlas_store::cut::{granted, guillotine};
+use atlas_store::search::best::Found;
+use atlas_store::search::pick;
 use std::alloc::{Allocator, Global};
 use std::marker::Model;
 

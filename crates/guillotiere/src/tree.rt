@@ -1,25 +1,25 @@
 //! Placing a request in the tree of slots, and freeing it, by the calls of `store`.
 ghost use Rattle.std.specs.Prelude.{◌≡◌, ◌+◌, ◌<◌, ◌≤◌, IfSome, None, true, false};
-ghost use Rattle.guillotiere.specs.declared.slots.Node.{Node};
+ghost use Rattle.atlas_store.specs.declared.slots.Node.{Node};
 ghost use Rattle.atlas_model.specs.Boxes.{IsPositive, Fits, box_sides, side, other};
 ghost use Rattle.atlas_model.specs.Cuts.{cut, cut_axis};
 ghost use Rattle.atlas_model.specs.Cuts.Cut.{Whole, Strip, Corner};
-ghost use Rattle.guillotiere.specs.Slots.{axis_of};
+ghost use Rattle.atlas_store.specs.Slots.{axis_of};
 ghost use Rattle.atlas_model.specs.Pixels.{box_of, rectangle_of, sides_of};
-ghost use Rattle.guillotiere.specs.Slots.Reading.{extent_of};
-ghost use Rattle.guillotiere.specs.Stored.{Holding};
-ghost use Rattle.guillotiere.specs.Store.Holdings.{shelf_of, across_of, KeepsRoom};
-ghost use Rattle.guillotiere.specs.Store.Freeing.{IsSettlingAt, IsTurnTo, IsSettled, IsFreeable, IsFreed};
-ghost use Rattle.guillotiere.specs.Store.Planning.{slots_of, IsPlanFor, IsFeasible, IsPlaceable, IsPlaced};
+ghost use Rattle.atlas_store.specs.Slots.Reading.{extent_of};
+ghost use Rattle.atlas_store.specs.Stored.{Holding};
+ghost use Rattle.atlas_store.specs.Store.Holdings.{shelf_of, across_of, KeepsRoom};
+ghost use Rattle.atlas_store.specs.Store.Freeing.{IsSettlingAt, IsTurnTo, IsSettled, IsFreeable, IsFreed};
+ghost use Rattle.guillotiere.specs.Parts.Planning.{slots_of, IsPlanFor, IsFeasible, IsPlaceable, IsPlaced};
 
 pub mod growth;
 pub mod requests;
 
-use crate::cut::{Orientation, orientation_of};
-use crate::slots::lists::exact_size;
-use crate::slots::{Link, NO_SLOT, Node};
-use crate::store::Store;
 use atlas_model::Size;
+use atlas_store::cut::{Orientation, orientation_of};
+use atlas_store::slots::lists::exact_size;
+use atlas_store::slots::{Link, NO_SLOT, Node};
+use atlas_store::store::Store;
 use std::alloc::Allocator;
 
 /// How a free leaf gives way to a request that fits it, with the request's pixels along the leaf's sequence and across

@@ -4,12 +4,12 @@ use Rattle.std.proofs.Common.{sym, ap, subst, ◌∙◌, inl, inr, arith, Contai
 use Rattle.std.proofs.lemmas.Bool.{ne_eqb, eqb-false}
 use Rattle.std.proofs.lemmas.List.{drop_more, drop_all}
 use Rattle.std.proofs.lemmas.List.Elements.{Contains-append_left, Contains-append_right, Contains-append_cases}
-use Rattle.guillotiere.specs.Batches.{AreLiveOnce, AreNamedOnce}
+use Rattle.atlas_store.specs.Batches.{AreLiveOnce, AreNamedOnce}
 use Rattle.atlas_model.specs.Changes.{mark, only}
 use Rattle.atlas_model.specs.Laws.TreeLaws.{is_among}
-use Rattle.guillotiere.specs.Slots.{nodes}
+use Rattle.atlas_store.specs.Slots.{nodes}
 use Rattle.atlas_model.specs.States.{State, IsSound, IsLive, after_freeing}
-use Rattle.guillotiere.specs.Stored.{Stored, IsAtlas, state_of}
+use Rattle.atlas_store.specs.Stored.{Stored, IsAtlas, state_of}
 use Rattle.atlas_model.specs.Trees.{Members, ids}
 use Rattle.atlas_model.specs.Trees as tree
 use Rattle.atlas_model.proofs.TreeLemmas.TreeIds.{Contains-first, Contains-later, Contains-cons_cases}
@@ -17,8 +17,8 @@ use Rattle.atlas_model.proofs.TreeLemmas.TreeKept.{ids-nf}
 use Rattle.atlas_model.proofs.TreeLemmas.TreeCounts.{release_nodes}
 use Rattle.atlas_model.proofs.TreeLemmas.TreeNormal.{release-none, release-release}
 use Rattle.atlas_model.proofs.StepLemmas.StepKeeping.{freeing_sound}
-use Rattle.guillotiere.proofs.AtlasLemmas.FreedAtlas.{state-freed, live-named, named-live}
-use Rattle.guillotiere.proofs.AtlasLemmas.Hiding.{or-parts}
+use Rattle.atlas_store.proofs.WalkLemmas.FreedAtlas.{state-freed, live-named, named-live}
+use Rattle.atlas_store.proofs.WalkLemmas.Hiding.{or-parts}
 
 -- The state once the ids of a list are freed, one after another.
 abbrev pub after_each : State → List ℕ → State

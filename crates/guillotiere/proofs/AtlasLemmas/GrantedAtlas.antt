@@ -6,46 +6,46 @@ use Rattle.atlas_model.specs.Boxes.{Sides, Box, box_at, box_sides, Fits, IsPosit
 use Rattle.atlas_model.specs.Changes.{place}
 use Rattle.atlas_model.specs.Choice.{rounded, IsFitting, HasNoRoom}
 use Rattle.atlas_model.specs.Pixels.{box_of, rectangle_of, sides_of, size_of, options_of}
-use Rattle.guillotiere.specs.Rectangles.{FitsInto, IsUnsigned}
+use Rattle.atlas_store.specs.Rectangles.{FitsInto, IsUnsigned}
 use Rattle.atlas_model.specs.Replies.{allocate_reply}
-use Rattle.guillotiere.specs.Search.Picks.{AreFreeBoxes}
-use Rattle.guillotiere.specs.Search.Requests.{CanBeRounded}
-use Rattle.guillotiere.specs.Slots.{nodes}
-use Rattle.guillotiere.specs.Slots.Numbered.{numbers}
-use Rattle.guillotiere.specs.Slots.Reading.{tree_of}
+use Rattle.atlas_store.specs.Search.Picks.{AreFreeBoxes}
+use Rattle.atlas_store.specs.Search.Requests.{CanBeRounded}
+use Rattle.atlas_store.specs.Slots.{nodes}
+use Rattle.atlas_store.specs.Slots.Numbered.{numbers}
+use Rattle.atlas_store.specs.Slots.Reading.{tree_of}
 use Rattle.atlas_model.specs.States.{State, free_in, after_placing}
 use Rattle.atlas_model.specs.Steps.{Step, Takes, Grants, nodes_with}
 use Rattle.atlas_model.specs.Steps.AtlasCall.{Allocate}
 use Rattle.atlas_model.specs.Steps.AtlasReply.{Refused}
-use Rattle.guillotiere.specs.Store.Chosen.{CanGrant, IsAtRest, IsChosen, IsGrantable, IsGrantMade, IsRequestGranted}
-use Rattle.guillotiere.specs.Store.Chosen.{IsShortOf}
-use Rattle.guillotiere.specs.Store.Holdings.{shelf_of, node_in}
-use Rattle.guillotiere.specs.Store.Planning.{slots_of}
-use Rattle.guillotiere.specs.Stored.{Stored, Shelf, Holding, IsAtlas, state_of}
+use Rattle.guillotiere.specs.Parts.Chosen.{CanGrant, IsAtRest, IsChosen, IsGrantable, IsGrantMade, IsRequestGranted}
+use Rattle.guillotiere.specs.Parts.Chosen.{IsShortOf}
+use Rattle.atlas_store.specs.Store.Holdings.{shelf_of, node_in}
+use Rattle.guillotiere.specs.Parts.Planning.{slots_of}
+use Rattle.atlas_store.specs.Stored.{Stored, Shelf, Holding, IsAtlas, state_of}
 use Rattle.atlas_model.specs.Trees.{ids, slot_count}
 use Rattle.atlas_model.specs.declared.allocation.Allocation.{Allocation}
 use Rattle.atlas_model.specs.declared.error.AtlasError.{AtlasError}
 use Rattle.atlas_model.specs.declared.error.AtlasError.TheVariants.{Memory, Slots, NotLive}
 use Rattle.atlas_model.specs.declared.geometry.Rectangle.{Rectangle}
 use Rattle.atlas_model.specs.declared.geometry.Size.{Size}
-use Rattle.guillotiere.specs.declared.store.Store.{Store}
+use Rattle.atlas_store.specs.declared.store.Store.{Store}
 use Rattle.guillotiere.specs.declared.tree.requests.Chosen.{Chosen}
 use Rattle.std.specs.Prelude.{Option, Result}
 use Rattle.atlas_model.specs.Trees as tree
-use Rattle.guillotiere.proofs.SearchLemmas.Picking.{no_room_unrounded}
+use Rattle.atlas_store.proofs.SearchLemmas.Picking.{no_room_unrounded}
 use Rattle.atlas_model.proofs.ChoiceLemmas.Rounding.{rounded_positive}
 use Rattle.atlas_model.proofs.TreeLemmas.BoxLists.{free_in_place}
-use Rattle.guillotiere.proofs.SlotLemmas.JoiningWrites.{used-inside}
-use Rattle.guillotiere.proofs.SlotLemmas.SlotIds.{slot_count-none, id_of-slot}
+use Rattle.atlas_store.proofs.SlotLemmas.JoiningWrites.{used-inside}
+use Rattle.atlas_store.proofs.SlotLemmas.SlotIds.{slot_count-none, id_of-slot}
 use Rattle.atlas_model.proofs.TreeLemmas.TreeCounts.{place_nodes}
 use Rattle.atlas_model.proofs.StepLemmas.StepKeeping.{placing_sound}
-use Rattle.guillotiere.proofs.StoreLemmas.SpareCounts.{spare-count}
-use Rattle.guillotiere.proofs.StoreLemmas.PlannedTrees.{IsPlacing, planned-tree, planned-used, need-read}
-use Rattle.guillotiere.proofs.StoreLemmas.PlannedSlots.{planned-first, planned-unused}
+use Rattle.atlas_store.proofs.StoreLemmas.SpareCounts.{spare-count}
+use Rattle.guillotiere.proofs.PartLemmas.PlannedTrees.{IsPlacing, planned-tree, planned-used, need-read}
+use Rattle.guillotiere.proofs.PartLemmas.PlannedSlots.{planned-first, planned-unused}
 use Rattle.guillotiere.proofs.SimpleLemmas.CuttingFromLists.{unsigned-fits, sides_of-size, size-positive}
-use Rattle.guillotiere.proofs.SlotLemmas.FreeSlots.{exact-free}
-use Rattle.guillotiere.proofs.StoreLemmas.ChosenSlots.{rest-free}
-use Rattle.guillotiere.proofs.AtlasLemmas.Observing.{nodes-short, members-IsAtlas, tree_of-IsAtlas, used-IsAtlas}
+use Rattle.atlas_store.proofs.SlotLemmas.FreeSlots.{exact-free}
+use Rattle.guillotiere.proofs.PartLemmas.ChosenSlots.{rest-free}
+use Rattle.atlas_store.proofs.WalkLemmas.Observing.{nodes-short, members-IsAtlas, tree_of-IsAtlas, used-IsAtlas}
 
 -- The state after a placing, of its parts.
 state-placed : (new old : State) (f : Box) (r : Sides) (id : ℕ) → new.tree ≡ place old.size f r id old.tree → new.size ≡ old.size → new.options ≡ old.options → new.limit ≡ old.limit

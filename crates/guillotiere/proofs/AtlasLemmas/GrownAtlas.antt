@@ -6,39 +6,39 @@ use Rattle.atlas_model.specs.Boxes.{Sides, Fits, IsPositive, side}
 use Rattle.atlas_model.specs.Changes.{grown, grown_members}
 use Rattle.atlas_model.specs.Pixels.{sides_of, size_of, options_of}
 use Rattle.atlas_model.specs.Replies.{done_reply}
-use Rattle.guillotiere.specs.Slots.{nodes}
-use Rattle.guillotiere.specs.Slots.Growing.{IsLone}
-use Rattle.guillotiere.specs.Slots.Numbered.{erase, first_slot, numbers}
-use Rattle.guillotiere.specs.Slots.Reading.{tree_of}
+use Rattle.atlas_store.specs.Slots.{nodes}
+use Rattle.atlas_store.specs.Slots.Growing.{IsLone}
+use Rattle.atlas_store.specs.Slots.Numbered.{erase, first_slot, numbers}
+use Rattle.atlas_store.specs.Slots.Reading.{tree_of}
 use Rattle.atlas_model.specs.States.{State, IsSound, after_growth, live_in}
 use Rattle.atlas_model.specs.Steps.{Step, nodes_grown}
 use Rattle.atlas_model.specs.Steps.AtlasCall.{Grow}
 use Rattle.atlas_model.specs.Steps.AtlasReply.{Done, Refused}
-use Rattle.guillotiere.specs.Store.Chosen.{IsShortOf}
-use Rattle.guillotiere.specs.Store.Growths.{CanGrow, IsTreeOf, IsGrowthOf, IsGrowable, IsGrownHolding, IsNeedOf}
-use Rattle.guillotiere.specs.Store.Growths.{IsTreeGrown}
-use Rattle.guillotiere.specs.Store.Holdings.{shelf_of}
-use Rattle.guillotiere.specs.Stored.{Stored, Shelf, Holding, IsAtlas, state_of}
+use Rattle.guillotiere.specs.Parts.Chosen.{IsShortOf}
+use Rattle.guillotiere.specs.Parts.Growths.{CanGrow, IsTreeOf, IsGrowthOf, IsGrowable, IsGrownHolding, IsNeedOf}
+use Rattle.guillotiere.specs.Parts.Growths.{IsTreeGrown}
+use Rattle.atlas_store.specs.Store.Holdings.{shelf_of}
+use Rattle.atlas_store.specs.Stored.{Stored, Shelf, Holding, IsAtlas, state_of}
 use Rattle.atlas_model.specs.Trees.{Tree, IsOneFree, is_one_free, live}
 use Rattle.atlas_model.specs.declared.error.AtlasError.{AtlasError}
 use Rattle.atlas_model.specs.declared.error.AtlasError.TheVariants.{Memory, Slots, NotLive}
 use Rattle.atlas_model.specs.declared.geometry.Size.{Size}
-use Rattle.guillotiere.specs.declared.slots.Link.{Link}
-use Rattle.guillotiere.specs.declared.store.Store.{Store}
+use Rattle.atlas_store.specs.declared.slots.Link.{Link}
+use Rattle.atlas_store.specs.declared.store.Store.{Store}
 use Rattle.guillotiere.specs.declared.tree.growth.Growth.{Growth}
 use Rattle.std.specs.Prelude.{Result}
 use Rattle.atlas_model.specs.Trees as tree
-use Rattle.guillotiere.specs.Slots.Numbered as numbered
-use Rattle.guillotiere.proofs.SlotLemmas.Reading.{tree_of-Stands}
-use Rattle.guillotiere.proofs.SlotLemmas.Normal.{numbers-erase}
-use Rattle.guillotiere.proofs.StoreLemmas.SpareCounts.{spare-count}
-use Rattle.guillotiere.proofs.StoreLemmas.Sizes.{size_is}
+use Rattle.atlas_store.specs.Slots.Numbered as numbered
+use Rattle.atlas_store.proofs.SlotLemmas.Reading.{tree_of-Stands}
+use Rattle.atlas_store.proofs.SlotLemmas.Normal.{numbers-erase}
+use Rattle.atlas_store.proofs.StoreLemmas.SpareCounts.{spare-count}
+use Rattle.atlas_store.proofs.StoreLemmas.Sizes.{size_is}
 use Rattle.atlas_model.proofs.TreeLemmas.TreeBasics.{side_positive}
 use Rattle.atlas_model.proofs.TreeLemmas.TreeIdle.{nothing_live}
 use Rattle.atlas_model.proofs.TreeLemmas.TreeCounts.{grow_nodes}
 use Rattle.atlas_model.proofs.StepLemmas.StepKeeping.{growth_sound, limit_positive}
 use Rattle.guillotiere.proofs.SimpleLemmas.CuttingFromLists.{sides_of-size}
-use Rattle.guillotiere.proofs.AtlasLemmas.Observing.{nodes-below, nonempty-total, one_leaf, tree_of-IsAtlas}
+use Rattle.atlas_store.proofs.WalkLemmas.Observing.{nodes-below, nonempty-total, one_leaf, tree_of-IsAtlas}
 
 -- A tree of one free leaf has nothing live.
 one_free-idle : (size : Sides) (t : Tree) → is_one_free t.members ≡ true → live size t ≡ []

@@ -9,14 +9,14 @@ use Rattle.atlas_model.specs.Boxes.Axis.{Horizontal, Vertical}
 use Rattle.atlas_model.specs.Pixels.{box_of, sides_of, IsMeasurable}
 use Rattle.atlas_model.specs.Replies.{IsExact, grant_of}
 use Rattle.atlas_model.specs.States.{State, live_in, free_in, IsSound}
-use Rattle.guillotiere.specs.Stored.{Stored, IsAtlas}
+use Rattle.atlas_store.specs.Stored.{Stored, IsAtlas}
 use Rattle.atlas_model.specs.Trees.{Grant}
-use Rattle.guillotiere.specs.Visits.{AreGrants, AreFreeAreas}
+use Rattle.atlas_store.specs.Visits.{AreGrants, AreFreeAreas}
 use Rattle.atlas_model.specs.declared.allocation.Allocation.{Allocation}
 use Rattle.atlas_model.specs.declared.geometry.Rectangle.{Rectangle}
 use Rattle.std.proofs.Common.{Err}
 use Rattle.atlas_model.proofs.TreeLemmas.TreeBasics.{same_box-true, same_box-itself}
-use Rattle.guillotiere.proofs.AtlasLemmas.Observing.{tree_of-IsAtlas}
+use Rattle.atlas_store.proofs.WalkLemmas.Observing.{tree_of-IsAtlas}
 use Rattle.atlas_model.proofs.ListLemmas.Counting.{count_some}
 use Rattle.atlas_model.proofs.TreeLemmas.BoxLists.{live_in_place, free_in_place, same_grant, same_grant-itself, same_grant-true}
 use Rattle.atlas_model.proofs.ListLemmas.CallerLemmas.{find-counted}

@@ -11,9 +11,9 @@ use Rattle.atlas_model.specs.Replies.{grant_of, AreRising}
 use Rattle.atlas_model.specs.States.{State, live_in, started, IsSound}
 use Rattle.atlas_model.specs.Steps.{Rearranges}
 use Rattle.atlas_model.specs.Steps.AtlasReply.{Changed}
-use Rattle.guillotiere.specs.Stored.{AtlasValue, state_of}
+use Rattle.atlas_store.specs.Stored.{AtlasValue, state_of}
 use Rattle.atlas_model.specs.Trees.{Grant}
-use Rattle.guillotiere.specs.Visits.{AreGrants}
+use Rattle.atlas_store.specs.Visits.{AreGrants}
 use Rattle.atlas_model.specs.declared.allocation.Allocation.{Allocation}
 use Rattle.atlas_model.specs.declared.change.Change.{Change}
 use Rattle.guillotiere.proofs.AtlasLemmas.RefitRanks.{refit_order_of}

@@ -3,19 +3,19 @@ use Rattle.std.proofs.Common.{ℕ, suc, ◌+◌, ◌%◌, ◌^◌, ◌<◌, ◌�
 use Rattle.std.proofs.Common.{All, IfOk, Result, Ok, refl, sym, subst, arith}
 use Rattle.std.proofs.lemmas.List.Elements.{All-nil, All-cons}
 use Rattle.atlas_model.specs.Replies.{grant_of, AreRising, IsExact}
-use Rattle.guillotiere.specs.Slots.{nodes, node_at, use_count}
-use Rattle.guillotiere.specs.Slots.Lists.{is_free}
-use Rattle.guillotiere.specs.Stored.{Stored, IsAtlas, state_of}
+use Rattle.atlas_store.specs.Slots.{nodes, node_at, use_count}
+use Rattle.atlas_store.specs.Slots.Lists.{is_free}
+use Rattle.atlas_store.specs.Stored.{Stored, IsAtlas, state_of}
 use Rattle.atlas_model.specs.Trees.{Grant}
-use Rattle.guillotiere.specs.Visits.{AreGrants, AreFreeAreas, is_alloc, allocation_at, allocated_from, free_areas}
+use Rattle.atlas_store.specs.Visits.{AreGrants, AreFreeAreas, is_alloc, allocation_at, allocated_from, free_areas}
 use Rattle.atlas_model.specs.declared.allocation.Allocation.{Allocation}
-use Rattle.guillotiere.specs.declared.slots.Node.{Node}
-use Rattle.guillotiere.specs.declared.slots.NodeKind.{NodeKind}
-use Rattle.guillotiere.specs.declared.slots.Slot.{Slot}
+use Rattle.atlas_store.specs.declared.slots.Node.{Node}
+use Rattle.atlas_store.specs.declared.slots.NodeKind.{NodeKind}
+use Rattle.atlas_store.specs.declared.slots.Slot.{Slot}
 use Rattle.std.proofs.Common.{Err}
-use Rattle.guillotiere.specs.declared.slots.NodeKind.TheVariants as kind
-use Rattle.guillotiere.proofs.SlotLemmas.SlotAreas.{Stands-exact}
-use Rattle.guillotiere.proofs.AtlasLemmas.Observing.{live-IsAtlas, free-IsAtlas, nodes-short}
+use Rattle.atlas_store.specs.declared.slots.NodeKind.TheVariants as kind
+use Rattle.atlas_store.proofs.SlotLemmas.SlotAreas.{Stands-exact}
+use Rattle.atlas_store.proofs.WalkLemmas.Observing.{live-IsAtlas, free-IsAtlas, nodes-short}
 
 -- What is equal to what a list shows shows it too.
 pub listed : {X E L : Type 0} (items : X → L) (P : L → Type 0) (l : L) (r : Result X E) → IfOk r (λ x. items x ≡ l) → P l → IfOk r (λ x. P (items x))

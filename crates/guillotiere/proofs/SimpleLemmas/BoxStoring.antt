@@ -4,28 +4,28 @@ use Rattle.std.specs.Prelude.{◌==◌, if◌then◌else◌}
 use Rattle.std.specs.List.{count_by}
 use Rattle.std.proofs.lemmas.Bool.{cases_eq, cases_Bool, both_ways, cond-true, cond-false, lt-ltb, eqb-true, not-false}
 use Rattle.std.proofs.lemmas.List.{get_or-set_same, get_or-set_other, get_or-map, length-set, map-set}
-use Rattle.guillotiere.specs.declared.search.best.Found.{Found}
+use Rattle.atlas_store.specs.declared.search.best.Found.{Found}
 use Rattle.guillotiere.specs.declared.simple.boxes.FreeBox.{FreeBox}
 use Rattle.atlas_model.specs.declared.geometry.Rectangle.{Rectangle}
-use Rattle.guillotiere.specs.declared.slots.Link.{Link}
-use Rattle.guillotiere.specs.declared.search.table.ListHead.{ListHead}
-use Rattle.guillotiere.specs.Search.Bands.{list_of, strip_of, number_of}
+use Rattle.atlas_store.specs.declared.slots.Link.{Link}
+use Rattle.atlas_store.specs.declared.search.table.ListHead.{ListHead}
+use Rattle.atlas_store.specs.Search.Bands.{list_of, strip_of, number_of}
 use Rattle.atlas_model.specs.Boxes.{Box, AreSameBoxes, same_box}
 use Rattle.guillotiere.specs.FreeBoxes.BoxShelves.{has_width, stored_item, free_item_boxes, idle_item, with_after, AreKept, IsInHand}
 use Rattle.atlas_model.specs.Choice.{Options, AreValid}
-use Rattle.guillotiere.specs.Search.Items.{Item, no_item, item_at, item_box, item_sides, IsPath}
-use Rattle.guillotiere.specs.Slots.Links.{IsSolid}
-use Rattle.guillotiere.specs.Slots.Lists.{occurs, without}
-use Rattle.guillotiere.specs.Search.Lookups.{AreListed, IsStanding}
-use Rattle.guillotiere.specs.Slots.Numbered.{same}
+use Rattle.atlas_store.specs.Search.Items.{Item, no_item, item_at, item_box, item_sides, IsPath}
+use Rattle.atlas_store.specs.Slots.Links.{IsSolid}
+use Rattle.atlas_store.specs.Slots.Lists.{occurs, without}
+use Rattle.atlas_store.specs.Search.Lookups.{AreListed, IsStanding}
+use Rattle.atlas_store.specs.Slots.Numbered.{same}
 use Rattle.atlas_model.specs.Pixels.{box_of}
-use Rattle.guillotiere.specs.Slots.{no_slot}
-use Rattle.guillotiere.specs.Search.Tables.{head_of, low_of, is_used_at}
+use Rattle.atlas_store.specs.Slots.{no_slot}
+use Rattle.atlas_store.specs.Search.Tables.{head_of, low_of, is_used_at}
 use Rattle.atlas_model.proofs.ListLemmas.Counting.{count_by-cons}
-use Rattle.guillotiere.proofs.SearchLemmas.ItemPaths.{path-frame, path-next, path-bypassed, path-begun, list_at, listed-without, listed-with}
-use Rattle.guillotiere.proofs.ListLemmas.Occurrences.{same-self, same-ne}
+use Rattle.atlas_store.proofs.SearchLemmas.ItemPaths.{path-frame, path-next, path-bypassed, path-begun, list_at, listed-without, listed-with}
+use Rattle.atlas_store.proofs.ListLemmas.Occurrences.{same-self, same-ne}
 use Rattle.atlas_model.proofs.TreeLemmas.TreeBasics.{same_box-true, same_box-itself}
-use Rattle.guillotiere.proofs.SearchLemmas.Showing.{path-inside}
+use Rattle.atlas_store.proofs.SearchLemmas.Showing.{path-inside}
 
 -- ---- counts of free boxes
 

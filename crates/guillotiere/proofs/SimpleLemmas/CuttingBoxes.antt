@@ -3,18 +3,18 @@ use Rattle.std.proofs.Common.{◌≡◌, ℕ, ◌+◌, Bool, cond, List, ◌∷�
 use Rattle.std.specs.List.{count_by}
 use Rattle.std.proofs.lemmas.List.Elements.{filter-append}
 use Rattle.std.proofs.lemmas.List.Sums.{sum_by-cons, sum_by-append}
-use Rattle.guillotiere.specs.declared.search.best.Found.{Found}
-use Rattle.guillotiere.specs.declared.cut.Rest.{Rest}
+use Rattle.atlas_store.specs.declared.search.best.Found.{Found}
+use Rattle.atlas_store.specs.declared.cut.Rest.{Rest}
 use Rattle.atlas_model.specs.declared.geometry.Rectangle.{Rectangle}
-use Rattle.guillotiere.specs.declared.search.table.ListHead.{ListHead}
+use Rattle.atlas_store.specs.declared.search.table.ListHead.{ListHead}
 use Rattle.atlas_model.specs.Boxes.{Box, Sides, AreSameBoxes}
 use Rattle.atlas_model.specs.Choice.{Options}
 use Rattle.guillotiere.specs.FreeBoxes.FreeLists.{kept_of}
-use Rattle.guillotiere.specs.Search.Items.{Item}
-use Rattle.guillotiere.specs.Slots.Links.{IsSolid}
-use Rattle.guillotiere.specs.Search.Lookups.{AreListed, IsStanding}
+use Rattle.atlas_store.specs.Search.Items.{Item}
+use Rattle.atlas_store.specs.Slots.Links.{IsSolid}
+use Rattle.atlas_store.specs.Search.Lookups.{AreListed, IsStanding}
 use Rattle.atlas_model.specs.Pixels.{box_of}
-use Rattle.guillotiere.specs.Rectangles.{IsRestOf}
+use Rattle.atlas_store.specs.Rectangles.{IsRestOf}
 use Rattle.atlas_model.specs.Simple.{kept_rest}
 
 -- The picked rectangle is exact.

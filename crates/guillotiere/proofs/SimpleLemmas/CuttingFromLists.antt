@@ -6,9 +6,9 @@ use Rattle.atlas_model.specs.declared.geometry.Rectangle.{Rectangle}
 use Rattle.atlas_model.specs.Boxes.{Box, Sides, box_sides, Fits, IsPositive}
 use Rattle.atlas_model.specs.Choice.{Options, AreValid, rounded}
 use Rattle.atlas_model.specs.Pixels.{natural, box_of, rectangle_of, sides_of, size_of, IsMeasurable}
-use Rattle.guillotiere.specs.Rectangles.{FitsInto, IsUnsigned}
-use Rattle.guillotiere.specs.Search.Requests.{CanBeRounded}
-use Rattle.guillotiere.proofs.SearchLemmas.Picking.{up-le}
+use Rattle.atlas_store.specs.Rectangles.{FitsInto, IsUnsigned}
+use Rattle.atlas_store.specs.Search.Requests.{CanBeRounded}
+use Rattle.atlas_store.proofs.SearchLemmas.Picking.{up-le}
 
 -- Rectangles with no corner below 0.
 

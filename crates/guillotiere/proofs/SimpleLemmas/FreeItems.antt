@@ -4,8 +4,8 @@ use Rattle.std.specs.List.{Contains}
 use Rattle.std.proofs.lemmas.Bool.{cases_Bool, both_ways, cond-true, cond-false}
 use Rattle.atlas_model.specs.Boxes.{Box}
 use Rattle.guillotiere.specs.FreeBoxes.BoxShelves.{free_item_boxes}
-use Rattle.guillotiere.specs.Search.Items.{Item, item_at, item_box}
-use Rattle.guillotiere.specs.Search.Lookups.{AreFreeItems}
+use Rattle.atlas_store.specs.Search.Items.{Item, item_at, item_box}
+use Rattle.atlas_store.specs.Search.Lookups.{AreFreeItems}
 
 free-first : (t : Item) (es : List Item) → t.is_free ≡ true → free_item_boxes (t ∷ es) ≡ item_box t ∷ free_item_boxes es
 free-first t es f = cond-true t.is_free (item_box t ∷ free_item_boxes es) (free_item_boxes es) f

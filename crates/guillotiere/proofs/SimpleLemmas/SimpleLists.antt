@@ -6,23 +6,23 @@ use Rattle.std.proofs.lemmas.List.Elements.{All-head, All-tail}
 use Rattle.std.proofs.lemmas.List.Sums.{sum_by-cons, sum_by-append}
 use Rattle.atlas_model.specs.declared.geometry.Size.{Size}
 use Rattle.atlas_model.specs.declared.geometry.Rectangle.{Rectangle}
-use Rattle.guillotiere.specs.declared.cut.Rest.{Rest}
-use Rattle.guillotiere.specs.declared.slots.Slot.{Slot}
-use Rattle.guillotiere.specs.declared.slots.NodeKind.TheVariants as kind
-use Rattle.guillotiere.specs.contracts.slots.NodeKind.{the_type}
+use Rattle.atlas_store.specs.declared.cut.Rest.{Rest}
+use Rattle.atlas_store.specs.declared.slots.Slot.{Slot}
+use Rattle.atlas_store.specs.declared.slots.NodeKind.TheVariants as kind
+use Rattle.atlas_store.specs.contracts.slots.NodeKind.{the_type}
 use denote.Enum.Bare.{sameb}
 use Rattle.atlas_model.specs.Boxes.{Box, Sides, whole_box, Fits, IsPositive, AreSameBoxes}
 use Rattle.atlas_model.specs.Choice.{Options}
 use Rattle.atlas_model.specs.Pixels.{box_of, rectangle_of, sides_of}
-use Rattle.guillotiere.specs.Rectangles.{FitsInto, IsRestOf}
-use Rattle.guillotiere.specs.Slots.{nodes}
-use Rattle.guillotiere.specs.Slots.Lists.{is_free}
-use Rattle.guillotiere.specs.Visits.{free_areas}
+use Rattle.atlas_store.specs.Rectangles.{FitsInto, IsRestOf}
+use Rattle.atlas_store.specs.Slots.{nodes}
+use Rattle.atlas_store.specs.Slots.Lists.{is_free}
+use Rattle.atlas_store.specs.Visits.{free_areas}
 use Rattle.atlas_model.specs.Simple.{kept_rest}
 use Rattle.guillotiere.specs.FreeBoxes.FreeLists.{kept_of}
 use Rattle.guillotiere.proofs.SimpleLemmas.CuttingBoxes.{count-kept}
 use Rattle.guillotiere.proofs.SimpleLemmas.CuttingFromLists.{unsigned-fits}
-use Rattle.guillotiere.proofs.AtlasLemmas.WalkSteps.{not_free}
+use Rattle.atlas_store.proofs.WalkLemmas.WalkSteps.{not_free}
 use Rattle.guillotiere.proofs.SimpleLemmas.Storing.{whole_rectangle, whole-box, whole-unsigned}
 use Rattle.atlas_model.proofs.SimpleLemmas.SimpleSteps.{whole-fits, whole-positive}
 

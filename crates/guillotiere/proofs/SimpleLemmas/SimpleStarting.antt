@@ -14,14 +14,14 @@ use Rattle.atlas_model.specs.Boxes.Axis.{Horizontal, Vertical}
 use Rattle.atlas_model.specs.Cuts.{split_along, leftover_along}
 use Rattle.atlas_model.specs.Choice.{Options, AreValid}
 use Rattle.atlas_model.specs.Pixels.{box_of, sides_of, size_of, options_of}
-use Rattle.guillotiere.specs.Rectangles.{IsUnsigned}
+use Rattle.atlas_store.specs.Rectangles.{IsUnsigned}
 use Rattle.atlas_model.specs.Replies.{IsExact}
 use Rattle.atlas_model.specs.States.{State, free_in, IsSound}
-use Rattle.guillotiere.specs.Visits.{AreFreeAreas}
+use Rattle.atlas_store.specs.Visits.{AreFreeAreas}
 use Rattle.atlas_model.specs.Simple.{SimpleState, IsSimple, simple_start, SimplyGrows, StartsFrom, is_kept, kept_rest}
 use Rattle.guillotiere.specs.FreeBoxes.FreeLists.{IsStoredState, simple_state_of}
 use Rattle.guillotiere.specs.FreeBoxes.BoxShelves.{BoxShelf, free_item_boxes, AreKept}
-use Rattle.guillotiere.specs.Search.Items.{Item}
+use Rattle.atlas_store.specs.Search.Items.{Item}
 use Rattle.guillotiere.proofs.SimpleLemmas.Storing.{whole_rectangle, whole-box}
 use Rattle.atlas_model.proofs.TreeLemmas.BoxLists.{free_in_place}
 use Rattle.atlas_model.proofs.SimpleLemmas.SimpleGrants.{start-simple, count-none, none-count, misplaced, well_placed, not_misplaced}

@@ -10,26 +10,22 @@ use Rattle.atlas_model.specs.declared.error.AtlasError.{AtlasError}
 use Rattle.atlas_model.specs.declared.options.AllocatorOptions.{AllocatorOptions}
 use Rattle.atlas_model.specs.Boxes.{Box, Sides, box_sides, whole_box, IsPositive, IsNonempty, IsWithin}
 use Rattle.guillotiere.specs.FreeBoxes.BoxShelves.{BoxShelf, free_item_boxes, has_width, stored_item, AreKept}
-use Rattle.guillotiere.specs.Search.Items.{Item, no_item, item_at, item_box}
-use Rattle.guillotiere.specs.Slots.Links.{IsSolid}
-use Rattle.guillotiere.specs.Search.Lookups.{AreListed}
+use Rattle.atlas_store.specs.Search.Items.{Item, no_item, item_at, item_box}
+use Rattle.atlas_store.specs.Slots.Links.{IsSolid}
+use Rattle.atlas_store.specs.Search.Lookups.{AreListed}
 use Rattle.guillotiere.specs.declared.simple.boxes.FreeBox.{FreeBox}
-use Rattle.guillotiere.specs.declared.search.table.ListHead.{ListHead}
+use Rattle.atlas_store.specs.declared.search.table.ListHead.{ListHead}
 use Rattle.guillotiere.proofs.SimpleLemmas.BoxStoring.{exact-width, free-inside, read-item}
 use Rattle.guillotiere.proofs.SimpleLemmas.FreeItems.{are-free}
 use Rattle.std.proofs.lemmas.List.{get_or_default, length-map}
 use Rattle.atlas_model.specs.Choice.{Options}
 use Rattle.atlas_model.specs.Pixels.{natural, box_of, rectangle_of, sides_of, options_of}
-use Rattle.guillotiere.specs.Rectangles.{IsUnsigned}
+use Rattle.atlas_store.specs.Rectangles.{IsUnsigned}
 use Rattle.atlas_model.specs.Simple.SimpleAtlasCall.{Allocate}
 use Rattle.atlas_model.specs.Simple.{SimpleStep, simple_answer}
 use Rattle.guillotiere.specs.FreeBoxes.FreeLists.{IsStoredState, simple_state_of}
 use Rattle.atlas_model.proofs.SimpleLemmas.SimpleSteps.{step-simple}
-use Rattle.guillotiere.proofs.StoreLemmas.Sizes.{size_is}
-
-pub natural-fits : (z : ℤ) → FitsSigned w32 z → natural z ≤ 2147483647
-natural-fits (pos n) f = omega (arith, ints)
-natural-fits (negsuc n) f = omega arith
+use Rattle.atlas_store.proofs.StoreLemmas.Sizes.{size_is}
 
 -- After a request.
 

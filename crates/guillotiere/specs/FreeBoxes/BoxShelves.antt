@@ -5,14 +5,14 @@ use Rattle.std.specs.Prelude.{if◌then◌else◌}
 use Rattle.guillotiere.specs.declared.simple.boxes.FreeBox.{FreeBox}
 use Rattle.guillotiere.specs.declared.simple.boxes.FreeBoxes.{FreeBoxes}
 use Rattle.atlas_model.specs.declared.geometry.Rectangle.{Rectangle}
-use Rattle.guillotiere.specs.declared.slots.Link.{Link}
-use Rattle.guillotiere.specs.declared.search.table.ListHead.{ListHead}
+use Rattle.atlas_store.specs.declared.slots.Link.{Link}
+use Rattle.atlas_store.specs.declared.search.table.ListHead.{ListHead}
 use Rattle.atlas_model.specs.Boxes.{Box}
 use Rattle.atlas_model.specs.Choice.{Options}
-use Rattle.guillotiere.specs.Search.Items.{Item, no_item, item_at, item_box, IsPath}
-use Rattle.guillotiere.specs.Slots.Lists.{occurs}
-use Rattle.guillotiere.specs.Search.Lookups.{AreListed}
-use Rattle.guillotiere.specs.Slots.{no_slot}
+use Rattle.atlas_store.specs.Search.Items.{Item, no_item, item_at, item_box, IsPath}
+use Rattle.atlas_store.specs.Slots.Lists.{occurs}
+use Rattle.atlas_store.specs.Search.Lookups.{AreListed}
+use Rattle.atlas_store.specs.Slots.{no_slot}
 
 -- A free box has a width, an unused entry has none.
 abbrev pub has_width : Rectangle → Bool

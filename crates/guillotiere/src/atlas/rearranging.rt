@@ -7,12 +7,12 @@ ghost use Rattle.atlas_model.specs.Refits.{IsRanked};
 ghost use Rattle.atlas_model.specs.Replies.{AreRising, IsExact, grant_of};
 ghost use Rattle.atlas_model.specs.Rearranging.{AreExactChanges, rearrangement_of};
 ghost use Rattle.atlas_model.specs.Refits.Refitted.{HasExactRectangle, IsRefitOf, IsRefitRefusal};
-ghost use Rattle.guillotiere.specs.Stored.{state_of};
+ghost use Rattle.atlas_store.specs.Stored.{state_of};
 ghost use Rattle.atlas_model.specs.Trees.{slot_of};
 
 use crate::atlas::AtlasAllocator;
-use crate::slots::walks::slot_number;
 use atlas_model::{Allocation, AtlasError, Change, ChangeList, Rectangle, Size};
+use atlas_store::slots::walks::slot_number;
 use std::alloc::Allocator;
 use std::cmp::Reverse;
 

@@ -7,15 +7,15 @@ ghost use Rattle.atlas_model.specs.declared.allocation.Allocation.{Allocation as
 ghost use Rattle.atlas_model.specs.Boxes.{area};
 ghost use Rattle.atlas_model.specs.Pixels.{IsMeasurable};
 ghost use Rattle.atlas_model.specs.States.{live_in, free_in};
-ghost use Rattle.guillotiere.specs.Stored.{state_of};
-ghost use Rattle.guillotiere.specs.Visits.{AreFreeAreas, AreGrants, CalledAtGrant};
-ghost use Rattle.guillotiere.specs.Walks.{IsCallableAlong, IsCallableAlongGrants, IsShownArea, IsShownGrant};
+ghost use Rattle.atlas_store.specs.Stored.{state_of};
+ghost use Rattle.atlas_store.specs.Visits.{AreFreeAreas, AreGrants, CalledAtGrant};
+ghost use Rattle.atlas_store.specs.Walks.{IsCallableAlong, IsCallableAlongGrants, IsShownArea, IsShownGrant};
 
 use crate::atlas::AtlasAllocator;
-use crate::slots::walks::{
+use atlas_model::{AllocId, Allocation, AtlasError, Rectangle};
+use atlas_store::slots::walks::{
     free_sum, gather_allocated, gather_free, live_sum, visit_allocated, visit_free,
 };
-use atlas_model::{AllocId, Allocation, AtlasError, Rectangle};
 use std::alloc::Allocator;
 
 impl<A: Allocator + Copy> AtlasAllocator<A> {

@@ -6,7 +6,7 @@ ghost use Rattle.atlas_model.specs.Simple.{SimpleStep, simple_done};
 ghost use Rattle.atlas_model.specs.Simple.SimpleAtlasCall.{Allocate, Grow, Reset};
 ghost use Rattle.guillotiere.specs.SimpleSessions.{simple_call_of, simple_answer_of, GrantsExact};
 ghost use Rattle.guillotiere.specs.SimpleSessions.{IsSimpleSession};
-ghost use Rattle.guillotiere.specs.Stored.{state_of};
+ghost use Rattle.atlas_store.specs.Stored.{state_of};
 
 use super::is_positive;
 use crate::atlas::AtlasAllocator;

@@ -4,22 +4,22 @@ ghost use Rattle.std.specs.Prelude.{vec_capacity, vec_len};
 ghost use Rattle.guillotiere.specs.FreeBoxes.BoxCalls.{AreFiledBoxes, HasEntriesFor, HasTakenEntries, IsLed};
 ghost use Rattle.guillotiere.specs.FreeBoxes.BoxShelves.{AreKept, IsInHand, box_shelf, free_item_boxes, idle_item};
 ghost use Rattle.guillotiere.specs.FreeBoxes.BoxShelves.{stored_item};
-ghost use Rattle.guillotiere.specs.Search.Bands.{strip_of};
+ghost use Rattle.atlas_store.specs.Search.Bands.{strip_of};
 ghost use Rattle.atlas_model.specs.Boxes.{AreSameBoxes};
 ghost use Rattle.atlas_model.specs.Choice.{AreValid, Options};
-ghost use Rattle.guillotiere.specs.Slots.Links.{IsSolid};
-ghost use Rattle.guillotiere.specs.Search.Lookups.{IsStanding};
+ghost use Rattle.atlas_store.specs.Slots.Links.{IsSolid};
+ghost use Rattle.atlas_store.specs.Search.Lookups.{IsStanding};
 ghost use Rattle.atlas_model.specs.Pixels.{box_of, options_of};
-ghost use Rattle.guillotiere.specs.Rectangles.{IsUnsigned};
-ghost use Rattle.guillotiere.specs.Slots.{no_slot};
+ghost use Rattle.atlas_store.specs.Rectangles.{IsUnsigned};
+ghost use Rattle.atlas_store.specs.Slots.{no_slot};
 
-use crate::search::Entry;
-use crate::search::bands::{BANDS, Place, place_for, strip};
-use crate::search::best::Found;
-use crate::search::table::Table;
-use crate::slots::lists::exact_size;
-use crate::slots::{Link, NO_SLOT};
 use atlas_model::{AllocatorOptions, AtlasError, Rectangle, point2};
+use atlas_store::search::Entry;
+use atlas_store::search::bands::{BANDS, Place, place_for, strip};
+use atlas_store::search::best::Found;
+use atlas_store::search::table::Table;
+use atlas_store::slots::lists::exact_size;
+use atlas_store::slots::{Link, NO_SLOT};
 use std::alloc::Allocator;
 
 /// A free box and the entry after it in its list; or an unused entry, whose rectangle is empty, and the next one.

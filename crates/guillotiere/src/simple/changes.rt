@@ -6,19 +6,19 @@ ghost use Rattle.guillotiere.specs.FreeBoxes.BoxCalls.{AreFiledBoxes};
 ghost use Rattle.guillotiere.specs.FreeBoxes.BoxShelves.{AreKept, box_shelf, free_item_boxes};
 ghost use Rattle.guillotiere.specs.FreeBoxes.FreeLists.{kept_beyond};
 ghost use Rattle.atlas_model.specs.Pixels.{box_of, options_of, sides_of};
-ghost use Rattle.guillotiere.specs.Rectangles.{IsUnsigned};
+ghost use Rattle.atlas_store.specs.Rectangles.{IsUnsigned};
 ghost use Rattle.atlas_model.specs.Simple.{IsGuarded, IsSimple, SimpleStep, live_boxes, simple_done};
 ghost use Rattle.atlas_model.specs.Simple.SimpleAtlasCall.{Clear, Grow, Reset, Start};
-ghost use Rattle.guillotiere.specs.Slots.{nodes};
-ghost use Rattle.guillotiere.specs.Stored.{state_of};
-ghost use Rattle.guillotiere.specs.Visits.{free_areas};
+ghost use Rattle.atlas_store.specs.Slots.{nodes};
+ghost use Rattle.atlas_store.specs.Stored.{state_of};
+ghost use Rattle.atlas_store.specs.Visits.{free_areas};
 
 use super::{SimpleAtlasAllocator, is_kept, keep};
 use crate::atlas::AtlasAllocator;
-use crate::cut::guillotine;
 use crate::simple::boxes::FreeBoxes;
-use crate::slots::{NodeKind, Slot};
 use atlas_model::{AllocatorOptions, AtlasError, Rectangle, Size};
+use atlas_store::cut::guillotine;
+use atlas_store::slots::{NodeKind, Slot};
 use std::alloc::Allocator;
 
 impl<A: Allocator + Copy> SimpleAtlasAllocator<A> {

@@ -3,19 +3,19 @@ ghost use Rattle.std.specs.Prelude.{◌≡◌, ◌<◌, ℕ, false};
 ghost use Rattle.atlas_model.specs.Boxes.{IsPositive, Fits, Sides};
 ghost use Rattle.atlas_model.specs.Pixels.{sides_of, size_of};
 ghost use Rattle.atlas_model.specs.Trees.{is_one_free};
-ghost use Rattle.guillotiere.specs.Slots.Numbered.{erase};
-ghost use Rattle.guillotiere.specs.Slots.{axis_of};
-ghost use Rattle.guillotiere.specs.Stored.{Holding};
-ghost use Rattle.guillotiere.specs.Store.Holdings.{shelf_of};
-ghost use Rattle.guillotiere.specs.Slots.Growing.{last_slot};
-ghost use Rattle.guillotiere.specs.Store.Growths.{CanGrow, IsTreeOf, IsGrowthOf, IsLengthenable, IsLonger, IsNeedOf};
-ghost use Rattle.guillotiere.specs.Store.Growths.{IsOneBox, IsBoxGrown, IsTreeGrown, IsWidenable, IsWidenedTo};
-ghost use Rattle.guillotiere.specs.Store.Growths.{middle_of};
+ghost use Rattle.atlas_store.specs.Slots.Numbered.{erase};
+ghost use Rattle.atlas_store.specs.Slots.{axis_of};
+ghost use Rattle.atlas_store.specs.Stored.{Holding};
+ghost use Rattle.atlas_store.specs.Store.Holdings.{shelf_of};
+ghost use Rattle.atlas_store.specs.Slots.Growing.{last_slot};
+ghost use Rattle.guillotiere.specs.Parts.Growths.{CanGrow, IsTreeOf, IsGrowthOf, IsLengthenable, IsLonger, IsNeedOf};
+ghost use Rattle.guillotiere.specs.Parts.Growths.{IsOneBox, IsBoxGrown, IsTreeGrown, IsWidenable, IsWidenedTo};
+ghost use Rattle.guillotiere.specs.Parts.Growths.{middle_of};
 
-use crate::cut::Orientation;
-use crate::slots::{Link, NO_SLOT};
-use crate::store::Store;
 use atlas_model::{Size, size2};
+use atlas_store::cut::Orientation;
+use atlas_store::slots::{Link, NO_SLOT};
+use atlas_store::store::Store;
 use std::alloc::Allocator;
 
 /// How an atlas that isn't one free box grows: first along its top sequence, then across it.

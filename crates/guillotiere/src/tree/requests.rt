@@ -3,20 +3,20 @@ ghost use Rattle.std.specs.Prelude.{◌≡◌, ◌+◌, ◌<◌, ◌≤◌, ◌�
 ghost use Rattle.atlas_model.specs.Boxes.{Box, IsPositive};
 ghost use Rattle.atlas_model.specs.Choice.{IsFitting};
 ghost use Rattle.atlas_model.specs.Pixels.{sides_of};
-ghost use Rattle.guillotiere.specs.Slots.{nodes};
+ghost use Rattle.atlas_store.specs.Slots.{nodes};
 ghost use Rattle.atlas_model.specs.Trees.{most_slots};
-ghost use Rattle.guillotiere.specs.Search.Picks.{AreFreeBoxes};
-ghost use Rattle.guillotiere.specs.Stored.{Holding};
-ghost use Rattle.guillotiere.specs.Store.Holdings.{shelf_of};
-ghost use Rattle.guillotiere.specs.Store.Chosen.{CanGrant, IsAtRest, IsChosen, IsRequestGranted, IsShortOf, KeepsShelf};
+ghost use Rattle.atlas_store.specs.Search.Picks.{AreFreeBoxes};
+ghost use Rattle.atlas_store.specs.Stored.{Holding};
+ghost use Rattle.atlas_store.specs.Store.Holdings.{shelf_of};
+ghost use Rattle.guillotiere.specs.Parts.Chosen.{CanGrant, IsAtRest, IsChosen, IsRequestGranted, IsShortOf, KeepsShelf};
 
-use crate::search::bands::Place;
-use crate::slots::Link;
-use crate::slots::pick::pick;
-use crate::slots::walks::slot_id;
-use crate::store::Store;
 use crate::tree::{Plan, place, plan_for};
 use atlas_model::{AllocId, AtlasError, Rectangle, Size};
+use atlas_store::search::bands::Place;
+use atlas_store::slots::Link;
+use atlas_store::slots::pick::pick;
+use atlas_store::slots::walks::slot_id;
+use atlas_store::store::Store;
 use std::alloc::Allocator;
 
 /// The free slot that a request takes, its rectangle, the list where it stands, a strip that no other slot of that list

@@ -1,7 +1,7 @@
 use Rattle.std.proofs.Common.{◌≡◌, ◌+◌, ◌≤◌, length, take, drop, vec_len, vec_capacity, All}
 use Rattle.guillotiere.specs.Sessions.{calls_of, replies_of, IsExactReply}
 use Rattle.atlas_model.specs.States.{IsSound}
-use Rattle.guillotiere.specs.Stored.{state_of}
+use Rattle.atlas_store.specs.Stored.{state_of}
 use Rattle.guillotiere.proofs.Playing.{IsPlayed}
 use Rattle.guillotiere.proofs.session.run.Given as goal
 

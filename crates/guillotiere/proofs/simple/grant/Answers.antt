@@ -3,7 +3,7 @@ use Rattle.atlas_model.specs.Boxes.{Box}
 use Rattle.guillotiere.specs.FreeBoxes.BoxShelves.{BoxShelf, free_item_boxes, stored_item}
 use Rattle.atlas_model.specs.Choice.{HasRoom, IsFitting, IsPick}
 use Rattle.guillotiere.specs.FreeBoxes.FreeLists.{simple_state_of}
-use Rattle.guillotiere.specs.Search.Lookups.{AreFreeItems, IsStanding}
+use Rattle.atlas_store.specs.Search.Lookups.{AreFreeItems, IsStanding}
 use Rattle.atlas_model.specs.Pixels.{box_of, options_of, sides_of}
 use Rattle.guillotiere.proofs.SimpleLemmas.CuttingBoxes.{picked-exact}
 use Rattle.guillotiere.proofs.SimpleLemmas.CuttingFromLists.{unsigned-measurable, unsigned-fits, size-positive}

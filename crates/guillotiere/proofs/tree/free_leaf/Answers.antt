@@ -1,6 +1,6 @@
 use Rattle.std.proofs.Common.{arith, ◌<◌, length}
-use Rattle.guillotiere.specs.Store.Holdings.{shelf_of, node_in}
-use Rattle.guillotiere.proofs.StoreLemmas.Turning.{freeing-marked, freeing-turned, freeing-short, freed-listed, loose-same, keeps-room}
+use Rattle.atlas_store.specs.Store.Holdings.{shelf_of, node_in}
+use Rattle.atlas_store.proofs.StoreLemmas.Turning.{freeing-marked, freeing-turned, freeing-short, freed-listed, loose-same, keeps-room}
 use Rattle.guillotiere.proofs.tree.free_leaf.Goals as goal
 
 pub loop-next-init : goal.loop-next-init

@@ -1,8 +1,8 @@
 use Rattle.std.proofs.Common.{◌≡◌, ◌+◌, ◌-◌, length}
-use Rattle.guillotiere.specs.Stored.{Holding}
-use Rattle.guillotiere.specs.Store.Holdings.{shelf_of, KeepsRoom}
-use Rattle.guillotiere.specs.Store.Freeing.{IsFreeable}
-use Rattle.guillotiere.proofs.StoreLemmas.Turning.{IsFreeing}
+use Rattle.atlas_store.specs.Stored.{Holding}
+use Rattle.atlas_store.specs.Store.Holdings.{shelf_of, KeepsRoom}
+use Rattle.atlas_store.specs.Store.Freeing.{IsFreeable}
+use Rattle.atlas_store.proofs.StoreLemmas.Turning.{IsFreeing}
 use Rattle.guillotiere.proofs.tree.free_leaf.Given as goal
 
 abbrev pub invariant-loop-next : goal.invariant-loop-next

@@ -1,7 +1,7 @@
 use Rattle.std.proofs.Common.{◌≡◌, ℤ, FitsSigned, w32, of_z, to_z, ap, sym, ◌∙◌, arith}
 use Rattle.std.proofs.lemmas.Int.{to_z-of_z}
 use Rattle.atlas_model.specs.Pixels.{natural, sides_of}
-use Rattle.guillotiere.proofs.Cutting.{axis_equal_width, axis_equal_height}
+use Rattle.atlas_store.proofs.Cutting.{axis_equal_width, axis_equal_height}
 use Rattle.guillotiere.proofs.tree.remaining_axis.Goals as goal
 
 same_side : (a b : ℤ) → FitsSigned w32 a → FitsSigned w32 b → of_z w32 a ≡ of_z w32 b → natural a ≡ natural b

@@ -1,10 +1,10 @@
 use Rattle.std.proofs.Common.{◌≡◌, true, false, refl, arith}
 use denote.Enum.Bare.{sameb}
-use Rattle.guillotiere.specs.contracts.cut.Orientation.{the_type}
-use Rattle.guillotiere.specs.declared.cut.Orientation.{Orientation}
-use Rattle.guillotiere.specs.declared.cut.Orientation.TheVariants.{Horizontal, Vertical}
+use Rattle.atlas_store.specs.contracts.cut.Orientation.{the_type}
+use Rattle.atlas_store.specs.declared.cut.Orientation.{Orientation}
+use Rattle.atlas_store.specs.declared.cut.Orientation.TheVariants.{Horizontal, Vertical}
 use Rattle.atlas_model.specs.Boxes.{other}
-use Rattle.guillotiere.specs.Slots.{axis_of}
+use Rattle.atlas_store.specs.Slots.{axis_of}
 use Rattle.guillotiere.proofs.tree.remains_along.Goals as goal
 
 by_axis : (o axis : Orientation) → sameb the_type o axis ≡ true → axis_of o ≡ axis_of axis

@@ -1,11 +1,11 @@
 use Rattle.std.proofs.Common.{◌≡◌, ◌+◌, ap, ◌∙◌, refl, arith, sym}
 use Rattle.std.proofs.lemmas.Bool.{true≢false}
-use Rattle.guillotiere.specs.declared.slots.Node.{Node}
-use Rattle.guillotiere.specs.declared.store.turns.Turns.{Turns}
-use Rattle.guillotiere.specs.declared.slots.NodeKind.TheVariants.{Free}
-use Rattle.guillotiere.specs.Slots.{no_slot}
-use Rattle.guillotiere.specs.Store.Holdings.{shelf_of, node_in}
-use Rattle.guillotiere.proofs.StoreLemmas.Turning.{next-inside, previous-inside, next-listed, previous-listed, joinable-next, joinable-previous, settling-joined, turned-same, settling-lifted, settled-at}
+use Rattle.atlas_store.specs.declared.slots.Node.{Node}
+use Rattle.atlas_store.specs.declared.store.turns.Turns.{Turns}
+use Rattle.atlas_store.specs.declared.slots.NodeKind.TheVariants.{Free}
+use Rattle.atlas_store.specs.Slots.{no_slot}
+use Rattle.atlas_store.specs.Store.Holdings.{shelf_of, node_in}
+use Rattle.atlas_store.proofs.StoreLemmas.Turning.{next-inside, previous-inside, next-listed, previous-listed, joinable-next, joinable-previous, settling-joined, turned-same, settling-lifted, settled-at}
 use Rattle.guillotiere.proofs.tree.turn.Goals as goal
 use Rattle.guillotiere.proofs.tree.turn.Goals.{else-node-via-then-node+then-node-2+else-node-3, else-node-via-then-node+else-node-2, else-node-via-else-node}
 

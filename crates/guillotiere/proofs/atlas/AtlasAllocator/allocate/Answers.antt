@@ -4,9 +4,9 @@ use Rattle.atlas_model.specs.Pixels.{box_of, sides_of}
 use Rattle.atlas_model.specs.Replies.{grant_of}
 use Rattle.atlas_model.specs.States.{IsSound}
 use Rattle.atlas_model.specs.Steps.AtlasReply.{Allocated}
-use Rattle.guillotiere.specs.Stored.{state_of}
-use Rattle.guillotiere.proofs.AtlasLemmas.Observing.{used-IsAtlas}
-use Rattle.guillotiere.proofs.SimpleLemmas.Storing.{natural-fits}
+use Rattle.atlas_store.specs.Stored.{state_of}
+use Rattle.atlas_store.proofs.WalkLemmas.Observing.{used-IsAtlas}
+use Rattle.atlas_store.proofs.StoreLemmas.Sizes.{natural-fits}
 use Rattle.guillotiere.proofs.SimpleLemmas.CuttingFromLists.{sides_of-size, unsigned-measurable, unsigned_of}
 use Rattle.guillotiere.proofs.AtlasLemmas.GrantedAtlas.{no_room-unrounded, no_room-none, area-unsigned, area-fits, refused-step, some-grantable, grant-done}
 use Rattle.atlas_model.proofs.StepLemmas.CallerSteps.{grant_adds, grant_guarded, request_keeps}

@@ -1,8 +1,8 @@
 use Rattle.std.proofs.Common.{ap, ◌∙◌, arith}
-use Rattle.guillotiere.specs.Slots.{nodes}
-use Rattle.guillotiere.specs.Slots.Areas.{live_areas, area_sum}
-use Rattle.guillotiere.proofs.ListLemmas.AlongLists.{shown_live-IsAtlas}
-use Rattle.guillotiere.proofs.AtlasLemmas.AreaSums.{live_sum-IsAtlas, areas-IsAtlas, live_sum-fits}
+use Rattle.atlas_store.specs.Slots.{nodes}
+use Rattle.atlas_store.specs.Slots.Areas.{live_areas, area_sum}
+use Rattle.atlas_store.proofs.ListLemmas.AlongLists.{shown_live-IsAtlas}
+use Rattle.atlas_store.proofs.WalkLemmas.AreaSums.{live_sum-IsAtlas, areas-IsAtlas, live_sum-fits}
 use Rattle.guillotiere.proofs.atlas.AtlasAllocator.allocated_area.Goals as goal
 
 pub live_sum-requires-clause-shown : goal.live_sum-requires-clause-shown

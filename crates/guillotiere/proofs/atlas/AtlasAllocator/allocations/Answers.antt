@@ -1,7 +1,7 @@
 use Rattle.std.proofs.Common.{◌≤◌, subst}
 use Rattle.atlas_model.specs.States.{IsSound}
-use Rattle.guillotiere.specs.Stored.{state_of}
-use Rattle.guillotiere.specs.Visits.{AreGrants}
+use Rattle.atlas_store.specs.Stored.{state_of}
+use Rattle.atlas_store.specs.Visits.{AreGrants}
 use Rattle.guillotiere.proofs.AtlasLemmas.ShownLists.{grants-IsAtlas, listed}
 use Rattle.guillotiere.proofs.AtlasLemmas.Measuring.{sides_fit, measurable_grants}
 use Rattle.guillotiere.proofs.atlas.AtlasAllocator.allocations.Goals as goal

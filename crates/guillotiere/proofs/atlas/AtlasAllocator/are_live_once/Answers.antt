@@ -1,6 +1,6 @@
 use Rattle.std.proofs.Common.{sym, subst}
-use Rattle.guillotiere.specs.Batches.{AreNamedOnce}
-use Rattle.guillotiere.specs.Slots.{nodes}
+use Rattle.atlas_store.specs.Batches.{AreNamedOnce}
+use Rattle.atlas_store.specs.Slots.{nodes}
 use Rattle.guillotiere.proofs.AtlasLemmas.FreedLists.{named-live_once, live-named_once}
 use Rattle.guillotiere.proofs.atlas.AtlasAllocator.are_live_once.Goals as goal
 

@@ -1,7 +1,7 @@
 use Rattle.std.proofs.Common.{refl, sym, ◌∙◌}
 use Rattle.std.proofs.lemmas.Bool.{false≢true}
 use Rattle.atlas_model.specs.Steps.AtlasReply.{Done}
-use Rattle.guillotiere.specs.Stored.{state_of}
+use Rattle.atlas_store.specs.Stored.{state_of}
 use Rattle.atlas_model.proofs.StepLemmas.CallerSteps.{unlive_leaves, freeing_leaves, freeing_count}
 use Rattle.guillotiere.proofs.atlas.AtlasAllocator.deallocate.Goals as goal
 

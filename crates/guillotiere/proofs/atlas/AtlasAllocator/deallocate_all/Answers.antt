@@ -1,5 +1,5 @@
 use Rattle.std.proofs.Common.{◌+◌, ap, sym, ◌∙◌, arith, drop}
-use Rattle.guillotiere.specs.Stored.{state_of}
+use Rattle.atlas_store.specs.Stored.{state_of}
 use Rattle.guillotiere.proofs.AtlasLemmas.FreedLists.{after_each, each-all, once-after, head-live, each-next, each-none}
 use Rattle.atlas_model.proofs.StepLemmas.CallerSteps.{batch_leaves}
 use Rattle.guillotiere.proofs.atlas.AtlasAllocator.deallocate_all.Goals as goal

@@ -1,7 +1,7 @@
 use Rattle.std.proofs.Common.{◌≡◌, ◌+◌, drop}
-use Rattle.guillotiere.specs.Batches.{AreLiveOnce}
+use Rattle.atlas_store.specs.Batches.{AreLiveOnce}
 use Rattle.atlas_model.specs.States.{used_in}
-use Rattle.guillotiere.specs.Stored.{state_of}
+use Rattle.atlas_store.specs.Stored.{state_of}
 use Rattle.guillotiere.proofs.AtlasLemmas.FreedLists.{after_each}
 use Rattle.guillotiere.proofs.atlas.AtlasAllocator.deallocate_all.Given as goal
 

@@ -1,9 +1,9 @@
 use Rattle.std.proofs.Common.{All, subst}
-use Rattle.guillotiere.specs.Slots.{nodes}
-use Rattle.guillotiere.specs.Stored.{state_of}
-use Rattle.guillotiere.specs.Visits.{AreGrants, CalledAtGrant, allocated_from}
-use Rattle.guillotiere.specs.Walks.{IsShownGrant, TakesAtGrant}
-use Rattle.guillotiere.proofs.ListLemmas.AlongLists.{along-all, shown-IsAtlas}
+use Rattle.atlas_store.specs.Slots.{nodes}
+use Rattle.atlas_store.specs.Stored.{state_of}
+use Rattle.atlas_store.specs.Visits.{AreGrants, CalledAtGrant, allocated_from}
+use Rattle.atlas_store.specs.Walks.{IsShownGrant, TakesAtGrant}
+use Rattle.atlas_store.proofs.ListLemmas.AlongLists.{along-all, shown-IsAtlas}
 use Rattle.guillotiere.proofs.AtlasLemmas.ShownLists.{grants-IsAtlas}
 use Rattle.guillotiere.proofs.atlas.AtlasAllocator.for_each_allocated_rectangle.Goals as goal
 

@@ -1,10 +1,10 @@
 use Rattle.std.proofs.Common.{subst}
 use Rattle.std.specs.Fn.{CalledAt, TakesAt}
-use Rattle.guillotiere.specs.Slots.{nodes}
-use Rattle.guillotiere.specs.Stored.{state_of}
-use Rattle.guillotiere.specs.Visits.{AreFreeAreas, free_areas}
-use Rattle.guillotiere.specs.Walks.{IsShownArea}
-use Rattle.guillotiere.proofs.ListLemmas.AlongLists.{along-all, shown_areas-IsAtlas}
+use Rattle.atlas_store.specs.Slots.{nodes}
+use Rattle.atlas_store.specs.Stored.{state_of}
+use Rattle.atlas_store.specs.Visits.{AreFreeAreas, free_areas}
+use Rattle.atlas_store.specs.Walks.{IsShownArea}
+use Rattle.atlas_store.proofs.ListLemmas.AlongLists.{along-all, shown_areas-IsAtlas}
 use Rattle.guillotiere.proofs.AtlasLemmas.ShownLists.{free_areas-IsAtlas}
 use Rattle.guillotiere.proofs.atlas.AtlasAllocator.for_each_free_rectangle.Goals as goal
 

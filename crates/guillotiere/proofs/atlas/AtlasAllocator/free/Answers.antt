@@ -1,9 +1,9 @@
 use Rattle.std.proofs.Common.{◌-◌, ◌∙◌, subst, sym, ap}
 use Rattle.atlas_model.specs.Changes.{only}
 use Rattle.atlas_model.specs.States.{IsLive, after_freeing}
-use Rattle.guillotiere.specs.Store.Holdings.{shelf_of}
-use Rattle.guillotiere.specs.Stored.{state_of}
-use Rattle.guillotiere.proofs.AtlasLemmas.FreedAtlas.{freeable, frees-box, turns-sum}
+use Rattle.atlas_store.specs.Store.Holdings.{shelf_of}
+use Rattle.atlas_store.specs.Stored.{state_of}
+use Rattle.atlas_store.proofs.WalkLemmas.FreedAtlas.{freeable, frees-box, turns-sum}
 use Rattle.guillotiere.proofs.atlas.AtlasAllocator.free.Goals as goal
 
 pub free_leaf-given-requires : goal.free_leaf-given-requires

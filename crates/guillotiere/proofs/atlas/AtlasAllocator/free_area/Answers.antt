@@ -1,9 +1,9 @@
 use Rattle.std.proofs.Common.{ap, ◌∙◌, arith}
-use Rattle.guillotiere.specs.Slots.{nodes}
-use Rattle.guillotiere.specs.Slots.Areas.{area_sum}
-use Rattle.guillotiere.specs.Visits.{free_areas}
-use Rattle.guillotiere.proofs.ListLemmas.AlongLists.{shown_areas-IsAtlas}
-use Rattle.guillotiere.proofs.AtlasLemmas.AreaSums.{free_sum-IsAtlas, areas-IsAtlas, free_sum-fits}
+use Rattle.atlas_store.specs.Slots.{nodes}
+use Rattle.atlas_store.specs.Slots.Areas.{area_sum}
+use Rattle.atlas_store.specs.Visits.{free_areas}
+use Rattle.atlas_store.proofs.ListLemmas.AlongLists.{shown_areas-IsAtlas}
+use Rattle.atlas_store.proofs.WalkLemmas.AreaSums.{free_sum-IsAtlas, areas-IsAtlas, free_sum-fits}
 use Rattle.guillotiere.proofs.atlas.AtlasAllocator.free_area.Goals as goal
 
 pub free_sum-requires-clause-shown : goal.free_sum-requires-clause-shown

@@ -1,7 +1,7 @@
 use Rattle.std.proofs.Common.{◌≤◌, subst}
 use Rattle.atlas_model.specs.States.{IsSound}
-use Rattle.guillotiere.specs.Stored.{state_of}
-use Rattle.guillotiere.specs.Visits.{AreFreeAreas}
+use Rattle.atlas_store.specs.Stored.{state_of}
+use Rattle.atlas_store.specs.Visits.{AreFreeAreas}
 use Rattle.guillotiere.proofs.AtlasLemmas.ShownLists.{free_areas-IsAtlas, listed}
 use Rattle.guillotiere.proofs.AtlasLemmas.Measuring.{sides_fit, measurable_areas}
 use Rattle.guillotiere.proofs.atlas.AtlasAllocator.free_rectangles.Goals as goal

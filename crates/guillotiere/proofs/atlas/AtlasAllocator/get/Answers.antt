@@ -1,7 +1,7 @@
 use Rattle.std.proofs.Common.{rules, subst}
 use Rattle.atlas_model.specs.States.{IsSound}
-use Rattle.guillotiere.specs.Stored.{state_of}
-use Rattle.guillotiere.proofs.AtlasLemmas.NamedSlots.{named-found, named-missed}
+use Rattle.atlas_store.specs.Stored.{state_of}
+use Rattle.atlas_store.proofs.WalkLemmas.NamedSlots.{named-found, named-missed}
 use Rattle.atlas_model.proofs.StepLemmas.LyingApart.{shown_live, shown_within}
 use Rattle.guillotiere.proofs.atlas.AtlasAllocator.get.Goals as goal
 

@@ -5,8 +5,8 @@ use Rattle.atlas_model.specs.Boxes.{Fits}
 use Rattle.atlas_model.specs.Pixels.{sides_of}
 use Rattle.atlas_model.specs.States.{live_in, IsSound}
 use Rattle.atlas_model.specs.Steps.AtlasReply.{Done}
-use Rattle.guillotiere.specs.Stored.{state_of}
-use Rattle.guillotiere.proofs.AtlasLemmas.Observing.{used-IsAtlas}
+use Rattle.atlas_store.specs.Stored.{state_of}
+use Rattle.atlas_store.proofs.WalkLemmas.Observing.{used-IsAtlas}
 use Rattle.guillotiere.proofs.AtlasLemmas.GrownAtlas.{tree-here, some-plan, fits-from, refused-step, some-growable, grow-done}
 use Rattle.atlas_model.proofs.StepLemmas.CallerSteps.{growth_keeps}
 use Rattle.guillotiere.proofs.atlas.AtlasAllocator.grow.Goals as goal

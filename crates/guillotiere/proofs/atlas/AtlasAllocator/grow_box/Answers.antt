@@ -3,8 +3,8 @@ use Rattle.atlas_model.specs.Boxes.{Fits}
 use Rattle.atlas_model.specs.Pixels.{sides_of}
 use Rattle.atlas_model.specs.States.{live_in, IsSound}
 use Rattle.atlas_model.specs.Steps.AtlasReply.{Done}
-use Rattle.guillotiere.specs.Store.Holdings.{shelf_of}
-use Rattle.guillotiere.specs.Stored.{state_of}
+use Rattle.atlas_store.specs.Store.Holdings.{shelf_of}
+use Rattle.atlas_store.specs.Stored.{state_of}
 use Rattle.guillotiere.proofs.AtlasLemmas.GrownAtlas.{tree-here, lone-here, box-done}
 use Rattle.atlas_model.proofs.StepLemmas.CallerSteps.{growth_keeps}
 use Rattle.guillotiere.proofs.atlas.AtlasAllocator.grow_box.Goals as goal

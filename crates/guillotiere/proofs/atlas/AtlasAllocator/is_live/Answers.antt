@@ -1,5 +1,5 @@
 use Rattle.std.proofs.Common.{sym, ◌∙◌}
-use Rattle.guillotiere.proofs.AtlasLemmas.FreedAtlas.{live-found}
+use Rattle.atlas_store.proofs.WalkLemmas.FreedAtlas.{live-found}
 use Rattle.guillotiere.proofs.atlas.AtlasAllocator.is_live.Goals as goal
 
 pub returns-clause-live : goal.returns-clause-live

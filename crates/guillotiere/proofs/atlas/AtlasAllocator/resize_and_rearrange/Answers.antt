@@ -2,7 +2,7 @@ use Rattle.std.proofs.Common.{rules, refl, ap, subst, ◌∙◌}
 use Rattle.atlas_model.specs.Pixels.{sides_of}
 use Rattle.atlas_model.specs.Rearranging.{rearrangement_of}
 use Rattle.atlas_model.specs.States.{IsSound, started}
-use Rattle.guillotiere.specs.Stored.{state_of}
+use Rattle.atlas_store.specs.Stored.{state_of}
 use Rattle.atlas_model.proofs.StepLemmas.StepKeeping.{steps_keep}
 use Rattle.guillotiere.proofs.AtlasLemmas.RearrangedAtlas.{atlas-rearranged, atlas-moved, atlas-sides}
 use Rattle.guillotiere.proofs.atlas.AtlasAllocator.resize_and_rearrange.Goals as goal

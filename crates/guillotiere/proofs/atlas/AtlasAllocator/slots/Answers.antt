@@ -1,4 +1,4 @@
-use Rattle.guillotiere.proofs.AtlasLemmas.Observing.{used-IsAtlas}
+use Rattle.atlas_store.proofs.WalkLemmas.Observing.{used-IsAtlas}
 use Rattle.guillotiere.proofs.atlas.AtlasAllocator.slots.Goals as goal
 
 pub returns-clause-used : goal.returns-clause-used

@@ -1,5 +1,5 @@
 use Rattle.std.proofs.Common.{rules, arith}
-use Rattle.guillotiere.proofs.StoreLemmas.Starting.{whole_atlas, whole_state}
+use Rattle.atlas_store.proofs.StoreLemmas.Starting.{whole_atlas, whole_state}
 use Rattle.guillotiere.proofs.atlas.AtlasAllocator.with_slot_limit.Goals as goal
 
 pub invariant_of-result : goal.invariant_of-result

@@ -1,5 +1,5 @@
 use Rattle.std.proofs.Common.{rules, arith}
-use Rattle.guillotiere.proofs.AtlasLemmas.NamedSlots.{named-found, named-missed, not_missed}
+use Rattle.atlas_store.proofs.WalkLemmas.NamedSlots.{named-found, named-missed, not_missed}
 use Rattle.guillotiere.proofs.atlas.AtlasAllocatorIndexAllocId.index.Goals as goal
 
 pub unreachable-requires : goal.unreachable-requires

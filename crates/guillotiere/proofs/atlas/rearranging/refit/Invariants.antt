@@ -1,5 +1,5 @@
 use Rattle.atlas_model.specs.Refits.Refitted.{IsRefitting}
-use Rattle.guillotiere.specs.Stored.{state_of}
+use Rattle.atlas_store.specs.Stored.{state_of}
 use Rattle.guillotiere.proofs.atlas.rearranging.refit.Given as goal
 
 abbrev pub invariant-loop-at : goal.invariant-loop-at

@@ -5,7 +5,7 @@ use Rattle.std.proofs.lemmas.List.Elements.{All-append, All-cons, All-nil}
 use Rattle.atlas_model.specs.Simple.SimpleRuns.{SimpleRun}
 use Rattle.guillotiere.specs.SimpleSessions.{simple_call_of, simple_answer_of, simple_calls_of}
 use Rattle.guillotiere.specs.SimpleSessions.{simple_answers_of, GrantsExact}
-use Rattle.guillotiere.specs.Stored.{state_of}
+use Rattle.atlas_store.specs.Stored.{state_of}
 use Rattle.guillotiere.proofs.Playing.{drop-more, take-longer}
 use Rattle.guillotiere.proofs.SimpleLemmas.SimplePlaying.{run-taken, simple-session}
 use Rattle.guillotiere.proofs.session.simple.run_simple.Goals as goal

@@ -2,7 +2,7 @@ use Rattle.std.proofs.Common.{◌≡◌, ◌+◌, ◌≤◌, length, take, drop,
 use Rattle.atlas_model.specs.Simple.{IsSimple}
 use Rattle.atlas_model.specs.Simple.SimpleRuns.{SimpleRun}
 use Rattle.guillotiere.specs.SimpleSessions.{simple_calls_of, simple_answers_of, GrantsExact}
-use Rattle.guillotiere.specs.Stored.{state_of}
+use Rattle.atlas_store.specs.Stored.{state_of}
 use Rattle.guillotiere.proofs.session.simple.run_simple.Given as goal
 
 abbrev pub invariant-loop-call : goal.invariant-loop-call

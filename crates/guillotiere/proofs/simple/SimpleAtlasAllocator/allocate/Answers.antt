@@ -3,7 +3,8 @@ use Rattle.guillotiere.specs.FreeBoxes.BoxShelves.{box_shelf}
 use Rattle.atlas_model.specs.Pixels.{sides_of}
 use Rattle.guillotiere.specs.FreeBoxes.FreeLists.{simple_state_of}
 use Rattle.atlas_model.proofs.SimpleLemmas.SimpleGrants.{step-guarded}
-use Rattle.guillotiere.proofs.SimpleLemmas.Storing.{natural-fits, stored-step}
+use Rattle.atlas_store.proofs.StoreLemmas.Sizes.{natural-fits}
+use Rattle.guillotiere.proofs.SimpleLemmas.Storing.{stored-step}
 use Rattle.guillotiere.proofs.simple.SimpleAtlasAllocator.allocate.Goals as goal
 
 pub invariant_of-self : goal.invariant_of-self

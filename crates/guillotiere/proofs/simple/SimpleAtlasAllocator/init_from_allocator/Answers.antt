@@ -1,9 +1,9 @@
 use Rattle.std.proofs.Common.{◌++◌, map, subst, arith}
 use Rattle.atlas_model.specs.Boxes.{AreSameBoxes}
 use Rattle.atlas_model.specs.Pixels.{box_of}
-use Rattle.guillotiere.specs.Slots.{nodes}
-use Rattle.guillotiere.specs.Stored as atlas
-use Rattle.guillotiere.specs.Visits.{free_areas}
+use Rattle.atlas_store.specs.Slots.{nodes}
+use Rattle.atlas_store.specs.Stored as atlas
+use Rattle.atlas_store.specs.Visits.{free_areas}
 use Rattle.guillotiere.specs.FreeBoxes.BoxShelves.{box_shelf, free_item_boxes}
 use Rattle.atlas_model.proofs.SimpleLemmas.SimpleSteps.{starts-guarded}
 use Rattle.guillotiere.proofs.SimpleLemmas.SimpleStarting.{areas-filed, starts-from, started-stored}

@@ -1,9 +1,9 @@
 use Rattle.std.proofs.Common.{ℕ, ◌-◌, ◌≡◌, ◌∙◌, sym, subst, arith}
 use Rattle.atlas_model.specs.Boxes.{other, side}
 use Rattle.atlas_model.specs.Pixels.{sides_of}
-use Rattle.guillotiere.specs.Stored.{Holding}
-use Rattle.guillotiere.specs.Store.Growths.{IsGrowable}
-use Rattle.guillotiere.proofs.StoreLemmas.GrownStages.{IsMidwayIn, equal-yes, equal-no, unequal-yes, unequal-no, along-longer, along-same, across-longer, across-same, across_need, longer-ready, longer-midway, same-midway, midway-grown, midway-ready, widened-grown}
+use Rattle.atlas_store.specs.Stored.{Holding}
+use Rattle.guillotiere.specs.Parts.Growths.{IsGrowable}
+use Rattle.guillotiere.proofs.PartLemmas.GrownStages.{IsMidwayIn, equal-yes, equal-no, unequal-yes, unequal-no, along-longer, along-same, across-longer, across-same, across_need, longer-ready, longer-midway, same-midway, midway-grown, midway-ready, widened-grown}
 use Rattle.guillotiere.proofs.tree.growth.grow_tree.Goals as goal
 use Rattle.guillotiere.proofs.tree.growth.grow_tree.Goals.{then-ne, else-ne}
 

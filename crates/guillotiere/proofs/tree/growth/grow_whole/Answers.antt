@@ -1,6 +1,6 @@
 use Rattle.std.proofs.Common.{◌∙◌}
-use Rattle.guillotiere.proofs.StoreLemmas.GrownSlots.{whole-ready, whole-list, whole-grown}
-use Rattle.guillotiere.proofs.StoreLemmas.Turning.{keeps-room}
+use Rattle.guillotiere.proofs.PartLemmas.GrownSlots.{whole-ready, whole-list, whole-grown}
+use Rattle.atlas_store.proofs.StoreLemmas.Turning.{keeps-room}
 use Rattle.guillotiere.proofs.tree.growth.grow_whole.Goals as goal
 
 pub stretch_whole-requires-clause-ready : goal.stretch_whole-requires-clause-ready

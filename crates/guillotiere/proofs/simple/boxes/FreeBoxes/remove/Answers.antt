@@ -1,13 +1,13 @@
 use Rattle.std.proofs.Common.{ℕ, ◌≡◌, ◌≢◌, ◌<◌, ◌∷◌, ◌∙◌, List, map, length, slice_set, subst, sym, ap, inl, inr, refl, arith}
 use Rattle.std.proofs.lemmas.List.{map-set, length-map}
 use Rattle.guillotiere.specs.declared.simple.boxes.FreeBox.{FreeBox}
-use Rattle.guillotiere.specs.declared.slots.Link.{Link}
-use Rattle.guillotiere.specs.Search.Bands.{number_of}
+use Rattle.atlas_store.specs.declared.slots.Link.{Link}
+use Rattle.atlas_store.specs.Search.Bands.{number_of}
 use Rattle.atlas_model.specs.Boxes.{AreSameBoxes}
 use Rattle.guillotiere.specs.FreeBoxes.BoxShelves.{AreKept, free_item_boxes, idle_item, stored_item, with_after}
-use Rattle.guillotiere.specs.Search.Items.{Item}
+use Rattle.atlas_store.specs.Search.Items.{Item}
 use Rattle.atlas_model.specs.Pixels.{box_of, options_of}
-use Rattle.guillotiere.specs.Search.Tables.{head_of, low_of}
+use Rattle.atlas_store.specs.Search.Tables.{head_of, low_of}
 use Rattle.guillotiere.proofs.SimpleLemmas.BoxStoring.{first-removed, next-removed, free-inside, read-item, IsSameButLinks, same-links, linked-after, boxes-left}
 use Rattle.guillotiere.proofs.simple.boxes.FreeBoxes.remove.Goals as goal
 

@@ -1,0 +1,3 @@
+-- Lemmas of lists.
+pub mod Occurrences
+pub mod AlongLists

@@ -1,0 +1,168 @@
+-- What a search knows once it was shown lists of a table.
+use Rattle.std.proofs.Common.{◌≡◌, ℕ, ◌+◌, ◌*◌, ◌<◌, ◌≤◌, ◌⊎◌, Bool, true, List, ◌++◌, refl, sym, subst, inl, inr, append_assoc, arith}
+use Rattle.std.specs.List.{Contains}
+use Rattle.std.proofs.lemmas.Bool.{ne_eqb, cases_lt}
+use Rattle.std.proofs.lemmas.List.Elements.{Contains-append_left, Contains-append_right, Contains-append_cases}
+use Rattle.atlas_store.specs.declared.search.bands.Place.{Place}
+use Rattle.atlas_store.specs.declared.search.best.Best.{Best}
+use Rattle.atlas_store.specs.declared.search.best.Found.{Found}
+use Rattle.atlas_store.specs.declared.search.table.ListHead.{ListHead}
+use Rattle.atlas_store.specs.Search.Bands.{band_of, list_of, number_of, strip_of, IsInWindow}
+use Rattle.atlas_store.specs.Search.Bests.{HasSeen, IsSameBest}
+use Rattle.atlas_model.specs.Boxes.{Sides, IsPositive}
+use Rattle.atlas_model.specs.Choice.{Options, class_of}
+use Rattle.atlas_store.specs.Search.Items.{Item, item_at, item_box, item_sides, shown_item, shown_items, IsShowable}
+use Rattle.atlas_store.specs.Slots.Lists.{occurs}
+use Rattle.atlas_store.specs.Search.Lookups.{IsSpot, IsLowBut, HasShown, AreListed, IsStanding, HasAdded}
+use Rattle.atlas_model.specs.Pixels.{natural}
+use Rattle.atlas_store.specs.Search.Ranks.{no_rank}
+use Rattle.atlas_store.specs.Search.Searches.{Shown}
+use Rattle.atlas_store.specs.Search.Tables.{head_of, low_of, is_used_at}
+use Rattle.atlas_store.proofs.SearchLemmas.BandLaws.{band_below, window_law}
+use Rattle.atlas_store.proofs.SearchLemmas.Besting.{seen-passed}
+use Rattle.atlas_store.proofs.SearchLemmas.Showing.{path-stop, path-same, append-none, shown_items-has, shown_items-in, strip-mono}
+
+-- Nothing was shown.
+pub added-none : (o : Options) (heads : List ListHead) (es : List Item) (class : ℕ) (r : Sides) (s : Best) → HasAdded o heads es class r (λ i j. ⊥) s s
+added-none o heads es class r s = grind (arith, append-none)
+
+-- Fewer lists.
+pub added-of : (o : Options) (heads : List ListHead) (es : List Item) (class : ℕ) (r : Sides) (V W : ℕ → ℕ → Type 0) (s t : Best)
+    → ((i j : ℕ) → W i j → V i j) → HasAdded o heads es class r V s t → HasAdded o heads es class r W s t
+added-of o heads es class r V W s t to h = grind arith
+
+module _ (o : Options) (heads : List ListHead) (es : List Item) (class : ℕ) (r : Sides) where
+  -- Lists are shown after others.
+  pub added-then : (V W : ℕ → ℕ → Type 0) (s t u : Best) → HasAdded o heads es class r V s t → HasAdded o heads es class r W t u
+      → HasAdded o heads es class r (λ i j. V i j ⊎ W i j) s u
+  added-then V W s t u a b =
+      record {
+        more = a.more ++ b.more;
+        of_class = λ c h. elim (Contains-append_cases a.more b.more c h) [ inl x ↦ a.of_class c x | inr x ↦ b.of_class c x ];
+        each = λ i free e v. elim v [
+          | inl x ↦ Contains-append_left a.more b.more _ (a.each i free e x)
+          | inr x ↦ Contains-append_right a.more b.more _ (b.each i free e x)
+        ];
+        seen = λ is_large shown h.
+            subst (λ (list : List Shown). HasSeen u is_large r list) (append_assoc shown a.more b.more) (b.seen is_large (shown ++ a.more) (a.seen is_large shown h));
+        known = λ k. b.known (a.known k);
+      }
+
+  module _ (a : AreListed o heads es) where
+    -- The band of the sides of an entry.
+    abbrev pub row_at : ℕ → ℕ
+    row_at i = band_of o (item_sides (item_at es i)).width
+
+    abbrev pub column_at : ℕ → ℕ
+    column_at i = band_of o (item_sides (item_at es i)).height
+
+    pub positive-at : (i : ℕ) → (item_at es i).is_free ≡ true → IsPositive (item_sides (item_at es i))
+    positive-at i free = let e = (a.exact i free).nonempty in (omega (arith, e.0), omega (arith, e.1))
+
+    list-below : (row column : ℕ) → row < 52 → column < 52 → 52 * row + column < 2704
+    list-below row column h k = omega arith
+
+    -- A list with an entry isn't empty.
+    pub used-at : (i : ℕ) → (item_at es i).is_free ≡ true → is_used_at heads (52 * row_at i + column_at i) ≡ true
+    used-at i free = grind (arith, list-below, band_below, ne_eqb, path-stop)
+
+    -- What holds of the lists that aren't empty in the window of the class.
+    pub added-weaker : (V W : ℕ → ℕ → Type 0) (s t : Best) → class < 3
+        → ((i j : ℕ) → i < 52 → j < 52 → is_used_at heads (52 * i + j) ≡ true → IsInWindow o class i j → W i j → V i j)
+        → HasAdded o heads es class r V s t → HasAdded o heads es class r W s t
+    added-weaker V W s t few to h =
+        record {
+          more = h.more;
+          of_class = h.of_class;
+          each = λ i free e w.
+              h.each i free e (to _ _ (band_below o _) (band_below o _) (used-at i free) ((window_law o _ class a.valid (positive-at i free) few).0 e) w);
+          seen = h.seen;
+          known = h.known;
+        }
+
+    module _ (place : Place) (lr : place.row < 52) (lc : place.column < 52) where
+      number-below : number_of place < 2704
+      number-below = list-below place.row place.column lr lc
+
+      -- The bands of an entry of the list.
+      pub bands-of_list : (i : ℕ) → list_of o (item_sides (item_at es i)) ≡ number_of place → (row_at i ≡ place.row) × (column_at i ≡ place.column)
+      bands-of_list i e = grind (arith, band_below)
+
+      pub showable : IsShowable es (head_of heads (number_of place)).number
+      showable = grind (arith, number-below)
+
+      module _ (few : class < 3) (w : IsInWindow o class place.row place.column) (xs : List ℕ) (same : xs ≡ a.held (number_of place)) where
+        of_list : (c : Shown) → Contains (shown_items es xs) c
+            → ((item_at es c.at).is_free ≡ true) × (c ≡ shown_item es c.at) × (class_of o (item_sides (item_at es c.at)) ≡ class)
+        of_list c h =
+            let t = shown_items-in es xs c h in
+            let own = a.own (number_of place) t.0 number-below (subst (λ zs. 0 < occurs t.0 zs) same t.1) in
+            let e = bands-of_list t.0 own.1 in
+            let w' = subst (λ i. IsInWindow o class i (column_at t.0)) (sym e.0) (subst (λ j. IsInWindow o class place.row j) (sym e.1) w) in
+            let c' = (window_law o (item_sides (item_at es t.0)) class a.valid (positive-at t.0 own.0) few).1 w' in
+            let P : Shown → Type 0 = λ d. ((item_at es d.at).is_free ≡ true) × (d ≡ shown_item es d.at) × (class_of o (item_sides (item_at es d.at)) ≡ class) in
+            subst P (sym t.2) (own.0, refl, c')
+
+        has-each : (i : ℕ) → (item_at es i).is_free ≡ true → class_of o (item_sides (item_at es i)) ≡ class
+            → (row_at i ≡ place.row) × (column_at i ≡ place.column) → Contains (shown_items es xs) (shown_item es i)
+        has-each i free ec e = grind (arith, shown_items-has)
+
+        -- The list is passed over.
+        pub added-passed : (s : Best) → s.rank ≡ 0 → strip_of (natural s.found.rectangle.min.y) < low_of heads (number_of place)
+            → HasAdded o heads es class r (λ i j. (i ≡ place.row) × (j ≡ place.column)) s s
+        added-passed s best_is beyond =
+            record {
+              more = shown_items es xs;
+              of_class = of_list;
+              each = has-each;
+              seen = λ is_large shown h. seen-passed s is_large r shown (shown_items es xs) h best_is (λ c has e.
+                  let t = shown_items-in es xs c has in
+                  let own = a.own (number_of place) t.0 number-below (subst (λ zs. 0 < occurs t.0 zs) same t.1) in
+                  let low = subst (λ n. low_of heads n ≤ strip_of (item_box (item_at es t.0)).min.y) own.1 (a.low t.0 own.0) in
+                  subst (λ (d : Shown). natural s.found.rectangle.min.y < d.box.min.y) (sym t.2) (above _ _ (omega (arith, beyond, low))));
+              known = λ k. k;
+            }
+          where
+            above : (m n : ℕ) → strip_of m < strip_of n → m < n
+            above m n h = elim (cases_lt m n) [ inl l ↦ l | inr g ↦ absurd (omega (arith, h, strip-mono n m g)) ]
+
+        -- The best of the list is known.
+        standing : (found : Found) → IsSpot es (head_of heads (number_of place)).number place xs found → IsLowBut es xs found.at.number found.low → IsStanding o heads es found
+        standing found spot low = grind (arith, number-below)
+
+        -- The list was shown.
+        pub added-shown : (s t : Best) → ((is_large : Bool) (r : Sides) (shown : List Shown) → HasSeen s is_large r shown → HasSeen t is_large r (shown ++ shown_items es xs))
+            → (IsSameBest s t ⊎ (IsSpot es (head_of heads (number_of place)).number place xs t.found × IsLowBut es xs t.found.at.number t.found.low))
+            → HasAdded o heads es class r (λ i j. (i ≡ place.row) × (j ≡ place.column)) s t
+        added-shown s t seen found =
+            record {
+              more = shown_items es xs;
+              of_class = of_list;
+              each = has-each;
+              seen = λ is_large shown h. seen is_large r shown h;
+              known = λ k some. elim found [
+                | inl kept ↦ subst (λ (f : Found). IsStanding o heads es f) (sym kept.found) (k (subst (λ n. n < no_rank) kept.rank some))
+                | inr new ↦ standing t.found new.0 new.1
+              ];
+            }
+
+      pub added-list : class < 3 → IsInWindow o class place.row place.column → (s t : Best) → HasShown es (head_of heads (number_of place)).number place s t
+          → HasAdded o heads es class r (λ i j. (i ≡ place.row) × (j ≡ place.column)) s t
+      added-list few w s t h =
+          added-shown few w h.xs (path-same es _ h.xs (a.held (number_of place)) a.short h.path (a.path (number_of place) number-below)) s t h.seen h.found
+
+      pub added-over : class < 3 → IsInWindow o class place.row place.column → (s : Best) → s.rank ≡ 0
+          → strip_of (natural s.found.rectangle.min.y) < low_of heads (number_of place)
+          → HasAdded o heads es class r (λ i j. (i ≡ place.row) × (j ≡ place.column)) s s
+      added-over few w s best_is beyond = added-passed few w (a.held (number_of place)) refl s best_is beyond
+
+-- Nothing that is in question was shown.
+pub added-nothing : (o : Options) (heads : List ListHead) (es : List Item) (class : ℕ) (r : Sides) (W : ℕ → ℕ → Type 0) (s : Best)
+    → ((i j : ℕ) → W i j → ⊥) → HasAdded o heads es class r W s s
+added-nothing o heads es class r W s never = added-of o heads es class r (λ i j. ⊥) W s s never (added-none o heads es class r s)
+
+-- A list more.
+pub added-next : (o : Options) (heads : List ListHead) (es : List Item) (class : ℕ) (r : Sides) (V U W : ℕ → ℕ → Type 0) (s t u : Best)
+    → ((i j : ℕ) → W i j → V i j ⊎ U i j) → HasAdded o heads es class r V s t → HasAdded o heads es class r U t u → HasAdded o heads es class r W s u
+added-next o heads es class r V U W s t u to a b =
+    added-of o heads es class r (λ i j. V i j ⊎ U i j) W s u to (added-then o heads es class r V U s t u a b)

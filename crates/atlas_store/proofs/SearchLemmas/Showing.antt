@@ -1,0 +1,256 @@
+-- A search is shown a list of entries, from its first to its last.
+use Rattle.std.proofs.Common.{◌≡◌, ◌≢◌, ℕ, zero, suc, ◌+◌, ◌<◌, ◌≤◌, ◌⊎◌, Bool, true, false, List, [], ◌∷◌, ◌++◌, length, map, ℤ, pos, negsuc, ◌≤ℤ◌, refl, ap, sym, ◌∙◌, subst, inl, inr, append_assoc, get_or, arith}
+use Rattle.std.specs.List.{Contains}
+use Rattle.std.proofs.lemmas.Int.{ints}
+use Rattle.std.specs.Prelude.{◌==◌, if◌then◌else◌}
+use Rattle.std.proofs.lemmas.Bool.{cases_eq, cond-true, cond-false, eq-eqb, ne_eqb}
+use Rattle.std.proofs.lemmas.List.{get_or-map}
+use Rattle.atlas_store.specs.declared.search.best.Best.{Best}
+use Rattle.atlas_store.specs.declared.search.best.Found.{Found}
+use Rattle.atlas_store.specs.declared.search.bands.Place.{Place}
+use Rattle.atlas_model.specs.declared.geometry.Rectangle.{Rectangle}
+use Rattle.atlas_store.specs.declared.slots.Link.{Link}
+use Rattle.atlas_store.specs.Search.Bands.{strip_of}
+use Rattle.atlas_store.specs.Search.Bests.{HasSeen, IsLeast, IsLooked, IsSameBest}
+use Rattle.atlas_model.specs.Boxes.{Sides}
+use Rattle.atlas_store.specs.Search.Items.{Item, no_item, item_at, shown_item, shown_items, IsPath, IsPrevious, IsShowable}
+use Rattle.atlas_store.specs.Slots.Links.{IsSolid}
+use Rattle.atlas_store.specs.Slots.Lists.{occurs}
+use Rattle.atlas_store.specs.Search.Lookups.{IsSpot, IsLowBut, HasShown}
+use Rattle.atlas_store.specs.Slots.Numbered.{same}
+use Rattle.atlas_model.specs.Pixels.{natural, box_of}
+use Rattle.atlas_store.specs.Search.Searches.{Shown, shown_at}
+use Rattle.atlas_store.specs.Slots.{no_slot}
+use Rattle.atlas_store.proofs.ListLemmas.Occurrences.{same-self, same-ne}
+use Rattle.atlas_store.proofs.StoreLemmas.Unlinking.{length-distinct}
+
+-- Paths
+
+path-push : (es : List Item) (from : ℕ) (xs : List ℕ) (to : ℕ) → IsPath es from xs to → to < length es → IsPath es from (xs ++ to ∷ []) (item_at es to).after
+path-push es from [] to p h = (p, h, refl)
+path-push es from (x ∷ xs) to p h = (p.0, p.1, path-push es (item_at es x).after xs to p.2 h)
+
+pub path-inside : (es : List Item) (from : ℕ) (xs : List ℕ) (to : ℕ) → IsPath es from xs to → (i : ℕ) → 0 < occurs i xs → i < length es
+path-inside es from [] to p i h = absurd (omega arith)
+path-inside es from (x ∷ xs) to p i h =
+    elim (cases_eq i x) [
+      | inl e ↦ omega (arith, e, p.1)
+      | inr ne ↦ path-inside es (item_at es x).after xs to p.2 i (omega (arith, same-ne i x ne))
+    ]
+
+pub path-stop : (es : List Item) (xs : List ℕ) → length es ≤ no_slot → (from : ℕ) → from ≡ no_slot → IsPath es from xs no_slot → xs ≡ []
+path-stop es [] short from e p = refl
+path-stop es (x ∷ xs) short from e p = absurd (omega (arith, e, p.0, p.1))
+
+path-more : (es : List Item) (at : ℕ) (xs : List ℕ) → IsPath es at xs no_slot → at ≢ no_slot
+    → (ys : List ℕ) × (xs ≡ at ∷ ys) × (at < length es) × IsPath es (item_at es at).after ys no_slot
+path-more es at [] p ne = absurd (ne p)
+path-more es at (x ∷ ys) p ne =
+    (ys, ap (λ z. z ∷ ys) (sym p.0), omega (arith, p.0, p.1), subst (λ z. IsPath es (item_at es z).after ys no_slot) (sym p.0) p.2)
+
+occurs-push : (i x : ℕ) (xs : List ℕ) → occurs i (xs ++ x ∷ []) ≡ occurs i xs + same i x
+occurs-push i x [] = omega arith
+occurs-push i x (y ∷ xs) = omega (arith, occurs-push i x xs)
+
+shown-push : (es : List Item) (x : ℕ) (xs : List ℕ) → shown_items es (xs ++ x ∷ []) ≡ shown_items es xs ++ shown_item es x ∷ []
+shown-push es x [] = refl
+shown-push es x (y ∷ xs) = ap (λ s. shown_item es y ∷ s) (shown-push es x xs)
+
+pub append-none : (xs : List Shown) → xs ≡ xs ++ []
+append-none [] = refl
+append-none (x ∷ xs) = ap (λ s. x ∷ s) (append-none xs)
+
+-- What is read of an entry.
+pub item-read : {E : Type 0} (item : E → Item) (xs : List E) (i : ℕ) (x : E) → i < length xs → x ≡ get_or xs i x → item x ≡ item_at (map item xs) i
+item-read item xs i x h e = ap item e ∙ sym (get_or-map item xs i x no_item h)
+
+-- Each of the entries is shown.
+pub shown_items-has : (es : List Item) (xs : List ℕ) (i : ℕ) → 0 < occurs i xs → Contains (shown_items es xs) (shown_item es i)
+shown_items-has es [] i l = absurd (omega arith)
+shown_items-has es (x ∷ xs) i l =
+    elim (cases_eq i x) [
+      | inl e ↦ (0, omega arith, ap (shown_item es) (sym e))
+      | inr ne ↦ let more = shown_items-has es xs i (omega (arith, same-ne i x ne)) in (suc more.0, omega (arith, more.1), more.2)
+    ]
+
+-- What is shown of entries is the box of one of them.
+pub shown_items-in : (es : List Item) (xs : List ℕ) (c : Shown) → Contains (shown_items es xs) c → (i : ℕ) × (0 < occurs i xs) × (c ≡ shown_item es i)
+shown_items-in es [] c h = absurd (omega (arith, h.1))
+shown_items-in es (x ∷ xs) c (zero, l, e) = (x, omega (arith, same-self x), sym e)
+shown_items-in es (x ∷ xs) c (suc n, l, e) =
+    let more = shown_items-in es xs c (n, omega (arith, l), e) in
+    (more.0, omega (arith, more.1), more.2)
+
+-- The entries from one on are determined.
+pub path-same : (es : List Item) (from : ℕ) (xs ys : List ℕ) → length es ≤ no_slot → IsPath es from xs no_slot → IsPath es from ys no_slot → xs ≡ ys
+path-same es from [] ys short p q = sym (path-stop es ys short from p q)
+path-same es from (x ∷ xs) [] short p q = path-stop es (x ∷ xs) short from q p
+path-same es from (x ∷ xs) (y ∷ ys) short p q =
+    let e : x ≡ y = sym p.0 ∙ q.0 in
+    ap (λ z. z ∷ xs) e ∙ ap (λ zs. y ∷ zs) (path-same es (item_at es y).after xs ys short (subst (λ z. IsPath es (item_at es z).after xs no_slot) e p.2) q.2)
+
+-- The search has come to `at`, which stands after `before`.
+pub record IsAlong (es : List Item) (head : ℕ) (place : Place) (start : Best) (at before : ℕ) (now : Best) : Type 0 where
+  pub done : List ℕ
+  pub rest : List ℕ
+  pub short : length es ≤ no_slot
+  pub came : IsPath es head done at
+  pub left : IsPath es at rest no_slot
+  pub once : (i : ℕ) → occurs i done + occurs i rest ≤ 1
+  pub exact : (i : ℕ) → 0 < occurs i rest → IsSolid (item_at es i).area
+  pub previous : IsPrevious es head done before at
+  pub seen : (is_large : Bool) (r : Sides) (shown : List Shown) → HasSeen start is_large r shown → HasSeen now is_large r (shown ++ shown_items es done)
+  pub least : IsLeast now (shown_items es done)
+  pub found : ((now.is_own ≡ false) × IsSameBest start now) ⊎ ((now.is_own ≡ true) × IsSpot es head place done now.found)
+
+abbrev pub KeepsSeen : (before after : Best) → Type 0
+KeepsSeen s t = (is_large : Bool) (r : Sides) (shown : List Shown) → HasSeen s is_large r shown → HasSeen t is_large r shown
+
+pub along-begins : (es : List Item) (head : ℕ) (place : Place) (start now : Best) → IsShowable es head → KeepsSeen start now → IsLeast now []
+    → now.is_own ≡ false → IsSameBest start now → IsAlong es head place start head no_slot now
+along-begins es head place start now s seen least own same =
+    record {
+      done = [];
+      rest = s.xs;
+      short = s.short;
+      came = refl;
+      left = s.path;
+      once = λ i. omega (arith, s.once i);
+      exact = s.exact;
+      previous = inl (refl, refl);
+      seen = λ is_large r shown h. subst (λ (list : List Shown). HasSeen now is_large r list) (append-none shown) (seen is_large r shown h);
+      least = least;
+      found = inl (own, same);
+    }
+
+previous-push : (es : List Item) (head : ℕ) (xs : List ℕ) (x before at : ℕ) → IsPrevious es head xs before at → IsPrevious es head (xs ++ x ∷ []) before at
+previous-push es head xs x before at (inl p) = inl p
+previous-push es head xs x before at (inr p) = inr (omega (arith, p.0, occurs-push before x xs), p.1)
+
+spot-push : (es : List Item) (head : ℕ) (place : Place) (xs : List ℕ) (x : ℕ) (f g : Found) → g ≡ f → IsSpot es head place xs f → IsSpot es head place (xs ++ x ∷ []) g
+spot-push es head place xs x f g e s =
+    subst (λ (h : Found). IsSpot es head place (xs ++ x ∷ []) h) (sym e)
+    (record {
+      inside = omega (arith, s.inside, occurs-push f.at.number x xs);
+      area = s.area;
+      at_place = s.at_place;
+      before = previous-push es head xs x f.before.number f.at.number s.before;
+    })
+
+module _ (es : List Item) (head : ℕ) (place : Place) (start now : Best) (at before : Link) (w : IsAlong es head place start at.number before.number now)
+    (more : at.number ≢ no_slot) where
+  rest_is : (ys : List ℕ) × (w.rest ≡ at.number ∷ ys) × (at.number < length es) × IsPath es (item_at es at.number).after ys no_slot
+  rest_is = path-more es at.number w.rest w.left more
+
+  pub along-inside : at.number < length es
+  along-inside = rest_is.2
+
+  pub along-exact : IsSolid (item_at es at.number).area
+  along-exact = w.exact at.number (subst (λ ys. 0 < occurs at.number ys) (sym rest_is.1) (omega (arith, same-self at.number)))
+
+  -- The entry is shown, and the search goes on to the next.
+  pub along-goes_on : (next : Best) (a : Rectangle) (after : ℕ) → a ≡ (item_at es at.number).area → after ≡ (item_at es at.number).after
+      → ((is_large : Bool) (r : Sides) (shown : List Shown) → HasSeen now is_large r shown → HasSeen next is_large r (shown ++ shown_at (box_of a) at.number ∷ []))
+      → ((own : List Shown) → IsLeast now own → IsLeast next (own ++ shown_at (box_of a) at.number ∷ []))
+      → IsLooked now next (record { rectangle = a; at = at; before = before; place = place; low = 0 })
+      → IsAlong es head place start after at.number next
+  along-goes_on next a after ea ef seen least found =
+      let this = at.number in
+      let ys = rest_is.0 in
+      let shows : shown_at (box_of a) this ≡ shown_item es this = ap (λ (x : Rectangle). shown_at (box_of x) this) ea in
+      record {
+        done = w.done ++ this ∷ [];
+        rest = ys;
+        short = w.short;
+        came = subst (λ n. IsPath es head (w.done ++ this ∷ []) n) (sym ef) (path-push es head w.done this w.came rest_is.2);
+        left = subst (λ n. IsPath es n ys no_slot) (sym ef) rest_is.3;
+        once = λ i. omega (arith, w.once i, occurs-push i this w.done, ap (occurs i) rest_is.1);
+        exact = λ i h. w.exact i (subst (λ zs. 0 < occurs i zs) (sym rest_is.1) (omega (arith, h)));
+        previous = inr (omega (arith, occurs-push this this w.done, same-self this), sym ef);
+        seen = λ is_large r shown h.
+            let all = append_assoc shown (shown_items es w.done) (shown_item es this ∷ []) ∙ ap (λ (s : List Shown). shown ++ s) (sym (shown-push es this w.done)) in
+            subst (λ (s : List Shown). HasSeen next is_large r s) all
+            (subst (λ (b : Shown). HasSeen next is_large r ((shown ++ shown_items es w.done) ++ b ∷ [])) shows (seen is_large r (shown ++ shown_items es w.done) (w.seen is_large r shown h)));
+        least =
+            subst (λ (s : List Shown). IsLeast next s) (sym (shown-push es this w.done))
+            (subst (λ (b : Shown). IsLeast next (shown_items es w.done ++ b ∷ [])) shows (least (shown_items es w.done) w.least));
+        found = elim found [
+          | inl kept ↦ elim w.found [
+            | inl none ↦ inl (kept.0 ∙ none.0, record { rank = kept.1.rank ∙ none.1.rank; found = kept.1.found ∙ none.1.found })
+            | inr some ↦ inr (kept.0 ∙ some.0, spot-push es head place w.done this now.found next.found kept.1.found some.1)
+          ]
+          | inr new ↦ inr (
+            new.0,
+            subst (λ (f : Found). IsSpot es head place (w.done ++ this ∷ []) f) (sym new.1)
+                (record {
+                  inside = omega (arith, occurs-push this this w.done, same-self this);
+                  area = sym ea;
+                  at_place = refl;
+                  before = previous-push es head w.done this before.number this w.previous;
+                }),
+          )
+        ];
+      }
+
+-- How many entries a list has from one on, counted up to a bound.
+pub entries_from : List Item → (bound at : ℕ) → ℕ
+entries_from es zero at = 0
+entries_from es (suc bound) at = if at == no_slot then 0 else suc (entries_from es bound (item_at es at).after)
+
+entries-path : (es : List Item) (bound at : ℕ) (xs : List ℕ) → length es ≤ no_slot → IsPath es at xs no_slot → length xs ≤ bound
+    → entries_from es bound at ≡ length xs
+unfolding entries_from
+entries-path es zero at [] short p l = refl
+entries-path es zero at (x ∷ xs) short p l = absurd (omega (arith, l))
+entries-path es (suc bound) at [] short p l = cond-true (at == no_slot) 0 _ (eq-eqb at no_slot p)
+entries-path es (suc bound) at (x ∷ xs) short p l =
+    let ne : at ≢ no_slot = λ e. omega (arith, e, p.0, p.1, short) in
+    let rest : IsPath es (item_at es at).after xs no_slot = subst (λ z. IsPath es (item_at es z).after xs no_slot) (sym p.0) p.2 in
+    cond-false (at == no_slot) 0 _ (ne_eqb at no_slot ne) ∙ ap suc (entries-path es bound (item_at es at).after xs short rest (omega (arith, l)))
+
+-- Each step leaves fewer entries.
+pub fewer-left : (es : List Item) (head : ℕ) (place : Place) (start now : Best) (at before : Link) → IsAlong es head place start at.number before.number now
+    → at.number ≢ no_slot → entries_from es (length es) (item_at es at.number).after < entries_from es (length es) at.number
+fewer-left es head place start now at before w more =
+    let r = path-more es at.number w.rest w.left more in
+    let few = length-distinct (length es) w.rest (λ k. omega (arith, w.once k)) (λ k h. path-inside es at.number w.rest no_slot w.left k h) in
+    let here = entries-path es (length es) at.number w.rest w.short w.left few in
+    let size : length w.rest ≡ suc (length r.0) = ap length r.1 in
+    let next = entries-path es (length es) (item_at es at.number).after r.0 w.short r.3 (omega (arith, few, size)) in
+    omega (arith, here, next, size)
+
+natural-below : (x : ℤ) (y : ℕ) → x ≤ℤ pos y → natural x ≤ y
+natural-below (pos n) y h = omega (arith, ints)
+natural-below (negsuc n) y h = omega arith
+
+pub strip-mono : (m n : ℕ) → m ≤ n → strip_of m ≤ strip_of n
+strip-mono m n h = omega arith
+
+-- The least `min.y` of the others gives a strip that none of them lies above.
+low-of_least : (es : List Item) (now : Best) (xs : List ℕ) → IsLeast now (shown_items es xs) → IsLowBut es xs now.found.at.number (strip_of (natural now.least))
+low-of_least es now xs least i h ne =
+    elim (least (shown_item es i) (shown_items-has es xs i h)) [
+      | inl e ↦ absurd (ne (ap (λ (s : Shown). s.at) e.1))
+      | inr l ↦ strip-mono _ _ (natural-below now.least _ l)
+    ]
+
+pub along-ends : (es : List Item) (head : ℕ) (place : Place) (start now after : Best) (at before : ℕ) → IsAlong es head place start at before now
+    → at ≡ no_slot → KeepsSeen now after → (now.is_own ≡ false → IsSameBest now after)
+    → (now.is_own ≡ true → after.found ≡ record now.found { low = strip_of (natural now.least) })
+    → HasShown es head place start after
+along-ends es head place start now after at before w here seen other own =
+    record {
+      xs = w.done;
+      path = subst (λ n. IsPath es head w.done n) here w.came;
+      seen = λ is_large r shown h. seen is_large r _ (w.seen is_large r shown h);
+      found = elim w.found [
+        | inl kept ↦ let same = other kept.0 in inl (record { rank = same.rank ∙ kept.1.rank; found = same.found ∙ kept.1.found })
+        | inr new ↦
+            let f : Found = record now.found { low = strip_of (natural now.least) } in
+            let P : Found → Type 0 = λ g. IsSpot es head place w.done g × IsLowBut es w.done g.at.number g.low in
+            inr (subst P (sym (own new.0)) (
+              record { inside = new.1.inside; area = new.1.area; at_place = new.1.at_place; before = new.1.before },
+              low-of_least es now w.done w.least,
+            ))
+      ];
+    }

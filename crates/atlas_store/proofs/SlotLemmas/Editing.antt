@@ -1,0 +1,184 @@
+-- What holds of every edit of a numbered tree, by one walk over the tree.
+use Rattle.std.proofs.Common.{ℕ, ◌+◌, ◌-◌, ◌<◌, ◌≤◌, ◌≡◌, Bool, true, false, cond, List, refl, sym, ap, ap₂, subst, inl, inr, arith}
+use Rattle.std.proofs.lemmas.Bool.{cond_both, eqb-true, true≢false}
+use Rattle.atlas_store.specs.declared.slots.Node.{Node}
+use Rattle.atlas_store.specs.Slots.{node_at, no_slot}
+use Rattle.atlas_store.specs.Slots.Numbered.{Numbered, weigh, tally, same, first_slot, edited_in, on_free, on_alloc, on_seq, grown_by, lifted_to, is_free_at, is_alloc_at, is_seq_at, End, Free, Alloc, Seq}
+use Rattle.atlas_store.specs.Slots.Standing.{Sequence, Standing, inside}
+use Rattle.atlas_store.proofs.SlotLemmas.Frames.{same-self, split_pos, one_of, ne-from_count, Standing-same}
+use Rattle.atlas_store.proofs.SlotLemmas.Suffixes.{Suffix, suffix-at, suffix-wider}
+use Rattle.atlas_store.proofs.SlotLemmas.Weights.{places, places-le, places-some, not_here, not_here_more}
+
+-- What the edits make of the members from their place on, in a sequence that spans `across`.
+
+abbrev pub granting : (g : ℕ) → (across : ℕ) → Numbered → Numbered
+granting g across = on_free (λ j e rest. Alloc j g e rest)
+
+abbrev pub splitting : (k p : ℕ) → (across : ℕ) → Numbered → Numbered
+splitting k p across = on_free (λ j e rest. Free j p (Free k (e - p) rest))
+
+abbrev pub joining : (across : ℕ) → Numbered → Numbered
+joining across = on_free grown_by
+
+abbrev pub marking : (across : ℕ) → Numbered → Numbered
+marking across = on_alloc (λ j g e rest. Free j e rest)
+
+abbrev pub lifting : (across : ℕ) → Numbered → Numbered
+lifting across = on_seq lifted_to
+
+-- What holds of each member that is looked for.
+
+pub free_here : (i : ℕ) (P : Numbered → Type 0) → ((e : ℕ) (rest : Numbered) → P (Free i e rest)) → (m : Numbered) → is_free_at i m ≡ true → P m
+free_here i P p End t = absurd (true≢false (sym t))
+free_here i P p (Free j e rest) t = subst (λ k. P (Free k e rest)) (eqb-true i j t) (p e rest)
+free_here i P p (Alloc j g e rest) t = absurd (true≢false (sym t))
+free_here i P p (Seq j e inner rest) t = absurd (true≢false (sym t))
+
+pub alloc_here : (i : ℕ) (P : Numbered → Type 0) → ((g e : ℕ) (rest : Numbered) → P (Alloc i g e rest)) → (m : Numbered) → is_alloc_at i m ≡ true → P m
+alloc_here i P p End t = absurd (true≢false (sym t))
+alloc_here i P p (Free j e rest) t = absurd (true≢false (sym t))
+alloc_here i P p (Alloc j g e rest) t = subst (λ k. P (Alloc k g e rest)) (eqb-true i j t) (p g e rest)
+alloc_here i P p (Seq j e inner rest) t = absurd (true≢false (sym t))
+
+pub seq_here : (i : ℕ) (P : Numbered → Type 0) → ((e : ℕ) (inner rest : Numbered) → P (Seq i e inner rest)) → (m : Numbered) → is_seq_at i m ≡ true → P m
+seq_here i P p End t = absurd (true≢false (sym t))
+seq_here i P p (Free j e rest) t = absurd (true≢false (sym t))
+seq_here i P p (Alloc j g e rest) t = absurd (true≢false (sym t))
+seq_here i P p (Seq j e inner rest) t = subst (λ k. P (Seq k e inner rest)) (eqb-true i j t) (p e inner rest)
+
+-- A relation between a tree and the edited one, in a sequence that spans `across`, which holds further where it holds
+-- after a member that isn't looked for.
+pub record IsKept (is : Numbered → Bool) (R : (across : ℕ) → (old new : Numbered) → Type 0) : Type 0 where
+  pub ends : (a : ℕ) → R a End End
+  pub free : (a i e : ℕ) (m n : Numbered) → is (Free i e m) ≡ false → R a m n → R a (Free i e m) (Free i e n)
+  pub alloc : (a i g e : ℕ) (m n : Numbered) → is (Alloc i g e m) ≡ false → R a m n → R a (Alloc i g e m) (Alloc i g e n)
+  pub seq : (a i e : ℕ) (k l m n : Numbered) → is (Seq i e k m) ≡ false → R e k l → R a m n → R a (Seq i e k m) (Seq i e l n)
+
+module _ (is : Numbered → Bool) (change : ℕ → Numbered → Numbered) where
+  module _ (R : (across : ℕ) → (old new : Numbered) → Type 0) (kept : IsKept is R) (here : (a : ℕ) (m : Numbered) → is m ≡ true → R a m (change a m)) where
+    choice : (a : ℕ) (m v : Numbered) → (is m ≡ false → R a m v) → R a m (cond (is m) (change a m) v)
+    choice a m v other = cond_both (is m) (change a m) v (λ x. R a m x) (here a m) other
+
+    -- The walk.
+    pub edited-keeps : (a : ℕ) (n : Numbered) → R a n (edited_in is change (change a) n)
+    edited-keeps a End = kept.ends a
+    edited-keeps a (Free i e rest) = grind (arith, choice, edited-keeps a rest)
+    edited-keeps a (Alloc i g e rest) = grind (arith, choice, edited-keeps a rest)
+    edited-keeps a (Seq i e inner rest) = grind (arith, choice, edited-keeps e inner, edited-keeps a rest)
+
+  -- The first member keeps its slot.
+  pub first-edited : ((a : ℕ) (m : Numbered) → is m ≡ true → first_slot (change a m) ≡ first_slot m) → (a : ℕ) (n : Numbered) → first_slot (edited_in is change (change a) n) ≡ first_slot n
+  first-edited here = grind (arith, edited-keeps)
+
+  -- Nothing happens where no member is looked for.
+  pub edited-absent : is End ≡ false → (a : ℕ) (n : Numbered) → places is n ≡ 0 → edited_in is change (change a) n ≡ n
+  edited-absent never =
+      edited-keeps (λ a m n. places is m ≡ 0 → n ≡ m) (record {
+        ends = λ a _. refl;
+        free = λ a i e m n _ h z. ap (Free i e) (h (omega arith));
+        alloc = λ a i g e m n _ h z. ap (Alloc i g e) (h (omega arith));
+        seq = λ a i e k l m n _ g h z. ap₂ (Seq i e) (g (omega arith)) (h (omega arith));
+      }) (λ a m t z. absurd (omega (arith, places-some is never m t)))
+
+  -- A change that keeps what the slots weigh.
+  pub weigh-same : (w : ℕ → ℕ) → ((a : ℕ) (m : Numbered) → is m ≡ true → weigh w (change a m) ≡ weigh w m) → (a : ℕ) (n : Numbered) → weigh w (edited_in is change (change a) n) ≡ weigh w n
+  weigh-same w here =
+      edited-keeps (λ a m n. weigh w n ≡ weigh w m) (record {
+        ends = λ a. refl;
+        free = λ a i e m n _ h. ap (λ v. w i + v) h;
+        alloc = λ a i g e m n _ h. ap (λ v. w i + v) h;
+        seq = λ a i e k l m n _ g h. ap₂ (λ x y. w i + x + y) g h;
+      }) here
+
+  -- A change that adds y at least to what the slots weigh.
+  pub weigh-more : (w : ℕ → ℕ) (y : ℕ) → ((a : ℕ) (m : Numbered) → is m ≡ true → weigh w m + y ≤ weigh w (change a m)) → (a : ℕ) (n : Numbered) → (weigh w n ≤ weigh w (edited_in is change (change a) n)) × (0 < places is n → weigh w n + y ≤ weigh w (edited_in is change (change a) n))
+  weigh-more w y here =
+      edited-keeps (λ a m n. (weigh w m ≤ weigh w n) × (0 < places is m → weigh w m + y ≤ weigh w n)) (record {
+        ends = λ a. (omega arith, λ l. absurd (omega arith));
+        free = λ a i e m n no h. (omega (arith, h.0), λ l. omega (arith, h.1 (not_here_more _ _ no l)));
+        alloc = λ a i g e m n no h. (omega (arith, h.0), λ l. omega (arith, h.1 (not_here_more _ _ no l)));
+        seq = grind (arith, split_pos, places, not_here_more);
+      }) (λ a m t. (omega (arith, here a m t), λ _. here a m t))
+
+  -- A change that leaves a member that is looked for next.
+  pub places-next : (next : Numbered → Bool) → ((a : ℕ) (m : Numbered) → is m ≡ true → 0 < places next (change a m)) → (a : ℕ) (n : Numbered) → 0 < places is n → 0 < places next (edited_in is change (change a) n)
+  places-next next here =
+      edited-keeps (λ a m n. 0 < places is m → 0 < places next n) (record {
+        ends = λ a l. absurd (omega arith);
+        free = λ a i e m n no h l. omega (arith, h (not_here_more _ _ no l));
+        alloc = λ a i g e m n no h l. omega (arith, h (not_here_more _ _ no l));
+        seq = λ a i e k l m n no g h some. elim (split_pos (places is k) (places is m) (not_here_more _ _ no some)) [ inl x ↦ omega (arith, g x) | inr x ↦ omega (arith, h x) ];
+      }) (λ a m t _. here a m t)
+
+  -- A change at the only place adds y to what the slots weigh, and takes x away.
+  module _ (ns : List Node) (w : ℕ → ℕ) (x y : ℕ) (never : is End ≡ false) (here : (s : Sequence) (b p : ℕ) (m : Numbered) → is m ≡ true → Standing ns s b p m → weigh w (change s.width m) + x ≡ weigh w m + y) where
+    pub weigh-edited : (s : Sequence) (b p : ℕ) (n : Numbered) → Standing ns s b p n → places is n ≡ 1 → weigh w (edited_in is change (change s.width) n) + x ≡ weigh w n + y
+    weigh-edited s b p End h one = absurd (omega arith)
+    weigh-edited s b p (Free j e rest) h one =
+        cond_both (is (Free j e rest)) (change s.width (Free j e rest)) (Free j e (edited_in is change (change s.width) rest)) (λ v. weigh w v + x ≡ w j + weigh w rest + y) (λ t. here s b p (Free j e rest) t h) (λ no.
+        omega (arith, weigh-edited s j (p + e) rest h.2 (not_here _ _ _ no one)))
+    weigh-edited s b p (Alloc j g e rest) h one =
+        cond_both (is (Alloc j g e rest)) (change s.width (Alloc j g e rest)) (Alloc j g e (edited_in is change (change s.width) rest)) (λ v. weigh w v + x ≡ w j + weigh w rest + y) (λ t. here s b p (Alloc j g e rest) t h) (λ no.
+        omega (arith, weigh-edited s j (p + e) rest h.3 (not_here _ _ _ no one)))
+    weigh-edited s b p (Seq j e inner rest) h one =
+        cond_both (is (Seq j e inner rest)) (change s.width (Seq j e inner rest)) (Seq j e (edited_in is change (change e) inner) (edited_in is change (change s.width) rest)) (λ v. weigh w v + x ≡ w j + weigh w inner + weigh w rest + y) (λ t. here s b p (Seq j e inner rest) t h) (λ no.
+        elim (one_of (places is inner) (places is rest) (not_here _ _ _ no one)) [
+          | inl z ↦ omega (arith, weigh-edited (inside s j p e) no_slot s.start inner h.2 z.0, ap (weigh w) (edited-absent never s.width rest z.1))
+          | inr z ↦ omega (arith, ap (weigh w) (edited-absent never e inner z.0), weigh-edited s j (p + e) rest h.3 z.1)
+        ])
+
+-- Of the tree n one place changes: there the nodes ms hold what becomes of the members from the place on, and the slots
+-- of the other members stay.
+pub record IsEdit (ns ms : List Node) (is : Numbered → Bool) (change : ℕ → Numbered → Numbered) (i : ℕ) (n : Numbered) : Type 0 where
+  pub never : is End ≡ false
+  pub begins : (m : Numbered) → is m ≡ true → first_slot m ≡ i
+  pub once : (x : ℕ) → tally x n ≤ 1
+  pub first : (a : ℕ) (m : Numbered) → is m ≡ true → first_slot (change a m) ≡ first_slot m
+  pub here : (s : Sequence) (b p : ℕ) (m : Numbered) → is m ≡ true → Standing ns s b p m → ((x : ℕ) → tally x m ≤ tally x n) → Standing ms s b p (change s.width m)
+  pub beside : (f : Suffix ns i n) (x : ℕ) → tally x f.members ≡ 0 → 0 < tally x n → node_at ms x ≡ node_at ns x
+
+module _ (ns ms : List Node) (is : Numbered → Bool) (change : ℕ → Numbered → Numbered) (i : ℕ) (n : Numbered) (w : IsEdit ns ms is change i n) where
+  -- A slot outside of a part with the place stays.
+  apart : (s : Sequence) (b p : ℕ) (v : Numbered) → Standing ns s b p v → places is v ≡ 1 → ((x : ℕ) → tally x v ≤ tally x n) → (x : ℕ) → 0 < tally x n → tally x v ≡ 0 → node_at ms x ≡ node_at ns x
+  apart s b p v h one less x some z =
+      let f = suffix-at ns i s b p v h (omega (arith, places-le is i w.begins v)) in
+      let none : tally x f.members ≡ 0 = omega (arith, f.within x) in
+      w.beside (suffix-wider ns i v n less f) x none some
+
+  -- And so does the slot j of a member beside it.
+  head_stays : (s : Sequence) (b p j : ℕ) (v : Numbered) → Standing ns s b p v → places is v ≡ 1 → ((x : ℕ) → same x j + tally x v ≤ tally x n) → node_at ms j ≡ node_at ns j
+  head_stays s b p j v h one less = grind (arith, apart, same-self)
+
+  -- A part beside it stands.
+  part_stays : (s : Sequence) (b p : ℕ) (v : Numbered) (t : Sequence) (c q : ℕ) (u : Numbered) → Standing ns s b p v → places is v ≡ 1 → ((x : ℕ) → tally x v + tally x u ≤ tally x n) → Standing ns t c q u → places is u ≡ 0 → Standing ms t c q (edited_in is change (change t.width) u)
+  part_stays s b p v t c q u h one less k z = grind (arith, edited-absent, Standing-same, apart)
+
+  pub Standing-edited : (s : Sequence) (b p : ℕ) (v : Numbered) → ((x : ℕ) → tally x v ≤ tally x n) → places is v ≡ 1 → Standing ns s b p v → Standing ms s b p (edited_in is change (change s.width) v)
+  Standing-edited s b p End less one h = absurd (omega arith)
+  Standing-edited s b p (Free j e rest) less one h =
+      grind (arith, places, not_here, head_stays, first-edited, Standing-edited s j (p + e) rest)
+  Standing-edited s b p (Alloc j g e rest) less one h =
+      grind (arith, places, not_here, head_stays, first-edited, Standing-edited s j (p + e) rest)
+  Standing-edited s b p (Seq j e inner rest) less one h =
+      let t = inside s j p e in
+      cond_both (is (Seq j e inner rest)) (change s.width (Seq j e inner rest)) (Seq j e (edited_in is change (change e) inner) (edited_in is change (change s.width) rest)) (λ m. Standing ms s b p m) (λ t. w.here s b p (Seq j e inner rest) t h less) (λ no.
+      elim (one_of (places is inner) (places is rest) (not_here _ _ _ no one)) [
+        | inl z ↦
+            let eq = head_stays t no_slot s.start j inner h.2 z.0 (λ x. omega (arith, less x)) in (
+              rw (eq, first-edited is change w.first s.width rest) h.0,
+              rw eq h.1,
+              Standing-edited t no_slot s.start inner (λ x. omega (arith, less x)) z.0 h.2,
+              part_stays t no_slot s.start inner s j (p + e) rest h.2 z.0 (λ x. omega (arith, less x)) h.3 z.1,
+            )
+        | inr z ↦
+            let eq = head_stays s j (p + e) j rest h.3 z.1 (λ x. omega (arith, less x)) in (
+              rw (eq, first-edited is change w.first s.width rest) h.0,
+              rw eq h.1,
+              part_stays s j (p + e) rest t no_slot s.start inner h.3 z.1 (λ x. omega (arith, less x)) h.2 z.0,
+              Standing-edited s j (p + e) rest (λ x. omega (arith, less x)) z.1 h.3,
+            )
+      ])
+
+-- Another slot than i, where i is a member and the other isn't.
+pub other-slot : (x i : ℕ) (m : Numbered) → tally x m ≡ 0 → 0 < tally i m → x ≡ i → ⊥
+other-slot x i m z l e = ne-from_count x i m z l (sym e)

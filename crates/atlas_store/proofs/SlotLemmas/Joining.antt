@@ -1,0 +1,137 @@
+-- Two free neighbours become one.
+use Rattle.std.proofs.Common.{ℕ, ◌+◌, ◌<◌, ◌≤◌, ◌≡◌, List, refl, sym, ap, ◌∙◌, inl, inr, arith, add_assoc}
+use Rattle.atlas_store.specs.declared.slots.Node.{Node}
+use Rattle.atlas_model.specs.Pixels.{rectangle_of}
+use Rattle.atlas_store.specs.declared.slots.NodeKind.TheVariants as kind
+use Rattle.atlas_store.specs.Slots.{node_at, use_count, no_slot, KeepsUse}
+use Rattle.atlas_store.specs.Slots.Numbered.{Numbered, tally, first_slot, same, joined, grown_by, is_free_at, End, Free, Alloc, Seq}
+use Rattle.atlas_store.specs.Slots.Standing.{Sequence, Standing, Stands, member_box}
+use Rattle.atlas_store.proofs.SlotLemmas.Frames.{same-self, same-ne, Standing-same, used-le, ne-from_count}
+use Rattle.atlas_store.proofs.SlotLemmas.Closing.{IsNone, IsIn, next-in}
+use Rattle.atlas_store.proofs.SlotLemmas.Weights.{free_place}
+use Rattle.atlas_store.proofs.SlotLemmas.Editing.{IsEdit, Standing-edited, joining, free_here, first-edited, weigh-edited, other-slot}
+
+-- The first_slot of m follows another slot now, and the rest of m is the same.
+pub Standing-before : (ns ms : List Node) (i : ℕ) (s : Sequence) (before p : ℕ) (m : Numbered) → (0 < tally (first_slot m) m → node_at ms (first_slot m) ≡ record (node_at ns (first_slot m)) { previous = record { number = i } }) → ((k : ℕ) → (k ≡ first_slot m → ⊥) → 0 < tally k m → node_at ms k ≡ node_at ns k) → tally (first_slot m) m ≤ 1 → Standing ns s before p m → Standing ms s i p m
+Standing-before ns ms i s before p End moved others one h = tt
+Standing-before ns ms i s before p (Free k e rest) moved others one h =
+    grind (arith, same-self, Standing-same, ne-from_count)
+Standing-before ns ms i s before p (Alloc k g e rest) moved others one h =
+    grind (arith, same-self, Standing-same, ne-from_count)
+Standing-before ns ms i s before p (Seq k e inner rest) moved others one h =
+    grind (arith, same-self, Standing-same, ne-from_count)
+
+-- The box of two neighbours.
+box-joined : (s : Sequence) (p e d : ℕ) → record (rectangle_of (member_box s p e)) { max = (rectangle_of (member_box s (p + e) d)).max } ≡ rectangle_of (member_box s p (e + d))
+box-joined s p e d = grind arith
+
+pub first-grown : (j e : ℕ) (n : Numbered) → first_slot (grown_by j e n) ≡ j
+first-grown j e End = refl
+first-grown j e (Free k d rest) = refl
+first-grown j e (Alloc k g d rest) = refl
+first-grown j e (Seq k d inner rest) = refl
+
+pub first-joined : (i : ℕ) (n : Numbered) → first_slot (joined i n) ≡ first_slot n
+first-joined i = first-edited (is_free_at i) joining (λ a. free_here i (λ m. first_slot (joining a m) ≡ first_slot m) (first-grown i)) 0
+
+-- The nodes ms are ns after the free leaf i took in the free leaf j, which a follows.
+pub record IsJoined (ns ms : List Node) (i j a : ℕ) : Type 0 where
+  pub ends : (node_at ns no_slot).kind ≡ kind.Unused
+  pub free : (node_at ns i).kind ≡ kind.Free
+  pub next : (node_at ns i).next.number ≡ j
+  pub next_free : (node_at ns j).kind ≡ kind.Free
+  pub after : (node_at ns j).next.number ≡ a
+  pub this : node_at ms i ≡ record (node_at ns i) { next = (node_at ns j).next; area = record (node_at ns i).area { max = (node_at ns j).area.max } }
+  pub apart : j ≡ i → ⊥
+  pub gone : (node_at ms j).kind ≡ kind.Unused
+  pub given : node_at ms j ≡ record (node_at ns j) { kind = kind.Unused }
+  pub moved : (a ≡ no_slot → ⊥) → node_at ms a ≡ record (node_at ns a) { previous = record { number = i } }
+  pub stays : a ≡ no_slot → node_at ms a ≡ node_at ns a
+  pub others : (k : ℕ) → (k ≡ i → ⊥) → (k ≡ j → ⊥) → (k ≡ a → ⊥) → node_at ms k ≡ node_at ns k
+
+module _ (ns ms : List Node) (i j a : ℕ) (w : IsJoined ns ms i j a) where
+  not_none : IsNone j → ⊥
+  not_none e = let k = w.next_free in let l : (node_at ns j).kind ≡ kind.Unused = rw (e, w.ends) refl in cc
+
+  -- What follows i in rest is j, free.
+  abbrev IsNextFree : Numbered → Type 0
+  IsNextFree rest = (d : ℕ) × (tail : Numbered) × (rest ≡ Free j d tail)
+
+  next_is : (s : Sequence) (b q : ℕ) (rest : Numbered) → first_slot rest ≡ j → Standing ns s b q rest → IsNextFree rest
+  next_is s b q End e h = absurd (not_none (sym e))
+  next_is s b q (Free k d tail) e h = (d, tail, ap (λ x. Free x d tail) e)
+  next_is s b q (Alloc k g d tail) e h = let f = h.0.kind in let l : (node_at ns k).kind ≡ kind.Free = rw (e, w.next_free) refl in cc
+  next_is s b q (Seq k d inner tail) e h = let f = h.0.kind in let l : (node_at ns k).kind ≡ kind.Free = rw (e, w.next_free) refl in cc
+
+  -- Where i is, j is too, and a, if there is one.
+  next_in : (s : Sequence) (b q : ℕ) (n : Numbered) → Standing ns s b q n → 0 < tally i n → 0 < tally j n
+  next_in s b q n h l = grind (arith, next-in, not_none)
+
+  after_in : (s : Sequence) (b q : ℕ) (n : Numbered) → Standing ns s b q n → 0 < tally i n → IsIn a n
+  after_in s b q n h l = rw w.after at (next-in ns j s b q n h (next_in s b q n h l))
+
+  -- At i itself.
+  at_head : (s : Sequence) (b p e : ℕ) (rest : Numbered) → IsNextFree rest → ((k : ℕ) → same k i + tally k rest ≤ 1) → same no_slot i + tally no_slot rest ≡ 0 → Standing ns s b p (Free i e rest) → Standing ms s b p (grown_by i e rest)
+  at_head s b p e rest f once none h =
+      let d = f.0 in
+      let tail = f.1 in
+      let once2 : (k : ℕ) → same k i + (same k j + tally k tail) ≤ 1 = rw f.2 at once in
+      let none2 : same no_slot i + (same no_slot j + tally no_slot tail) ≡ 0 = rw f.2 at none in
+      let h2 : Standing ns s b p (Free i e (Free j d tail)) = rw f.2 at h in
+      let goes : first_slot tail ≡ a = sym h2.2.0.next ∙ w.after in
+      let one_i = once2 i in
+      let one_j = once2 j in
+      let one_a = once2 (first_slot tail) in
+      let self_i = same-self i in
+      let self_j = same-self j in
+      let moved : 0 < tally (first_slot tail) tail → node_at ms (first_slot tail) ≡ record (node_at ns (first_slot tail)) { previous = record { number = i } } = (λ l. rw goes (w.moved (λ n. absurd (omega (arith, ap (λ x. tally x tail) (goes ∙ n)))))) in
+      let others : (k : ℕ) → (k ≡ first_slot tail → ⊥) → 0 < tally k tail → node_at ms k ≡ node_at ns k = (λ k ne l. w.others k (ne-from_count i k tail (omega arith) l) (ne-from_count j k tail (omega arith) l) (λ x. ne (x ∙ sym goes))) in
+      rw f.2 (
+        rw (w.this) (record { parent = h2.0.parent; previous = h2.0.previous; next = h2.2.0.next; kind = h2.0.kind; axis = h2.0.axis }),
+        rw (w.this, h2.1, h2.2.1) (box-joined s p e d),
+        rw (← add_assoc p e d) (Standing-before ns ms i s j (p + e + d) tail moved others (omega arith) h2.2.2),
+      )
+
+  next_free : (s : Sequence) (b p e : ℕ) (rest : Numbered) → Standing ns s b p (Free i e rest) → IsNextFree rest
+  next_free s b p e rest h = next_is s i (p + e) rest (sym h.0.next ∙ w.next) h.2
+
+  taken_in : (n : Numbered) → ((x : ℕ) → tally x n ≤ 1) → tally no_slot n ≡ 0 → IsEdit ns ms (is_free_at i) joining i n
+  taken_in n once none =
+      record {
+        never = refl;
+        begins = free_here i (λ m. first_slot m ≡ i) (λ e rest. refl);
+        once = once;
+        first = λ a. free_here i (λ m. first_slot (joining a m) ≡ first_slot m) (first-grown i);
+        here = λ s b p. free_here i (λ m. Standing ns s b p m → ((x : ℕ) → tally x m ≤ tally x n) → Standing ms s b p (joining s.width m)) (λ e rest h less.
+            at_head s b p e rest (next_free s b p e rest h) (λ x. omega (arith, less x, once x)) (omega (arith, less no_slot, none)) h);
+        beside = λ f x z some. w.others x (other-slot x i f.members z f.here) (other-slot x j f.members z (next_in f.at f.before f.start f.members f.standing f.here)) (elim (after_in f.at f.before f.start f.members f.standing f.here) [
+          | inl e ↦ λ y. ne-from_count no_slot x n none some (y ∙ e)
+          | inr l ↦ other-slot x a f.members z l
+        ]);
+      }
+
+  -- The slot j alone leaves the tree.
+  pub tallies-joined : (s : Sequence) (n : Numbered) → Stands ns s n → (x : ℕ) → tally x (joined i n) + same x j ≡ tally x n
+  tallies-joined s n h x = omega (arith, all)
+    where
+      all : tally x (joined i n) + same x j ≡ tally x n + 0
+      all =
+          weigh-edited (is_free_at i) joining ns (same x) (same x j) 0 refl (λ s b p. free_here i (λ m. Standing ns s b p m → tally x (joining s.width m) + same x j ≡ tally x m + 0) (λ e rest h.
+          let nx = next_free s b p e rest h in
+          rw nx.2 (omega arith))) s no_slot 0 n h.standing (free_place ns i s n w.free h)
+
+  used_after : (x : ℕ) → use_count (node_at ms x).kind + same x j ≡ use_count (node_at ns x).kind
+  used_after x = grind (arith, same-self, same-ne)
+
+  pub Stands-joined : (s : Sequence) (n : Numbered) → Stands ns s n → Stands ms s (joined i n)
+  Stands-joined s n h =
+      let once : (k : ℕ) → tally k n ≤ 1 = λ k. omega (arith, h.numbered k, used-le (node_at ns k).kind) in
+      let none : tally no_slot n ≡ 0 = h.numbered no_slot ∙ ap use_count w.ends in
+      record {
+        standing = Standing-edited ns ms (is_free_at i) joining i n (taken_in n once none) s no_slot 0 n (λ x. omega arith) (free_place ns i s n w.free h) h.standing;
+        numbered = λ x. omega (arith, tallies-joined s n h x, used_after x, h.numbered x);
+      }
+
+  -- A join changes the use of no other slot.
+  pub joined-use : (k : ℕ) → (k ≡ i → ⊥) → (k ≡ j → ⊥) → KeepsUse (node_at ns k) (node_at ms k)
+  joined-use k ki kj = grind arith

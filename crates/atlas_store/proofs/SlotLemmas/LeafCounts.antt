@@ -1,0 +1,108 @@
+-- What is live and what is free, counted over the slots that hold a tree.
+use Rattle.std.proofs.Common.{ℕ, ◌+◌, ◌*◌, ◌≡◌, Bool, cond, List, [], ◌∷◌, map, refl, sym, ap, ◌∙◌, arith, rules}
+use Rattle.std.specs.List.{count_by}
+use Rattle.atlas_store.specs.declared.slots.Node.{Node}
+use Rattle.atlas_store.specs.declared.slots.NodeKind.{NodeKind}
+use Rattle.atlas_store.specs.declared.slots.NodeKind.TheVariants as kind
+use Rattle.atlas_model.specs.Boxes.{Box, other, moved}
+use Rattle.atlas_model.specs.Pixels.{box_of}
+use Rattle.atlas_model.specs.Trees.{Grant, grant}
+use Rattle.atlas_store.specs.Slots.{node_at, use_count, no_slot}
+use Rattle.atlas_store.specs.Slots.Lists.{is_free}
+use Rattle.atlas_store.specs.Slots.Numbered.{Numbered, weigh, id_of, erase, End, Free, Alloc, Seq}
+use Rattle.atlas_store.specs.Slots.Standing.{Sequence, Standing, Stands, inside, spot}
+use Rattle.atlas_model.specs.Replies.{grant_of}
+use Rattle.atlas_store.specs.Visits.{is_alloc, allocated_from, free_areas}
+use Rattle.atlas_model.proofs.TreeLemmas.TreeBasics.{one_if, live_among, free_among, live_among-seq, free_among-seq}
+use Rattle.atlas_model.proofs.ListLemmas.Counting.{count_by-cons, count_by-append}
+use Rattle.atlas_store.proofs.SlotLemmas.SlotSums.{slot_sum, weigh-Stands}
+use Rattle.atlas_store.proofs.SlotLemmas.Spots.{moved-spot, spot-other}
+
+-- 1 if a slot is allocated and its grant passes.
+abbrev pub alloc_weight : (Grant → Bool) → ℕ → Node → ℕ
+alloc_weight p i n = cond (is_alloc n.kind) (one_if (p (grant (id_of i n.generation) (box_of n.area)))) 0
+
+-- 1 if a slot is free and its box passes.
+abbrev pub free_weight : (Box → Bool) → ℕ → Node → ℕ
+free_weight p i n = cond (is_free n.kind) (one_if (p (box_of n.area))) 0
+
+alloc-light : (k : NodeKind) (v : ℕ) → use_count k * cond (is_alloc k) v 0 ≡ cond (is_alloc k) v 0
+alloc-light kind.Container v = omega arith
+alloc-light kind.Alloc v = omega arith
+alloc-light kind.Free v = omega arith
+alloc-light kind.Unused v = omega arith
+
+free-light : (k : NodeKind) (v : ℕ) → use_count k * cond (is_free k) v 0 ≡ cond (is_free k) v 0
+free-light kind.Container v = omega arith
+free-light kind.Alloc v = omega arith
+free-light kind.Free v = omega arith
+free-light kind.Unused v = omega arith
+
+-- The list of the allocated slots counts them.
+pub count-allocated : (p : Grant → Bool) (i : ℕ) (ns : List Node) → count_by p (map grant_of (allocated_from i ns)) ≡ slot_sum (alloc_weight p) i ns
+count-allocated p i [] = refl
+count-allocated p i (n ∷ ns) = grind (arith, count-allocated p (i + 1) ns, slot_sum, one_if, count_by-cons)
+
+-- The list of the free slots counts them.
+pub count-free_areas : (p : Box → Bool) (i : ℕ) (ns : List Node) → count_by p (map box_of (free_areas ns)) ≡ slot_sum (free_weight p) i ns
+count-free_areas p i [] = refl
+count-free_areas p i (n ∷ ns) = grind (arith, count-free_areas p (i + 1) ns, slot_sum, one_if, count_by-cons)
+
+-- What is live among standing members.
+pub live-Standing : (p : Grant → Bool) (ns : List Node) (s : Sequence) (b q : ℕ) (n : Numbered) → Standing ns s b q n
+    → count_by p (live_among s.axis (spot s.axis q s.start) s.width (erase n)) ≡ weigh (λ k. alloc_weight p k (node_at ns k)) n
+live-Standing p ns s b q End h = refl
+live-Standing p ns s b q (Free j e rest) h =
+    grind (arith, live_among, moved-spot, live-Standing p ns s j (q + e) rest h.2, one_if)
+live-Standing p ns s b q (Alloc j g e rest) h =
+    grind (arith, live_among, moved-spot, live-Standing p ns s j (q + e) rest h.3, one_if, count_by-cons)
+live-Standing p ns s b q (Seq j e inner rest) h =
+    let at : count_by p (live_among s.axis (moved s.axis (spot s.axis q s.start) e) s.width (erase rest)) ≡ weigh (λ k. alloc_weight p k (node_at ns k)) rest =
+    ap (λ o. count_by p (live_among s.axis o s.width (erase rest))) (moved-spot s.axis q s.start e) ∙ live-Standing p ns s j (q + e) rest h.3 in
+    let within : count_by p (live_among (other s.axis) (spot s.axis q s.start) e (erase inner)) ≡ weigh (λ k. alloc_weight p k (node_at ns k)) inner =
+    ap (λ o. count_by p (live_among (other s.axis) o e (erase inner))) (sym (spot-other s.axis q s.start)) ∙ live-Standing p ns (inside s j q e) no_slot s.start inner h.2 in
+    let here : alloc_weight p j (node_at ns j) ≡ 0 =
+    ap (λ v. cond (is_alloc v) (one_if (p (grant (id_of j (node_at ns j).generation) (box_of (node_at ns j).area)))) 0) h.0.kind in
+    ap (count_by p) (live_among-seq s.axis (spot s.axis q s.start) s.width e (erase inner) (erase rest))
+    ∙ count_by-append p (live_among (other s.axis) (spot s.axis q s.start) e (erase inner)) (live_among s.axis (moved s.axis (spot s.axis q s.start) e) s.width (erase rest))
+    ∙ three _ _ _ _ _ within at here
+  where
+    three : (a b c d z : ℕ) → a ≡ b → c ≡ d → z ≡ 0 → a + c ≡ z + b + d
+    three a b c d z x y w = omega arith
+
+-- What is free among standing members.
+pub free-Standing : (p : Box → Bool) (ns : List Node) (s : Sequence) (b q : ℕ) (n : Numbered) → Standing ns s b q n
+    → count_by p (free_among s.axis (spot s.axis q s.start) s.width (erase n)) ≡ weigh (λ k. free_weight p k (node_at ns k)) n
+free-Standing p ns s b q End h = refl
+free-Standing p ns s b q (Free j e rest) h =
+    search (rules, free_among, moved-spot, free-Standing p ns s j (q + e) rest h.2, one_if, count_by-cons)
+free-Standing p ns s b q (Alloc j g e rest) h =
+    grind (arith, free_among, moved-spot, free-Standing p ns s j (q + e) rest h.3, one_if)
+free-Standing p ns s b q (Seq j e inner rest) h =
+    let at : count_by p (free_among s.axis (moved s.axis (spot s.axis q s.start) e) s.width (erase rest)) ≡ weigh (λ k. free_weight p k (node_at ns k)) rest =
+    ap (λ o. count_by p (free_among s.axis o s.width (erase rest))) (moved-spot s.axis q s.start e) ∙ free-Standing p ns s j (q + e) rest h.3 in
+    let within : count_by p (free_among (other s.axis) (spot s.axis q s.start) e (erase inner)) ≡ weigh (λ k. free_weight p k (node_at ns k)) inner =
+    ap (λ o. count_by p (free_among (other s.axis) o e (erase inner))) (sym (spot-other s.axis q s.start)) ∙ free-Standing p ns (inside s j q e) no_slot s.start inner h.2 in
+    let here : free_weight p j (node_at ns j) ≡ 0 = ap (λ v. cond (is_free v) (one_if (p (box_of (node_at ns j).area))) 0) h.0.kind in
+    ap (count_by p) (free_among-seq s.axis (spot s.axis q s.start) s.width e (erase inner) (erase rest))
+    ∙ count_by-append p (free_among (other s.axis) (spot s.axis q s.start) e (erase inner)) (free_among s.axis (moved s.axis (spot s.axis q s.start) e) s.width (erase rest))
+    ∙ three _ _ _ _ _ within at here
+  where
+    three : (a b c d z : ℕ) → a ≡ b → c ≡ d → z ≡ 0 → a + c ≡ z + b + d
+    three a b c d z x y w = omega arith
+
+-- The live grants are those of the allocated slots.
+pub live-Stands : (p : Grant → Bool) (ns : List Node) (s : Sequence) (n : Numbered) → Stands ns s n
+    → count_by p (live_among s.axis (spot s.axis 0 s.start) s.width (erase n)) ≡ count_by p (map grant_of (allocated_from 0 ns))
+live-Stands p ns s n h =
+    live-Standing p ns s no_slot 0 n h.standing
+    ∙ weigh-Stands (alloc_weight p) ns s n h (λ k x. alloc-light x.kind (one_if (p (grant (id_of k x.generation) (box_of x.area)))))
+    ∙ sym (count-allocated p 0 ns)
+
+-- The free boxes are those of the free slots.
+pub free-Stands : (p : Box → Bool) (ns : List Node) (s : Sequence) (n : Numbered) → Stands ns s n
+    → count_by p (free_among s.axis (spot s.axis 0 s.start) s.width (erase n)) ≡ count_by p (map box_of (free_areas ns))
+free-Stands p ns s n h =
+    free-Standing p ns s no_slot 0 n h.standing
+    ∙ weigh-Stands (free_weight p) ns s n h (λ k x. free-light x.kind (one_if (p (box_of x.area))))
+    ∙ sym (count-free_areas p 0 ns)

@@ -1,0 +1,14 @@
+-- Lemmas of the store: slots with their lists.
+pub mod Unlinking
+pub mod Filing
+pub mod Taking
+pub mod Turning
+pub mod Starting
+pub mod StoreSteps
+pub mod PlacingSteps
+pub mod StoreTakes
+pub mod SpareCounts
+pub mod Sizes
+pub mod ExtendedTrees
+pub mod ExtendingSteps
+pub mod StoreFacts

@@ -1,0 +1,266 @@
+-- The lists of free slots and the list of unused ones, all together.
+use Rattle.std.proofs.Common.{ℕ, ◌<◌, ◌≤◌, ◌≡◌, List, [], ◌∷◌, refl, sym, ap, ◌∙◌, inl, inr, arith, length, Bool, true, false, eqb}
+use Rattle.std.specs.Prelude.{if◌then◌else◌, ◌≢◌}
+use Rattle.std.proofs.lemmas.Bool.{cases_eq, cases_lt, cond_both, cond-true, cond-false, eq-eqb, ne_eqb, and_parts, and_from, and_right}
+use Rattle.std.proofs.lemmas.List.{length-map}
+use Rattle.atlas_store.specs.declared.slots.Slot.{Slot}
+use Rattle.atlas_model.specs.declared.geometry.Size.{Size}
+use Rattle.atlas_store.specs.declared.slots.Link.{Link}
+use Rattle.atlas_store.specs.declared.slots.Node.{Node}
+use Rattle.atlas_store.specs.declared.slots.Ring.{Ring}
+use Rattle.atlas_store.specs.declared.slots.NodeKind.{NodeKind}
+use Rattle.atlas_store.specs.declared.slots.NodeKind.TheVariants as kind
+use Rattle.atlas_store.specs.declared.search.table.ListHead.{ListHead}
+use Rattle.atlas_store.specs.declared.search.bands.Place.{Place}
+use Rattle.atlas_model.specs.Boxes.{box_sides}
+use Rattle.atlas_model.specs.Pixels.{sides_of, box_of}
+use Rattle.atlas_model.specs.Choice.{Options}
+use Rattle.atlas_store.specs.Slots.{nodes, rings, node_at, ring_at, use_count}
+use Rattle.atlas_store.specs.Slots.Numbered.{same}
+use Rattle.atlas_store.specs.Slots.Lists.{IsList, IsFiled, AreFiled, Places, occurs, without, filed, node_sides, node_strip, is_free}
+use Rattle.atlas_store.specs.Search.Bands.{list_of, number_of}
+use Rattle.atlas_store.specs.Search.Tables.{head_of, low_of, is_used_at}
+use Rattle.atlas_store.specs.Slots.Links.{IsFiledSlot, IsLooseSlot, IsListed, IsUnlisted, with_mark, with_count, held_with, unlisted, listed}
+use Rattle.atlas_store.proofs.ListLemmas.Occurrences.{same-self, same-ne, ne-from_occurs, without-none, occurs-without}
+use Rattle.atlas_store.proofs.SearchLemmas.BandLaws.{list_of-most}
+use Rattle.atlas_store.proofs.StoreLemmas.Unlinking.{IsList-kept, Line-kept, Line-inside}
+pub use Rattle.atlas_store.proofs.SlotLemmas.Frames.{past-unused, used-inside}
+
+-- The list that a node belongs in if it is free.
+abbrev pub list_for : Options → Node → ℕ
+list_for o n = list_of o (node_sides n)
+
+pub filed-free : (o : Options) (n : Node) → n.kind ≡ kind.Free → filed o (list_for o n) n ≡ 1
+filed-free o n e = grind (arith, cond-true, and_from, eq-eqb)
+
+pub filed-other : (o : Options) (k : ℕ) (n : Node) → (k ≡ list_for o n → ⊥) → filed o k n ≡ 0
+filed-other o k n ne = cond-false _ 1 0 (and_right _ _ (ne_eqb (list_for o n) k (λ q. ne (sym q))))
+
+pub filed-list : (o : Options) (k : ℕ) (n : Node) → 0 < filed o k n → k ≡ list_for o n
+filed-list o k n l = elim (cases_eq k (list_for o n)) [ inl e ↦ e | inr ne ↦ absurd (omega (arith, filed-other o k n ne)) ]
+
+free_use : (k : NodeKind) → is_free k ≡ true → use_count k ≡ 1
+free_use kind.Container e = refl
+free_use kind.Alloc e = refl
+free_use kind.Free e = refl
+free_use kind.Unused e = cc
+
+pub free_kind : (k : NodeKind) → is_free k ≡ true → k ≡ kind.Free
+free_kind kind.Container e = cc
+free_kind kind.Alloc e = cc
+free_kind kind.Free e = refl
+free_kind kind.Unused e = cc
+
+-- What stands in a list is free.
+pub filed-kind : (o : Options) (k : ℕ) (n : Node) → 0 < filed o k n → n.kind ≡ kind.Free
+filed-kind o k n = grind (arith, free_kind, and_parts)
+
+-- What stands in a list is used.
+pub filed-use : (o : Options) (k : ℕ) (n : Node) → filed o k n ≤ use_count n.kind
+filed-use o k n = grind (arith, free_use, and_parts)
+
+pub with_mark-same : (loose : ℕ → Bool) (i : ℕ) (mark : Bool) → with_mark loose i mark i ≡ mark
+with_mark-same loose i mark = cond-true _ mark (loose i) (eq-eqb i i refl)
+
+pub with_mark-other : (loose : ℕ → Bool) (i : ℕ) (mark : Bool) (k : ℕ) → (k ≡ i → ⊥) → with_mark loose i mark k ≡ loose k
+with_mark-other loose i mark k ne = cond-false _ mark (loose k) (ne_eqb k i ne)
+
+pub with_count-same : (hand : ℕ → ℕ) (i n : ℕ) → with_count hand i n i ≡ n
+with_count-same hand i n = cond-true _ n (hand i) (eq-eqb i i refl)
+
+pub with_count-other : (hand : ℕ → ℕ) (i n k : ℕ) → (k ≡ i → ⊥) → with_count hand i n k ≡ hand k
+with_count-other hand i n k ne = cond-false _ n (hand k) (ne_eqb k i ne)
+
+-- 0 where a slot is loose, or else n.
+abbrev pub unless_loose : Bool → ℕ → ℕ
+unless_loose b n = if b then 0 else n
+
+pub unless-loose : (b : Bool) (n : ℕ) → b ≡ true → unless_loose b n ≡ 0
+unless-loose b n e = cond-true b 0 n e
+
+pub unless-not : (b : Bool) (n : ℕ) → b ≡ false → unless_loose b n ≡ n
+unless-not b n e = cond-false b 0 n e
+
+pub unless-le : (b : Bool) (n : ℕ) → unless_loose b n ≤ n
+unless-le b n = cond_both b 0 n (λ v. v ≤ n) (λ _. omega arith) (λ _. omega arith)
+
+module _ (o : Options) (ns : List Node) (rs : List Ring) (heads : List ListHead) (unused : Link) (p : Places) (f : AreFiled o ns rs heads unused p) where
+  -- A slot that stands in a list belongs there.
+  pub listed-list : (k i : ℕ) → k < 2704 → 0 < occurs i (p.held k) → k ≡ list_for o (node_at ns i)
+  listed-list k i l h = filed-list o k (node_at ns i) (omega (arith, (f.free k l).each i, unless-le (p.loose i) (filed o k (node_at ns i))))
+
+  pub listed-kind : (k i : ℕ) → k < 2704 → 0 < occurs i (p.held k) → (node_at ns i).kind ≡ kind.Free
+  listed-kind k i l h = filed-kind o k (node_at ns i) (omega (arith, (f.free k l).each i, unless-le (p.loose i) (filed o k (node_at ns i))))
+
+  -- A slot stands in no list but its own.
+  pub elsewhere : (k i : ℕ) → k < 2704 → (k ≡ list_for o (node_at ns i) → ⊥) → occurs i (p.held k) ≡ 0
+  elsewhere k i l ne = elim (cases_lt 0 (occurs i (p.held k))) [ inl h ↦ absurd (ne (listed-list k i l h)) | inr z ↦ omega arith ]
+
+  pub apart : (k m i : ℕ) → k < 2704 → m < 2704 → (k ≡ m → ⊥) → 0 < occurs i (p.held k) → occurs i (p.held m) ≡ 0
+  apart k m i lk lm ne h = elsewhere m i lm (λ q. ne (listed-list k i lk h ∙ sym q))
+
+  -- A slot that is free and not loose stands in its list.
+  pub listed-one : (i : ℕ) → (node_at ns i).kind ≡ kind.Free → p.loose i ≡ false → occurs i (p.held (list_for o (node_at ns i))) ≡ 1
+  listed-one i e nl =
+      let k = list_for o (node_at ns i) in
+      (f.free k (list_of-most o (node_sides (node_at ns i)))).each i ∙ unless-not (p.loose i) _ nl ∙ filed-free o (node_at ns i) e
+
+  -- A loose slot stands in no list.
+  pub loose-nowhere : (k i : ℕ) → k < 2704 → p.loose i ≡ true → occurs i (p.held k) ≡ 0
+  loose-nowhere k i l e = (f.free k l).each i ∙ unless-loose (p.loose i) _ e
+
+  -- What stands in a list is not loose.
+  pub listed-kept : (k i : ℕ) → k < 2704 → 0 < occurs i (p.held k) → p.loose i ≡ false
+  listed-kept k i l h = grind (arith, loose-nowhere)
+
+  -- An unused slot stands in no list.
+  pub unused-nowhere : (k i : ℕ) → k < 2704 → use_count (node_at ns i).kind ≡ 0 → occurs i (p.held k) ≡ 0
+  unused-nowhere k i l e = omega (arith, (f.free k l).each i, unless-le (p.loose i) (filed o k (node_at ns i)), filed-use o k (node_at ns i))
+
+  -- What is spare is not used.
+  pub spare-use : (i : ℕ) → 0 < occurs i p.spare → (use_count (node_at ns i).kind ≡ 0) × (p.hand i ≡ 0)
+  spare-use i h = let e = f.each i (Line-inside rs i p.spare f.line h) in (omega arith, omega arith)
+
+  -- A used slot is not spare.
+  pub used-not-spare : (i : ℕ) → 0 < use_count (node_at ns i).kind → occurs i p.spare ≡ 0
+  used-not-spare i u = elim (cases_lt 0 (occurs i p.spare)) [ inl h ↦ (let e = spare-use i h in absurd (omega (arith, e.0))) | inr z ↦ omega arith ]
+
+-- A list stays as it was: its slots keep their rings.
+pub IsFiled-kept : (o : Options) (ns : List Node) (rs ts : List Ring) (heads heads' : List ListHead) (k : ℕ) (xs ys : List ℕ) (loose loose' : ℕ → Bool) → head_of heads' k ≡ head_of heads k → low_of heads' k ≡ low_of heads k → ys ≡ xs → length rs ≤ length ts → ((j : ℕ) → 0 < occurs j xs → ring_at ts j ≡ ring_at rs j) → ((j : ℕ) → unless_loose (loose' j) (filed o k (node_at ns j)) ≡ unless_loose (loose j) (filed o k (node_at ns j))) → IsFiled o ns rs heads k xs loose → IsFiled o ns ts heads' k ys loose'
+IsFiled-kept o ns rs ts heads heads' k xs ys loose loose' eh el ey lt same_at marks h =
+    grind (arith, IsList-kept rs ts (head_of heads k) xs lt same_at h.links)
+
+-- Slot i left a list.
+pub record IsTakenOut (rs ts : List Ring) (first new : Link) (i : ℕ) : Type 0 where
+  pub same_length : length ts ≡ length rs
+  pub links : (xs : List ℕ) → IsList rs first xs → 0 < occurs i xs → IsList ts new (without i xs)
+  pub others : (xs : List ℕ) (k : ℕ) → IsList rs first xs → 0 < occurs i xs → occurs k xs ≡ 0 → ring_at ts k ≡ ring_at rs k
+
+-- Slot i joined a list in front.
+pub record IsPutIn (rs ts : List Ring) (first new : Link) (i : ℕ) : Type 0 where
+  pub same_length : length ts ≡ length rs
+  pub links : (xs : List ℕ) → IsList rs first xs → occurs i xs ≡ 0 → IsList ts new (i ∷ xs)
+  pub others : (xs : List ℕ) (k : ℕ) → IsList rs first xs → (k ≡ i → ⊥) → occurs k xs ≡ 0 → ring_at ts k ≡ ring_at rs k
+
+-- The lists but list m stay.
+pub record ChangesList (heads heads' : List ListHead) (m : ℕ) : Type 0 where
+  pub firsts : (k : ℕ) → k ≢ m → head_of heads' k ≡ head_of heads k
+  pub lows : (k : ℕ) → k ≢ m → low_of heads' k ≡ low_of heads k
+
+module _ (o : Options) (ns : List Node) (rs ts : List Ring) (heads heads' : List ListHead) (unused : Link) (p : Places) (f : AreFiled o ns rs heads unused p) (i m : ℕ) (em : m ≡ list_for o (node_at ns i)) (is_free : (node_at ns i).kind ≡ kind.Free) (same_lists : ChangesList heads heads' m) where
+  below : m < 2704
+  below = rw em (list_of-most o (node_sides (node_at ns i)))
+
+  in_use : 0 < use_count (node_at ns i).kind
+  in_use = omega (arith, ap use_count is_free)
+
+  used_free : (j : ℕ) → 0 < occurs j p.spare → occurs j (p.held m) ≡ 0
+  used_free j h = unused-nowhere o ns rs heads unused p f m j below (spare-use o ns rs heads unused p f j h).0
+
+  marks : (k : ℕ) (mark : Bool) → (k ≡ m → ⊥) → (j : ℕ) → unless_loose (with_mark p.loose i mark j) (filed o k (node_at ns j)) ≡ unless_loose (p.loose j) (filed o k (node_at ns j))
+  marks k mark ne j = grind (arith, filed-other, unless-le, with_mark-other)
+
+  pub AreFiled-unlisted : p.loose i ≡ false → IsTakenOut rs ts (head_of heads m) (head_of heads' m) i → low_of heads' m ≡ low_of heads m → AreFiled o ns ts heads' unused (unlisted p i)
+  AreFiled-unlisted kept w same_low =
+      let mine = f.free m below in
+      let one : occurs i (p.held m) ≡ 1 = rw em (listed-one o ns rs heads unused p f i is_free kept) in
+      let on : 0 < occurs i (p.held m) = omega arith in
+      let same_at : (j : ℕ) → occurs j (p.held m) ≡ 0 → ring_at ts j ≡ ring_at rs j = (λ j z. w.others (p.held m) j mine.links on z) in
+      let links : IsList ts (head_of heads' m) (without i (p.held m)) = w.links (p.held m) mine.links on in
+      let changed : IsFiled o ns ts heads' m (without i (p.held m)) (with_mark p.loose i true) =
+      grind (arith, unless-loose, with_mark-same, occurs-without, same-self, same-ne, with_mark-other) in
+      record {
+        free = λ k l. elim (cases_eq k m) [
+          | inl e ↦ rw e changed
+          | inr ne ↦ IsFiled-kept o ns rs ts heads heads' k (p.held k) (without i (p.held k)) p.loose (with_mark p.loose i true) (same_lists.firsts k ne) (same_lists.lows k ne) (without-none i (p.held k) (elsewhere o ns rs heads unused p f k i l (λ q. ne (q ∙ sym em)))) (omega (arith, w.same_length)) (λ j h. same_at j (apart o ns rs heads unused p f k m j l below ne h)) (marks k true ne) (f.free k l)
+        ];
+        line = Line-kept rs ts p.spare (omega (arith, w.same_length)) (λ j h. same_at j (used_free j h)) f.line;
+        begins = f.begins;
+        each = λ j l. f.each j (omega (arith, w.same_length));
+      }
+
+  pub AreFiled-listed : p.loose i ≡ true → IsPutIn rs ts (head_of heads m) (head_of heads' m) i → low_of heads' m ≤ node_strip (node_at ns i) → ((j : ℕ) → 0 < occurs j (p.held m) → low_of heads' m ≤ low_of heads m) → AreFiled o ns ts heads' unused (listed p m i)
+  AreFiled-listed kept w low lower =
+      let mine = f.free m below in
+      let none : occurs i (p.held m) ≡ 0 = loose-nowhere o ns rs heads unused p f m i below kept in
+      let same_at : (j : ℕ) → (j ≡ i → ⊥) → occurs j (p.held m) ≡ 0 → ring_at ts j ≡ ring_at rs j = (λ j nj z. w.others (p.held m) j mine.links nj z) in
+      let changed : IsFiled o ns ts heads' m (i ∷ p.held m) (with_mark p.loose i false) = record {
+        links = w.links (p.held m) mine.links none;
+        each = λ j. elim (cases_eq j i) [
+          | inl e ↦
+              let z : unless_loose (with_mark p.loose i false j) (filed o m (node_at ns j)) ≡ 1 = unless-not (with_mark p.loose i false j) (filed o m (node_at ns j)) (rw e (with_mark-same p.loose i false)) ∙ rw (e, em) (filed-free o (node_at ns i) is_free) in
+              let u : occurs j (p.held m) ≡ 0 = rw e none in
+              let s : same j i ≡ 1 = rw e (same-self i) in
+              (let v : occurs j (i ∷ p.held m) ≡ 1 = omega arith in v) ∙ sym z
+          | inr nj ↦
+              let s = same-ne j i nj in
+              let v : occurs j (i ∷ p.held m) ≡ occurs j (p.held m) = omega arith in
+              v ∙ mine.each j ∙ sym (ap (λ b. unless_loose b (filed o m (node_at ns j))) (with_mark-other p.loose i false j nj))
+        ];
+        low = λ j h. elim (cases_eq j i) [
+          | inl e ↦ rw e low
+          | inr nj ↦
+              let here : 0 < occurs j (p.held m) = omega (arith, same-ne j i nj) in
+              omega (arith, lower j here, mine.low j here)
+        ];
+      } in
+      record {
+        free = λ k l. elim (cases_eq k m) [
+          | inl e ↦ rw (e, cond-true (eqb m m) (i ∷ p.held m) (p.held m) (eq-eqb m m refl)) changed
+          | inr ne ↦ IsFiled-kept o ns rs ts heads heads' k (p.held k) (held_with p.held m i k) p.loose (with_mark p.loose i false) (same_lists.firsts k ne) (same_lists.lows k ne) (cond-false (eqb k m) (i ∷ p.held k) (p.held k) (ne_eqb k m ne)) (omega (arith, w.same_length)) (λ j h. same_at j (λ q. absurd (ne-from_occurs i j (p.held k) (loose-nowhere o ns rs heads unused p f k i l kept) h q)) (apart o ns rs heads unused p f k m j l below ne h)) (marks k false ne) (f.free k l)
+        ];
+        line = Line-kept rs ts p.spare (omega (arith, w.same_length)) (λ j h. same_at j (λ q. absurd (ne-from_occurs i j p.spare (used-not-spare o ns rs heads unused p f i in_use) h q)) (used_free j h)) f.line;
+        begins = f.begins;
+        each = λ j l. f.each j (omega (arith, w.same_length));
+      }
+
+-- Another strip is kept of list m, which none of its slots lies above.
+pub AreFiled-sharpened : (o : Options) (ns : List Node) (rs : List Ring) (heads heads' : List ListHead) (unused : Link) (p : Places) (m low : ℕ)
+    → ((k : ℕ) → head_of heads' k ≡ head_of heads k) → ((k : ℕ) → k ≢ m → low_of heads' k ≡ low_of heads k) → low_of heads' m ≡ low
+    → ((i : ℕ) → (node_at ns i).kind ≡ kind.Free → p.loose i ≡ false → list_for o (node_at ns i) ≡ m → low ≤ node_strip (node_at ns i))
+    → AreFiled o ns rs heads unused p → AreFiled o ns rs heads' unused p
+AreFiled-sharpened o ns rs heads heads' unused p m low firsts lows here below f =
+    grind (arith, below, listed-kind, listed-kept, listed-list, IsFiled-kept)
+
+pub number-is : (o : Options) (place : Place) (size : Size) (node n : Node) → number_of place ≡ list_of o (sides_of size) → sides_of size ≡ box_sides (box_of node.area) → node ≡ n → number_of place ≡ list_for o n
+number-is o place size node n e s r = e ∙ ap (list_of o) s ∙ ap (list_for o) r
+
+-- A free slot that is not loose stands in a list.
+pub is-listed : (o : Options) (slots : List Slot) (heads : List ListHead) (i : ℕ) → IsFiledSlot o slots heads i → (node_at (nodes slots) i).kind ≡ kind.Free → IsListed (rings slots) i
+is-listed o slots heads i k free =
+    let m = list_for o (node_at (nodes slots) i) in
+    let below : m < 2704 = list_of-most o (node_sides (node_at (nodes slots) i)) in
+    let one : occurs i (k.places.held m) ≡ 1 = listed-one o _ _ heads k.unused k.places k.filed i free k.kept in
+    (head_of heads m, k.places.held m, (k.filed.free m below).links, omega arith)
+
+-- No list holds a loose slot.
+pub is-unlisted : (o : Options) (slots : List Slot) (heads : List ListHead) (i m : ℕ) → IsLooseSlot o slots heads i → m ≡ list_for o (node_at (nodes slots) i) → IsUnlisted (rings slots) (head_of heads m) i
+is-unlisted o slots heads i m k em =
+    let below : m < 2704 = rw em (list_of-most o (node_sides (node_at (nodes slots) i))) in
+    (k.places.held m, (k.filed.free m below).links, loose-nowhere o _ _ heads k.unused k.places k.filed m i below k.is_loose)
+
+-- A slot that stands in a list makes it one that is used.
+is-used : (rs : List Ring) (heads : List ListHead) (k j : ℕ) (xs : List ℕ) → length rs < 4294967295 → IsList rs (head_of heads k) xs → 0 < occurs j xs → is_used_at heads k ≡ true
+is-used rs heads k j [] short h l = absurd (omega arith)
+is-used rs heads k j (x ∷ xs) short h l = grind (arith, ne_eqb)
+
+pub unlisted-by : (o : Options) (ns ms : List Node) (rs ts : List Ring) (heads heads' : List ListHead) (i m : ℕ) (new : Link) → ms ≡ ns → m ≡ list_for o (node_at ns i) → (node_at ns i).kind ≡ kind.Free
+    → ChangesList heads heads' m → head_of heads' m ≡ new → low_of heads' m ≡ low_of heads m → IsTakenOut rs ts (head_of heads m) new i
+    → (unused : Link) (p : Places) → AreFiled o ns rs heads unused p → p.loose i ≡ false → AreFiled o ms ts heads' unused (unlisted p i)
+unlisted-by o ns ms rs ts heads heads' i m new en em free changes first low w unused p f kept =
+    grind (arith, AreFiled-unlisted o ns rs ts heads heads' unused p f i m em free changes kept)
+
+pub listed-by : (o : Options) (ns ms : List Node) (rs ts : List Ring) (heads heads' : List ListHead) (i m strip : ℕ) (new : Link) → length rs < 4294967295 → ms ≡ ns → m ≡ list_for o (node_at ns i) → (node_at ns i).kind ≡ kind.Free
+    → ChangesList heads heads' m → head_of heads' m ≡ new → strip ≡ node_strip (node_at ns i) → low_of heads' m ≤ strip
+    → (is_used_at heads m ≡ true → low_of heads' m ≤ low_of heads m) → IsPutIn rs ts (head_of heads m) new i
+    → (unused : Link) (p : Places) → AreFiled o ns rs heads unused p → p.loose i ≡ true → AreFiled o ms ts heads' unused (listed p (list_for o (node_at ns i)) i)
+listed-by o ns ms rs ts heads heads' i m strip new short en em free changes first es low lower w unused p f kept =
+    grind (
+      arith,
+      list_of-most o (node_sides (node_at ns i)),
+      AreFiled-listed o ns rs ts heads heads' unused p f i m em free changes kept,
+      is-used rs heads m,
+    )
+
+pub length-rings : (xs ys : List Slot) → length ys ≡ length xs → length (rings ys) ≡ length (rings xs)
+length-rings xs ys e = length-map ys _ ∙ e ∙ sym (length-map xs _)

@@ -1,0 +1,182 @@
+-- Slots are taken and given back, and the nodes change under the lists.
+use Rattle.std.proofs.Common.{ℕ, ◌+◌, ◌<◌, ◌≡◌, List, [], ◌∷◌, ◌++◌, refl, sym, ap, ◌∙◌, ◌⊎◌, inl, inr, arith, length, set, get_or-set_same, get_or-set_other, length-set, Bool, true, false}
+use Rattle.std.proofs.lemmas.Bool.{cond-false, and_left, ne_eqb}
+use Rattle.std.proofs.lemmas.List.{get_or_past, length-map, get_or_append_left, get_or_push, length_push, map-append}
+use Rattle.atlas_store.specs.declared.slots.Slot.{Slot}
+use Rattle.atlas_store.specs.declared.slots.Link.{Link}
+use Rattle.atlas_store.specs.declared.slots.Node.{Node}
+use Rattle.atlas_store.specs.declared.slots.Ring.{Ring}
+use Rattle.atlas_store.specs.declared.slots.NodeKind.{NodeKind}
+use Rattle.atlas_store.specs.declared.slots.NodeKind.TheVariants as kind
+use Rattle.atlas_store.specs.declared.search.table.ListHead.{ListHead}
+use Rattle.atlas_model.specs.Choice.{Options}
+use Rattle.atlas_store.specs.Slots.{nodes, rings, node_at, ring_at, use_count, no_slot, blank_node, blank_ring, blank_slot}
+use Rattle.atlas_store.specs.Slots.Lists.{AreFiled, Places, IsList, Line, occurs, front, filed, is_free}
+use Rattle.atlas_store.specs.Search.Tables.{head_of, is_used_at}
+use Rattle.atlas_store.specs.Slots.Links.{with_count, with_mark, tail_of, renewed, given_back, IsTaken, TakesFirst}
+use Rattle.atlas_store.proofs.ListLemmas.Occurrences.{same-self, same-ne, ne-from_occurs}
+use Rattle.atlas_store.proofs.StoreLemmas.Unlinking.{IsList-kept, Line-kept, Line-inside, Line-given}
+use Rattle.atlas_store.proofs.StoreLemmas.Filing.{unless-le, filed-use, with_mark-same, unless_loose, unless-loose, spare-use, unused-nowhere, with_count-same, with_count-other, past-unused}
+
+-- The lists stay in order where the nodes change: each slot is filed as before, is used or in hand as before, and keeps
+-- its rectangle if it stands in a list.
+pub AreFiled-nodes : (o : Options) (ns ms : List Node) (rs : List Ring) (heads : List ListHead) (unused : Link) (p : Places) (hand' : ℕ → ℕ) (loose' : ℕ → Bool) → ((k i : ℕ) → unless_loose (loose' i) (filed o k (node_at ms i)) ≡ unless_loose (p.loose i) (filed o k (node_at ns i))) → ((i : ℕ) → i < length rs → hand' i + use_count (node_at ms i).kind ≡ p.hand i + use_count (node_at ns i).kind) → ((k i : ℕ) → k < 2704 → 0 < occurs i (p.held k) → (node_at ms i).area ≡ (node_at ns i).area) → AreFiled o ns rs heads unused p → AreFiled o ms rs heads unused (record p { hand = hand'; loose = loose' })
+AreFiled-nodes o ns ms rs heads unused p hand' loose' files counts areas f = grind arith
+
+-- A slot stands in no list: it is loose or not free.
+abbrev pub IsOut : Bool → NodeKind → Type 0
+IsOut loose k = (loose ≡ true) ⊎ (is_free k ≡ false)
+
+-- A slot is as before for the lists, or was and is out of them.
+abbrev pub IsMoved : (n m : Node) (loose loose' : Bool) → Type 0
+IsMoved n m loose loose' =
+    ((m.kind ≡ n.kind) × (m.area ≡ n.area) × (loose' ≡ loose)) ⊎ (IsOut loose n.kind × IsOut loose' m.kind)
+
+filed-out : (o : Options) (k : ℕ) (n : Node) (loose : Bool) → IsOut loose n.kind → unless_loose loose (filed o k n) ≡ 0
+filed-out o k n loose (inl e) = unless-loose loose (filed o k n) e
+filed-out o k n loose (inr e) = grind (arith, cond-false, and_left, unless_loose)
+
+filed-same : (o : Options) (k : ℕ) (n m : Node) → m.kind ≡ n.kind → m.area ≡ n.area → filed o k m ≡ filed o k n
+filed-same o k n m e a = grind arith
+
+-- The lists stay in order where the nodes of slots that are out of them change.
+pub AreFiled-moved : (o : Options) (ns ms : List Node) (rs : List Ring) (heads : List ListHead) (unused : Link) (p : Places) (hand' : ℕ → ℕ) (loose' : ℕ → Bool) → ((i : ℕ) → IsMoved (node_at ns i) (node_at ms i) (p.loose i) (loose' i)) → ((i : ℕ) → i < length rs → hand' i + use_count (node_at ms i).kind ≡ p.hand i + use_count (node_at ns i).kind) → AreFiled o ns rs heads unused p → AreFiled o ms rs heads unused (record p { hand = hand'; loose = loose' })
+AreFiled-moved o ns ms rs heads unused p hand' loose' moved counts f =
+    grind (arith, AreFiled-nodes, unless_loose, filed-same, filed-out)
+
+-- The nodes stay as they were where a new slot comes.
+pub node_at-grown : (ns : List Node) (i : ℕ) → node_at (ns ++ blank_node ∷ []) i ≡ node_at ns i
+node_at-grown ns i = grind (arith, get_or_append_left, get_or_push, get_or_past, length_push)
+
+-- One more unused slot, which is in hand.
+module _ (o : Options) (ns : List Node) (rs : List Ring) (heads : List ListHead) (unused : Link) (p : Places) (f : AreFiled o ns rs heads unused p) where
+  ring_at-grown : (i : ℕ) → ring_at (rs ++ blank_ring ∷ []) i ≡ ring_at rs i
+  ring_at-grown i = grind (arith, get_or_append_left, get_or_push, get_or_past, length_push)
+
+  pub AreFiled-grown : length ns ≡ length rs → AreFiled o (ns ++ blank_node ∷ []) (rs ++ blank_ring ∷ []) heads unused (record p { hand = with_count p.hand (length rs) 1 })
+  AreFiled-grown el =
+      let longer = length_push rs blank_ring in
+      let ms = ns ++ blank_node ∷ [] in
+      let moved = AreFiled-nodes o ns ms rs heads unused p p.hand p.loose (λ k i. ap (λ n. unless_loose (p.loose i) (filed o k n)) (node_at-grown ns i)) (λ i l. ap (λ (n : Node). p.hand i + use_count n.kind) (node_at-grown ns i)) (λ k i l h. ap (λ (n : Node). n.area) (node_at-grown ns i)) f in
+      record {
+        free = λ k l. let mine = moved.free k l in record { links = IsList-kept rs (rs ++ blank_ring ∷ []) (head_of heads k) (p.held k) (omega arith) (λ j h. ring_at-grown j) mine.links; each = mine.each; low = mine.low };
+        line = Line-kept rs (rs ++ blank_ring ∷ []) p.spare (omega arith) (λ j h. ring_at-grown j) f.line;
+        begins = f.begins;
+        each = grind (arith, node_at-grown, past-unused, with_count-same, Line-inside, with_count-other);
+      }
+
+  -- The first spare slot is taken.
+  pub AreFiled-taken : (x : ℕ) (rest : List ℕ) (next : Link) → p.spare ≡ x ∷ rest → next ≡ (ring_at rs x).next → AreFiled o ns rs heads next (record p { spare = rest; hand = with_count p.hand x 1 })
+  AreFiled-taken x rest next es en = grind (arith, with_count-same, same-self, with_count-other, same-ne)
+
+  -- A slot in hand becomes the first spare one.
+  pub AreFiled-given : (ts : List Ring) (i : ℕ) (ring : Ring) (next : Link) → i < length rs → 0 < p.hand i → ts ≡ set rs i ring → ring.next ≡ unused → next.number ≡ i → AreFiled o ns ts heads next (given_back p i)
+  AreFiled-given ts i ring next li hi et er en =
+      let lt : length ts ≡ length rs = rw et (length-set rs i ring) in
+      let now = f.each i li in
+      let unused_now : use_count (node_at ns i).kind ≡ 0 = omega arith in
+      let same_at : (j : ℕ) → (j ≡ i → ⊥) → ring_at ts j ≡ ring_at rs j = (λ j ne. rw et (get_or-set_other rs i j ring blank_ring ne)) in
+      let none : occurs i p.spare ≡ 0 = omega arith in
+      record {
+        free = λ k l. let mine = f.free k l in record { links = IsList-kept rs ts (head_of heads k) (p.held k) (omega arith) (λ j h. same_at j (ne-from_occurs i j (p.held k) (unused-nowhere o ns rs heads unused p f k i l unused_now) h)) mine.links; each = mine.each; low = mine.low };
+        line = Line-given rs ts i ring li et p.spare f.line (ap (λ (l : Link). l.number) er ∙ f.begins) none;
+        begins = en;
+        each = grind (arith, with_count-same, same-self, with_count-other, same-ne);
+      }
+
+unused_kind : (k : NodeKind) → use_count k ≡ 0 → k ≡ kind.Unused
+unused_kind kind.Container e = absurd (omega arith)
+unused_kind kind.Alloc e = absurd (omega arith)
+unused_kind kind.Free e = absurd (omega arith)
+unused_kind kind.Unused e = refl
+
+nil-from_inside : (rs : List Ring) (spare : List ℕ) → length rs < 4294967295 → Line rs spare → front spare ≡ no_slot → spare ≡ []
+nil-from_inside rs [] short l e = refl
+nil-from_inside rs (x ∷ xs) short l e = absurd (omega (arith, l.0))
+
+-- No slot is unused: a new one is taken.
+taken-fresh : (o : Options) (old new : List Slot) (slot : Slot) (heads : List ListHead) (unused : Link) (at : ℕ) → length old < 4294967295 → unused.number ≡ no_slot → at ≡ length old → new ≡ old ++ slot ∷ [] → slot ≡ blank_slot → (p : Places) → AreFiled o (nodes old) (rings old) heads unused p → IsTaken o old new heads unused p at
+taken-fresh o old new slot heads unused at short none ea en es p f =
+    let ln : length (nodes old) ≡ length old = length-map old _ in
+    let lr : length (rings old) ≡ length old = length-map old _ in
+    let last : new ≡ old ++ blank_slot ∷ [] = en ∙ ap (λ s. old ++ s ∷ []) es in
+    let ns : nodes new ≡ nodes old ++ blank_node ∷ [] = ap nodes last ∙ map-append (λ (s : Slot). s.node) old (blank_slot ∷ []) in
+    let rs : rings new ≡ rings old ++ blank_ring ∷ [] = ap rings last ∙ map-append (λ (s : Slot). s.ring) old (blank_slot ∷ []) in
+    let empty : p.spare ≡ [] = nil-from_inside (rings old) p.spare (omega arith) f.line (sym f.begins ∙ none) in
+    let same_rest : tail_of p.spare ≡ p.spare = ap tail_of empty ∙ sym empty in
+    let grown = AreFiled-grown o (nodes old) (rings old) heads unused p f (ln ∙ sym lr) in
+    let P : List Node → List Ring → List ℕ → ℕ → Type 0 = λ ms ts ys n. AreFiled o ms ts heads unused (record p { spare = ys; hand = with_count p.hand n 1 }) in
+    let at_node : (i : ℕ) → node_at (nodes new) i ≡ node_at (nodes old) i = (λ i. rw ns (node_at-grown (nodes old) i)) in
+    let blank : node_at (nodes old) at ≡ blank_node = get_or_past (nodes old) at blank_node (omega arith) in
+    record {
+      filed = rw (ns, rs, same_rest, ea, ← lr) grown;
+      inside = omega (arith, ap length last, length_push old blank_slot);
+      was_unused = ap (λ (n : Node). n.kind) blank;
+      is_unused = ap (λ (n : Node). n.kind) (at_node at ∙ blank);
+      apart = λ k l h e. absurd (omega arith);
+    }
+
+-- The first unused slot is taken.
+taken-again : (o : Options) (old new : List Slot) (heads : List ListHead) (unused next : Link) → (unused.number ≡ no_slot → ⊥) → next ≡ (ring_at (rings old) unused.number).next → nodes new ≡ set (nodes old) unused.number (renewed (node_at (nodes old) unused.number)) → rings new ≡ rings old → (p : Places) → AreFiled o (nodes old) (rings old) heads unused p → IsTaken o old new heads next p unused.number
+taken-again o old new heads unused next some en em er p f =
+    grind (arith, length-map, same-self, spare-use, unused_kind, get_or-set_same, get_or-set_other, AreFiled-taken, AreFiled-moved)
+
+-- The same where the slots are seen through another name.
+taken-again_by : (o : Options) (old items ys new : List Slot) (heads : List ListHead) (unused : Link) (ring : Ring) → items ≡ old → new ≡ ys → (unused.number ≡ no_slot → ⊥) → ring ≡ ring_at (rings old) unused.number → nodes ys ≡ set (nodes items) unused.number (renewed (node_at (nodes items) unused.number)) → rings ys ≡ rings items → (p : Places) → AreFiled o (nodes old) (rings old) heads unused p → IsTaken o old new heads ring.next p unused.number
+taken-again_by o old items ys new heads unused ring ei ey some eg em er p f =
+    grind (arith, taken-again o old new heads unused ring.next some)
+
+-- What is taken is the first of the unused slots, or else a new one.
+pub takes-fresh : (old new : List Slot) (slot : Slot) (unused at : Link) → length old < 4294967295 → unused.number ≡ no_slot
+    → at.number ≡ length old → new ≡ old ++ slot ∷ [] → slot ≡ blank_slot → TakesFirst old new unused unused at
+takes-fresh old new slot unused at short none ea en es =
+    let last : new ≡ old ++ blank_slot ∷ [] = en ∙ ap (λ s. old ++ s ∷ []) es in
+    let ns : nodes new ≡ nodes old ++ blank_node ∷ [] =
+    ap nodes last ∙ map-append (λ (s : Slot). s.node) old (blank_slot ∷ []) in
+    record {
+      taken = λ o heads. taken-fresh o old new slot heads unused at.number short none ea en es;
+      others = λ k _. rw ns (node_at-grown (nodes old) k);
+      again = λ some. absurd (some none);
+      fresh = λ _. (ea, last);
+    }
+
+pub takes-again : (old items ys new : List Slot) (unused : Link) (ring : Ring) → items ≡ old → new ≡ ys
+    → (unused.number ≡ no_slot → ⊥) → ring ≡ ring_at (rings old) unused.number
+    → nodes ys ≡ set (nodes items) unused.number (renewed (node_at (nodes items) unused.number)) → rings ys ≡ rings items
+    → TakesFirst old new unused ring.next unused
+takes-again old items ys new unused ring ei ey some eg em er =
+    let at = unused.number in
+    let now : Node = renewed (node_at (nodes old) at) in
+    let en : nodes new ≡ set (nodes old) at now = rw (ey, ← ei) em in
+    record {
+      taken = λ o heads. taken-again_by o old items ys new heads unused ring ei ey some eg em er;
+      others = λ k ne. rw en (get_or-set_other (nodes old) at k now blank_node ne);
+      again = λ _. (refl, en);
+      fresh = λ none. absurd (some none);
+    }
+
+pub given-by : (o : Options) (old new : List Slot) (heads : List ListHead) (unused at : Link) (ring : Ring) → at.number < length old → rings new ≡ set (rings old) at.number ring → nodes new ≡ nodes old → ring.next ≡ unused → (p : Places) → AreFiled o (nodes old) (rings old) heads unused p → 0 < p.hand at.number → AreFiled o (nodes new) (rings new) heads at (given_back p at.number)
+given-by o old new heads unused at ring li er en es p f h =
+    let inside : at.number < length (rings old) = rw (length-map old (λ (s : Slot). s.ring)) li in
+    rw en (AreFiled-given o (nodes old) (rings old) heads unused p f (rings new) at.number ring at inside h er es refl)
+
+empty-list : (rs : List Ring) (first : Link) → first.number ≡ no_slot → IsList rs first []
+empty-list rs first none = record { chain = tt; begins = none; once = λ k. omega arith }
+
+-- Slot 0 is loose, and nothing else stands anywhere.
+abbrev pub one_loose : Places
+one_loose = record { spare = []; held = λ _. []; hand = λ _. 0; loose = with_mark (λ _. false) 0 true }
+
+none-used : (heads : List ListHead) (k : ℕ) → is_used_at heads k ≡ false → (head_of heads k).number ≡ no_slot
+none-used heads k e = grind (arith, ne_eqb)
+
+-- One free slot, which is loose: the lists are empty.
+pub AreFiled-one : (o : Options) (n : Node) (ring : Ring) (heads : List ListHead) (unused : Link) → n.kind ≡ kind.Free → ((k : ℕ) → is_used_at heads k ≡ false) → unused.number ≡ no_slot → AreFiled o (n ∷ []) (ring ∷ []) heads unused one_loose
+AreFiled-one o n ring heads unused e empty none =
+    grind (arith, empty-list, none-used, unless-loose, with_mark-same, unless-le, filed-use, past-unused)
+
+-- Slot i changes what it is used for, and is out of the lists before and after; any other keeps its use.
+pub record Changes (ns ms : List Node) (i : ℕ) (loose loose' : Bool) (hand hand' : ℕ) : Type 0 where
+  pub out_before : IsOut loose (node_at ns i).kind
+  pub out_after : IsOut loose' (node_at ms i).kind
+  pub counts : hand' + use_count (node_at ms i).kind ≡ hand + use_count (node_at ns i).kind

@@ -1,0 +1,21 @@
+use Rattle.std.proofs.Common.{arith}
+use Rattle.atlas_store.proofs.SearchLemmas.TableHeads.{read-head, is_slot, kept-table, head_of-any, low_of-same, low_of-other}
+use Rattle.atlas_store.proofs.search.table.Table.set_low.Goals as goal
+
+pub invariant_of-self : goal.invariant_of-self
+invariant_of-self g c =
+    grind (
+      arith,
+      kept-table c.self.inside.heads.items c.self.inside.marks c.args.at.row c.args.at.column,
+      is_slot,
+      read-head c.self.inside.heads.items,
+    )
+
+pub returns-clause-heads : goal.returns-clause-heads
+returns-clause-heads g c = grind (arith, head_of-any, read-head)
+
+pub returns-clause-low : goal.returns-clause-low
+returns-clause-low g c = grind (arith, low_of-same)
+
+pub returns-clause-lows : goal.returns-clause-lows
+returns-clause-lows g c = grind (arith, low_of-other)

@@ -1,0 +1,17 @@
+use Rattle.std.proofs.Common.{◌<◌, length, refl}
+use Rattle.std.proofs.lemmas.List.{length-map}
+use Rattle.atlas_store.specs.Slots.{nodes}
+use Rattle.atlas_store.proofs.SlotLemmas.Granting.{Stands-granted}
+use Rattle.atlas_store.proofs.SlotLemmas.Frames.{IsWritten-by, keeps-same}
+use Rattle.atlas_store.proofs.slots.placing.grant_leaf.Goals as goal
+
+pub returns : goal.returns
+returns c =
+    let at : c.args.at.number < length (nodes c.args.slots.now) = simp length-map c.requires.inside in
+    let w = IsWritten-by (nodes c.args.slots.now) (nodes c.set_kind.new.slots) c.args.at.number _ _ c.set_kind.ensures.written refl at in
+    record {
+      tree = Stands-granted _ _ _ w c.requires.free;
+      leaf = w.there;
+      others = λ k ne. keeps-same _ _ (w.others k ne);
+      same_rings = c.set_kind.ensures.same_rings;
+    }

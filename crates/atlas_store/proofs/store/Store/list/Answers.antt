@@ -1,0 +1,34 @@
+use Rattle.std.proofs.Common.{◌≡◌, false, refl}
+use Rattle.atlas_model.specs.Pixels.{options_of}
+use Rattle.atlas_store.specs.Slots.{nodes, node_at}
+use Rattle.atlas_store.specs.Search.Bands.{list_of}
+use Rattle.atlas_store.specs.Slots.Lists.{node_sides}
+use Rattle.atlas_store.specs.Slots.Links.{held_with, with_mark}
+use Rattle.atlas_store.specs.Stored.{places_of}
+use Rattle.atlas_store.specs.Store.Holdings.{shelf_of}
+use Rattle.atlas_store.proofs.StoreLemmas.StoreFacts.{are-slots, across-call, slots-room}
+use Rattle.atlas_store.proofs.StoreLemmas.StoreSteps.{listed-holds, leaf-exact}
+use Rattle.atlas_store.proofs.store.Store.list.Goals as goal
+
+pub enlist-requires-clause-exact : goal.enlist-requires-clause-exact
+enlist-requires-clause-exact g c =
+    let leaf = c.requires.1 in
+    leaf-exact (shelf_of c.args.self.now) c.deref_mut.result.now c.args.at.number c.requires.0 c.deref_mut.ensures.value leaf.holds leaf.kind
+
+pub returns : goal.returns
+returns g c =
+    let slots = are-slots c.args.self.now c.deref_mut.ensures.value c.deref_mut.ensures.len c.enlist.auto.slots in
+    record {
+      kept = λ h leaf.
+          let sides = node_sides (node_at (nodes c.deref_mut.result.now) c.args.at.number) in
+          let held : _ = held_with h.held (list_of (options_of c.args.self.now.options) sides) c.args.at.number in (
+            held,
+            listed-holds (shelf_of c.args.self.now) c.deref_mut.result.now c.enlist.new.slots _ c.enlist.new.lists h held
+                (with_mark h.loose c.args.at.number false) slots c.enlist.ensures.same_nodes
+                (λ filed. c.enlist.ensures.filed c.args.self.now.unused (places_of (λ i. 0) h) filed leaf.loose)
+                leaf.holds,
+          );
+      nodes = across-call (λ a b. nodes b ≡ nodes a) slots c.enlist.ensures.same_nodes;
+      room = slots-room c.args.self.now _ slots refl refl;
+      turns = refl;
+    }

@@ -1,0 +1,28 @@
+use Rattle.std.proofs.Common.{◌<◌, ◌^◌, ◌∙◌, refl, rules}
+use Rattle.atlas_model.specs.Pixels.{natural, sides_of}
+use Rattle.atlas_store.specs.Store.Starts.{loose_holding}
+use Rattle.atlas_store.proofs.StoreLemmas.Starting.{whole_leaf}
+use Rattle.atlas_store.proofs.store.Store.start.Goals as goal
+
+pub list-requires : goal.list-requires
+list-requires g c =
+    let wide : natural c.args.size.width < 2 ^ 31 = search rules in
+    let high : natural c.args.size.height < 2 ^ 31 = search rules in (
+      loose_holding (sides_of c.args.size),
+      whole_leaf _ c.args.size (record { slots = search rules; lists = c.clear-2.ensures; unused = refl; valid = c.requires.options }) c.requires.size wide high,
+    )
+
+pub returns : goal.returns
+returns g c =
+    let wide : natural c.args.size.width < 2 ^ 31 = search rules in
+    let high : natural c.args.size.height < 2 ^ 31 = search rules in
+    record {
+      holds =
+          c.list.ensures.kept (loose_holding (sides_of c.args.size))
+          (whole_leaf _ c.args.size (record { slots = search rules; lists = c.clear-2.ensures; unused = refl; valid = c.requires.options }) c.requires.size wide high);
+      slots = c.list.ensures.nodes ∙ search rules;
+      one = c.list.ensures.room.slots ∙ search rules;
+      options = c.list.ensures.room.options;
+      capacity = c.list.ensures.room.capacity ∙ search rules;
+      turns = c.list.ensures.turns;
+    }

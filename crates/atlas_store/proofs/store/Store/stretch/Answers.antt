@@ -1,0 +1,18 @@
+use Rattle.std.proofs.Common.{refl, rules, arith}
+use Rattle.atlas_store.specs.Store.Holdings.{shelf_of}
+use Rattle.atlas_store.proofs.StoreLemmas.StoreFacts.{are-slots, across-call, slots-room}
+use Rattle.atlas_store.proofs.StoreLemmas.ExtendingSteps.{sides-fit, stretched-holds}
+use Rattle.atlas_store.proofs.store.Store.stretch.Goals as goal
+
+pub returns : goal.returns
+returns g c =
+    let slots = are-slots c.args.self.now c.deref_mut.ensures.value c.deref_mut.ensures.len c.stretch_leaf.auto.slots in
+    let w = c.stretch_leaf.ensures in
+    record {
+      kept =
+          stretched-holds (shelf_of c.args.self.now) c.deref_mut.result.now c.stretch_leaf.new.slots _ c.args.at.number c.args.size slots
+          (sides-fit c.args.size (search rules) (search rules)) w;
+      free = grind (arith, across-call);
+      room = slots-room c.args.self.now _ slots refl refl;
+      turns = refl;
+    }

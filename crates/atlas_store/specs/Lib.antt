@@ -1,0 +1,9 @@
+pub mod Rectangles
+pub mod Search
+pub mod Slots
+pub mod Store
+pub mod Stored
+pub mod Visits
+pub mod Walks
+pub mod Batches
+pub mod Generations

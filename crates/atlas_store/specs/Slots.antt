@@ -1,0 +1,69 @@
+-- The two parts of stored slots. No public clause cites this module.
+pub mod Numbered
+pub mod Standing
+pub mod Lists
+pub mod Reading
+pub mod Parts
+pub mod Calm
+pub mod Links
+pub mod Areas
+pub mod Growing
+pub mod SlotCalls
+use Rattle.std.specs.Prelude.{ℕ, ◌≡◌, List, map, pos, slice_index_or}
+use Rattle.atlas_store.specs.declared.slots.Slot.{Slot}
+use Rattle.atlas_store.specs.declared.slots.Node.{Node}
+use Rattle.atlas_store.specs.declared.slots.Ring.{Ring}
+use Rattle.atlas_store.specs.declared.slots.NodeKind.{NodeKind}
+use Rattle.atlas_store.specs.declared.slots.NodeKind.TheVariants as kind
+use Rattle.atlas_store.specs.declared.cut.Orientation.TheVariants as orientation
+pub use Rattle.atlas_store.specs.Rectangles.{axis_of}
+
+-- The number of no slot.
+abbrev pub no_slot : ℕ
+no_slot = 4294967295
+
+-- The tree's part of each slot.
+abbrev pub nodes : List Slot → List Node
+nodes slots = map (λ s. s.node) slots
+
+-- The lists' part of each slot.
+abbrev pub rings : List Slot → List Ring
+rings slots = map (λ s. s.ring) slots
+
+-- What stands for a slot past the end: it is unused.
+abbrev pub blank_node : Node
+blank_node =
+    record {
+      parent = record { number = 0 };
+      previous = record { number = 0 };
+      next = record { number = 0 };
+      area = record { min = record { x = pos 0; y = pos 0 }; max = record { x = pos 0; y = pos 0 } };
+      kind = kind.Unused;
+      axis = orientation.Vertical;
+      generation = 0;
+    }
+
+abbrev pub blank_ring : Ring
+blank_ring = record { previous = record { number = 0 }; next = record { number = 0 } }
+
+abbrev pub blank_slot : Slot
+blank_slot = record { node = blank_node; ring = blank_ring }
+
+abbrev pub node_at : List Node → ℕ → Node
+node_at ns i = slice_index_or ns i blank_node
+
+abbrev pub ring_at : List Ring → ℕ → Ring
+ring_at rs i = slice_index_or rs i blank_ring
+
+-- 1 if a slot of this kind is used.
+abbrev pub use_count : NodeKind → ℕ
+use_count kind.Container = 1
+use_count kind.Alloc = 1
+use_count kind.Free = 1
+use_count kind.Unused = 0
+
+-- What a slot is used for, its rectangle and its generation stay.
+pub record KeepsUse (old new : Node) : Type 0 where
+  pub kind : new.kind ≡ old.kind
+  pub area : new.area ≡ old.area
+  pub generation : new.generation ≡ old.generation

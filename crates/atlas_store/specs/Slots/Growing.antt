@@ -1,0 +1,107 @@
+-- How the slots of an atlas that grows change. No public clause cites this module.
+use Rattle.std.specs.Prelude.{ℕ, ◌+◌, ◌<◌, ◌≡◌, true}
+use Rattle.atlas_model.specs.declared.geometry.Size.{Size}
+use Rattle.atlas_model.specs.declared.geometry.Rectangle.{Rectangle}
+use Rattle.atlas_model.specs.Boxes.{Axis, Sides, other, side}
+use Rattle.atlas_model.specs.Trees.{total}
+use Rattle.atlas_store.specs.Slots.Links.{with_mark}
+use Rattle.atlas_store.specs.Slots.{no_slot}
+use Rattle.atlas_store.specs.Slots.Numbered.{Numbered, erase, first_slot, End, Free, Alloc, Seq}
+use Rattle.atlas_store.specs.Slots.Standing.{Sequence}
+use Rattle.atlas_store.specs.Stored.{Holding}
+
+-- The number of the last member, or `before` where there is none.
+abbrev pub last_after : (before : ℕ) → Numbered → ℕ
+last_after before End = before
+last_after before (Free i e rest) = last_after i rest
+last_after before (Alloc i g e rest) = last_after i rest
+last_after before (Seq i e inner rest) = last_after i rest
+
+abbrev pub last_slot : Numbered → ℕ
+last_slot n = last_after no_slot n
+
+-- The last member, if it is free, is d longer.
+abbrev pub stretched : (d : ℕ) → Numbered → Numbered
+stretched d End = End
+stretched d (Free i e End) = Free i (e + d) End
+stretched d (Free i e rest) = Free i e (stretched d rest)
+stretched d (Alloc i g e rest) = Alloc i g e (stretched d rest)
+stretched d (Seq i e inner rest) = Seq i e inner (stretched d rest)
+
+-- A free member of extent d at slot k comes last.
+abbrev pub appended : (k d : ℕ) → Numbered → Numbered
+appended k d End = Free k d End
+appended k d (Free i e rest) = Free i e (appended k d rest)
+appended k d (Alloc i g e rest) = Alloc i g e (appended k d rest)
+appended k d (Seq i e inner rest) = Seq i e inner (appended k d rest)
+
+-- A sequence of this length ends at the far corner of a size.
+abbrev pub Reaches : Sides → Sequence → (length : ℕ) → Type 0
+Reaches size s length = (length ≡ side s.axis size) × (s.start + s.width ≡ side (other s.axis) size)
+
+-- The rectangle of a leaf that reaches to the far corner of a size.
+abbrev pub stretched_area : Rectangle → Size → Rectangle
+stretched_area area size = record area { max = record { x = size.width; y = size.height } }
+
+-- A sequence held by slot `parent`.
+abbrev pub held_by : (parent : ℕ) → Sequence → Sequence
+held_by parent s = record s { parent = parent }
+
+-- A top sequence as wide as this.
+abbrev pub top_along : Axis → (width : ℕ) → Sequence
+top_along axis width = record { parent = no_slot; axis = axis; start = 0; width = width }
+
+-- The sequence of one free leaf, as wide as a size.
+abbrev pub whole_sequence : Sides → Sequence → Sequence
+whole_sequence size s = record s { width = side (other s.axis) size }
+
+-- Slot `last` holds the last member; with d more the top sequence ends at the far corner of a size.
+pub record IsEnd (size : Sides) (d last : ℕ) (h : Holding) : Type 0 where
+  pub start : h.sequence.start ≡ 0
+  pub ends : last_slot h.tree ≡ last
+  pub some : 0 < total (erase h.tree)
+  pub along : total (erase h.tree) + d ≡ side h.sequence.axis size
+  pub across : h.sequence.width ≡ side (other h.sequence.axis) size
+
+-- Slot `at` is one free leaf.
+pub record IsLone (at : ℕ) (h : Holding) : Type 0 where
+  pub start : h.sequence.start ≡ 0
+  pub extent : ℕ
+  pub tree : h.tree ≡ Free at extent End
+
+-- The top sequence begins at slot `first`, and spans a size.
+pub record IsSpanning (size : Sides) (first : ℕ) (h : Holding) : Type 0 where
+  pub start : h.sequence.start ≡ 0
+  pub begins : first_slot h.tree ≡ first
+  pub some : 0 < total (erase h.tree)
+  pub along : total (erase h.tree) ≡ side h.sequence.axis size
+  pub across : h.sequence.width ≡ side (other h.sequence.axis) size
+
+-- The second size is as long along an axis, and d wider across.
+abbrev pub IsWider : Axis → (inner size : Sides) → (d : ℕ) → Type 0
+IsWider axis inner size d = (side axis size ≡ side axis inner) × (side (other axis) inner + d ≡ side (other axis) size)
+
+-- The last member of the top sequence is a free leaf, and d longer.
+abbrev pub after_stretch : (d : ℕ) → Holding → Holding
+after_stretch d h = record h { tree = stretched d h.tree }
+
+-- The one free leaf of slot `at` is as large as a size.
+abbrev pub after_whole : Sides → (at : ℕ) → Holding → Holding
+after_whole size at h =
+    record h { sequence = whole_sequence size h.sequence; tree = Free at (side h.sequence.axis size) End }
+
+-- Slot k holds a loose leaf of extent d that comes last in the top sequence.
+abbrev pub after_append : (k d : ℕ) → Holding → Holding
+after_append k d h = record h { tree = appended k d h.tree; loose = with_mark h.loose k true }
+
+-- Slot c holds what was the top sequence, the only member of the new one.
+abbrev pub after_wrap_top : (c : ℕ) → Holding → Holding
+after_wrap_top c h =
+    record h {
+      sequence = top_along (other h.sequence.axis) (total (erase h.tree));
+      tree = Seq c h.sequence.width h.tree End;
+    }
+
+-- And after it comes a loose leaf of extent d in slot k.
+abbrev pub after_nest : (c k d : ℕ) → Holding → Holding
+after_nest c k d h = after_append k d (after_wrap_top c h)

@@ -1,0 +1,133 @@
+-- What the calls on lists of slots make of rings, lists and marks. No public clause cites this module.
+use Rattle.std.specs.Prelude.{ℕ, ◌+◌, ◌%◌, ◌≡◌, ◌≢◌, ◌<◌, ◌==◌, Bool, true, false, if◌then◌else◌}
+use Rattle.std.specs.Prelude.{List, [], ◌∷◌, ◌++◌, length, slice_set}
+use Rattle.atlas_store.specs.declared.slots.Slot.{Slot}
+use Rattle.atlas_store.specs.declared.slots.Link.{Link}
+use Rattle.atlas_store.specs.declared.slots.Node.{Node}
+use Rattle.atlas_store.specs.declared.slots.Ring.{Ring}
+use Rattle.atlas_store.specs.declared.slots.NodeKind.TheVariants as kind
+use Rattle.atlas_store.specs.declared.search.bands.Place.{Place}
+use Rattle.atlas_store.specs.declared.search.table.ListHead.{ListHead}
+use Rattle.atlas_model.specs.declared.geometry.Rectangle.{Rectangle}
+use Rattle.atlas_model.specs.Boxes.{IsNonempty}
+use Rattle.atlas_model.specs.Pixels.{box_of}
+use Rattle.atlas_store.specs.Rectangles.{IsUnsigned}
+use Rattle.atlas_model.specs.Choice.{Options}
+use Rattle.atlas_store.specs.Slots.{nodes, rings, node_at, ring_at, blank_slot, no_slot}
+use Rattle.atlas_store.specs.Search.Bands.{list_of}
+use Rattle.atlas_store.specs.Slots.Lists.{IsList, AreFiled, Line, Places, front, node_sides, occurs, without}
+
+-- Slot i stands in a list that is in order.
+abbrev pub IsListed : List Ring → ℕ → Type 0
+IsListed rs i = (first : Link) × (xs : List ℕ) × IsList rs first xs × (0 < occurs i xs)
+
+-- The list that begins with this link is in order, and slot i does not stand in it.
+abbrev pub IsUnlisted : List Ring → Link → ℕ → Type 0
+IsUnlisted rs first i = (xs : List ℕ) × IsList rs first xs × (occurs i xs ≡ 0)
+
+-- What a list begins with once a slot with these neighbours left it.
+abbrev pub first_without : Ring → Link → Link
+first_without ring first = if ring.previous.number == no_slot then ring.next else first
+
+-- `link` comes after slot i in its list; nothing happens where i is no slot.
+abbrev pub with_next : List Ring → ℕ → Link → List Ring
+with_next rs i link = slice_set rs i (record (ring_at rs i) { next = link })
+
+-- `link` comes before slot i in its list; nothing happens where i is no slot.
+abbrev pub with_ring_previous : List Ring → ℕ → Link → List Ring
+with_ring_previous rs i link = slice_set rs i (record (ring_at rs i) { previous = link })
+
+-- The mark of slot i is `mark`, and the others stay.
+abbrev pub with_mark : (ℕ → Bool) → ℕ → Bool → ℕ → Bool
+with_mark loose i mark k = if k == i then mark else loose k
+
+-- The count of slot i is n, and the others stay.
+abbrev pub with_count : (ℕ → ℕ) → ℕ → ℕ → ℕ → ℕ
+with_count hand i n k = if k == i then n else hand k
+
+-- Slot i is gone from each list.
+abbrev pub held_without : (ℕ → List ℕ) → ℕ → ℕ → List ℕ
+held_without held i k = without i (held k)
+
+-- Slot i stands first in list m.
+abbrev pub held_with : (ℕ → List ℕ) → (m i : ℕ) → ℕ → List ℕ
+held_with held m i k = if k == m then i ∷ held k else held k
+
+-- A rectangle with sides above 0, and no corner below 0.
+pub record IsSolid (r : Rectangle) : Type 0 where
+  pub unsigned : IsUnsigned r
+  pub nonempty : IsNonempty (box_of r)
+
+-- The lists are in order, and slot i is not loose.
+pub record IsFiledSlot (o : Options) (slots : List Slot) (heads : List ListHead) (i : ℕ) : Type 0 where
+  pub unused : Link
+  pub places : Places
+  pub filed : AreFiled o (nodes slots) (rings slots) heads unused places
+  pub kept : places.loose i ≡ false
+
+-- The lists are in order, and slot i is loose.
+pub record IsLooseSlot (o : Options) (slots : List Slot) (heads : List ListHead) (i : ℕ) : Type 0 where
+  pub unused : Link
+  pub places : Places
+  pub filed : AreFiled o (nodes slots) (rings slots) heads unused places
+  pub is_loose : places.loose i ≡ true
+
+-- The row and the column of some list.
+pub record IsInTable (place : Place) : Type 0 where
+  pub row : place.row < 52
+  pub column : place.column < 52
+
+-- Slot i is free and not loose, and its rectangle belongs in list k.
+pub record BelongsIn (o : Options) (ns : List Node) (p : Places) (k i : ℕ) : Type 0 where
+  pub free : (node_at ns i).kind ≡ kind.Free
+  pub kept : p.loose i ≡ false
+  pub list : k ≡ list_of o (node_sides (node_at ns i))
+
+-- The list but for its first.
+abbrev pub tail_of : List ℕ → List ℕ
+tail_of [] = []
+tail_of (x ∷ xs) = xs
+
+-- Slot i has left its list, and is loose.
+abbrev pub unlisted : Places → ℕ → Places
+unlisted p i = record p { held = held_without p.held i; loose = with_mark p.loose i true }
+
+-- Slot i stands first in list m, and is no longer loose.
+abbrev pub listed : Places → (m i : ℕ) → Places
+listed p m i = record p { held = held_with p.held m i; loose = with_mark p.loose i false }
+
+-- The first spare slot, if there was one, is gone, and slot i is in hand.
+abbrev pub in_hand : Places → ℕ → Places
+in_hand p i = record p { spare = tail_of p.spare; hand = with_count p.hand i 1 }
+
+-- Slot i, which was in hand, is the first spare one.
+abbrev pub given_back : Places → ℕ → Places
+given_back p i = record p { spare = i ∷ p.spare; hand = with_count p.hand i 0 }
+
+-- The node of an unused slot once it is taken again.
+abbrev pub renewed : Node → Node
+renewed n = record n { generation = (n.generation + 1) % 256 }
+
+-- Slot `at` was taken: it is in hand, no longer spare, not used, and none of those that were in hand.
+pub record IsTaken (o : Options) (old new : List Slot) (heads : List ListHead) (unused' : Link) (p : Places)
+    (at : ℕ) : Type 0 where
+  pub filed : AreFiled o (nodes new) (rings new) heads unused' (in_hand p at)
+  pub inside : at < length new
+  pub was_unused : (node_at (nodes old) at).kind ≡ kind.Unused
+  pub is_unused : (node_at (nodes new) at).kind ≡ kind.Unused
+  pub apart : (k : ℕ) → k < length old → 0 < p.hand k → at ≡ k → ⊥
+
+-- The first of the unused slots can be taken, or else there is room for a new one.
+pub record CanTake (slots : List Slot) (capacity : ℕ) (unused : Link) : Type 0 where
+  pub line : (spare : List ℕ) × Line (rings slots) spare × (unused.number ≡ front spare)
+  pub room : unused.number ≡ no_slot → length slots < capacity
+  pub short : length slots < no_slot
+
+-- The first of the unused slots was taken, in its next generation, or else a new one.
+pub record TakesFirst (old new : List Slot) (unused unused' at : Link) : Type 0 where
+  pub taken : (o : Options) (heads : List ListHead) (p : Places) → AreFiled o (nodes old) (rings old) heads unused p
+      → IsTaken o old new heads unused' p at.number
+  pub others : (k : ℕ) → k ≢ at.number → node_at (nodes new) k ≡ node_at (nodes old) k
+  pub again : unused.number ≢ no_slot
+      → (at ≡ unused) × (nodes new ≡ slice_set (nodes old) at.number (renewed (node_at (nodes old) at.number)))
+  pub fresh : unused.number ≡ no_slot → (at.number ≡ length old) × (new ≡ old ++ blank_slot ∷ [])

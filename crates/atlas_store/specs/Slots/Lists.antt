@@ -1,0 +1,89 @@
+-- Lists of slots that run through the slots' rings. No public clause cites this module.
+use Rattle.std.specs.Prelude.{ℕ, ◌+◌, ◌≡◌, ◌<◌, ◌≤◌, ◌==◌, ◌&&◌, Bool, true, false, List, [], ◌∷◌, length}
+use Rattle.std.specs.Prelude.{if◌then◌else◌}
+use Rattle.atlas_store.specs.declared.slots.Link.{Link}
+use Rattle.atlas_store.specs.declared.slots.Node.{Node}
+use Rattle.atlas_store.specs.declared.slots.Ring.{Ring}
+use Rattle.atlas_store.specs.declared.slots.NodeKind.{NodeKind}
+use Rattle.atlas_store.specs.declared.slots.NodeKind.TheVariants as kind
+use Rattle.atlas_store.specs.declared.search.table.ListHead.{ListHead}
+use Rattle.atlas_model.specs.Boxes.{Sides, box_sides}
+use Rattle.atlas_model.specs.Pixels.{box_of}
+use Rattle.atlas_model.specs.Choice.{Options}
+use Rattle.atlas_store.specs.Search.Bands.{list_of, strip_of}
+use Rattle.atlas_store.specs.Search.Tables.{head_of, low_of}
+use Rattle.atlas_store.specs.Slots.{node_at, ring_at, use_count, no_slot}
+use Rattle.atlas_store.specs.Slots.Numbered.{same}
+
+-- The first of a list, or none.
+abbrev pub front : List ℕ → ℕ
+front [] = no_slot
+front (x ∷ xs) = x
+
+-- How often a slot stands in a list.
+abbrev pub occurs : ℕ → List ℕ → ℕ
+occurs k [] = 0
+occurs k (x ∷ xs) = same k x + occurs k xs
+
+-- The list without the first i.
+abbrev pub without : ℕ → List ℕ → List ℕ
+without i [] = []
+without i (x ∷ xs) = if i == x then xs else x ∷ without i xs
+
+-- The list xs runs through the rings in both directions; `before` comes before its first.
+abbrev pub Chain : List Ring → ℕ → List ℕ → Type 0
+Chain rs before [] = Unit {0}
+Chain rs before (x ∷ xs) =
+    (x < length rs) × ((ring_at rs x).previous.number ≡ before) × ((ring_at rs x).next.number ≡ front xs)
+    × Chain rs x xs
+
+-- The list that begins with this link holds the slots xs, each at most once.
+pub record IsList (rs : List Ring) (first : Link) (xs : List ℕ) : Type 0 where
+  pub chain : Chain rs no_slot xs
+  pub begins : first.number ≡ front xs
+  pub once : (k : ℕ) → occurs k xs ≤ 1
+
+-- The list xs runs through the rings forwards.
+abbrev pub Line : List Ring → List ℕ → Type 0
+Line rs [] = Unit {0}
+Line rs (x ∷ xs) = (x < length rs) × ((ring_at rs x).next.number ≡ front xs) × Line rs xs
+
+-- The sides of a slot's rectangle.
+abbrev pub node_sides : Node → Sides
+node_sides n = box_sides (box_of n.area)
+
+-- The strip that a slot's rectangle begins in.
+abbrev pub node_strip : Node → ℕ
+node_strip n = strip_of (box_of n.area).min.y
+
+abbrev pub is_free : NodeKind → Bool
+is_free kind.Free = true
+is_free _ = false
+
+-- 1 if a slot belongs in list k.
+abbrev pub filed : Options → (k : ℕ) → Node → ℕ
+filed o k n = if is_free n.kind && list_of o (node_sides n) == k then 1 else 0
+
+-- List k holds the slots xs: the free ones that belong in it, but for those that are loose. None begins in a strip
+-- above the one that is kept of the list.
+pub record IsFiled (o : Options) (ns : List Node) (rs : List Ring) (heads : List ListHead) (k : ℕ) (xs : List ℕ)
+    (loose : ℕ → Bool) : Type 0 where
+  pub links : IsList rs (head_of heads k) xs
+  pub each : (i : ℕ) → occurs i xs ≡ (if loose i then 0 else filed o k (node_at ns i))
+  pub low : (i : ℕ) → 0 < occurs i xs → low_of heads k ≤ node_strip (node_at ns i)
+
+-- Where slots stand: `spare` are the unused ones, `held k` those of list k, `hand i` counts a slot that is taken and
+-- not used yet, and `loose` are the free ones that stand in no list.
+pub record Places : Type 0 where
+  pub spare : List ℕ
+  pub held : ℕ → List ℕ
+  pub hand : ℕ → ℕ
+  pub loose : ℕ → Bool
+
+-- The lists of free slots and the list of unused ones hold what stands there.
+pub record AreFiled (o : Options) (ns : List Node) (rs : List Ring) (heads : List ListHead) (unused : Link)
+    (p : Places) : Type 0 where
+  pub free : (k : ℕ) → k < 2704 → IsFiled o ns rs heads k (p.held k) p.loose
+  pub line : Line rs p.spare
+  pub begins : unused.number ≡ front p.spare
+  pub each : (i : ℕ) → i < length rs → occurs i p.spare + p.hand i + use_count (node_at ns i).kind ≡ 1

@@ -1,0 +1,157 @@
+-- What the calls on the tree of the slots ask, and what they leave. No public clause cites this module.
+use Rattle.std.specs.Prelude.{ℕ, ◌+◌, ◌≡◌, ◌≢◌, ◌<◌, ◌⊎◌, List}
+use Rattle.atlas_store.specs.declared.slots.Slot.{Slot}
+use Rattle.atlas_store.specs.declared.slots.Link.{Link}
+use Rattle.atlas_store.specs.declared.slots.Node.{Node}
+use Rattle.atlas_store.specs.declared.slots.NodeKind.TheVariants as kind
+use Rattle.atlas_model.specs.declared.geometry.Size.{Size}
+use Rattle.atlas_model.specs.Boxes.{other, side}
+use Rattle.atlas_model.specs.Pixels.{sides_of}
+use Rattle.atlas_model.specs.Trees.{total}
+use Rattle.atlas_store.specs.Slots.{nodes, rings, node_at, no_slot, KeepsUse}
+use Rattle.atlas_store.specs.Slots.Numbered.{Numbered, marked, joined, lifted, granted_at, split_at, wrapped_at}
+use Rattle.atlas_store.specs.Slots.Numbered.{End, Free, Seq, erase, first_slot}
+use Rattle.atlas_store.specs.Slots.Standing.{Sequence, Standing, Stands}
+use Rattle.atlas_store.specs.Slots.Growing.{Reaches, last_slot, stretched, appended, held_by, top_along}
+use Rattle.atlas_store.specs.Slots.Growing.{stretched_area, whole_sequence}
+use Rattle.atlas_store.specs.Slots.Calm.{IsCalmAt, IsCalmBut}
+use Rattle.atlas_store.specs.Slots.Reading.{extent_of}
+use Rattle.atlas_store.specs.Slots.Parts.{front_node, back_node, inner_node, joined_node}
+
+-- Slot i is a free leaf, and so is the next one.
+pub record IsFreePair (ns : List Node) (i : ℕ) : Type 0 where
+  pub free : (node_at ns i).kind ≡ kind.Free
+  pub next_free : (node_at ns (node_at ns i).next.number).kind ≡ kind.Free
+
+-- Slot i is a free leaf, alone in a container.
+pub record IsLoneLeaf (ns : List Node) (i : ℕ) : Type 0 where
+  pub free : (node_at ns i).kind ≡ kind.Free
+  pub first : (node_at ns i).previous.number ≡ no_slot
+  pub last : (node_at ns i).next.number ≡ no_slot
+  pub nested : (node_at ns i).parent.number ≢ no_slot
+
+-- Slot i is a free leaf longer than p, and slot k is unused.
+pub record CanSplitInto (ns : List Node) (i k p : ℕ) : Type 0 where
+  pub free : (node_at ns i).kind ≡ kind.Free
+  pub unused : (node_at ns k).kind ≡ kind.Unused
+  pub positive : 0 < p
+  pub less : p < extent_of (node_at ns i)
+
+-- The tree that the slots hold, in a sequence s, is changed by `f s`.
+abbrev pub ChangesTree : (old new : List Slot) → (Sequence → Numbered → Numbered) → Type 0
+ChangesTree old new f = (s : Sequence) (n : Numbered) → Stands (nodes old) s n → Stands (nodes new) s (f s n)
+
+-- The granted leaf of slot i is free.
+pub record IsLeafFreed (old new : List Slot) (i : ℕ) : Type 0 where
+  pub tree : ChangesTree old new (λ s. marked i)
+  pub calm : ((k : ℕ) → IsCalmAt (nodes old) k) → IsCalmBut (nodes new) i
+  pub leaf : node_at (nodes new) i ≡ record (node_at (nodes old) i) { kind = kind.Free }
+  pub others : (k : ℕ) → k ≢ i → KeepsUse (node_at (nodes old) k) (node_at (nodes new) k)
+  pub same_rings : rings new ≡ rings old
+
+-- The free leaf of slot i is granted.
+pub record IsLeafGranted (old new : List Slot) (i : ℕ) : Type 0 where
+  pub tree : ChangesTree old new (λ s. granted_at i (node_at (nodes old) i).generation)
+  pub leaf : node_at (nodes new) i ≡ record (node_at (nodes old) i) { kind = kind.Alloc }
+  pub others : (k : ℕ) → k ≢ i → KeepsUse (node_at (nodes old) k) (node_at (nodes new) k)
+  pub same_rings : rings new ≡ rings old
+
+-- The free leaf of slot i has taken in that of slot j, the next one, which is unused.
+pub record IsNextJoined (old new : List Slot) (i j : ℕ) : Type 0 where
+  pub tree : ChangesTree old new (λ s. joined i)
+  pub calm : (k : ℕ) → IsCalmBut (nodes old) k → (k ≡ i) ⊎ (k ≡ j) → IsCalmBut (nodes new) i
+  pub apart : j ≢ i
+  pub leaf : node_at (nodes new) i ≡ joined_node (node_at (nodes old) i) (node_at (nodes old) j)
+  pub given : node_at (nodes new) j ≡ record (node_at (nodes old) j) { kind = kind.Unused }
+  pub others : (k : ℕ) → k ≢ i → k ≢ j → KeepsUse (node_at (nodes old) k) (node_at (nodes new) k)
+  pub same_rings : rings new ≡ rings old
+
+-- The container of slot i has given way to its lone leaf of slot c, which is unused.
+pub record IsChildLifted (old new : List Slot) (i c : ℕ) : Type 0 where
+  pub tree : (s : Sequence) (n : Numbered) → s.parent ≡ no_slot → Stands (nodes old) s n
+      → Stands (nodes new) s (lifted i n)
+  pub calm : IsCalmBut (nodes old) c → IsCalmBut (nodes new) i
+  pub container : (node_at (nodes old) i).kind ≡ kind.Container
+  pub leaf : node_at (nodes new) i ≡ record (node_at (nodes old) i) { kind = kind.Free }
+  pub given : node_at (nodes new) c ≡ record (node_at (nodes old) c) { kind = kind.Unused }
+  pub others : (k : ℕ) → k ≢ i → k ≢ c → KeepsUse (node_at (nodes old) k) (node_at (nodes new) k)
+  pub same_rings : rings new ≡ rings old
+
+-- The free leaf at `at` keeps p of its extent, and `fresh` is a free leaf of the rest.
+pub record IsLeafSplit (old new : List Slot) (at fresh : Link) (p : ℕ) : Type 0 where
+  pub tree : ChangesTree old new (λ s. split_at at.number fresh.number p)
+  pub front : node_at (nodes new) at.number ≡ front_node (node_at (nodes old) at.number) p fresh
+  pub back : node_at (nodes new) fresh.number
+      ≡ back_node (node_at (nodes old) at.number) p at (node_at (nodes old) fresh.number)
+  pub others : (k : ℕ) → k ≢ at.number → k ≢ fresh.number
+      → KeepsUse (node_at (nodes old) k) (node_at (nodes new) k)
+  pub same_rings : rings new ≡ rings old
+
+-- The free leaf at `at` is a container, and `fresh` is its lone free leaf.
+pub record IsLeafWrapped (old new : List Slot) (at fresh : Link) : Type 0 where
+  pub tree : ChangesTree old new (λ s. wrapped_at at.number fresh.number s.width)
+  pub outer : node_at (nodes new) at.number ≡ record (node_at (nodes old) at.number) { kind = kind.Container }
+  pub inner : node_at (nodes new) fresh.number
+      ≡ inner_node (node_at (nodes old) at.number) at (node_at (nodes old) fresh.number)
+  pub others : (k : ℕ) → k ≢ at.number → k ≢ fresh.number
+      → KeepsUse (node_at (nodes old) k) (node_at (nodes new) k)
+  pub same_rings : rings new ≡ rings old
+
+-- Slot i is a member, and slot k is unused.
+pub record CanAppendTo (ns : List Node) (i k : ℕ) : Type 0 where
+  pub used : (node_at ns i).kind ≢ kind.Unused
+  pub unused : (node_at ns k).kind ≡ kind.Unused
+
+-- The slots hold the tree n in the sequence s. It has members, and the first is that of slot i.
+pub record BeginsAt (ns : List Node) (i : ℕ) (s : Sequence) (n : Numbered) : Type 0 where
+  pub stands : Stands ns s n
+  pub begins : first_slot n ≡ i
+  pub some : 0 < total (erase n)
+
+-- The slots hold a tree whose first member is that of slot i.
+abbrev pub HasFirst : List Node → (i : ℕ) → Type 0
+HasFirst ns i = (s : Sequence) × (n : Numbered) × BeginsAt ns i s n
+
+-- The same, and slot k is unused.
+pub record CanWrapTop (ns : List Node) (i k : ℕ) : Type 0 where
+  pub tree : HasFirst ns i
+  pub unused : (node_at ns k).kind ≡ kind.Unused
+
+-- The tree whose last member is that of slot i is changed by `f d`, where d more comes to the far corner of a size.
+abbrev pub ExtendsTree : (old new : List Slot) (size : Size) (i : ℕ) → (ℕ → Numbered → Numbered) → Type 0
+ExtendsTree old new size i f =
+    (s : Sequence) (n : Numbered) (d : ℕ) → Stands (nodes old) s n → last_slot n ≡ i
+    → Reaches (sides_of size) s (total (erase n) + d) → Stands (nodes new) s (f d n)
+
+-- The free leaf of slot i reaches to the far corner of a size, whether it is the last member or the only one.
+pub record IsLeafStretched (old new : List Slot) (i : ℕ) (size : Size) : Type 0 where
+  pub longer : ExtendsTree old new size i stretched
+  pub whole : (s : Sequence) (e : ℕ) → Stands (nodes old) s (Free i e End) → s.start ≡ 0
+      → Stands (nodes new) (whole_sequence (sides_of size) s) (Free i (side s.axis (sides_of size)) End)
+  pub leaf : node_at (nodes new) i
+      ≡ record (node_at (nodes old) i) { area = stretched_area (node_at (nodes old) i).area size }
+  pub others : (k : ℕ) → k ≢ i → node_at (nodes new) k ≡ node_at (nodes old) k
+  pub same_rings : rings new ≡ rings old
+
+-- The unused slot k is a free leaf after the last member, of slot i.
+pub record IsLeafAppended (old new : List Slot) (i k : ℕ) (size : Size) : Type 0 where
+  pub tree : ExtendsTree old new size i (appended k)
+  pub free : (node_at (nodes new) k).kind ≡ kind.Free
+  pub others : (j : ℕ) → j ≢ k → KeepsUse (node_at (nodes old) j) (node_at (nodes new) j)
+  pub same_rings : rings new ≡ rings old
+
+-- Slot c is the parent of the tree's members.
+pub record IsTopHung (old new : List Slot) (i c : ℕ) : Type 0 where
+  pub tree : (s : Sequence) (n : Numbered) → BeginsAt (nodes old) i s n
+      → Standing (nodes new) (held_by c s) no_slot 0 n
+  pub uses : (k : ℕ) → KeepsUse (node_at (nodes old) k) (node_at (nodes new) k)
+  pub same_rings : rings new ≡ rings old
+
+-- The unused slot c is a container of the whole tree, which spanned a size.
+pub record IsTopWrapped (old new : List Slot) (i c : ℕ) (size : Size) : Type 0 where
+  pub tree : (s : Sequence) (n : Numbered) → BeginsAt (nodes old) i s n → s.start ≡ 0
+      → Reaches (sides_of size) s (total (erase n))
+      → Stands (nodes new) (top_along (other s.axis) (total (erase n))) (Seq c s.width n End)
+  pub container : (node_at (nodes new) c).kind ≡ kind.Container
+  pub others : (k : ℕ) → k ≢ c → KeepsUse (node_at (nodes old) k) (node_at (nodes new) k)
+  pub same_rings : rings new ≡ rings old

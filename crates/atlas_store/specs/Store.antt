@@ -1,0 +1,6 @@
+-- The store: slots with their lists.
+pub mod Holdings
+pub mod Starts
+pub mod Freeing
+pub mod StoreCalls
+pub mod TopCalls

@@ -1,0 +1,104 @@
+-- How the calls on slots and lists change what they hold. No public clause cites this module.
+use Rattle.std.specs.Prelude.{ℕ, ◌+◌, ◌≡◌, ◌≤◌, ◌⊎◌, Bool, true, false, List, ◌∷◌, length, vec_capacity}
+use Rattle.atlas_store.specs.declared.store.Store.{Store}
+use Rattle.atlas_store.specs.declared.slots.Node.{Node}
+use Rattle.atlas_store.specs.declared.slots.NodeKind.TheVariants as kind
+use Rattle.atlas_model.specs.Boxes.{side, other, box_sides}
+use Rattle.atlas_model.specs.Pixels.{box_of, options_of}
+use Rattle.atlas_store.specs.Search.Bands.{list_of}
+use Rattle.atlas_model.specs.Trees.{most_slots}
+use Rattle.atlas_store.specs.Slots.Lists.{node_sides, node_strip}
+use Rattle.atlas_store.specs.Slots.{nodes, node_at, axis_of}
+use Rattle.atlas_store.specs.Slots.Links.{with_mark, tail_of}
+use Rattle.atlas_store.specs.Slots.Numbered.{Numbered, marked, joined, lifted, granted_at, split_at, wrapped_at}
+use Rattle.atlas_store.specs.Stored.{Shelf, Holding, Holds, HoldsWith}
+
+-- The stored part of a store.
+abbrev pub shelf_of : {A : Type 0} → Store A → Shelf
+shelf_of s = record { slots = s.slots.items; heads = s.lists; unused = s.unused; options = s.options }
+
+-- Slot i is loose, or isn't.
+abbrev pub with_loose : (i : ℕ) → Bool → Holding → Holding
+with_loose i b h = record h { loose = with_mark h.loose i b }
+
+abbrev pub with_numbered : Numbered → Holding → Holding
+with_numbered n h = record h { tree = n }
+
+abbrev pub with_held : (ℕ → List ℕ) → Holding → Holding
+with_held held h = record h { held = held }
+
+abbrev pub with_spare : List ℕ → Holding → Holding
+with_spare spare h = record h { spare = spare }
+
+-- n slots can be taken without memory: as many are unused, or there is room for the others.
+abbrev pub HasSlotsFor : {A : Type 0} → (n : ℕ) → Store A → Holding → Type 0
+HasSlotsFor n s h =
+    (n ≤ length h.spare)
+    ⊎ ((length s.slots.items + n ≤ length h.spare + vec_capacity s.slots)
+    × (length s.slots.items + n ≤ length h.spare + most_slots))
+
+-- The node at slot i.
+abbrev pub node_in : Shelf → ℕ → Node
+node_in v i = node_at (nodes v.slots) i
+
+-- The slots hold some tree.
+abbrev pub IsHeld : Shelf → Type 0
+IsHeld v = (h : Holding) × Holds v h
+
+-- Slot i is a free leaf that stands in no list.
+pub record IsLooseLeaf (v : Shelf) (i : ℕ) (h : Holding) : Type 0 where
+  pub holds : Holds v h
+  pub kind : (node_in v i).kind ≡ kind.Free
+  pub loose : h.loose i ≡ true
+
+-- No free slot of list k, but those that are loose, lies above a strip.
+abbrev pub IsLow : Shelf → Holding → (k low : ℕ) → Type 0
+IsLow v h k low =
+    (i : ℕ) → (node_in v i).kind ≡ kind.Free → h.loose i ≡ false
+    → list_of (options_of v.options) (node_sides (node_in v i)) ≡ k
+    → low ≤ node_strip (node_in v i)
+
+-- There are as many slots, and room for as many.
+pub record KeepsRoom {A : Type 0} (old new : Store A) : Type 0 where
+  pub slots : length new.slots.items ≡ length old.slots.items
+  pub capacity : vec_capacity new.slots ≡ vec_capacity old.slots
+  pub options : new.options ≡ old.options
+
+-- Slot i is a loose leaf, and slot k is in hand.
+pub record IsReadyWith (hand : ℕ → ℕ) (v : Shelf) (i k : ℕ) (h : Holding) : Type 0 where
+  pub holds : HoldsWith hand v h
+  pub loose : h.loose i ≡ true
+  pub in_hand : hand k ≡ 1
+
+-- The first unused slot is gone, if there was one.
+abbrev pub after_take : Holding → Holding
+after_take h = with_spare (tail_of h.spare) h
+
+-- What a leaf of slot i becomes when it is granted.
+abbrev pub after_grant : (i g : ℕ) → Holding → Holding
+after_grant i g h = with_loose i false (with_numbered (granted_at i g h.tree) h)
+
+-- Slot k takes what a loose leaf of slot i doesn't keep, p of its extent.
+abbrev pub after_split : (i k p : ℕ) → Holding → Holding
+after_split i k p h = with_loose k true (with_numbered (split_at i k p h.tree) h)
+
+-- Slot k is the lone child of what was the loose leaf of slot i.
+abbrev pub after_wrap : (i k : ℕ) → Holding → Holding
+after_wrap i k h = with_loose i false (with_loose k true (with_numbered (wrapped_at i k h.sequence.width h.tree) h))
+
+-- The granted leaf of slot i is free, and loose.
+abbrev pub after_mark : (i : ℕ) → Holding → Holding
+after_mark i h = with_loose i true (with_numbered (marked i h.tree) h)
+
+-- The loose leaf of slot i has taken in that of slot j, which is unused.
+abbrev pub after_join : (i j : ℕ) → Holding → Holding
+after_join i j h = with_spare (j ∷ h.spare) (with_loose j false (with_numbered (joined i h.tree) h))
+
+-- The container of slot i has given way to its lone child of slot c, which is unused.
+abbrev pub after_lift : (i c : ℕ) → Holding → Holding
+after_lift i c h =
+    with_spare (c ∷ h.spare) (with_loose c false (with_loose i true (with_numbered (lifted i h.tree) h)))
+
+-- The side of a leaf across the sequence that holds it.
+abbrev pub across_of : Node → ℕ
+across_of leaf = side (other (axis_of leaf.axis)) (box_sides (box_of leaf.area))

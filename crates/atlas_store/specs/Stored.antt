@@ -1,0 +1,95 @@
+-- What an atlas stores, and that it stands for a state. Public clauses cite `AtlasValue` and `state_of` alone.
+use Rattle.std.specs.Prelude.{ℕ, ◌≡◌, ◌+◌, ◌<◌, ◌≤◌, ◌^◌, Bool, false, List, [], length}
+use Rattle.atlas_store.specs.declared.slots.Slot.{Slot}
+use Rattle.atlas_store.specs.declared.slots.Link.{Link}
+use Rattle.atlas_store.specs.declared.search.table.ListHead.{ListHead}
+use Rattle.atlas_model.specs.declared.geometry.Size.{Size}
+use Rattle.atlas_model.specs.declared.options.AllocatorOptions.{AllocatorOptions}
+use Rattle.atlas_model.specs.Boxes.{other, side}
+use Rattle.atlas_model.specs.Pixels.{sides_of, size_of, options_of}
+use Rattle.atlas_model.specs.Choice.{AreValid}
+use Rattle.atlas_model.specs.Trees.{IsCut, total, most_slots}
+use Rattle.atlas_model.specs.States.{State, IsSound}
+use Rattle.atlas_store.specs.Slots.{nodes, rings, no_slot}
+use Rattle.atlas_store.specs.Slots.Numbered.{Numbered, erase, first_slot, numbers}
+use Rattle.atlas_store.specs.Slots.Standing.{Sequence, Stands}
+use Rattle.atlas_store.specs.Slots.Lists.{AreFiled, Places, occurs}
+use Rattle.atlas_store.specs.Slots.Reading.{tree_of}
+
+-- The slots with their lists.
+pub record Shelf : Type 0 where
+  pub slots : List Slot
+  pub heads : List ListHead
+  pub unused : Link
+  pub options : AllocatorOptions
+
+-- The fields of an atlas; `first` is the first slot of the top sequence, and `used` counts the slots that are used.
+pub record Stored : Type 0 where
+  pub shelf : Shelf
+  pub first : Link
+  pub used : ℕ
+  pub size : Size
+  pub limit : ℕ
+
+-- What contracts see of an atlas: what it stores, and how many turns it took.
+pub record AtlasValue : Type 0 where
+  pub stored : Stored
+  pub turns : ℕ
+
+-- The state that an atlas stands for.
+abbrev pub state_of : AtlasValue → State
+state_of v =
+    record {
+      tree = tree_of (nodes v.stored.shelf.slots);
+      size = sides_of v.stored.size;
+      options = options_of v.stored.shelf.options;
+      limit = v.stored.limit;
+      kept = length v.stored.shelf.slots;
+    }
+
+-- The numbered tree that slots stand for, and the lists that run through them: `spare` are the unused slots, `held k`
+-- those of list k, and `loose` the free slots that stand in no list.
+pub record Holding : Type 0 where
+  pub sequence : Sequence
+  pub tree : Numbered
+  pub spare : List ℕ
+  pub held : ℕ → List ℕ
+  pub loose : ℕ → Bool
+
+-- Where slots stand, once `hand i` counts a slot that is taken and not used yet.
+abbrev pub places_of : (hand : ℕ → ℕ) → Holding → Places
+places_of hand h = record { spare = h.spare; held = h.held; hand = hand; loose = h.loose }
+
+-- The slots stand for a tree, and the lists are in order; `hand i` counts a slot that is taken and not used yet.
+pub record HoldsWith (hand : ℕ → ℕ) (v : Shelf) (h : Holding) : Type 0 where
+  pub top : h.sequence.parent ≡ no_slot
+  pub stands : Stands (nodes v.slots) h.sequence h.tree
+  pub filed : AreFiled (options_of v.options) (nodes v.slots) (rings v.slots) v.heads v.unused (places_of hand h)
+  pub short : length v.slots ≤ most_slots
+  pub valid : AreValid (options_of v.options)
+  -- Extents are positive, and no box passes what an `i32` holds.
+  pub cut : IsCut h.sequence.width (erase h.tree)
+  pub wide : 0 < h.sequence.width
+  pub across : h.sequence.start + h.sequence.width < 2 ^ 31
+  pub along : total (erase h.tree) < 2 ^ 31
+
+-- The same with nothing in hand.
+abbrev pub Holds : Shelf → Holding → Type 0
+Holds v h = HoldsWith (λ i. 0) v h
+
+-- No free slot is loose but for these.
+abbrev pub IsLooseOnly : List ℕ → Holding → Type 0
+IsLooseOnly ks h = (i : ℕ) → occurs i ks ≡ 0 → h.loose i ≡ false
+
+-- What each stored atlas keeps.
+pub record IsAtlas (v : Stored) : Type 0 where
+  pub holding : Holding
+  pub holds : Holds v.shelf holding
+  pub at_rest : IsLooseOnly [] holding
+  pub start : holding.sequence.start ≡ 0
+  pub across : holding.sequence.width ≡ side (other holding.sequence.axis) (sides_of v.size)
+  pub first : v.first.number ≡ first_slot holding.tree
+  pub used : v.used ≡ numbers holding.tree
+  pub sound : IsSound (state_of (record { stored = v; turns = 0 }))
+  pub exact : v.size ≡ size_of (sides_of v.size)
+  pub limited : v.limit ≤ most_slots

@@ -1,0 +1,250 @@
+//! The lists of free slots, by the bands of both sides, and the list of unused slots: links inside the slots.
+ghost use Rattle.std.specs.Prelude.{◌≡◌, ◌<◌, ℕ, true, false, List, ◌∷◌, length, slice_set, vec_capacity};
+ghost use Rattle.atlas_store.specs.Search.Bands.{list_of, number_of, strip_of};
+ghost use Rattle.atlas_model.specs.Boxes.{IsPositive, box_sides};
+ghost use Rattle.atlas_model.specs.Choice.{Options};
+ghost use Rattle.atlas_model.specs.Pixels.{box_of, options_of, sides_of};
+ghost use Rattle.atlas_store.specs.Slots.{blank_slot, nodes, rings, node_at, ring_at};
+ghost use Rattle.atlas_store.specs.Slots.Standing.{IsSlot};
+ghost use Rattle.atlas_store.specs.declared.slots.Link.{Link};
+ghost use Rattle.atlas_store.specs.declared.slots.Node.{Node};
+ghost use Rattle.atlas_store.specs.declared.search.table.ListHead.{ListHead};
+ghost use Rattle.atlas_store.specs.Slots.Lists.{AreFiled, IsList, Places, node_sides, occurs, without};
+ghost use Rattle.atlas_store.specs.declared.slots.NodeKind.TheVariants.{Free};
+ghost use Rattle.atlas_store.specs.Slots.Links.{BelongsIn, CanTake, IsInTable, IsSolid, IsFiledSlot, IsListed};
+ghost use Rattle.atlas_store.specs.Slots.Links.{IsLooseSlot, IsUnlisted, TakesFirst};
+ghost use Rattle.atlas_store.specs.Slots.Links.{first_without, given_back, listed, renewed, unlisted, with_next};
+ghost use Rattle.atlas_store.specs.Slots.Links.{with_ring_previous};
+
+use crate::cut::Orientation;
+use crate::search::bands::{Place, place_for, strip};
+use crate::search::table::Table;
+use crate::slots::{
+    Link, NO_SLOT, Node, NodeKind, Ring, Slot, read_node, read_ring, write_node, write_ring,
+};
+use atlas_model::{AllocatorOptions, Rectangle, Size, point2};
+use std::alloc::Allocator;
+
+/// `next` comes after `at` in its list; nothing happens where `at` is no slot.
+pub fn set_ring_next(slots: &mut [Slot], at: Link, next: Link)
+    requires inside { IsSlot (length slots.old) at.number }
+    requires short { length slots.old < NO_SLOT }
+    ensures written { rings slots.new ≡ with_next (rings slots.old) at.number next }
+    ensures same_nodes { nodes slots.new ≡ nodes slots.old }
+{
+    if at.number != NO_SLOT {
+        let mut ring = read_ring(slots, at);
+        ring.next = next;
+        write_ring(slots, at, ring);
+    }
+}
+
+/// `previous` comes before `at` in its list; nothing happens where `at` is no slot.
+pub fn set_ring_previous(slots: &mut [Slot], at: Link, previous: Link)
+    requires inside { IsSlot (length slots.old) at.number }
+    requires short { length slots.old < NO_SLOT }
+    ensures written { rings slots.new ≡ with_ring_previous (rings slots.old) at.number previous }
+    ensures same_nodes { nodes slots.new ≡ nodes slots.old }
+{
+    if at.number != NO_SLOT {
+        let mut ring = read_ring(slots, at);
+        ring.previous = previous;
+        write_ring(slots, at, ring);
+    }
+}
+
+/// The neighbours of a slot let it go.
+fn unlink(slots: &mut [Slot], at: Link, ring: Ring)
+    requires listed { IsListed (rings slots.old) at.number }
+    requires ring { ring ≡ ring_at (rings slots.old) at.number }
+    requires short { length slots.old < NO_SLOT }
+    ensures list { (first : Link) (xs : List ℕ) → IsList (rings slots.old) first xs → 0 < occurs at.number xs
+        → IsList (rings slots.new) (first_without ring first) (without at.number xs) }
+    ensures others { (first : Link) (xs : List ℕ) (k : ℕ) → IsList (rings slots.old) first xs → 0 < occurs at.number xs
+        → occurs k xs ≡ 0 → ring_at (rings slots.new) k ≡ ring_at (rings slots.old) k }
+    ensures same_nodes { nodes slots.new ≡ nodes slots.old }
+{
+    set_ring_next(slots, ring.previous, ring.next);
+    set_ring_previous(slots, ring.next, ring.previous);
+}
+
+/// Puts a slot in front of the list that begins with `first`.
+fn push_front(slots: &mut [Slot], first: Link, at: Link)
+    requires inside { at.number < length slots.old }
+    requires list { IsUnlisted (rings slots.old) first at.number }
+    requires short { length slots.old < NO_SLOT }
+    ensures list { (xs : List ℕ) → IsList (rings slots.old) first xs → occurs at.number xs ≡ 0
+        → IsList (rings slots.new) at (at.number ∷ xs) }
+    ensures others { (xs : List ℕ) (k : ℕ) → IsList (rings slots.old) first xs → (k ≡ at.number → ⊥) → occurs k xs ≡ 0
+        → ring_at (rings slots.new) k ≡ ring_at (rings slots.old) k }
+    ensures same_nodes { nodes slots.new ≡ nodes slots.old }
+{
+    let none = Link::NONE;
+    let ring = Ring {
+        previous: none,
+        next: first,
+    };
+    write_ring(slots, at, ring);
+    set_ring_previous(slots, first, at);
+}
+
+/// The size of an exact rectangle.
+pub fn exact_size(area: Rectangle) -> Size
+    requires { IsSolid area }
+    ensures positive { IsPositive (sides_of result) }
+    ensures sides { sides_of result ≡ box_sides (box_of area) }
+{
+    area.size()
+}
+
+// The strip that a rectangle begins in.
+fn strip_in(area: Rectangle) -> u8
+    requires { IsSolid area }
+    ensures { result ≡ strip_of (box_of area).min.y }
+{
+    strip(area.min.y)
+}
+
+/// Takes a free slot, whose rectangle is exact, out of its list; it is loose from then on.
+pub fn unlist<A: Allocator>(
+    slots: &mut [Slot],
+    lists: &mut Table<A>,
+    options: &AllocatorOptions,
+    at: Link,
+)
+    requires free { (node_at (nodes slots.old) at.number).kind ≡ Free }
+    requires exact { IsSolid (node_at (nodes slots.old) at.number).area }
+    requires kept { IsFiledSlot (options_of options.now) slots.old lists.old at.number }
+    requires short { length slots.old < NO_SLOT }
+    ensures filed { (unused : Link) (p : Places)
+        → AreFiled (options_of options.now) (nodes slots.old) (rings slots.old) lists.old unused p
+        → p.loose at.number ≡ false
+        → AreFiled (options_of options.now) (nodes slots.new) (rings slots.new) lists.new unused
+        (unlisted p at.number) }
+    ensures same_nodes { nodes slots.new ≡ nodes slots.old }
+{
+    let ring = read_ring(slots, at);
+    unlink(slots, at, ring);
+    if ring.previous.number == NO_SLOT {
+        let node = read_node(slots, at);
+        let place = place_for(exact_size(node.area), options);
+        lists.set_head(place, ring.next);
+    }
+}
+
+/// Takes a slot out of the list where it stands; it is loose from then on.
+pub fn unlist_at<A: Allocator>(slots: &mut [Slot], lists: &mut Table<A>, at: Link, place: Place)
+    requires listed { IsListed (rings slots.old) at.number }
+    requires place { IsInTable place }
+    requires short { length slots.old < NO_SLOT }
+    ensures filed { (o : Options) (ns : List Node) (unused : Link) (p : Places)
+        → AreFiled o ns (rings slots.old) lists.old unused p → BelongsIn o ns p (number_of place) at.number
+        → AreFiled o ns (rings slots.new) lists.new unused (unlisted p at.number) }
+    ensures same_nodes { nodes slots.new ≡ nodes slots.old }
+{
+    let ring = read_ring(slots, at);
+    unlink(slots, at, ring);
+    if ring.previous.number == NO_SLOT {
+        lists.set_head(place, ring.next);
+    }
+}
+
+/// Puts a free and loose slot, whose rectangle is exact, into its list.
+pub fn enlist<A: Allocator>(
+    slots: &mut [Slot],
+    lists: &mut Table<A>,
+    options: &AllocatorOptions,
+    at: Link,
+)
+    requires free { (node_at (nodes slots.old) at.number).kind ≡ Free }
+    requires exact { IsSolid (node_at (nodes slots.old) at.number).area }
+    requires loose { IsLooseSlot (options_of options.now) slots.old lists.old at.number }
+    requires short { length slots.old < NO_SLOT }
+    ensures filed { (unused : Link) (p : Places)
+        → AreFiled (options_of options.now) (nodes slots.old) (rings slots.old) lists.old unused p
+        → p.loose at.number ≡ true
+        → AreFiled (options_of options.now) (nodes slots.new) (rings slots.new) lists.new unused
+        (listed p (list_of (options_of options.now) (node_sides (node_at (nodes slots.old) at.number))) at.number) }
+    ensures same_nodes { nodes slots.new ≡ nodes slots.old }
+{
+    let node = read_node(slots, at);
+    let place = place_for(exact_size(node.area), options);
+    let first = lists.head(place);
+    lists.push(place, at, strip_in(node.area));
+    push_front(slots, first, at);
+}
+
+// A slot that was never taken.
+fn fresh_slot() -> Slot
+    ensures { result ≡ blank_slot }
+{
+    let none = Link { number: 0 };
+    let corner = point2(0, 0);
+    Slot {
+        node: Node {
+            parent: none,
+            previous: none,
+            next: none,
+            area: Rectangle {
+                min: corner,
+                max: corner,
+            },
+            kind: NodeKind::Unused,
+            axis: Orientation::Vertical,
+            generation: 0,
+        },
+        ring: Ring {
+            previous: none,
+            next: none,
+        },
+    }
+}
+
+// The generation of a slot rises by one, and after 255 begins again at 0.
+fn renew(slots: &mut [Slot], at: Link)
+    requires { at.number < length slots.old }
+    ensures written { nodes slots.new
+        ≡ slice_set (nodes slots.old) at.number (renewed (node_at (nodes slots.old) at.number)) }
+    ensures same_rings { rings slots.new ≡ rings slots.old }
+{
+    let mut node = read_node(slots, at);
+    node.generation = node.generation.wrapping_add(1);
+    write_node(slots, at, node);
+}
+
+/// Takes the first of the unused slots, whose generation rises, or else a new one, for which there is room. It is in
+/// hand from then on.
+pub fn take_slot<A: Allocator>(slots: &mut Vec<Slot, A>, unused: &mut Link) -> Link
+    requires { CanTake slots.old.items (vec_capacity slots.old) unused.old }
+    ensures taken { TakesFirst slots.old.items slots.new.items unused.old unused.new result }
+    ensures capacity { vec_capacity slots.new ≡ vec_capacity slots.old }
+{
+    let at = *unused;
+    if at.number == NO_SLOT {
+        let number = slots.len() as u32;
+        slots.push_reserved(fresh_slot());
+        Link { number }
+    } else {
+        let ring = read_ring(slots, at);
+        *unused = ring.next;
+        renew(slots, at);
+        at
+    }
+}
+
+/// Puts a slot that is in hand, and not used, in front of the unused ones.
+pub fn give_back(slots: &mut [Slot], unused: &mut Link, at: Link)
+    requires { at.number < length slots.old }
+    ensures filed { (o : Options) (heads : List ListHead) (p : Places)
+        → AreFiled o (nodes slots.old) (rings slots.old) heads unused.old p → 0 < p.hand at.number
+        → AreFiled o (nodes slots.new) (rings slots.new) heads unused.new (given_back p at.number) }
+    ensures same_nodes { nodes slots.new ≡ nodes slots.old }
+{
+    let none = Link::NONE;
+    let ring = Ring {
+        previous: none,
+        next: *unused,
+    };
+    write_ring(slots, at, ring);
+    *unused = at;
+}

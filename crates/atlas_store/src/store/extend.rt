@@ -1,0 +1,95 @@
+//! The calls of a store by which the top sequence of an atlas is extended.
+ghost use Rattle.std.specs.Prelude.{◌≡◌, ℕ};
+ghost use Rattle.atlas_model.specs.Boxes.{IsPositive};
+ghost use Rattle.atlas_model.specs.Pixels.{sides_of, size_of};
+ghost use Rattle.atlas_store.specs.Stored.{Holding};
+ghost use Rattle.atlas_store.specs.Slots.Growing.{IsEnd, IsLone};
+
+use crate::slots::Link;
+use crate::slots::extending::{append_leaf, stretch_leaf, wrap_top};
+use crate::store::Store;
+use atlas_model::Size;
+use std::alloc::Allocator;
+
+impl<A: Allocator> Store<A> {
+    ghost use Rattle.atlas_store.specs.Store.Holdings.{shelf_of, HasSlotsFor, IsLooseLeaf};
+    ghost use Rattle.atlas_store.specs.Store.StoreCalls.{IsUnusedSlot};
+    ghost use Rattle.atlas_store.specs.Store.TopCalls.{IsAppendable, IsAppended, IsAppendedWith, IsEnlarged};
+    ghost use Rattle.atlas_store.specs.Store.TopCalls.{IsExtendable};
+    ghost use Rattle.atlas_store.specs.Store.TopCalls.{IsNestable, IsNested, IsStretched, IsTopWrappedWith};
+    ghost use Rattle.atlas_store.specs.Store.TopCalls.{IsWrappable};
+
+    /// A loose leaf, the last member of the top sequence, reaches to the far corner of a size.
+    pub fn stretch(&mut self, at: Link, size: Size)
+        requires ready { (h : Holding) × (d : ℕ) × IsLooseLeaf (shelf_of self.old) at.number h
+            × IsEnd (sides_of size) d at.number h }
+        requires exact { size ≡ size_of (sides_of size) }
+        ensures { IsStretched self.old self.new (sides_of size) at.number }
+    {
+        stretch_leaf(&mut self.slots, at, size);
+    }
+
+    /// A loose leaf, the only member of the tree, becomes as large as a size.
+    pub fn stretch_whole(&mut self, at: Link, size: Size)
+        requires ready { (h : Holding) × IsLooseLeaf (shelf_of self.old) at.number h × IsLone at.number h }
+        requires positive { IsPositive (sides_of size) }
+        requires exact { size ≡ size_of (sides_of size) }
+        ensures { IsEnlarged self.old self.new (sides_of size) at.number }
+    {
+        stretch_leaf(&mut self.slots, at, size);
+    }
+
+    // The slot in hand becomes a loose leaf after the last member of the top sequence.
+    fn append_with(&mut self, last: Link, fresh: Link, size: Size)
+        requires ready { (h : Holding) × (hand : ℕ → ℕ) × (d : ℕ)
+            × IsAppendable hand (shelf_of self.old) (sides_of size) last.number fresh.number d h }
+        requires fresh { IsUnusedSlot self.old fresh.number }
+        requires exact { size ≡ size_of (sides_of size) }
+        ensures { IsAppendedWith self.old self.new (sides_of size) last.number fresh.number }
+    {
+        append_leaf(&mut self.slots, last, fresh, size);
+    }
+
+    // The slot in hand holds what was the top sequence, and is the only member of the new one.
+    fn wrap_top_with(&mut self, first: Link, container: Link, size: Size)
+        requires ready { (h : Holding) × (hand : ℕ → ℕ)
+            × IsWrappable hand (shelf_of self.old) (sides_of size) first.number container.number h }
+        requires fresh { IsUnusedSlot self.old container.number }
+        requires exact { size ≡ size_of (sides_of size) }
+        ensures { IsTopWrappedWith self.old self.new (sides_of size) first.number container.number }
+    {
+        wrap_top(&mut self.slots, first, container, size);
+    }
+
+    /// The slot that is returned takes a free leaf after the last member of the top sequence, which reaches to the far
+    /// corner of a size. It is loose.
+    pub fn append(&mut self, last: Link, size: Size) -> Link
+        requires ready { (h : Holding) × (d : ℕ) × IsExtendable (shelf_of self.old) (sides_of size) last.number d h
+            × HasSlotsFor 1 self.old h }
+        requires exact { size ≡ size_of (sides_of size) }
+        ensures { IsAppended self.old self.new (sides_of size) last.number result.number }
+    {
+        let fresh = self.take();
+        self.append_with(last, fresh, size);
+        fresh
+    }
+
+    /// The top sequence, which begins at `first` and spans the size `inner`, is put into a new one along the other
+    /// axis, and a free leaf after it reaches to the far corner of `size`. The answer is the slot that holds the old
+    /// sequence, and that of the leaf, which is taken before it and is loose. One pass along the old sequence.
+    pub fn nest(&mut self, first: Link, inner: Size, size: Size) -> (Link, Link)
+        requires ready { (h : Holding) × (d : ℕ)
+            × IsNestable (shelf_of self.old) (sides_of inner) (sides_of size) first.number d h
+            × HasSlotsFor 2 self.old h }
+        requires inner { inner ≡ size_of (sides_of inner) }
+        requires exact { size ≡ size_of (sides_of size) }
+        ensures { IsNested self.old self.new (sides_of inner) (sides_of size) first.number result.0.number
+            result.1.number }
+    {
+        let strip = self.take();
+        let container = self.take();
+        self.wrap_top_with(first, container, inner);
+        self.append_with(container, strip, size);
+        (container, strip)
+    }
+}

@@ -1,0 +1,11 @@
+-- Lemmas of the parts of a call: plans, placings and growths.
+pub mod LastMembers
+pub mod ChosenSlots
+pub mod GrownSlots
+pub mod GrownStages
+pub mod GrownTrees
+pub mod PlacingChains
+pub mod PlannedSlots
+pub mod PlannedTrees
+pub mod SlotPlans
+pub mod PlanLines

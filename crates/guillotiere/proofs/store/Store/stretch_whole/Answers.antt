@@ -1,7 +1,0 @@
-use Rattle.std.proofs.Common.{arith}
-use Rattle.guillotiere.proofs.StoreLemmas.StoreFacts.{are-slots, across-call, slots-room}
-use Rattle.guillotiere.proofs.StoreLemmas.ExtendingSteps.{sides-fit, whole-holds}
-use Rattle.guillotiere.proofs.store.Store.stretch_whole.Goals as goal
-
-pub returns : goal.returns
-returns g c = grind (arith, are-slots, whole-holds, sides-fit, across-call, slots-room)

@@ -1,8 +1,0 @@
--- Generations: how often a slot was taken anew since the last start.
-use Rattle.std.specs.Prelude.{◌≡◌, All}
-use Rattle.guillotiere.specs.Slots.{nodes}
-use Rattle.guillotiere.specs.Stored.{AtlasValue}
-
--- Each slot is in its first generation.
-abbrev pub AreFirstGenerations : AtlasValue → Type 0
-AreFirstGenerations v = All (λ n. n.generation ≡ 0) (nodes v.stored.shelf.slots)
