@@ -1,6 +1,6 @@
 pub mod SimpleLemmas
 pub mod AtlasLemmas
-pub mod PartLemmas
+pub mod PlanLemmas
 pub mod Playing
 pub use Rattle.atlas_model.proofs.TreeLemmas
 pub use Rattle.atlas_model.proofs.StepLemmas

@@ -1,7 +1,7 @@
 pub mod Sessions
 pub mod SimpleSessions
 pub mod FreeBoxes
-pub mod Parts
+pub mod Plans
 pub use Rattle.atlas_store.specs.Stored
 pub use Rattle.atlas_store.specs.Rectangles
 pub use Rattle.atlas_store.specs.Visits

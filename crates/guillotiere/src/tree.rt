@@ -10,7 +10,7 @@ ghost use Rattle.atlas_store.specs.Slots.Reading.{extent_of};
 ghost use Rattle.atlas_store.specs.Stored.{Holding};
 ghost use Rattle.atlas_store.specs.Store.Holdings.{shelf_of, across_of, KeepsRoom};
 ghost use Rattle.atlas_store.specs.Store.Freeing.{IsSettlingAt, IsTurnTo, IsSettled, IsFreeable, IsFreed};
-ghost use Rattle.guillotiere.specs.Parts.Planning.{slots_of, IsPlanFor, IsFeasible, IsPlaceable, IsPlaced};
+ghost use Rattle.guillotiere.specs.Plans.Planning.{slots_of, IsPlanFor, IsFeasible, IsPlaceable, IsPlaced};
 
 pub mod growth;
 pub mod requests;

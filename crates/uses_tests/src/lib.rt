@@ -1,4 +1,5 @@
-//! Tests of the programs of `uses`. Expected places are worked by hand, or recorded from the Rust crate `guillotiere` 0.7.0.
+//! Tests of the programs of `uses`. Expected places are worked by hand, or recorded from the Rust crate `guillotiere`
+//! 0.7.0.
 #![tactic(auto)]
 
 #[cfg(test)]

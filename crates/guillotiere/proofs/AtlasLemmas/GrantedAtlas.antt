@@ -17,10 +17,10 @@ use Rattle.atlas_model.specs.States.{State, free_in, after_placing}
 use Rattle.atlas_model.specs.Steps.{Step, Takes, Grants, nodes_with}
 use Rattle.atlas_model.specs.Steps.AtlasCall.{Allocate}
 use Rattle.atlas_model.specs.Steps.AtlasReply.{Refused}
-use Rattle.guillotiere.specs.Parts.Chosen.{CanGrant, IsAtRest, IsChosen, IsGrantable, IsGrantMade, IsRequestGranted}
-use Rattle.guillotiere.specs.Parts.Chosen.{IsShortOf}
+use Rattle.guillotiere.specs.Plans.Chosen.{CanGrant, IsAtRest, IsChosen, IsGrantable, IsGrantMade, IsRequestGranted}
+use Rattle.guillotiere.specs.Plans.Chosen.{IsShortOf}
 use Rattle.atlas_store.specs.Store.Holdings.{shelf_of, node_in}
-use Rattle.guillotiere.specs.Parts.Planning.{slots_of}
+use Rattle.guillotiere.specs.Plans.Planning.{slots_of}
 use Rattle.atlas_store.specs.Stored.{Stored, Shelf, Holding, IsAtlas, state_of}
 use Rattle.atlas_model.specs.Trees.{ids, slot_count}
 use Rattle.atlas_model.specs.declared.allocation.Allocation.{Allocation}
@@ -40,11 +40,11 @@ use Rattle.atlas_store.proofs.SlotLemmas.SlotIds.{slot_count-none, id_of-slot}
 use Rattle.atlas_model.proofs.TreeLemmas.TreeCounts.{place_nodes}
 use Rattle.atlas_model.proofs.StepLemmas.StepKeeping.{placing_sound}
 use Rattle.atlas_store.proofs.StoreLemmas.SpareCounts.{spare-count}
-use Rattle.guillotiere.proofs.PartLemmas.PlannedTrees.{IsPlacing, planned-tree, planned-used, need-read}
-use Rattle.guillotiere.proofs.PartLemmas.PlannedSlots.{planned-first, planned-unused}
+use Rattle.guillotiere.proofs.PlanLemmas.PlannedTrees.{IsPlacing, planned-tree, planned-used, need-read}
+use Rattle.guillotiere.proofs.PlanLemmas.PlannedSlots.{planned-first, planned-unused}
 use Rattle.guillotiere.proofs.SimpleLemmas.CuttingFromLists.{unsigned-fits, sides_of-size, size-positive}
 use Rattle.atlas_store.proofs.SlotLemmas.FreeSlots.{exact-free}
-use Rattle.guillotiere.proofs.PartLemmas.ChosenSlots.{rest-free}
+use Rattle.guillotiere.proofs.PlanLemmas.ChosenSlots.{rest-free}
 use Rattle.atlas_store.proofs.WalkLemmas.Observing.{nodes-short, members-IsAtlas, tree_of-IsAtlas, used-IsAtlas}
 
 -- The state after a placing, of its parts.

@@ -14,9 +14,9 @@ use Rattle.atlas_model.specs.States.{State, IsSound, after_growth, live_in}
 use Rattle.atlas_model.specs.Steps.{Step, nodes_grown}
 use Rattle.atlas_model.specs.Steps.AtlasCall.{Grow}
 use Rattle.atlas_model.specs.Steps.AtlasReply.{Done, Refused}
-use Rattle.guillotiere.specs.Parts.Chosen.{IsShortOf}
-use Rattle.guillotiere.specs.Parts.Growths.{CanGrow, IsTreeOf, IsGrowthOf, IsGrowable, IsGrownHolding, IsNeedOf}
-use Rattle.guillotiere.specs.Parts.Growths.{IsTreeGrown}
+use Rattle.guillotiere.specs.Plans.Chosen.{IsShortOf}
+use Rattle.guillotiere.specs.Plans.Growths.{CanGrow, IsTreeOf, IsGrowthOf, IsGrowable, IsGrownHolding, IsNeedOf}
+use Rattle.guillotiere.specs.Plans.Growths.{IsTreeGrown}
 use Rattle.atlas_store.specs.Store.Holdings.{shelf_of}
 use Rattle.atlas_store.specs.Stored.{Stored, Shelf, Holding, IsAtlas, state_of}
 use Rattle.atlas_model.specs.Trees.{Tree, IsOneFree, is_one_free, live}

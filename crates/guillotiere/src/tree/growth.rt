@@ -8,9 +8,9 @@ ghost use Rattle.atlas_store.specs.Slots.{axis_of};
 ghost use Rattle.atlas_store.specs.Stored.{Holding};
 ghost use Rattle.atlas_store.specs.Store.Holdings.{shelf_of};
 ghost use Rattle.atlas_store.specs.Slots.Growing.{last_slot};
-ghost use Rattle.guillotiere.specs.Parts.Growths.{CanGrow, IsTreeOf, IsGrowthOf, IsLengthenable, IsLonger, IsNeedOf};
-ghost use Rattle.guillotiere.specs.Parts.Growths.{IsOneBox, IsBoxGrown, IsTreeGrown, IsWidenable, IsWidenedTo};
-ghost use Rattle.guillotiere.specs.Parts.Growths.{middle_of};
+ghost use Rattle.guillotiere.specs.Plans.Growths.{CanGrow, IsTreeOf, IsGrowthOf, IsLengthenable, IsLonger, IsNeedOf};
+ghost use Rattle.guillotiere.specs.Plans.Growths.{IsOneBox, IsBoxGrown, IsTreeGrown, IsWidenable, IsWidenedTo};
+ghost use Rattle.guillotiere.specs.Plans.Growths.{middle_of};
 
 use atlas_model::{Size, size2};
 use atlas_store::cut::Orientation;

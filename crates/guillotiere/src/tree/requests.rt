@@ -8,7 +8,7 @@ ghost use Rattle.atlas_model.specs.Trees.{most_slots};
 ghost use Rattle.atlas_store.specs.Search.Picks.{AreFreeBoxes};
 ghost use Rattle.atlas_store.specs.Stored.{Holding};
 ghost use Rattle.atlas_store.specs.Store.Holdings.{shelf_of};
-ghost use Rattle.guillotiere.specs.Parts.Chosen.{CanGrant, IsAtRest, IsChosen, IsRequestGranted, IsShortOf, KeepsShelf};
+ghost use Rattle.guillotiere.specs.Plans.Chosen.{CanGrant, IsAtRest, IsChosen, IsRequestGranted, IsShortOf, KeepsShelf};
 
 use crate::tree::{Plan, place, plan_for};
 use atlas_model::{AllocId, AtlasError, Rectangle, Size};

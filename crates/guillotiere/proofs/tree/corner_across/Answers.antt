@@ -1,5 +1,5 @@
 use Rattle.std.proofs.Common.{◌∙◌}
-use Rattle.guillotiere.proofs.PartLemmas.PlacingChains.{corner_across-wrap, corner_across-split, corner_across-less, corner_across-grant, corner_across-list, corner_across-list_last, corner_across-planned}
+use Rattle.guillotiere.proofs.PlanLemmas.PlacingChains.{corner_across-wrap, corner_across-split, corner_across-less, corner_across-grant, corner_across-list, corner_across-list_last, corner_across-planned}
 use Rattle.guillotiere.proofs.tree.corner_across.Goals as goal
 
 pub wrap-granted-requires : goal.wrap-granted-requires

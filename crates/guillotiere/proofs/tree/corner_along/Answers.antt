@@ -1,5 +1,5 @@
 use Rattle.std.proofs.Common.{◌∙◌}
-use Rattle.guillotiere.proofs.PartLemmas.PlacingChains.{corner_along-wrap, corner_along-split, corner_along-less, corner_along-grant, corner_along-list, corner_along-list_last, corner_along-planned}
+use Rattle.guillotiere.proofs.PlanLemmas.PlacingChains.{corner_along-wrap, corner_along-split, corner_along-less, corner_along-grant, corner_along-list, corner_along-list_last, corner_along-planned}
 use Rattle.guillotiere.proofs.tree.corner_along.Goals as goal
 
 pub wrap-granted-requires : goal.wrap-granted-requires

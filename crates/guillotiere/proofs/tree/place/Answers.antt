@@ -1,5 +1,5 @@
 use Rattle.std.proofs.Common.{arith}
-use Rattle.guillotiere.proofs.PartLemmas.PlacingChains.{whole-placed}
+use Rattle.guillotiere.proofs.PlanLemmas.PlacingChains.{whole-placed}
 use Rattle.guillotiere.proofs.tree.place.Goals as goal
 
 pub returns-in-Whole : goal.returns-in-Whole

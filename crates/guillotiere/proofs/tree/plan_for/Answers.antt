@@ -1,4 +1,4 @@
-use Rattle.guillotiere.proofs.PartLemmas.PlanLines.{exact-leaf}
+use Rattle.guillotiere.proofs.PlanLemmas.PlanLines.{exact-leaf}
 use Rattle.guillotiere.proofs.tree.plan_for.Goals as goal
 
 pub exact_size-whole-requires : goal.exact_size-whole-requires

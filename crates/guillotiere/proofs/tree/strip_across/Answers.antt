@@ -1,5 +1,5 @@
 use Rattle.std.proofs.Common.{◌∙◌}
-use Rattle.guillotiere.proofs.PartLemmas.PlacingChains.{strip_across-grant, strip_across-list, strip_across-planned}
+use Rattle.guillotiere.proofs.PlanLemmas.PlacingChains.{strip_across-grant, strip_across-list, strip_across-planned}
 use Rattle.guillotiere.proofs.tree.strip_across.Goals as goal
 
 pub grant-requires : goal.grant-requires

@@ -1,5 +1,5 @@
 use Rattle.std.proofs.Common.{◌∙◌}
-use Rattle.guillotiere.proofs.PartLemmas.PlacingChains.{strip_along-grant, strip_along-list, strip_along-planned}
+use Rattle.guillotiere.proofs.PlanLemmas.PlacingChains.{strip_along-grant, strip_along-list, strip_along-planned}
 use Rattle.guillotiere.proofs.tree.strip_along.Goals as goal
 
 pub grant-requires : goal.grant-requires

@@ -2,8 +2,8 @@ use Rattle.std.proofs.Common.{ℕ, ◌-◌, ◌≡◌, ◌∙◌, sym, subst, ar
 use Rattle.atlas_model.specs.Boxes.{other, side}
 use Rattle.atlas_model.specs.Pixels.{sides_of}
 use Rattle.atlas_store.specs.Stored.{Holding}
-use Rattle.guillotiere.specs.Parts.Growths.{IsGrowable}
-use Rattle.guillotiere.proofs.PartLemmas.GrownStages.{IsMidwayIn, equal-yes, equal-no, unequal-yes, unequal-no, along-longer, along-same, across-longer, across-same, across_need, longer-ready, longer-midway, same-midway, midway-grown, midway-ready, widened-grown}
+use Rattle.guillotiere.specs.Plans.Growths.{IsGrowable}
+use Rattle.guillotiere.proofs.PlanLemmas.GrownStages.{IsMidwayIn, equal-yes, equal-no, unequal-yes, unequal-no, along-longer, along-same, across-longer, across-same, across_need, longer-ready, longer-midway, same-midway, midway-grown, midway-ready, widened-grown}
 use Rattle.guillotiere.proofs.tree.growth.grow_tree.Goals as goal
 use Rattle.guillotiere.proofs.tree.growth.grow_tree.Goals.{then-ne, else-ne}
 

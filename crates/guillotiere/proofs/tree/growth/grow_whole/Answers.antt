@@ -1,5 +1,5 @@
 use Rattle.std.proofs.Common.{◌∙◌}
-use Rattle.guillotiere.proofs.PartLemmas.GrownSlots.{whole-ready, whole-list, whole-grown}
+use Rattle.guillotiere.proofs.PlanLemmas.GrownSlots.{whole-ready, whole-list, whole-grown}
 use Rattle.atlas_store.proofs.StoreLemmas.Turning.{keeps-room}
 use Rattle.guillotiere.proofs.tree.growth.grow_whole.Goals as goal
 

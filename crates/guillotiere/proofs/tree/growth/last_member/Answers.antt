@@ -1,6 +1,6 @@
 use Rattle.std.proofs.Common.{arith}
 use Rattle.atlas_store.specs.Store.Holdings.{shelf_of}
-use Rattle.guillotiere.proofs.PartLemmas.LastMembers.{members-begin, members-go_on, members-end, members-fall, member-inside}
+use Rattle.guillotiere.proofs.PlanLemmas.LastMembers.{members-begin, members-go_on, members-end, members-fall, member-inside}
 use Rattle.guillotiere.proofs.tree.growth.last_member.Goals as goal
 
 pub loop-next-init : goal.loop-next-init

@@ -3,9 +3,9 @@ use Rattle.atlas_model.specs.Boxes.{Sides}
 use Rattle.atlas_store.specs.Slots.{nodes}
 use Rattle.atlas_store.specs.Stored.{Holding}
 use Rattle.atlas_store.specs.Store.Holdings.{shelf_of}
-use Rattle.guillotiere.specs.Parts.Growths.{IsTreeOf}
+use Rattle.guillotiere.specs.Plans.Growths.{IsTreeOf}
 use Rattle.atlas_store.proofs.SlotLemmas.Following.{followers}
-use Rattle.guillotiere.proofs.PartLemmas.LastMembers.{IsAtMember}
+use Rattle.guillotiere.proofs.PlanLemmas.LastMembers.{IsAtMember}
 use Rattle.guillotiere.proofs.tree.growth.last_member.Given as goal
 
 abbrev pub invariant-loop-next : goal.invariant-loop-next

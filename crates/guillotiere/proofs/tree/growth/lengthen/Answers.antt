@@ -3,7 +3,7 @@ use Rattle.std.proofs.lemmas.Bool.{true≢false}
 use Rattle.atlas_store.specs.declared.slots.NodeKind.TheVariants.{Free}
 use Rattle.atlas_model.specs.Pixels.{sides_of}
 use Rattle.atlas_store.specs.Store.Holdings.{shelf_of, node_in}
-use Rattle.guillotiere.proofs.PartLemmas.GrownSlots.{end-slot, stretch-ready, stretch-list, stretch-lengthened, append-ready, append-list, append-lengthened}
+use Rattle.guillotiere.proofs.PlanLemmas.GrownSlots.{end-slot, stretch-ready, stretch-list, stretch-lengthened, append-ready, append-list, append-lengthened}
 use Rattle.guillotiere.proofs.tree.growth.lengthen.Goals as goal
 
 pub is_free-requires-clause-slot : goal.is_free-requires-clause-slot

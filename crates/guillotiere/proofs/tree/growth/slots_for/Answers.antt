@@ -3,8 +3,8 @@ use Rattle.atlas_model.specs.Pixels.{sides_of}
 use Rattle.atlas_store.specs.Store.Holdings.{shelf_of}
 use Rattle.atlas_store.specs.Slots.Standing.{IsSlot}
 use Rattle.atlas_store.specs.Slots.Growing.{last_slot}
-use Rattle.guillotiere.proofs.PartLemmas.GrownSlots.{last-slot}
-use Rattle.guillotiere.proofs.PartLemmas.GrownStages.{unequal-yes, unequal-no, along-longer, along-same, across-longer, across-same, along_need, across_need, need-is, strip-longer, strip-same, top-wider, top-same}
+use Rattle.guillotiere.proofs.PlanLemmas.GrownSlots.{last-slot}
+use Rattle.guillotiere.proofs.PlanLemmas.GrownStages.{unequal-yes, unequal-no, along-longer, along-same, across-longer, across-same, along_need, across_need, need-is, strip-longer, strip-same, top-wider, top-same}
 use Rattle.guillotiere.proofs.tree.growth.slots_for.Goals as goal
 use Rattle.guillotiere.proofs.tree.growth.slots_for.Goals.{then-ne, else-ne, then-ne-2, else-ne-2}
 

@@ -1,5 +1,5 @@
 use Rattle.std.proofs.Common.{◌∙◌, arith}
-use Rattle.guillotiere.proofs.PartLemmas.GrownSlots.{nest-list, nest-widened}
+use Rattle.guillotiere.proofs.PlanLemmas.GrownSlots.{nest-list, nest-widened}
 use Rattle.guillotiere.proofs.tree.growth.widen.Goals as goal
 
 pub nest-requires-clause-ready : goal.nest-requires-clause-ready

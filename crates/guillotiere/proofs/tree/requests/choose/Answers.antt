@@ -1,6 +1,6 @@
 use Rattle.atlas_model.specs.Pixels.{sides_of}
 use Rattle.atlas_store.specs.Store.Holdings.{shelf_of}
-use Rattle.guillotiere.proofs.PartLemmas.ChosenSlots.{rest-searchable, found-exact, found-fits, found-chosen}
+use Rattle.guillotiere.proofs.PlanLemmas.ChosenSlots.{rest-searchable, found-exact, found-fits, found-chosen}
 use Rattle.guillotiere.proofs.tree.requests.choose.Goals as goal
 
 pub pick-requires-clause-searchable : goal.pick-requires-clause-searchable

@@ -1,5 +1,5 @@
 use Rattle.std.proofs.Common.{◌∙◌}
-use Rattle.guillotiere.proofs.PartLemmas.ChosenSlots.{listed-chosen, unlisted-sharpened, placeable-chosen, granted-inside, granted-short, grant-made}
+use Rattle.guillotiere.proofs.PlanLemmas.ChosenSlots.{listed-chosen, unlisted-sharpened, placeable-chosen, granted-inside, granted-short, grant-made}
 use Rattle.guillotiere.proofs.tree.requests.grant.Goals as goal
 
 pub unlist_at-requires : goal.unlist_at-requires

@@ -10,7 +10,7 @@ use Rattle.atlas_store.specs.Slots.Standing.{Sequence, Standing}
 use Rattle.atlas_store.specs.Stored.{Shelf, Holding}
 use Rattle.atlas_store.specs.Store.Holdings.{node_in}
 use Rattle.atlas_store.specs.Slots.Growing.{last_after, last_slot}
-use Rattle.guillotiere.specs.Parts.Growths.{IsTreeOf}
+use Rattle.guillotiere.specs.Plans.Growths.{IsTreeOf}
 use Rattle.atlas_store.proofs.SlotLemmas.JoiningWrites.{none-unused}
 use Rattle.atlas_store.proofs.WalkLemmas.Observing.{nodes-below, nonempty-total}
 use Rattle.atlas_store.proofs.SlotLemmas.Following.{outermost, outermost-few, followers, followers-outermost, begins-inside}

@@ -20,9 +20,9 @@ use Rattle.atlas_store.specs.Stored.{Shelf, Holding, Holds, places_of}
 use Rattle.atlas_store.specs.Store.Holdings.{shelf_of, node_in, across_of, with_loose, with_held, IsLow}
 use Rattle.atlas_store.specs.Search.Bands.{list_of, number_of}
 use Rattle.atlas_store.specs.Slots.Lists.{node_sides, node_strip}
-use Rattle.guillotiere.specs.Parts.Planning.{IsPlanFor, IsFeasible, IsPlaceable, IsPlaceableAt, IsPlaced, IsPlanned}
+use Rattle.guillotiere.specs.Plans.Planning.{IsPlanFor, IsFeasible, IsPlaceable, IsPlaceableAt, IsPlaced, IsPlanned}
 use Rattle.atlas_store.specs.Store.StoreCalls.{IsListedAt, IsSharpened, IsUnlisted}
-use Rattle.guillotiere.specs.Parts.Chosen.{IsAtRest, IsChosen, IsGrantable, IsGrantMade}
+use Rattle.guillotiere.specs.Plans.Chosen.{IsAtRest, IsChosen, IsGrantable, IsGrantMade}
 use Rattle.atlas_store.proofs.StoreLemmas.Filing.{with_mark-same}
 use Rattle.atlas_store.proofs.SlotLemmas.JoiningWrites.{used-inside}
 use Rattle.atlas_store.proofs.SlotLemmas.FreeSlots.{AreFreeBoxes-stands, exact-free, searchable}

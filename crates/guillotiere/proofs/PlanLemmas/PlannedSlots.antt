@@ -6,13 +6,13 @@ use Rattle.atlas_store.specs.declared.slots.NodeKind.TheVariants as kind
 use Rattle.atlas_store.specs.Slots.Numbered.{Numbered, tally, first_slot, is_free_at, split_at, wrapped_at}
 use Rattle.atlas_store.specs.Stored.{Shelf, Holding, Holds}
 use Rattle.atlas_store.specs.Store.Holdings.{node_in}
-use Rattle.guillotiere.specs.Parts.Planning.{IsPlannedTree, IsPlanned}
+use Rattle.guillotiere.specs.Plans.Planning.{IsPlannedTree, IsPlanned}
 use Rattle.atlas_store.proofs.SlotLemmas.Frames.{same-self}
 use Rattle.atlas_store.proofs.SlotLemmas.Weights.{places, free_place}
 use Rattle.atlas_store.proofs.SlotLemmas.Granting.{tally-granted, first-granted}
 use Rattle.atlas_store.proofs.SlotLemmas.Splitting.{first-split}
 use Rattle.atlas_store.proofs.SlotLemmas.Wrapping.{first-wrapped}
-use Rattle.guillotiere.proofs.PartLemmas.SlotPlans.{split-keeps, split-stays, wrapped-keeps, wrapped-adds, wrapped-gains, once-Stands}
+use Rattle.guillotiere.proofs.PlanLemmas.SlotPlans.{split-keeps, split-stays, wrapped-keeps, wrapped-adds, wrapped-gains, once-Stands}
 
 planned-new : (p : Plan) (i width to g : ℕ) (n new : Numbered) → 0 < places (is_free_at i) n → IsPlannedTree p i width to g n new → tally to new ≤ 1 → (to ≡ i) ⊎ (tally to n ≡ 0)
 planned-new plan.Whole i width to g n new here t once = inl t.0

@@ -12,10 +12,10 @@ use Rattle.atlas_store.specs.Slots.Numbered.{numbers, id_of}
 use Rattle.atlas_store.specs.Slots.Reading.{tree_of}
 use Rattle.atlas_store.specs.Stored.{Shelf, Holding, Holds}
 use Rattle.atlas_store.specs.Store.Holdings.{node_in}
-use Rattle.guillotiere.specs.Parts.Planning.{IsPlanFor, IsPlanned, slots_of}
+use Rattle.guillotiere.specs.Plans.Planning.{IsPlanFor, IsPlanned, slots_of}
 use Rattle.atlas_store.proofs.SlotLemmas.Reading.{nonempty-tally, tree_of-Stands}
 use Rattle.atlas_store.proofs.SlotLemmas.SlotAims.{IsChoice, tree_in}
-use Rattle.guillotiere.proofs.PartLemmas.SlotPlans.{planned-placed, planned-need, planned-numbers, once-Stands}
+use Rattle.guillotiere.proofs.PlanLemmas.SlotPlans.{planned-placed, planned-need, planned-numbers, once-Stands}
 
 -- Some slot is used, so that the tree that is read has an axis.
 read_tree : (v : Shelf) (h : Holding) (i : ℕ) → Holds v h → 0 < use_count (node_in v i).kind → tree_of (nodes v.slots) ≡ tree_in h.sequence h.tree

@@ -13,7 +13,7 @@ use Rattle.atlas_model.specs.Changes.{lengthened, lengthened_to, widened, grown_
 use Rattle.atlas_store.specs.Slots.Numbered.{Numbered, End, Free, Alloc, Seq, erase, first_slot, id_of, numbers}
 use Rattle.atlas_store.specs.Slots.Standing.{Sequence, Standing, Stands}
 use Rattle.atlas_store.specs.Slots.Growing.{last_after, last_slot, stretched, appended}
-use Rattle.guillotiere.specs.Parts.Growths.{strip_after}
+use Rattle.guillotiere.specs.Plans.Growths.{strip_after}
 use Rattle.atlas_store.proofs.SlotLemmas.Frames.{same-self}
 use Rattle.atlas_store.proofs.SlotLemmas.JoiningWrites.{used-inside}
 use Rattle.atlas_store.proofs.SlotLemmas.Reading.{IsNonempty}

@@ -1,4 +1,4 @@
--- Lemmas of the parts of a call: plans, placings and growths.
+-- Lemmas of plans, of placings and of growths.
 pub mod LastMembers
 pub mod ChosenSlots
 pub mod GrownSlots

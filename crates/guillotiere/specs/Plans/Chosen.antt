@@ -16,7 +16,7 @@ use Rattle.atlas_store.specs.Slots.Lists.{node_sides, node_strip}
 use Rattle.atlas_store.specs.Search.Picks.{AreFreeBoxes, IsFreeSlot}
 use Rattle.atlas_store.specs.Stored.{Shelf, Holding, Holds, IsLooseOnly}
 use Rattle.atlas_store.specs.Store.Holdings.{shelf_of, node_in, across_of, HasSlotsFor}
-use Rattle.guillotiere.specs.Parts.Planning.{IsPlanFor, IsFeasible, IsPlanned, slots_of}
+use Rattle.guillotiere.specs.Plans.Planning.{IsPlanFor, IsFeasible, IsPlanned, slots_of}
 
 -- The slots stand for a tree that begins at 0, and each free slot stands in its list.
 pub record IsAtRest (v : Shelf) (h : Holding) : Type 0 where

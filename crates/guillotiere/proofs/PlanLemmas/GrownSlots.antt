@@ -17,16 +17,16 @@ use Rattle.atlas_store.specs.Store.Holdings.{shelf_of, node_in, HasSlotsFor, IsL
 use Rattle.atlas_store.specs.Slots.Growing.{IsEnd, IsLone, last_slot, after_stretch, after_whole, after_append, after_nest}
 use Rattle.atlas_store.specs.Store.StoreCalls.{IsListed, IsUnlisted}
 use Rattle.atlas_store.specs.Store.TopCalls.{IsAppended, IsEnlarged, IsExtendable, IsNested, IsStretched}
-use Rattle.guillotiere.specs.Parts.Growths.{IsTreeOf, IsGrownHolding, IsLengthenable, IsLengthened, IsWidenable, IsWidened, strip_after, strip_need}
+use Rattle.guillotiere.specs.Plans.Growths.{IsTreeOf, IsGrownHolding, IsLengthenable, IsLengthened, IsWidenable, IsWidened, strip_after, strip_need}
 use Rattle.atlas_store.proofs.StoreLemmas.Filing.{with_mark-same, with_mark-other}
 use Rattle.atlas_store.proofs.SlotLemmas.Reading.{IsNonempty}
 use Rattle.atlas_store.proofs.WalkLemmas.Observing.{nonempty-total}
 use Rattle.atlas_model.proofs.TreeLemmas.TreeBasics.{side_positive}
-use Rattle.guillotiere.proofs.PartLemmas.PlacingChains.{fewer-slots}
+use Rattle.guillotiere.proofs.PlanLemmas.PlacingChains.{fewer-slots}
 use Rattle.atlas_store.proofs.StoreLemmas.StoreTakes.{slots-kept}
 use Rattle.atlas_store.proofs.StoreLemmas.Turning.{keeps-room}
 use Rattle.atlas_store.proofs.SlotLemmas.Stretching.{first-stretched}
-use Rattle.guillotiere.proofs.PartLemmas.GrownTrees.{last-inside, erase-stretched, erase-appended, first-appended}
+use Rattle.guillotiere.proofs.PlanLemmas.GrownTrees.{last-inside, erase-stretched, erase-appended, first-appended}
 
 -- A leaf that was listed, and is again.
 listed-again : (loose : ℕ → Bool) (k : ℕ) → ((i : ℕ) → occurs i [] ≡ 0 → loose i ≡ false) → (i : ℕ) → occurs i [] ≡ 0 → with_mark (with_mark loose k true) k false i ≡ false

@@ -18,13 +18,13 @@ use Rattle.atlas_store.specs.Slots.Numbered.{erase, first_slot}
 use Rattle.atlas_store.specs.Stored.{Shelf, Holding, Holds, IsLooseOnly}
 use Rattle.atlas_store.specs.Store.Holdings.{shelf_of, node_in, HasSlotsFor}
 use Rattle.atlas_store.specs.Slots.Growing.{IsEnd, IsSpanning, IsWider, last_slot}
-use Rattle.guillotiere.specs.Parts.Growths.{IsGrowthOf, IsGrowable, IsGrownHolding, IsLengthenable, IsLonger, IsNeedOf, IsWidenable, IsWidenedTo, middle_of, strip_need}
+use Rattle.guillotiere.specs.Plans.Growths.{IsGrowthOf, IsGrowable, IsGrownHolding, IsLengthenable, IsLonger, IsNeedOf, IsWidenable, IsWidenedTo, middle_of, strip_need}
 use Rattle.atlas_store.proofs.SlotLemmas.Reading.{tree-by_parts}
 use Rattle.atlas_store.proofs.WalkLemmas.Observing.{nonempty-total}
 use Rattle.atlas_model.proofs.TreeLemmas.TreeBasics.{longer_side, other_twice}
 use Rattle.atlas_model.proofs.TreeLemmas.TreeGrowth.{grown-other}
-use Rattle.guillotiere.proofs.PartLemmas.GrownTrees.{if_longer, if_longer-more, if_longer-not, nodes-grown_by, lengthened_to-more, lengthened_to-same, total-lengthened_to, widened-more, widened-same}
-use Rattle.guillotiere.proofs.PartLemmas.GrownSlots.{need-answer}
+use Rattle.guillotiere.proofs.PlanLemmas.GrownTrees.{if_longer, if_longer-more, if_longer-not, nodes-grown_by, lengthened_to-more, lengthened_to-same, total-lengthened_to, widened-more, widened-same}
+use Rattle.guillotiere.proofs.PlanLemmas.GrownSlots.{need-answer}
 
 -- The sizes that a growth goes through.
 

@@ -10,7 +10,7 @@ use Rattle.atlas_model.specs.Changes.{place, place_need}
 use Rattle.atlas_store.specs.Slots.{node_at, axis_of}
 use Rattle.atlas_store.specs.Slots.Numbered.{Numbered, tally, numbers, same, id_of, granted_at, split_at, wrapped_at, wrapping, is_free_at}
 use Rattle.atlas_store.specs.Slots.Standing.{Sequence, Stands}
-use Rattle.guillotiere.specs.Parts.Planning.{IsPlanFor, IsPlannedTree, slots_of}
+use Rattle.guillotiere.specs.Plans.Planning.{IsPlanFor, IsPlannedTree, slots_of}
 use Rattle.atlas_store.proofs.SlotLemmas.Frames.{same-self, used-le}
 use Rattle.atlas_store.proofs.SlotLemmas.Weights.{places, free_place}
 use Rattle.atlas_store.proofs.SlotLemmas.Editing.{splitting, free_here, weigh-more, places-next}

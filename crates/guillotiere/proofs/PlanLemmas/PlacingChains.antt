@@ -11,7 +11,7 @@ use Rattle.atlas_store.specs.Slots.Reading.{extent_of}
 use Rattle.atlas_store.specs.Stored.{Holding}
 use Rattle.atlas_store.specs.Store.Holdings.{shelf_of, node_in, HasSlotsFor, IsLooseLeaf, with_loose, with_held, with_spare, after_split, after_wrap, after_grant}
 use Rattle.atlas_store.specs.Store.StoreCalls.{IsGranted, IsListed, IsSplit, IsWrapped, IsWrappedTwo}
-use Rattle.guillotiere.specs.Parts.Planning.{IsPlaceableAt, IsPlaced, IsPlanned, IsPlannedTree, slots_of}
+use Rattle.guillotiere.specs.Plans.Planning.{IsPlaceableAt, IsPlaced, IsPlanned, IsPlannedTree, slots_of}
 use Rattle.atlas_store.proofs.SlotLemmas.Frames.{same-ne}
 use Rattle.atlas_store.proofs.StoreLemmas.Filing.{with_mark-same}
 use Rattle.atlas_store.proofs.StoreLemmas.PlacingSteps.{IsStage, stage-leaf, stage-order, mark-stays, mark-apart, SplitTo, split-stage, WrappedTo, wrap-stage, WrappedTwoTo, wrap_two-stage, grant-stage, ListedTo, list-stage, not_both}
