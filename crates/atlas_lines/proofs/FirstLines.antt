@@ -1,7 +1,7 @@
 -- The first line of a text, and what stands after it.
 use Rattle.std.proofs.Common.{◌≡◌, ℕ, ◌≢◌, ◌<◌, ◌⊎◌, List, [], ◌∷◌, ◌++◌, length, sym, ap, ◌∙◌, inl, inr, arith, length-append}
 use Rattle.std.proofs.lemmas.List.{nil_from_length}
-use Rattle.atlas_lines.specs.Lines.{HasNoEnd, BeginsWithLine}
+use Rattle.atlas_words.specs.Lines.{HasNoEnd, BeginsWithLine}
 use Rattle.atlas_lines.proofs.Readings.{same_first, no_first}
 
 parts : (t l r m s : List ℕ) → HasNoEnd l → HasNoEnd m

@@ -7,14 +7,14 @@ use Rattle.atlas_lines.specs.declared.run.ToolEnd.{ToolEnd}
 use Rattle.atlas_lines.specs.declared.run.ToolEnd.TheVariants.{Done, BadLine, Limit}
 use Rattle.atlas_lines.specs.declared.run.ToolFault.{ToolFault}
 use Rattle.atlas_lines.specs.declared.run.ToolFault.TheVariants.{Read, Write}
-use Rattle.atlas_lines.specs.Blocks.{IsGathered}
-use Rattle.atlas_lines.specs.Devices.{WritesBeginning}
-use Rattle.atlas_lines.specs.Lines.{HasNoEnd, ended, all_ended}
+use Rattle.atlas_words.specs.Blocks.{IsGathered}
+use Rattle.atlas_words.specs.Devices.{WritesBeginning}
+use Rattle.atlas_words.specs.Lines.{HasNoEnd, ended, all_ended}
 use Rattle.atlas_lines.specs.Machine.{ToolState}
 use Rattle.atlas_lines.specs.Replies.{bad_line_text}
 use Rattle.atlas_lines.specs.Texts.{IsBadLine, LineOwes, OwesText}
 use Rattle.atlas_lines.specs.Progress.{Place, state_at, Advances, IsCertainlyBad, MeetsBadLine, OwesBeginning, Stops, Continues, EndsBadly, EndsInReply, RepliesTo, LineEnds}
-use Rattle.atlas_lines.proofs.Blocks.{gathered_begins, gathered_begun, gathered_appends, gathered_written, gathered_twice, gathered_nothing}
+use Rattle.atlas_words.proofs.Blocks.{gathered_begins, gathered_begun, gathered_appends, gathered_written, gathered_twice, gathered_nothing}
 
 pub all_ended_twice : (xs ys : List (List ℕ)) → all_ended (xs ++ ys) ≡ all_ended xs ++ all_ended ys
 all_ended_twice [] ys = refl

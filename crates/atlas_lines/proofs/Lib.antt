@@ -1,13 +1,10 @@
-pub mod Decimals
-pub mod Known
-pub mod Numbers
-pub mod Parting
-pub mod Keywords
 pub mod Runs
 pub mod Joins
 pub mod Outcomes
 pub mod Readings
-pub mod Blocks
 pub mod FirstLines
 pub mod Lists
 pub mod Holes
+pub use Rattle.atlas_words.proofs.Keywords
+pub use Rattle.atlas_words.proofs.Known
+pub use Rattle.atlas_words.proofs.Parting

@@ -7,15 +7,15 @@ use Rattle.atlas_lines.specs.declared.run.ToolEnd.{ToolEnd}
 use Rattle.atlas_lines.specs.declared.run.ToolEnd.TheVariants.{Done, BadLine, Limit}
 use Rattle.atlas_lines.specs.declared.run.ToolFault.{ToolFault}
 use Rattle.atlas_lines.specs.declared.run.ToolFault.TheVariants.{Read, Write}
-use Rattle.atlas_lines.specs.Devices.{KeepsOrHides, HoldsBytes, WritesBeginning}
-use Rattle.atlas_lines.specs.Lines.{HasNoEnd, ended, all_ended, ArePieces, AreLines, last_line}
+use Rattle.atlas_words.specs.Devices.{KeepsOrHides, HoldsBytes, WritesBeginning}
+use Rattle.atlas_words.specs.Lines.{HasNoEnd, ended, all_ended, ArePieces, AreLines, last_line}
 use Rattle.atlas_lines.specs.Machine.{ToolState, tool_state_of, at_start}
 use Rattle.atlas_lines.specs.Replies.{bad_line_text}
 use Rattle.atlas_lines.specs.Texts.{IsBadLine, LineOwes, OwesText}
 use Rattle.atlas_lines.specs.Ends.{is_read_fault, is_write_fault, OwesFirst, OwesToBadLine, OwesBegun, OwesToBadRead, EndsAtEnd, EndsAtRead, EndsAtWrite, Ends}
 use Rattle.atlas_lines.specs.Progress.{Place, state_at, place_at_start, Advances, IsCertainlyBad, MeetsBadLine, OwesBeginning, Stops, Continues, RepliesTo, LineEnds, HasRun, is_write_end}
-use Rattle.atlas_lines.proofs.Known.{Appends_none, Appends_twice, Consumes_none, Consumes_nothing, Consumes_twice, ReadsBeginning_kept, WritesBeginning_after, Holds_at_end, Holds_with_rest}
-use Rattle.atlas_lines.proofs.Blocks.{gathered_all, written_all}
+use Rattle.atlas_words.proofs.Known.{Appends_none, Appends_twice, Consumes_none, Consumes_nothing, Consumes_twice, ReadsBeginning_kept, WritesBeginning_after, Holds_at_end, Holds_with_rest}
+use Rattle.atlas_words.proofs.Blocks.{gathered_all, written_all}
 use Rattle.atlas_lines.proofs.Joins.{all_ended_twice, each_twice, owes_twice, advance_none, advance_twice, stops_after, meets_more}
 
 -- The lines and the rest of some bytes.

@@ -5,13 +5,13 @@ use Rattle.std.specs.List.{AllByRecursion}
 use Rattle.std.specs.Str.Parse.{IsNumeral, digits_value}
 use Rattle.guillotiere.specs.declared.Size.{Size}
 use Rattle.guillotiere.specs.declared.AllocatorOptions.{AllocatorOptions}
-use Rattle.atlas_lines.specs.declared.commands.Command.{Command}
-use Rattle.atlas_lines.specs.declared.commands.Command.TheVariants.{Simple, Take, Atlas, Alloc, Live, Holes, AskSize, Free, Grow, Empty, Clear, Rearrange, Resize, FromAtlas, Record, Replay}
-use Rattle.atlas_lines.specs.Grammar.{SpellsNumber, SpellsNumbers, SpellsSize, SpellsAtlas, SpellsId, Spells, keyword}
-use Rattle.atlas_lines.specs.Lines.{HasNoEnd, ended, all_ended, AreLines, last_line}
-use Rattle.atlas_lines.specs.Words.{BeginsWithWord, BeginsWithNumber, SpellsInParts}
-use Rattle.atlas_lines.proofs.Parting.{one_word, number_no_space, number_begins, same_size, same_options}
-use Rattle.atlas_lines.proofs.Keywords.{only_simple, only_take, only_atlas, only_alloc, only_free, only_grow, only_live, only_holes, only_size, only_empty, only_clear, only_rearrange, only_resize, only_record, only_from_atlas, only_replay, keyword_no_space, arguments_spaced, in_parts}
+use Rattle.atlas_words.specs.declared.commands.Command.{Command}
+use Rattle.atlas_words.specs.declared.commands.Command.TheVariants.{Simple, Take, Atlas, Alloc, Live, Holes, AskSize, Free, Grow, Empty, Clear, Rearrange, Resize, FromAtlas, Record, Replay}
+use Rattle.atlas_words.specs.Grammar.{SpellsNumber, SpellsNumbers, SpellsSize, SpellsAtlas, SpellsId, Spells, keyword}
+use Rattle.atlas_words.specs.Lines.{HasNoEnd, ended, all_ended, AreLines, last_line}
+use Rattle.atlas_words.specs.Words.{BeginsWithWord, BeginsWithNumber, SpellsInParts}
+use Rattle.atlas_words.proofs.Parting.{one_word, number_no_space, number_begins, same_size, same_options}
+use Rattle.atlas_words.proofs.Keywords.{only_simple, only_take, only_atlas, only_alloc, only_free, only_grow, only_live, only_holes, only_size, only_empty, only_clear, only_rearrange, only_resize, only_record, only_from_atlas, only_replay, keyword_no_space, arguments_spaced, in_parts}
 use Rattle.atlas_lines.proofs.Outcomes.{parted}
 
 -- ---- lines

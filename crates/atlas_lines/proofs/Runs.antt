@@ -4,13 +4,13 @@ use Rattle.std.proofs.lemmas.Int.{ints}
 use Rattle.guillotiere.specs.declared.Size.{Size}
 use Rattle.guillotiere.specs.Boxes.{IsPositive}
 use Rattle.guillotiere.specs.Pixels.{natural, sides_of}
-use Rattle.atlas_lines.specs.Blocks.{IsGathered}
-use Rattle.atlas_lines.specs.declared.commands.Command.{Command}
-use Rattle.atlas_lines.specs.Grammar.{Spells}
+use Rattle.atlas_words.specs.Blocks.{IsGathered}
+use Rattle.atlas_words.specs.declared.commands.Command.{Command}
+use Rattle.atlas_words.specs.Grammar.{Spells}
 use Rattle.atlas_lines.specs.Machine.{ToolReply, ToolState, ToolStep, Held, tool_state_of}
 use Rattle.atlas_lines.specs.Progress.{Place, state_at, RepliesTo}
 use Rattle.atlas_lines.specs.Replies.{reply_text}
-use Rattle.atlas_lines.proofs.Blocks.{gathered_nothing}
+use Rattle.atlas_words.proofs.Blocks.{gathered_nothing}
 use Rattle.atlas_lines.specs.Texts.{IsBadLine, LineOwes}
 
 -- A line that isn't empty and that the parser doesn't read is bad.

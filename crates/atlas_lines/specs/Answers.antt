@@ -1,10 +1,10 @@
 -- The reply that an answer of the code stands for, and its way to a device.
 use Rattle.std.specs.Prelude.{ℕ, Option, List, ◌++◌}
-use Rattle.atlas_lines.specs.declared.commands.Command.{Command}
+use Rattle.atlas_words.specs.declared.commands.Command.{Command}
 use Rattle.atlas_lines.specs.declared.replies.Answer.{Answer}
 use Rattle.atlas_lines.specs.declared.replies.Answer.TheVariants.{OneLine, LiveLines, HoleLines, ChangeLines}
-use Rattle.atlas_lines.specs.Blocks.{IsGathered}
-use Rattle.atlas_lines.specs.Devices.{WritesBeginning}
+use Rattle.atlas_words.specs.Blocks.{IsGathered}
+use Rattle.atlas_words.specs.Devices.{WritesBeginning}
 use Rattle.atlas_lines.specs.Machine.{ToolReply, ToolState, ToolStep}
 use Rattle.atlas_lines.specs.Replies.{reply_text}
 

@@ -6,8 +6,8 @@ use Rattle.atlas_lines.specs.declared.run.ToolEnd.{ToolEnd}
 use Rattle.atlas_lines.specs.declared.run.ToolEnd.TheVariants.{Done, BadLine, Limit}
 use Rattle.atlas_lines.specs.declared.run.ToolFault.{ToolFault}
 use Rattle.atlas_lines.specs.declared.run.ToolFault.TheVariants.{Read, Write}
-use Rattle.atlas_lines.specs.Devices.{HoldsBytes, ReadsBeginning, WritesBeginning}
-use Rattle.atlas_lines.specs.Lines.{ArePieces, AreLines}
+use Rattle.atlas_words.specs.Devices.{HoldsBytes, ReadsBeginning, WritesBeginning}
+use Rattle.atlas_words.specs.Lines.{ArePieces, AreLines}
 use Rattle.atlas_lines.specs.Machine.{ToolState, at_start}
 use Rattle.atlas_lines.specs.Replies.{bad_line_text}
 use Rattle.atlas_lines.specs.Texts.{IsBadLine, OwesText}

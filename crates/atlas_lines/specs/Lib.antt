@@ -1,11 +1,11 @@
-pub mod Devices
-pub mod Grammar
-pub mod Words
-pub mod Lines
 pub mod Machine
 pub mod Replies
 pub mod Answers
-pub mod Blocks
 pub mod Texts
 pub mod Ends
 pub mod Progress
+pub use Rattle.atlas_words.specs.Blocks
+pub use Rattle.atlas_words.specs.Devices
+pub use Rattle.atlas_words.specs.Grammar
+pub use Rattle.atlas_words.specs.Lines
+pub use Rattle.atlas_words.specs.Words

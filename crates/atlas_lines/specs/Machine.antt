@@ -29,10 +29,10 @@ use Rattle.guillotiere_recording.specs.Recordings.{SessionValue, AreBooked, sess
 use Rattle.guillotiere_recording.specs.Replays.{IsRecorded, IsFaultOf, MayFail, is_granted_event, is_freeing}
 use Rattle.guillotiere_recording.specs.Replays.{is_failed_request}
 use Rattle.guillotiere_recording.specs.Sessions.{Named, IsLiveName, Leads}
-use Rattle.atlas_lines.specs.declared.commands.Command.{Command}
-use Rattle.atlas_lines.specs.declared.commands.Command.TheVariants.{Simple, Take, Atlas, Alloc, Live, Holes, AskSize}
-use Rattle.atlas_lines.specs.declared.commands.Command.TheVariants.{Free, Grow, Empty, Clear, Rearrange, Resize}
-use Rattle.atlas_lines.specs.declared.commands.Command.TheVariants.{FromAtlas, Record, Replay}
+use Rattle.atlas_words.specs.declared.commands.Command.{Command}
+use Rattle.atlas_words.specs.declared.commands.Command.TheVariants.{Simple, Take, Atlas, Alloc, Live, Holes, AskSize}
+use Rattle.atlas_words.specs.declared.commands.Command.TheVariants.{Free, Grow, Empty, Clear, Rearrange, Resize}
+use Rattle.atlas_words.specs.declared.commands.Command.TheVariants.{FromAtlas, Record, Replay}
 use Rattle.atlas_lines.specs.declared.replies.ReplayCounts.{ReplayCounts}
 use Rattle.atlas_lines.specs.declared.replies.Reply.{Reply}
 use Rattle.atlas_lines.specs.declared.replies.Reply.TheVariants.{Completed, Placed, NotPlaced, Allocated, Extent, Truth}

@@ -8,10 +8,10 @@ use Rattle.atlas_lines.specs.declared.run.ToolEnd.TheVariants.{BadLine}
 use Rattle.atlas_lines.specs.declared.run.ToolFault.{ToolFault}
 use Rattle.atlas_lines.specs.declared.run.ToolFault.TheVariants.{Write}
 use Rattle.atlas_lines.specs.declared.standing.Standing.TheVariants.{Nothing}
-use Rattle.atlas_lines.specs.Blocks.{IsGathered}
-use Rattle.atlas_lines.specs.Devices.{WritesBeginning}
+use Rattle.atlas_words.specs.Blocks.{IsGathered}
+use Rattle.atlas_words.specs.Devices.{WritesBeginning}
 use Rattle.atlas_lines.specs.Ends.{is_write_fault}
-use Rattle.atlas_lines.specs.Lines.{HasNoEnd, all_ended}
+use Rattle.atlas_words.specs.Lines.{HasNoEnd, all_ended}
 use Rattle.atlas_lines.specs.Machine.{ToolState, Held, tool_state_of}
 use Rattle.atlas_lines.specs.Replies.{bad_line_text}
 use Rattle.atlas_lines.specs.Texts.{IsBadLine, LineOwes, OwesText}

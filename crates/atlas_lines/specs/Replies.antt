@@ -13,7 +13,7 @@ use Rattle.atlas_lines.specs.declared.replies.Reply.{Reply}
 use Rattle.atlas_lines.specs.declared.replies.Reply.TheVariants.{Completed, Placed, NotPlaced, Allocated, Extent, Truth}
 use Rattle.atlas_lines.specs.declared.replies.Reply.TheVariants.{NoAtlas, NoSimple, Invalid, Declined, NoNames}
 use Rattle.atlas_lines.specs.declared.replies.Reply.TheVariants.{NoRecording, Replayed}
-use Rattle.atlas_lines.specs.Lines.{ended}
+use Rattle.atlas_words.specs.Lines.{ended}
 use Rattle.atlas_lines.specs.Machine.{ToolReply}
 use Rattle.atlas_lines.specs.Machine.ToolReply.{OneLine, LiveLines, HoleLines, ChangeLines}
 

@@ -1,7 +1,7 @@
 -- The text that the tool owes for a list of lines.
 use Rattle.std.specs.Prelude.{◌≡◌, ℕ, ◌<◌, ◌≢◌, ◌⊎◌, List, [], ◌∷◌, ◌++◌, length}
-use Rattle.atlas_lines.specs.declared.commands.Command.{Command}
-use Rattle.atlas_lines.specs.Grammar.{Spells}
+use Rattle.atlas_words.specs.declared.commands.Command.{Command}
+use Rattle.atlas_words.specs.Grammar.{Spells}
 use Rattle.atlas_lines.specs.Machine.{ToolReply, ToolState, ToolStep}
 use Rattle.atlas_lines.specs.Replies.{reply_text}
 

@@ -1,15 +1,15 @@
 //! Replies to a rearranging.
 ghost use Rattle.std.specs.Prelude.{◌≡◌, ◌≤◌, ◌+◌, ◌++◌, true, false, not, length, decimal, flat_map};
-ghost use Rattle.atlas_lines.specs.Blocks.{IsGathered};
-ghost use Rattle.atlas_lines.specs.Devices.{WritesBeginning};
+ghost use Rattle.atlas_words.specs.Blocks.{IsGathered};
+ghost use Rattle.atlas_words.specs.Devices.{WritesBeginning};
 ghost use Rattle.atlas_lines.specs.Machine.{ToolReply};
 ghost use Rattle.atlas_lines.specs.Replies.{reply_text, corners_text, change_line, lost_line, counts_line};
 
-use crate::buffer::FixedBytes;
-use crate::devices::ToolOutput;
-use crate::digits::push_unsigned;
 use crate::listing::{BLOCK, Waiting, make_room};
 use crate::replies::{LINE, push_corners};
+use atlas_words::buffer::FixedBytes;
+use atlas_words::devices::ToolOutput;
+use atlas_words::digits::push_unsigned;
 use guillotiere::{Allocation, Change};
 
 // Adds an id and a rectangle at the end.

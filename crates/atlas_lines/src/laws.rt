@@ -2,9 +2,9 @@
 ghost use Rattle.std.specs.Prelude.{◌≡◌, ℕ, List};
 ghost use Rattle.guillotiere.specs.declared.Rectangle.{Rectangle};
 ghost use Rattle.guillotiere.specs.States.{State, IsSound};
-ghost use Rattle.atlas_lines.specs.declared.commands.Command.{Command};
-ghost use Rattle.atlas_lines.specs.Grammar.{Spells};
-ghost use Rattle.atlas_lines.specs.Lines.{AreLines};
+ghost use Rattle.atlas_words.specs.declared.commands.Command.{Command};
+ghost use Rattle.atlas_words.specs.Grammar.{Spells};
+ghost use Rattle.atlas_words.specs.Lines.{AreLines};
 ghost use Rattle.atlas_lines.specs.Machine.{ToolReply, ShowsHoles};
 ghost use Rattle.atlas_lines.specs.Replies.{reply_text};
 

@@ -2,26 +2,19 @@
 #![tactic(auto)]
 
 mod atlas_calls;
-mod buffer;
 mod changes;
-mod commands;
-mod devices;
-mod digits;
 pub mod laws;
 mod listing;
 mod replies;
 mod run;
 mod session_calls;
-mod standard;
-mod standard_output;
 mod standing;
 mod tool;
-mod words;
 
-pub use commands::{Command, parse_line};
-pub use devices::{ToolInput, ToolOutput};
-pub use run::{ToolEnd, ToolFault, run_lines};
-pub use standard::StdInput;
-pub use standard_output::StdOutput;
+pub use atlas_words::commands::{Command, parse_line};
+pub use atlas_words::devices::{ToolInput, ToolOutput};
+pub use atlas_words::standard::StdInput;
+pub use atlas_words::standard_output::StdOutput;
 // The words and numbers of lines, for other programs that read lines.
-pub use words::{first_line, first_word, unsigned};
+pub use atlas_words::words::{first_line, first_word, unsigned};
+pub use run::{ToolEnd, ToolFault, run_lines};

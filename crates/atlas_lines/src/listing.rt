@@ -4,16 +4,16 @@ ghost use Rattle.std.specs.Io.KnownBytes.{Appends};
 ghost use Rattle.guillotiere.specs.declared.Allocation.{Allocation};
 ghost use Rattle.guillotiere.specs.declared.Rectangle.{Rectangle};
 ghost use Rattle.atlas_lines.specs.Answers.{shown_by};
-ghost use Rattle.atlas_lines.specs.Blocks.{IsGathered};
-ghost use Rattle.atlas_lines.specs.Devices.{WritesBeginning};
+ghost use Rattle.atlas_words.specs.Blocks.{IsGathered};
+ghost use Rattle.atlas_words.specs.Devices.{WritesBeginning};
 ghost use Rattle.atlas_lines.specs.Machine.{ToolReply};
 ghost use Rattle.atlas_lines.specs.Replies.{reply_text, line_text, bad_line_text, live_line, hole_line, count_line};
 
-use crate::buffer::FixedBytes;
 use crate::changes::send_changes;
-use crate::devices::{ToolOutput, write_all};
-use crate::digits::push_unsigned;
 use crate::replies::{Answer, LINE, Reply, push_bad_line, push_corners, push_reply};
+use atlas_words::buffer::FixedBytes;
+use atlas_words::devices::{ToolOutput, write_all};
+use atlas_words::digits::push_unsigned;
 use guillotiere::{Allocation, Rectangle};
 use std::alloc::Allocator;
 

@@ -1,14 +1,14 @@
 //! A run of the tool, from the bytes of a reader to the bytes of a writer.
 ghost use Rattle.std.specs.Prelude.{◌≡◌, ◌≤◌, ◌<◌, ◌+◌, ◌-◌, ◌^◌, [], ◌∷◌, length, Some, None, Ok, Err, false, IsNone};
-ghost use Rattle.atlas_lines.specs.Lines.{HasNoEnd};
+ghost use Rattle.atlas_words.specs.Lines.{HasNoEnd};
 ghost use Rattle.atlas_lines.specs.Ends.{Ends, is_read_fault, is_write_fault};
 ghost use Rattle.atlas_lines.specs.Progress.{EndsBadly, LineEnds, Continues, place_at_start, is_write_end};
 
-use crate::buffer::FixedBytes;
-use crate::commands::{LINE, parse_line};
-use crate::devices::{ToolInput, ToolOutput};
 use crate::listing::{Waiting, flush, send_bad_line};
 use crate::tool::Tool;
+use atlas_words::buffer::FixedBytes;
+use atlas_words::commands::{LINE, parse_line};
+use atlas_words::devices::{ToolInput, ToolOutput};
 use std::alloc::Allocator;
 use std::marker::Model;
 

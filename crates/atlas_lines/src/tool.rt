@@ -14,12 +14,12 @@ ghost use Rattle.atlas_lines.specs.Machine.{ShowsNames, ShowsHoles, ShowsSize, S
 ghost use Rattle.atlas_lines.specs.Machine.{standing_in, tool_state_of};
 
 use crate::atlas_calls::is_positive;
-use crate::commands::Command;
-use crate::devices::ToolOutput;
 use crate::listing::{Waiting, send};
 use crate::replies::{Answer, Reply};
 use crate::standing::Standing;
 use crate::{atlas_calls, session_calls};
+use atlas_words::commands::Command;
+use atlas_words::devices::ToolOutput;
 use guillotiere::{AllocId, AllocatorOptions, AtlasAllocator, SimpleAtlasAllocator, Size};
 use guillotiere_recording::RecordingAllocator;
 use std::alloc::Allocator;

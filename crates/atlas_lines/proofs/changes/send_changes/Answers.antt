@@ -1,6 +1,6 @@
 use Rattle.std.proofs.Common.{refl, length, flat_map}
 use Rattle.atlas_lines.specs.Replies.{change_line, lost_line, counts_line}
-use Rattle.atlas_lines.proofs.Blocks.{parts_gathered, first_begins, second_begins, third_begins}
+use Rattle.atlas_words.proofs.Blocks.{parts_gathered, first_begins, second_begins, third_begins}
 use Rattle.atlas_lines.proofs.changes.send_changes.Goals as goal
 
 pub returns-then-not-send_moved-clause-beginning : goal.returns-then-not-send_moved-clause-beginning

@@ -1,7 +1,7 @@
 use Rattle.std.proofs.Common.{rules, List, ℕ, refl, sym, ◌++◌, subst}
-use Rattle.atlas_lines.specs.Blocks.{IsGathered}
+use Rattle.atlas_words.specs.Blocks.{IsGathered}
 use Rattle.atlas_lines.specs.Replies.{change_line}
-use Rattle.atlas_lines.proofs.Blocks.{list_step, lines_stop, list_whole}
+use Rattle.atlas_words.proofs.Blocks.{list_step, lines_stop, list_whole}
 use Rattle.atlas_lines.proofs.changes.send_moved.Goals as goal
 
 pub returns-then-not-make_room-clause-beginning : goal.returns-then-not-make_room-clause-beginning

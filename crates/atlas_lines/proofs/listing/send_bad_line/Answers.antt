@@ -1,6 +1,6 @@
 use Rattle.std.proofs.Common.{refl}
 use Rattle.atlas_lines.specs.Replies.{bad_line_text}
-use Rattle.atlas_lines.proofs.Blocks.{gathered_begins}
+use Rattle.atlas_words.proofs.Blocks.{gathered_begins}
 use Rattle.atlas_lines.proofs.listing.send_bad_line.Goals as goal
 
 pub returns-clause-beginning : goal.returns-clause-beginning

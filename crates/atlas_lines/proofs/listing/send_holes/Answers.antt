@@ -2,7 +2,7 @@ use Rattle.std.proofs.Common.{rules, refl, pos, get_or, length, codes, take, fla
 use Rattle.guillotiere.specs.declared.Point.{Point}
 use Rattle.guillotiere.specs.declared.Rectangle.{Rectangle}
 use Rattle.atlas_lines.specs.Replies.{hole_line, count_line}
-use Rattle.atlas_lines.proofs.Blocks.{list_step, list_stops, list_whole, list_ended, list_begun}
+use Rattle.atlas_words.proofs.Blocks.{list_step, list_stops, list_whole, list_ended, list_begun}
 use Rattle.atlas_lines.proofs.listing.send_holes.Goals as goal
 
 pub returns-then-not-make_room-clause-beginning : goal.returns-then-not-make_room-clause-beginning

@@ -1,5 +1,5 @@
 use Rattle.std.proofs.Common.{◌≡◌, ◌++◌, false, take, flat_map}
-use Rattle.atlas_lines.specs.Blocks.{IsGathered}
+use Rattle.atlas_words.specs.Blocks.{IsGathered}
 use Rattle.atlas_lines.specs.Replies.{hole_line}
 use Rattle.atlas_lines.proofs.listing.send_holes.Given as goal
 

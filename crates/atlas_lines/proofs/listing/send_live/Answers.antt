@@ -1,6 +1,6 @@
 use Rattle.std.proofs.Common.{rules, refl, sym, length, codes, take, flat_map}
 use Rattle.atlas_lines.specs.Replies.{live_line, count_line}
-use Rattle.atlas_lines.proofs.Blocks.{list_step, list_stops, list_whole, list_ended, list_begun}
+use Rattle.atlas_words.proofs.Blocks.{list_step, list_stops, list_whole, list_ended, list_begun}
 use Rattle.atlas_lines.proofs.listing.send_live.Goals as goal
 
 pub returns-then-not-make_room-clause-beginning : goal.returns-then-not-make_room-clause-beginning

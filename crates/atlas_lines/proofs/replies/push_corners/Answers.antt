@@ -1,7 +1,7 @@
 use Rattle.std.proofs.Common.{◌≡◌, ◌++◌, arith}
 use Rattle.std.proofs.lemmas.Int.{to_z-of_z}
 use Rattle.atlas_lines.specs.Replies.{spaced_number}
-use Rattle.atlas_lines.proofs.Decimals.{four_parts}
+use Rattle.atlas_words.proofs.Decimals.{four_parts}
 use Rattle.atlas_lines.proofs.replies.push_corners.Goals as goal
 
 pub returns-clause-text : goal.returns-clause-text

@@ -1,6 +1,6 @@
 use Rattle.std.proofs.Common.{codes}
 use Rattle.atlas_lines.specs.Replies.{counted_text}
-use Rattle.atlas_lines.proofs.Decimals.{four_parts}
+use Rattle.atlas_words.proofs.Decimals.{four_parts}
 use Rattle.atlas_lines.proofs.replies.push_replay_counts.Goals as goal
 
 pub returns-clause-text : goal.returns-clause-text

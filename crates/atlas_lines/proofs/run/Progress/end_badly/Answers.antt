@@ -1,5 +1,5 @@
 use Rattle.std.proofs.Common.{ℕ, ◌+◌, ◌++◌, ap, refl, subst}
-use Rattle.atlas_lines.specs.Devices.{WritesBeginning}
+use Rattle.atlas_words.specs.Devices.{WritesBeginning}
 use Rattle.atlas_lines.specs.Progress.{Place}
 use Rattle.atlas_lines.specs.Replies.{bad_line_text}
 use Rattle.atlas_lines.proofs.run.Progress.end_badly.Goals as goal

@@ -1,5 +1,5 @@
 use Rattle.std.proofs.Common.{◌≡◌, ◌+◌, ◌-◌, ◌^◌, ◌≤◌, length, [], false}
-use Rattle.atlas_lines.specs.Lines.{HasNoEnd}
+use Rattle.atlas_words.specs.Lines.{HasNoEnd}
 use Rattle.atlas_lines.specs.Progress.{HasRun}
 use Rattle.atlas_lines.proofs.run.Progress.run.Given as goal
 

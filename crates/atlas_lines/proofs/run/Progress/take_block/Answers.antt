@@ -1,5 +1,5 @@
 use Rattle.std.proofs.Common.{[], refl, arith}
-use Rattle.atlas_lines.proofs.Blocks.{gathered_nothing}
+use Rattle.atlas_words.proofs.Blocks.{gathered_nothing}
 use Rattle.atlas_lines.proofs.Joins.{advance_none, block_advances, block_stops}
 use Rattle.atlas_lines.proofs.run.Progress.take_block.Goals as goal
 

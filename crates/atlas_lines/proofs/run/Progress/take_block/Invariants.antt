@@ -1,6 +1,6 @@
 use Rattle.std.proofs.Common.{◌≡◌, ◌+◌, ◌≤◌, ◌++◌, List, ℕ, length, take, false}
-use Rattle.atlas_lines.specs.Blocks.{IsGathered}
-use Rattle.atlas_lines.specs.Lines.{HasNoEnd}
+use Rattle.atlas_words.specs.Blocks.{IsGathered}
+use Rattle.atlas_words.specs.Lines.{HasNoEnd}
 use Rattle.atlas_lines.specs.Progress.{Advances}
 use Rattle.atlas_lines.proofs.run.Progress.take_block.Given as goal
 

@@ -1,0 +1,6 @@
+pub mod Blocks
+pub mod Decimals
+pub mod Keywords
+pub mod Known
+pub mod Numbers
+pub mod Parting

@@ -1,0 +1,11 @@
+//! What the lines of `atlas_tool` are made of: devices that are read and written in blocks, words, numbers and
+//! commands (docs/TOOL.md). `atlas_lines` gives on what programs of one's own need.
+#![tactic(auto)]
+
+pub mod buffer;
+pub mod commands;
+pub mod devices;
+pub mod digits;
+pub mod standard;
+pub mod standard_output;
+pub mod words;
