@@ -1,7 +1,7 @@
 -- Lines that spell jobs, one after another.
 use Rattle.std.proofs.Common.{ℕ, ◌≢◌, List, [], ◌∷◌, subst}
-use Rattle.atlas_lines.specs.Lines.{BeginsWithLine}
-use Rattle.atlas_lines.proofs.FirstLines.{one_first_line}
+use Rattle.atlas_words.specs.Lines.{BeginsWithLine}
+use Rattle.atlas_words.proofs.FirstLines.{one_first_line}
 use Rattle.atlas_bench.specs.declared.workload.Job.{Job}
 use Rattle.atlas_bench.specs.Grammar.{SpellsJob, SpellsJobs}
 

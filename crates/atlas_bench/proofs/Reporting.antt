@@ -1,8 +1,8 @@
 -- Reports that are written one after another.
 use Rattle.std.proofs.Common.{◌≡◌, ℕ, ◌+◌, ◌<◌, List, [], ◌∷◌, ◌++◌, Option, Some, None, IfSome, length, drop, get_or, refl, sym, ◌∙◌, ap, subst, append_assoc, append-nil, add-one, drop-cons}
 use Rattle.std.specs.Io.KnownBytes.{Appends}
-use Rattle.atlas_lines.proofs.Known.{Appends_none, Appends_twice}
-use Rattle.atlas_lines.specs.Devices.{HoldsBytes}
+use Rattle.atlas_words.proofs.Known.{Appends_none, Appends_twice}
+use Rattle.atlas_words.specs.Devices.{HoldsBytes}
 use Rattle.atlas_bench.specs.declared.answers.Answers.{Answers}
 use Rattle.atlas_bench.specs.declared.workload.Job.{Job}
 use Rattle.atlas_bench.specs.Reports.{report_text, Reports}

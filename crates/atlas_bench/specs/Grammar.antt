@@ -1,7 +1,7 @@
 -- The lines that spell jobs.
 use Rattle.std.specs.Prelude.{◌≡◌, ℕ, ◌≤◌, List, [], ◌∷◌, ◌++◌}
-use Rattle.atlas_lines.specs.Grammar.{SpellsUnsigned}
-use Rattle.atlas_lines.specs.Lines.{BeginsWithLine}
+use Rattle.atlas_words.specs.Grammar.{SpellsUnsigned}
+use Rattle.atlas_words.specs.Lines.{BeginsWithLine}
 use Rattle.atlas_bench.specs.declared.workload.Job.{Job}
 use Rattle.atlas_bench.specs.Workloads.{name, most_size}
 

@@ -1,7 +1,7 @@
 -- The lines that report jobs.
 use Rattle.std.specs.Prelude.{◌≡◌, ℕ, Option, List, [], ◌∷◌, ◌++◌, codes, decimal}
 use Rattle.std.specs.Io.KnownBytes.{Appends}
-use Rattle.atlas_lines.specs.Devices.{HoldsBytes}
+use Rattle.atlas_words.specs.Devices.{HoldsBytes}
 use Rattle.atlas_bench.specs.declared.answers.Answers.{Answers}
 use Rattle.atlas_bench.specs.declared.workload.Job.{Job}
 use Rattle.atlas_bench.specs.declared.workload.Workload.{Workload}

@@ -5,7 +5,7 @@ ghost use Rattle.atlas_bench.specs.Grammar.{SpellsJob, SpellsJobs};
 
 use crate::error::BenchError;
 use crate::workload::{Job, Workload};
-use atlas_lines::{first_line, first_word, unsigned};
+use atlas_words::words::{first_line, first_word, unsigned};
 use std::alloc::{AllocError, Global};
 
 // The job that the bytes of a line, without its LF, spell.

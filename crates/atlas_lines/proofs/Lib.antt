@@ -2,7 +2,6 @@ pub mod Runs
 pub mod Joins
 pub mod Outcomes
 pub mod Readings
-pub mod FirstLines
 pub mod Lists
 pub mod Holes
 pub use Rattle.atlas_words.proofs.Keywords

@@ -10,29 +10,12 @@ use Rattle.atlas_words.specs.declared.commands.Command.TheVariants.{Simple, Take
 use Rattle.atlas_words.specs.Grammar.{SpellsNumber, SpellsNumbers, SpellsSize, SpellsAtlas, SpellsId, Spells, keyword}
 use Rattle.atlas_words.specs.Lines.{HasNoEnd, ended, all_ended, AreLines, last_line}
 use Rattle.atlas_words.specs.Words.{BeginsWithWord, BeginsWithNumber, SpellsInParts}
+use Rattle.atlas_words.proofs.FirstLines.{same_first, no_first}
 use Rattle.atlas_words.proofs.Parting.{one_word, number_no_space, number_begins, same_size, same_options}
 use Rattle.atlas_words.proofs.Keywords.{only_simple, only_take, only_atlas, only_alloc, only_free, only_grow, only_live, only_holes, only_size, only_empty, only_clear, only_rearrange, only_resize, only_record, only_from_atlas, only_replay, keyword_no_space, arguments_spaced, in_parts}
 use Rattle.atlas_lines.proofs.Outcomes.{parted}
 
 -- ---- lines
-
--- A line with its LF stands at the front in one way.
-pub same_first : (l m x y : List ℕ) → HasNoEnd l → HasNoEnd m → l ++ 10 ∷ x ≡ m ++ 10 ∷ y → (l ≡ m) × (x ≡ y)
-same_first [] [] x y hl hm e = (refl, cc)
-same_first [] (b ∷ m) x y hl hm e = absurd (hm.0 (let h : 10 ≡ b = cc in sym h))
-same_first (a ∷ l) [] x y hl hm e = absurd (hl.0 cc)
-same_first (a ∷ l) (b ∷ m) x y hl hm e =
-    let tails : l ++ 10 ∷ x ≡ m ++ 10 ∷ y = cc in
-    let heads : a ≡ b = cc in
-    let more = same_first l m x y hl.1 hm.1 tails in
-    (let first = more.0 in cc, more.1)
-
--- Bytes without an LF are no line with its LF.
-pub no_first : (l x rest : List ℕ) → HasNoEnd rest → rest ≡ l ++ 10 ∷ x → ⊥
-no_first [] x [] h e = absurd (cc)
-no_first [] x (r ∷ rest) h e = h.0 cc
-no_first (a ∷ l) x [] h e = absurd (cc)
-no_first (a ∷ l) x (r ∷ rest) h e = no_first l x rest h.1 cc
 
 shifted : (l : List ℕ) (ls : List (List ℕ)) (rest : List ℕ) → all_ended (l ∷ ls) ++ rest ≡ l ++ 10 ∷ (all_ended ls ++ rest)
 shifted l ls rest = append_assoc (ended l) (all_ended ls) rest ∙ append_assoc l (10 ∷ []) (all_ended ls ++ rest)

@@ -2,9 +2,9 @@
 use Rattle.std.proofs.Common.{◌≡◌, ℕ, List, [], ◌∷◌, ◌++◌, sym, ap, subst, arith}
 use Rattle.std.specs.Char.{digit_value}
 use Rattle.std.specs.Str.Parse.{AllDigits}
-use Rattle.atlas_lines.specs.Grammar.{SpellsUnsigned}
-use Rattle.atlas_lines.specs.Words.{HasNoSpace, BeginsWithWord}
-use Rattle.atlas_lines.proofs.Parting.{one_word}
+use Rattle.atlas_words.specs.Grammar.{SpellsUnsigned}
+use Rattle.atlas_words.specs.Words.{HasNoSpace, BeginsWithWord}
+use Rattle.atlas_words.proofs.Parting.{one_word}
 use Rattle.atlas_svg.specs.Lines.{BeginsWithUnsigned, SpellsAll}
 
 digits_no_space : (digits : List ℕ) → AllDigits 10 digits → HasNoSpace digits

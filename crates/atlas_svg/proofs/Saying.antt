@@ -2,10 +2,10 @@
 use Rattle.std.proofs.Common.{◌≡◌, ℕ, ◌≢◌, ◌↔◌, IsTrue, Bool, false, true, ◌||◌, List, [], ◌∷◌, ◌++◌, Contains, codes, refl, sym, ◌∙◌, subst, inl, inr}
 use Rattle.std.proofs.lemmas.Bool.{or_parts}
 use Rattle.std.specs.Str.{bytes_eq}
-use Rattle.guillotiere.proofs.TreeLemmas.TreeIds.{Contains-cons_cases, Contains-none}
-use Rattle.atlas_lines.specs.Words.{IsEmptyOrSpaced, BeginsWithWord}
-use Rattle.atlas_lines.proofs.Keywords.{differ, has_no_space, no_space_by_test}
-use Rattle.atlas_lines.proofs.Parting.{one_word}
+use Rattle.atlas_model.proofs.TreeLemmas.TreeIds.{Contains-cons_cases, Contains-none}
+use Rattle.atlas_words.specs.Words.{IsEmptyOrSpaced, BeginsWithWord}
+use Rattle.atlas_words.proofs.Keywords.{differ, has_no_space, no_space_by_test}
+use Rattle.atlas_words.proofs.Parting.{one_word}
 use Rattle.atlas_svg.specs.declared.lines.Corners.{Corners}
 use Rattle.atlas_svg.specs.declared.lines.Sides.{Sides}
 use Rattle.atlas_svg.specs.declared.lines.Named.{Named}

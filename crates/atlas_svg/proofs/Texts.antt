@@ -1,8 +1,8 @@
 -- Lines of a text, one after another.
 use Rattle.std.proofs.Common.{◌≡◌, ℕ, ◌≢◌, List, [], ◌∷◌, ◌++◌, Option, Some, None, IfSome, sym, ap, ◌∙◌, subst}
-use Rattle.atlas_lines.specs.Devices.{HoldsBytes}
-use Rattle.atlas_lines.specs.Lines.{BeginsWithLine}
-use Rattle.atlas_lines.proofs.FirstLines.{one_first_line}
+use Rattle.atlas_words.specs.Devices.{HoldsBytes}
+use Rattle.atlas_words.specs.Lines.{BeginsWithLine}
+use Rattle.atlas_words.proofs.FirstLines.{one_first_line}
 use Rattle.atlas_svg.specs.declared.lines.Line.{Line}
 use Rattle.atlas_svg.specs.Lines.{SaysLine, SayAll}
 

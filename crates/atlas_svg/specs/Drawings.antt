@@ -1,7 +1,7 @@
 -- The text of a picture.
 use Rattle.std.specs.Prelude.{ℕ, ◌+◌, ◌-◌, ◌*◌, ◌/◌, max, min, Option, List, ◌++◌, codes, decimal, length, flat_map}
 use Rattle.std.specs.Io.KnownBytes.{Appends}
-use Rattle.atlas_lines.specs.Devices.{HoldsBytes}
+use Rattle.atlas_words.specs.Devices.{HoldsBytes}
 use Rattle.atlas_svg.specs.declared.lines.Corners.{Corners}
 use Rattle.atlas_svg.specs.declared.lines.Sides.{Sides}
 use Rattle.atlas_svg.specs.declared.lines.Named.{Named}

@@ -1,8 +1,8 @@
 -- What a line of the tool says.
 use Rattle.std.specs.Prelude.{◌≡◌, ℕ, ◌⊎◌, List, [], ◌∷◌, ◌++◌, Contains, codes}
-use Rattle.atlas_lines.specs.Grammar.{SpellsUnsigned}
-use Rattle.atlas_lines.specs.Lines.{BeginsWithLine}
-use Rattle.atlas_lines.specs.Words.{BeginsWithWord, IsEmptyOrSpaced}
+use Rattle.atlas_words.specs.Grammar.{SpellsUnsigned}
+use Rattle.atlas_words.specs.Lines.{BeginsWithLine}
+use Rattle.atlas_words.specs.Words.{BeginsWithWord, IsEmptyOrSpaced}
 use Rattle.atlas_svg.specs.declared.lines.Corners.{Corners}
 use Rattle.atlas_svg.specs.declared.lines.Line.{Line}
 use Rattle.atlas_svg.specs.declared.lines.Line.TheVariants.{Size, Live, Free, Other}

@@ -5,7 +5,7 @@ ghost use Rattle.atlas_svg.specs.declared.lines.Line.{Line};
 ghost use Rattle.atlas_svg.specs.Lines.{BeginsWithUnsigned, SpellsAll, corner_numbers, call_words, answer_words};
 ghost use Rattle.atlas_svg.specs.Lines.{list_words, SaysLine};
 
-use atlas_lines::{first_word, unsigned};
+use atlas_words::words::{first_word, unsigned};
 
 /// The corners of a box, in pixels; y grows downwards.
 #[derive(Clone, Copy, Debug, PartialEq)]

@@ -8,7 +8,7 @@ ghost use Rattle.atlas_svg.specs.declared.error.SvgError.{SvgError};
 
 use crate::error::SvgError;
 use crate::lines::{Corners, Line, Named, Sides, read_line};
-use atlas_lines::first_line;
+use atlas_words::words::first_line;
 use std::alloc::{AllocError, Global};
 
 /// What a picture shows: the last size, and the boxes that lines after it tell.

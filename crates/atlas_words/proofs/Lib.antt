@@ -1,5 +1,6 @@
 pub mod Blocks
 pub mod Decimals
+pub mod FirstLines
 pub mod Keywords
 pub mod Known
 pub mod Numbers

@@ -1,6 +1,5 @@
 //! Rows of calls of an atlas and what they answer, played with ample memory and with requests for memory refused.
 
-use crate::tables::{Corners, Sides, rectangle, size};
 use guillotiere::{
     AllocId, Allocation, AllocatorOptions, AtlasAllocator, AtlasError, Change, ChangeList,
     DEFAULT_OPTIONS, Rectangle, SlotCount,
@@ -8,6 +7,7 @@ use guillotiere::{
 use refusing::Refusing;
 use std::alloc::Global;
 use std::process::Abort;
+use test_tables::{Corners, Sides, rectangle, size};
 
 pub type Atlas<'a> = AtlasAllocator<&'a Refusing<Global>>;
 

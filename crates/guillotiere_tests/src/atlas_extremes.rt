@@ -2,13 +2,13 @@
 
 use crate::atlas_calls::Call::{Allocate, Deallocate, Free, IsEmpty, Live};
 use crate::atlas_calls::{MOST_SLOTS, Row, play};
-use crate::tables::{ALIGNED_TO_2, rectangle};
 use guillotiere::{
     AllocId, AllocatorOptions, AtlasAllocator, DEFAULT_OPTIONS, Rectangle, SimpleAtlasAllocator,
     Size, size2,
 };
 use refusing::Refusing;
 use std::test::Fail;
+use test_tables::{ALIGNED_TO_2, rectangle};
 
 const LARGEST: i32 = 2147483647;
 

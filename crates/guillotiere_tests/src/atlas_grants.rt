@@ -1,11 +1,11 @@
 //! Grants of an atlas: worked rows.
 
 use crate::atlas_calls::Call::{Allocate, AllocateBeyondLimit, Free, IsEmpty, Live, Slots};
-use crate::atlas_calls::{MOST_SLOTS, Row, play, play_with_refusals};
-use crate::tables::{ALIGNED_TO_2, ALIGNED_TO_8};
+use crate::atlas_calls::{MOST_SLOTS, Row, play_with_refusals};
 use guillotiere::{AllocId, AllocatorOptions, DEFAULT_OPTIONS, Size};
 use refusing::Refusing;
 use std::test::Fail;
+use test_tables::{ALIGNED_TO_2, ALIGNED_TO_8};
 
 // Widths are rounded up to the greatest `i32`.
 const WIDEST_ALIGNMENT: AllocatorOptions = AllocatorOptions {
@@ -222,17 +222,9 @@ const ROWS: [Row; 16] = [
     },
 ];
 
+// Each with every request for memory refused in turn, and then with none refused.
 #[test]
 fn rows(rt: HostRuntime) -> Result<(), Fail> {
-    let heap = Refusing::new(rt.alloc());
-    for row in &ROWS {
-        play(&rt, rt.alloc(), &heap, row)?;
-    }
-    Ok(())
-}
-
-#[test]
-fn rows_with_each_request_for_memory_refused_in_turn(rt: HostRuntime) -> Result<(), Fail> {
     let heap = Refusing::new(rt.alloc());
     for row in &ROWS {
         play_with_refusals(&rt, rt.alloc(), &heap, row)?;

@@ -204,23 +204,21 @@ const ROWS_WITHOUT_MEMORY: [Row; 2] = [
     },
 ];
 
+// Each with every request for memory refused in turn, and then with none refused.
 #[test]
 fn rows(rt: HostRuntime) -> Result<(), Fail> {
     let heap = Refusing::new(rt.alloc());
     for row in &ROWS {
-        play(&rt, rt.alloc(), &heap, row)?;
-    }
-    for row in &ROWS_WITHOUT_MEMORY {
-        play(&rt, rt.alloc(), &heap, row)?;
+        play_with_refusals(&rt, rt.alloc(), &heap, row)?;
     }
     Ok(())
 }
 
 #[test]
-fn rows_with_each_request_for_memory_refused_in_turn(rt: HostRuntime) -> Result<(), Fail> {
+fn rows_without_memory(rt: HostRuntime) -> Result<(), Fail> {
     let heap = Refusing::new(rt.alloc());
-    for row in &ROWS {
-        play_with_refusals(&rt, rt.alloc(), &heap, row)?;
+    for row in &ROWS_WITHOUT_MEMORY {
+        play(&rt, rt.alloc(), &heap, row)?;
     }
     Ok(())
 }

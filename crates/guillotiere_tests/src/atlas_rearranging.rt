@@ -4,14 +4,14 @@ use crate::atlas_calls::Call::{
     Allocate, Deallocate, DeallocateDead, IsEmpty, Live, Rearrange, RearrangeBeyondLimit,
     ResizeAndRearrange, Slots,
 };
-use crate::atlas_calls::{Call, MOST_SLOTS, Row, play, play_with_refusals};
-use crate::tables::{rectangle, size};
+use crate::atlas_calls::{Call, MOST_SLOTS, Row, play_with_refusals};
 use guillotiere::{
     AllocId, Allocation, AtlasAllocator, AtlasError, Change, ChangeList, DEFAULT_OPTIONS,
 };
 use refusing::Refusing;
 use std::alloc::Global;
 use std::test::Fail;
+use test_tables::{rectangle, size};
 
 // Three squares one below the other, of which the middle one is freed.
 const COLUMN: [Call; 4] = [
@@ -143,20 +143,9 @@ const ROWS_WITH_LIMITS: [Row; 4] = [
     },
 ];
 
+// Each with every request for memory refused in turn, and then with none refused.
 #[test]
 fn rows(rt: HostRuntime) -> Result<(), Fail> {
-    let heap = Refusing::new(rt.alloc());
-    for row in &ROWS {
-        play(&rt, rt.alloc(), &heap, row)?;
-    }
-    for row in &ROWS_WITH_LIMITS {
-        play(&rt, rt.alloc(), &heap, row)?;
-    }
-    Ok(())
-}
-
-#[test]
-fn rows_with_each_request_for_memory_refused_in_turn(rt: HostRuntime) -> Result<(), Fail> {
     let heap = Refusing::new(rt.alloc());
     for row in &ROWS {
         play_with_refusals(&rt, rt.alloc(), &heap, row)?;

@@ -7,12 +7,12 @@ use crate::atlas_calls::Call::{
 use crate::atlas_calls::{
     Atlas, Call, MOST_SLOTS, Row, created, look_at, make_all, play, play_with_refusals,
 };
-use crate::tables::ALIGNED_TO_8;
 use guillotiere::{AllocId, AtlasError, DEFAULT_OPTIONS};
 use refusing::Refusing;
 use std::alloc::Global;
 use std::process::Abort;
 use std::test::Fail;
+use test_tables::ALIGNED_TO_8;
 
 // Three squares one below the other.
 const COLUMN: [Call; 3] = [
@@ -115,23 +115,21 @@ const COPIED: Row = Row {
 // Calls of the atlas that was copied, after those of the copy.
 const AFTER_COPYING: [Call; 2] = [Allocate((100, 100), None), Get(1, Some((0, 100, 100, 200)))];
 
+// Each with every request for memory refused in turn, and then with none refused.
 #[test]
 fn rows(rt: HostRuntime) -> Result<(), Fail> {
     let heap = Refusing::new(rt.alloc());
     for row in &ROWS {
-        play(&rt, rt.alloc(), &heap, row)?;
-    }
-    for row in &ROWS_WITHOUT_MEMORY {
-        play(&rt, rt.alloc(), &heap, row)?;
+        play_with_refusals(&rt, rt.alloc(), &heap, row)?;
     }
     Ok(())
 }
 
 #[test]
-fn rows_with_each_request_for_memory_refused_in_turn(rt: HostRuntime) -> Result<(), Fail> {
+fn rows_without_memory(rt: HostRuntime) -> Result<(), Fail> {
     let heap = Refusing::new(rt.alloc());
-    for row in &ROWS {
-        play_with_refusals(&rt, rt.alloc(), &heap, row)?;
+    for row in &ROWS_WITHOUT_MEMORY {
+        play(&rt, rt.alloc(), &heap, row)?;
     }
     Ok(())
 }

@@ -1,7 +1,6 @@
 //! Sessions: worked rows, as one list, and call by call with requests for memory refused.
 
 use crate::atlas_calls::{Atlas, MOST_SLOTS, look_at};
-use crate::tables::{Corners, Sides, rectangle, size};
 use guillotiere::session::{Call, Reply, run, step};
 use guillotiere::{
     AllocId, Allocation, AllocatorOptions, AtlasAllocator, AtlasError, DEFAULT_OPTIONS, Size, size2,
@@ -10,6 +9,7 @@ use refusing::Refusing;
 use std::alloc::{Allocator, Global};
 use std::process::Abort;
 use std::test::Fail;
+use test_tables::{Corners, Sides, rectangle, size};
 
 // A call as a table writes it; ids are serialized.
 enum Line {

@@ -26,16 +26,49 @@ fn allocation((name, (left, top, right, bottom)): (u32, Corners)) -> Allocation 
     }
 }
 
-// Three boxes one below another, no room for a fourth, the middle one freed, and the others placed anew.
-fn column<A: Allocator + Copy>(alloc: A) -> Result<Recording<A>, RecordingError> {
-    let mut session = RecordingAllocator::new(alloc, size2(100, 300))?;
+// A session of an atlas; each side is at least 1 pixel.
+fn begun<A: Allocator + Copy>(
+    alloc: A,
+    (width, height): (u16, u16),
+) -> Result<RecordingAllocator<A>, RecordingError> {
+    let whole = size2(i32::from(width).max(1), i32::from(height).max(1));
+    RecordingAllocator::new(alloc, whole)
+}
+
+fn request<A: Allocator + Copy>(
+    session: &mut RecordingAllocator<A>,
+    (width, height): (i32, i32),
+) -> Result<Option<Allocation>, RecordingError> {
+    session.allocate(size2(width, height))
+}
+
+fn free<A: Allocator + Copy>(
+    session: &mut RecordingAllocator<A>,
+    name: u32,
+) -> Result<(), RecordingError> {
+    session.deallocate(AllocId::deserialize(name))
+}
+
+fn finished<A: Allocator + Copy>(session: RecordingAllocator<A>) -> Recording<A> {
+    session.finish()
+}
+
+// Three boxes one below another that fill an atlas.
+fn filled<A: Allocator + Copy>(alloc: A) -> Result<RecordingAllocator<A>, RecordingError> {
+    let mut session = begun(alloc, (100, 300))?;
     for _ in 0..3u32 {
-        session.allocate(size2(100, 100))?;
+        request(&mut session, (100, 100))?;
     }
-    session.allocate(size2(1, 1))?;
-    session.deallocate(AllocId::deserialize(1))?;
+    Ok(session)
+}
+
+// The same; then no room for a fourth, the middle one freed, and the others placed anew.
+fn column<A: Allocator + Copy>(alloc: A) -> Result<Recording<A>, RecordingError> {
+    let mut session = filled(alloc)?;
+    request(&mut session, (1, 1))?;
+    free(&mut session, 1)?;
     session.rearrange()?;
-    Ok(session.finish())
+    Ok(finished(session))
 }
 
 // A recorder of an atlas of 10 by 10 pixels that recorded these events.
@@ -87,28 +120,24 @@ fn whole_recordings(rt: HostRuntime) -> Result<(), Fail> {
     let alloc = rt.alloc();
     assert_eq!(rt; ends(&column(alloc)?, (3, 1, 1), MOVED), Ok(true));
 
-    let idle = RecordingAllocator::new(alloc, size2(10, 10))?.finish();
+    let idle = finished(begun(alloc, (10, 10))?);
     assert_eq!(rt; ends(&idle, (0, 0, 0), &[]), Ok(true));
 
-    let mut session = RecordingAllocator::new(alloc, size2(100, 100))?;
-    session.allocate(size2(100, 100))?;
-    session.deallocate(AllocId::deserialize(0))?;
-    let again = session.allocate(size2(100, 100))?;
+    let mut session = begun(alloc, (100, 100))?;
+    request(&mut session, (100, 100))?;
+    free(&mut session, 0)?;
+    let again = request(&mut session, (100, 100))?;
     assert_eq!(rt; again, Some(allocation((1, (0, 0, 100, 100)))));
-    let mut recording = session.finish();
-    assert_eq!(rt;
-        ends(&recording, (2, 1, 0), &[(1, (0, 0, 100, 100))]),
-        Ok(true)
-    );
+    let mut recording = finished(session);
+    let live = [(1, (0, 0, 100, 100))];
+    assert_eq!(rt; ends(&recording, (2, 1, 0), &live), Ok(true));
     remove(&rt, &mut recording, 1);
-    assert_eq!(rt;
-        ends(&recording, (2, 0, 0), &[]),
-        Err(ReplayFault::Differs(1))
-    );
+    let cut = ends(&recording, (2, 0, 0), &[]);
+    assert_eq!(rt; cut, Err(ReplayFault::Differs(1)));
 
-    let mut session = RecordingAllocator::new(alloc, size2(10, 10))?;
-    assert_eq!(rt; session.allocate(size2(11, 1)), Ok(None));
-    let mut recording = session.finish();
+    let mut session = begun(alloc, (10, 10))?;
+    assert_eq!(rt; request(&mut session, (11, 1)), Ok(None));
+    let mut recording = finished(session);
     assert_eq!(rt; ends(&recording, (0, 0, 1), &[]), Ok(true));
     remove(&rt, &mut recording, 0);
     assert_eq!(rt; ends(&recording, (0, 0, 0), &[]), Ok(true));
@@ -118,40 +147,28 @@ fn whole_recordings(rt: HostRuntime) -> Result<(), Fail> {
 #[test]
 fn cut_recordings(rt: HostRuntime) -> Result<(), Fail> {
     let alloc = rt.alloc();
-    let mut session = RecordingAllocator::new(alloc, size2(100, 300))?;
-    for _ in 0..3u32 {
-        session.allocate(size2(100, 100))?;
-    }
-    let mut recording = session.finish();
+    let mut recording = finished(filled(alloc)?);
     remove(&rt, &mut recording, 0);
-    assert_eq!(rt;
-        ends(&recording, (2, 0, 0), &[]),
-        Err(ReplayFault::Differs(0))
-    );
+    let cut = ends(&recording, (2, 0, 0), &[]);
+    assert_eq!(rt; cut, Err(ReplayFault::Differs(0)));
 
-    let mut session = RecordingAllocator::new(alloc, size2(100, 100))?;
-    session.allocate(size2(100, 100))?;
-    session.deallocate(AllocId::deserialize(0))?;
-    let mut recording = session.finish();
+    let mut session = begun(alloc, (100, 100))?;
+    request(&mut session, (100, 100))?;
+    free(&mut session, 0)?;
+    let mut recording = finished(session);
     remove(&rt, &mut recording, 0);
-    assert_eq!(rt;
-        ends(&recording, (0, 1, 0), &[]),
-        Err(ReplayFault::BadEvent(0))
-    );
+    let cut = ends(&recording, (0, 1, 0), &[]);
+    assert_eq!(rt; cut, Err(ReplayFault::BadEvent(0)));
 
     // Without the third grant the last request has room; without the freeing another list is the answer.
     let mut recording = column(alloc)?;
     remove(&rt, &mut recording, 2);
-    assert_eq!(rt;
-        ends(&recording, (2, 1, 1), &[]),
-        Err(ReplayFault::Differs(2))
-    );
+    let cut = ends(&recording, (2, 1, 1), &[]);
+    assert_eq!(rt; cut, Err(ReplayFault::Differs(2)));
     let mut recording = column(alloc)?;
     remove(&rt, &mut recording, 4);
-    assert_eq!(rt;
-        ends(&recording, (3, 0, 1), &[]),
-        Err(ReplayFault::Differs(4))
-    );
+    let cut = ends(&recording, (3, 0, 1), &[]);
+    assert_eq!(rt; cut, Err(ReplayFault::Differs(4)));
     Ok(())
 }
 

@@ -1,7 +1,7 @@
 //! Rows of calls of a recording allocator, played with ample memory and with each request for memory refused in turn.
 
 use guillotiere::{AllocId, Allocation, ChangeList, DEFAULT_OPTIONS, Point, Rectangle, Size};
-use guillotiere_recording::{Event, Recorder, RecordingAllocator, RecordingError};
+use guillotiere_recording::{Event, Recorder, Recording, RecordingAllocator, RecordingError};
 use refusing::Refusing;
 use std::alloc::Global;
 use std::process::Abort;
@@ -227,7 +227,7 @@ fn told(
 ) -> bool {
     match answer {
         Ok(list) => {
-            assert!(rt; is_list(&list, changes, failures), "{list:?}");
+            assert!(rt; is_list(&list, changes, failures));
             true
         }
         Err(error) => {
@@ -288,6 +288,16 @@ fn is_recorded(call: &Call) -> bool {
     )
 }
 
+fn begun<'a>(
+    rt: &impl Abort,
+    heap: &'a Refusing<Global>,
+    sides: Sides,
+) -> Result<Session<'a>, RecordingError> {
+    let whole = size(sides);
+    assert!(rt; !whole.is_empty());
+    RecordingAllocator::new(heap, whole)
+}
+
 // Plays a row. A call that memory is refused for leaves all as before, and is made again.
 fn play(
     rt: &impl Abort,
@@ -295,10 +305,8 @@ fn play(
     sides: Sides,
     calls: &[Call],
 ) -> Result<(), Fail> {
-    let whole = size(sides);
-    assert!(rt; !whole.is_empty());
-    let created = match RecordingAllocator::new(heap, whole) {
-        Err(RecordingError::Memory) => RecordingAllocator::new(heap, whole),
+    let created = match begun(rt, heap, sides) {
+        Err(RecordingError::Memory) => begun(rt, heap, sides),
         first => first,
     };
     let mut session = created?;
@@ -351,37 +359,46 @@ fn rows(rt: HostRuntime) -> Result<(), Fail> {
     Ok(())
 }
 
+type Events<'a> = Recorder<&'a Refusing<Global>>;
+
+fn note_growth(recorder: &mut Events<'_>) -> Result<(), RecordingError> {
+    recorder.record(Event::Grow(size((9, 10))))
+}
+
+fn note_freeing(recorder: &mut Events<'_>) -> Result<(), RecordingError> {
+    recorder.record(Event::Deallocate(AllocId::deserialize(7)))
+}
+
+fn finished<'a>(recorder: &mut Events<'a>) -> Recording<&'a Refusing<Global>> {
+    recorder.finish()
+}
+
+// Whether a recording has these two events alone.
+fn has_both(recording: &Recording<&Refusing<Global>>) -> bool {
+    match recording.events() {
+        [growth, freeing] => {
+            is_event(growth, &Call::Grow((9, 10))) && is_event(freeing, &Call::Deallocate(7))
+        }
+        _ => false,
+    }
+}
+
 #[test]
 fn recorder_takes_no_memory_but_for_events(rt: HostRuntime) -> Result<(), Fail> {
     let heap = Refusing::new(rt.alloc());
     heap.refuse_every();
-    let whole = Size {
-        width: 10,
-        height: 10,
-    };
-    let mut recorder = Recorder::new(&heap, whole, &DEFAULT_OPTIONS);
-    assert_eq!(rt;
-        recorder.record(Event::Grow(size((9, 10)))),
-        Err(RecordingError::Memory)
-    );
-    assert_eq!(rt; recorder.finish().events().len(), 0);
+    let mut recorder = Recorder::new(&heap, size((10, 10)), &DEFAULT_OPTIONS);
+    assert_eq!(rt; note_growth(&mut recorder), Err(RecordingError::Memory));
+    assert!(rt; finished(&mut recorder).events().is_empty());
     heap.refuse_nth(0);
-    assert_eq!(rt; recorder.record(Event::Grow(size((9, 10)))), Ok(()));
-    assert_eq!(rt;
-        recorder.record(Event::Deallocate(AllocId::deserialize(7))),
-        Ok(())
-    );
+    note_growth(&mut recorder)?;
+    note_freeing(&mut recorder)?;
     heap.refuse_every();
-    let recording = recorder.finish();
-    assert_eq!(rt; recording.events().len(), 2);
-    assert!(rt; is_event(&recording.events()[0], &Call::Grow((9, 10))));
-    assert!(rt; is_event(&recording.events()[1], &Call::Deallocate(7)));
-    assert_eq!(rt; recorder.finish().events().len(), 0);
+    let recording = finished(&mut recorder);
+    assert!(rt; has_both(&recording));
+    assert!(rt; finished(&mut recorder).events().is_empty());
     assert!(rt; recording.clone().is_err());
     heap.refuse_nth(0);
-    let again = recording.clone()?;
-    let copied = again.events();
-    assert_eq!(rt; copied.len(), 2);
-    assert!(rt; is_event(&copied[1], &Call::Deallocate(7)));
+    assert!(rt; has_both(&recording.clone()?));
     Ok(())
 }

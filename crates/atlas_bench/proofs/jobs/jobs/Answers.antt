@@ -2,7 +2,7 @@ use Rattle.std.proofs.Common.{◌≡◌, ◌≢◌, [], ◌∷◌, ◌++◌, len
 use Rattle.std.proofs.lemmas.List.{nil_from_length}
 use Rattle.atlas_bench.specs.declared.workload.Job.{Job}
 use Rattle.atlas_bench.specs.Grammar.{SpellsJobs}
-use Rattle.atlas_lines.proofs.FirstLines.{rest_shorter}
+use Rattle.atlas_words.proofs.FirstLines.{rest_shorter}
 use Rattle.atlas_bench.proofs.Lines.{next_spelled}
 use Rattle.atlas_bench.proofs.jobs.jobs.Goals as goal
 

@@ -1,5 +1,5 @@
 use Rattle.std.proofs.Common.{◌≡◌, ◌∷◌, rules, subst, sym}
-use Rattle.atlas_lines.specs.Grammar.{SpellsUnsigned}
+use Rattle.atlas_words.specs.Grammar.{SpellsUnsigned}
 use Rattle.atlas_bench.proofs.Names.{name_first}
 use Rattle.atlas_bench.proofs.jobs.parse_line.Goals as goal
 

@@ -2,7 +2,7 @@ use Rattle.std.proofs.Common.{◌≡◌, ◌≢◌, [], ◌∷◌, ◌++◌, len
 use Rattle.std.proofs.lemmas.List.{nil_from_length}
 use Rattle.atlas_svg.specs.declared.lines.Line.{Line}
 use Rattle.atlas_svg.specs.Lines.{SayAll}
-use Rattle.atlas_lines.proofs.FirstLines.{rest_shorter}
+use Rattle.atlas_words.proofs.FirstLines.{rest_shorter}
 use Rattle.atlas_svg.proofs.Texts.{next_said}
 use Rattle.atlas_svg.proofs.picture.read_lines.Goals as goal
 

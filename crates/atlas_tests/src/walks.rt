@@ -1,9 +1,9 @@
 //! The walks over an atlas, by callbacks that count, keep, wrap and look back at the atlas.
 
-use crate::tables::rectangle;
 use guillotiere::{AllocId, AtlasAllocator, AtlasError, Rectangle, size2};
 use std::alloc::Global;
 use std::test::Fail;
+use test_tables::rectangle;
 
 // A shelf, two squares below it and room for a third.
 fn filled(alloc: Global) -> Result<AtlasAllocator, AtlasError> {

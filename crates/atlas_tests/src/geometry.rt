@@ -1,8 +1,8 @@
 //! Sizes, boxes and options.
 
-use crate::tables::{rectangle, size};
 use guillotiere::{AllocatorOptions, DEFAULT_OPTIONS, Rectangle, point2, size2};
 use std::test::Fail;
+use test_tables::{rectangle, size};
 
 #[test]
 fn boxes_are_measured(rt: HostRuntime) {

@@ -1,12 +1,10 @@
 //! Runs of the tool's lines.
 
-use crate::tool_devices::{Sink, Source};
-use atlas_lines::{Command, StdInput, StdOutput, ToolEnd, parse_line, run_lines};
+use crate::playing::{Row, play, run_text};
+use atlas_lines::{Command, ToolEnd, parse_line};
 use guillotiere::size2;
-use std::test::Fail;
 
-// What is read, what is written, and how the run ends.
-const ROWS: [(&[u8], &[u8], ToolEnd); 13] = [
+const ROWS: [Row; 13] = [
     (b"", b"", ToolEnd::Done),
     (
         b"simple 100 300\ntake 100 100\ntake 100 100\ntake 100 100\ntake 1 1\n",
@@ -104,43 +102,23 @@ const BAD_LINES: [&[u8]; 34] = [
 ];
 
 #[test]
-fn rows(rt: HostRuntime) -> Result<(), Fail> {
-    for (text, want, end) in ROWS {
-        let mut input = StdInput::new(text);
+fn rows(rt: HostRuntime) {
+    for row in ROWS {
+        let (text, want, end) = row;
         let mut held = Vec::new(rt.alloc());
-        let mut output = StdOutput::new(&mut held);
-        assert_eq!(rt;
-            run_lines(rt.alloc(), &mut input, &mut output),
-            Ok(end),
-            "{text:?}"
-        );
+        let got = run_text(rt.alloc(), text, &mut held);
+        assert_eq!(rt; got, Ok(end), "{text:?}");
         assert_eq!(rt; held.as_slice(), want, "{text:?}");
+        play(&rt, rt.alloc(), row, &[1, 2, 3, 7, 64, 5000]);
     }
-    Ok(())
-}
-
-#[test]
-fn rows_by_any_step(rt: HostRuntime) -> Result<(), Fail> {
-    for (text, want, end) in ROWS {
-        for step in [1, 2, 3, 7, 64, 5000] {
-            let mut input = Source::ending(text, step);
-            let mut output = Sink::new(Vec::new(rt.alloc()), 5000, step, true);
-            let got = run_lines(rt.alloc(), &mut input, &mut output);
-            assert_eq!(rt; got, Ok(end), "{text:?} by {step}");
-            assert_eq!(rt; output.held(), want, "{text:?} by {step}");
-        }
-    }
-    Ok(())
 }
 
 #[test]
 fn bad_lines(rt: HostRuntime) {
     for line in BAD_LINES {
         assert_eq!(rt; parse_line(line), None, "{line:?}");
-        let mut input = StdInput::new(line);
         let mut held = Vec::new(rt.alloc());
-        let mut output = StdOutput::new(&mut held);
-        let got = run_lines(rt.alloc(), &mut input, &mut output);
+        let got = run_text(rt.alloc(), line, &mut held);
         assert_eq!(rt; got, Ok(ToolEnd::BadLine(1)), "{line:?}");
         assert_eq!(rt; held.as_slice(), b"bad line 1\n".as_slice(), "{line:?}");
     }

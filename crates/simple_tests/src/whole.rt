@@ -1,7 +1,6 @@
 //! The simple allocator whole: worked rows of growths and starts, call by call and as lists of calls, with ample memory
 //! and with requests for memory refused.
 
-use crate::tables::{ALIGNED_TO_8, Corners, Sides, rectangle, size};
 use guillotiere::session::{SimpleCall, SimpleReply, run_simple};
 use guillotiere::{
     AllocId, AllocatorOptions, AtlasAllocator, AtlasError, DEFAULT_OPTIONS, SimpleAtlasAllocator,
@@ -11,6 +10,7 @@ use refusing::Refusing;
 use std::alloc::Global;
 use std::process::Abort;
 use std::test::Fail;
+use test_tables::{ALIGNED_TO_8, Corners, Sides, rectangle, size};
 
 // A call of the simple allocator with its answer.
 #[derive(Clone, Copy, Debug)]

@@ -1,10 +1,10 @@
 //! Long sessions of grants and freeings.
 
-use crate::tables::rectangle;
 use guillotiere::{AllocId, AtlasAllocator, AtlasError, Rectangle, size2};
 use std::alloc::Global;
 use std::process::Abort;
 use std::test::Fail;
+use test_tables::rectangle;
 
 #[test]
 fn generations_go_round_at_256(rt: HostRuntime) -> Result<(), Fail> {

@@ -3,7 +3,7 @@ use Rattle.std.specs.Option.{IfSome}
 use Rattle.guillotiere.specs.Pixels.{box_of}
 use Rattle.guillotiere.specs.Simple.{IsGuarded, live_boxes}
 use Rattle.guillotiere.specs.Stored.{state_of}
-use Rattle.guillotiere_tests.proofs.simple_beside.place_beside.Goals as goal
+use Rattle.simple_tests.proofs.beside.place_beside.Goals as goal
 
 pub returns-in-Ok-Some : goal.returns-in-Ok-Some
 returns-in-Ok-Some g c =

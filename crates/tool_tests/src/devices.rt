@@ -83,6 +83,11 @@ impl Sink {
     pub fn held(&self) -> &[u8] {
         self.held.as_slice()
     }
+
+    /// What was taken, where no more is.
+    pub fn into_held(self) -> Vec<u8> {
+        self.held
+    }
 }
 
 impl ToolOutput for Sink {

@@ -1,9 +1,9 @@
 //! Runs of the tool with replays of recorded sessions.
 
-use crate::tool_devices::{Sink, Source};
-use atlas_lines::{Command, ToolEnd, parse_line, run_lines};
+use crate::devices::{Sink, Source};
+use crate::playing::{is_refused_after, run};
+use atlas_lines::{Command, ToolEnd, parse_line};
 use refusing::Refusing;
-use std::test::Fail;
 
 // What is read; then what is written before the replay's reply, that reply, and what is written after it.
 type Row = (&'static [u8], [&'static [u8]; 3]);
@@ -53,17 +53,17 @@ fn is_made_of(text: &[u8], parts: [&[u8]; 3]) -> bool {
 }
 
 #[test]
-fn rows(rt: HostRuntime) -> Result<(), Fail> {
+fn rows(rt: HostRuntime) {
+    let heap = Refusing::new(rt.alloc());
     for (text, want) in ROWS {
         for step in [1, 7, 100000] {
             let mut input = Source::ending(text, step);
             let mut output = Sink::new(Vec::new(rt.alloc()), 5000, step, true);
-            let got = run_lines(rt.alloc(), &mut input, &mut output);
+            let got = run(&heap, &mut input, &mut output);
             assert_eq!(rt; got, Ok(ToolEnd::Done), "{text:?} by {step}");
             assert!(rt; is_made_of(output.held(), want), "{text:?} by {step}");
         }
     }
-    Ok(())
 }
 
 #[test]
@@ -72,16 +72,6 @@ fn lines(rt: HostRuntime) {
     for line in BAD_LINES {
         assert_eq!(rt; parse_line(line), None, "{line:?}");
     }
-}
-
-// Where two texts begin to differ.
-fn first_difference(got: &[u8], want: &[u8]) -> usize {
-    for (i, (one, other)) in got.iter().zip(want).enumerate() {
-        if one != other {
-            return i;
-        }
-    }
-    got.len().min(want.len())
 }
 
 // A refusal before the replay is told on its own line. A replay that is refused says so, and the session is over.
@@ -96,11 +86,8 @@ fn rows_with_each_request_for_memory_refused_in_turn(rt: HostRuntime) {
             heap.refuse_nth(number);
             let mut input = Source::ending(text, 1000);
             let mut output = Sink::new(Vec::new(rt.alloc()), 5000, 1000, true);
-            assert_eq!(rt;
-                run_lines(&heap, &mut input, &mut output),
-                Ok(ToolEnd::Done),
-                "{number}"
-            );
+            let got = run(&heap, &mut input, &mut output);
+            assert_eq!(rt; got, Ok(ToolEnd::Done), "{number}");
             let held = output.held();
             if !heap.is_done() {
                 assert!(rt; is_made_of(held, want), "{number}: {held:?}");
@@ -109,15 +96,9 @@ fn rows_with_each_request_for_memory_refused_in_turn(rt: HostRuntime) {
             refusals = number;
             if is_made_of(held, [before, b"replay refused memory\n", after]) {
                 told = true;
-                continue;
+            } else {
+                assert!(rt; is_refused_after(held, before), "{number}: {held:?}");
             }
-            let at = first_difference(held, before);
-            assert!(rt; at < held.len(), "{number}");
-            assert!(rt;
-                held[at..].starts_with(b"refused memory\n"),
-                "{number}: {held:?}"
-            );
-            assert!(rt; at == 0 || held[at - 1] == b'\n', "{number}: {held:?}");
         }
         assert!(rt; told && refusals < 199, "{text:?}");
     }

@@ -1,7 +1,9 @@
 //! A conversation with the tool: each reply is there before the next line is asked for.
 ghost use Rattle.std.specs.Prelude.{◌≡◌, false};
 
+use crate::playing::End;
 use atlas_lines::{ToolEnd, ToolInput, ToolOutput, run_lines};
+use std::alloc::Global;
 use std::cell::Cell;
 use std::test::Fail;
 
@@ -122,6 +124,13 @@ const TALK: [(&[u8], &[u8]); 12] = [
     (b"empty", b"true\n"),
 ];
 
+fn talk(alloc: Global, input: &mut Asking<'_>, output: &mut Told<'_>) -> End
+    requires input { input.now.failed ≡ false }
+    requires output { output.now.failed ≡ false }
+{
+    run_lines(alloc, input, output)
+}
+
 #[test]
 fn each_reply_comes_before_the_next_read(rt: HostRuntime) -> Result<(), Fail> {
     let written = Cell::new(0);
@@ -129,7 +138,7 @@ fn each_reply_comes_before_the_next_read(rt: HostRuntime) -> Result<(), Fail> {
     let (asked, last) = TALK.split_at(11);
     let mut input = Asking::new(asked, &written);
     let mut output = Told::new(Vec::new(rt.alloc()), &written);
-    let end = run_lines(rt.alloc(), &mut input, &mut output);
+    let end = talk(rt.alloc(), &mut input, &mut output);
     assert_eq!(rt; end, Ok(ToolEnd::Done));
     assert_eq!(rt; input.misses, 0);
     assert_eq!(rt; written.get(), input.owed);
@@ -147,7 +156,7 @@ fn the_last_line_needs_no_end(rt: HostRuntime) -> Result<(), Fail> {
     let written = Cell::new(0);
     let mut input = Asking::new(&TALK, &written);
     let mut output = Told::new(Vec::new(rt.alloc()), &written);
-    let end = run_lines(rt.alloc(), &mut input, &mut output);
+    let end = talk(rt.alloc(), &mut input, &mut output);
     assert_eq!(rt; end, Ok(ToolEnd::Done));
     // Only the read that finds the end comes before the last reply.
     assert_eq!(rt; input.misses, 1);
@@ -166,7 +175,7 @@ fn many_lines_are_answered_by_one_write(rt: HostRuntime) -> Result<(), Fail> {
     let lines: [(&[u8], &[u8]); 1] = [(&text, b"")];
     let mut input = Asking::new(&lines, &written);
     let mut output = Told::new(Vec::new(rt.alloc()), &written);
-    let end = run_lines(rt.alloc(), &mut input, &mut output);
+    let end = talk(rt.alloc(), &mut input, &mut output);
     assert_eq!(rt; end, Ok(ToolEnd::Done));
     assert_eq!(rt; output.held.len(), 9000);
     assert_eq!(rt; output.calls, 1);

@@ -1,12 +1,7 @@
 //! Runs of the tool with recorded sessions.
 
-use crate::tool_devices::{Sink, Source};
-use atlas_lines::{ToolEnd, parse_line, run_lines};
-use refusing::Refusing;
-use std::test::Fail;
-
-// What is read, what is written, and how the run ends.
-type Row = (&'static [u8], &'static [u8], ToolEnd);
+use crate::playing::{Row, play, play_with_refusals};
+use atlas_lines::{ToolEnd, parse_line};
 
 const NAMED: Row = (
     b"record 100 100\nalloc 20 60\nfree 0\nfree 0\nalloc 20 60\nlive\nempty\n",
@@ -50,17 +45,10 @@ const BAD_LINES: [&[u8]; 8] = [
 ];
 
 #[test]
-fn rows(rt: HostRuntime) -> Result<(), Fail> {
-    for (text, want, end) in ROWS {
-        for step in [1, 7, 100000] {
-            let mut input = Source::ending(text, step);
-            let mut output = Sink::new(Vec::new(rt.alloc()), 5000, step, true);
-            let got = run_lines(rt.alloc(), &mut input, &mut output);
-            assert_eq!(rt; got, Ok(end), "{text:?} by {step}");
-            assert_eq!(rt; output.held(), want, "{text:?} by {step}");
-        }
+fn rows(rt: HostRuntime) {
+    for row in ROWS {
+        play(&rt, rt.alloc(), row, &[1, 7, 100000]);
     }
-    Ok(())
 }
 
 #[test]
@@ -70,45 +58,9 @@ fn bad_lines(rt: HostRuntime) {
     }
 }
 
-// Where two texts begin to differ.
-fn first_difference(got: &[u8], want: &[u8]) -> usize {
-    for (i, (one, other)) in got.iter().zip(want).enumerate() {
-        if one != other {
-            return i;
-        }
-    }
-    got.len().min(want.len())
-}
-
-// The lines before the refusal are the row's, and the run goes on after it.
 #[test]
 fn rows_with_each_request_for_memory_refused_in_turn(rt: HostRuntime) {
-    let heap = Refusing::new(rt.alloc());
-    for (text, want, end) in [NAMED, REARRANGED] {
-        let mut refusals = 0;
-        for number in 1..200 {
-            heap.refuse_nth(number);
-            let mut input = Source::ending(text, 1000);
-            let mut output = Sink::new(Vec::new(rt.alloc()), 5000, 1000, true);
-            assert_eq!(rt;
-                run_lines(&heap, &mut input, &mut output),
-                Ok(end),
-                "{number}"
-            );
-            if !heap.is_done() {
-                assert_eq!(rt; output.held(), want);
-                break;
-            }
-            refusals = number;
-            let held = output.held();
-            let at = first_difference(held, want);
-            assert!(rt; at < held.len(), "{number}");
-            assert!(rt;
-                held[at..].starts_with(b"refused memory\n"),
-                "{number}: {held:?}"
-            );
-            assert!(rt; at == 0 || held[at - 1] == b'\n', "{number}: {held:?}");
-        }
-        assert!(rt; 0 < refusals && refusals < 199, "{text:?}");
+    for row in [NAMED, REARRANGED] {
+        play_with_refusals(&rt, rt.alloc(), row);
     }
 }

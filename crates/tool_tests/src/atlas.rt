@@ -1,12 +1,11 @@
 //! Runs of the tool's lines on an atlas.
 
-use crate::tool_devices::{Sink, Source};
-use atlas_lines::{ToolEnd, run_lines};
+use crate::devices::{Sink, Source};
+use crate::playing::{Row, play, run};
+use atlas_lines::ToolEnd;
 use refusing::Refusing;
-use std::test::Fail;
 
-// What is read, what is written, and how the run ends.
-const ROWS: [(&[u8], &[u8], ToolEnd); 6] = [
+const ROWS: [Row; 6] = [
     (
         b"atlas 100 100\nalloc 20 60\nlive\nholes\nsize\n",
         b"ok\nid 3 at 0 0 20 60\nbox 3 0 0 20 60\nlive 1\nhole 20 0 100 100\nhole 0 60 20 100\nholes 2\nsize 100 100\n",
@@ -54,17 +53,10 @@ const GROWTH_REFUSED: [(u32, &[u8]); 4] = [
 ];
 
 #[test]
-fn rows(rt: HostRuntime) -> Result<(), Fail> {
-    for (text, want, end) in ROWS {
-        for step in [1, 7, 5000] {
-            let mut input = Source::ending(text, step);
-            let mut output = Sink::new(Vec::new(rt.alloc()), 5000, step, true);
-            let got = run_lines(rt.alloc(), &mut input, &mut output);
-            assert_eq!(rt; got, Ok(end), "{text:?} by {step}");
-            assert_eq!(rt; output.held(), want, "{text:?} by {step}");
-        }
+fn rows(rt: HostRuntime) {
+    for row in ROWS {
+        play(&rt, rt.alloc(), row, &[1, 7, 5000]);
     }
-    Ok(())
 }
 
 #[test]
@@ -74,7 +66,7 @@ fn a_growth_with_each_request_for_memory_refused_in_turn(rt: HostRuntime) {
         heap.refuse_nth(number);
         let mut input = Source::ending(GROWTH, 1000);
         let mut output = Sink::new(Vec::new(rt.alloc()), 1000, 1000, true);
-        let got = run_lines(&heap, &mut input, &mut output);
+        let got = run(&heap, &mut input, &mut output);
         assert_eq!(rt; got, Ok(ToolEnd::Done), "{number}");
         assert_eq!(rt; output.held(), want, "{number}");
     }

@@ -1,11 +1,11 @@
 //! The simple allocator: worked rows, with ample memory and with requests for memory refused.
 
-use crate::tables::{ALIGNED_TO_2, ALIGNED_TO_8, Corners, Sides, rectangle, size};
 use guillotiere::{AllocatorOptions, AtlasError, DEFAULT_OPTIONS, SimpleAtlasAllocator};
 use refusing::Refusing;
 use std::alloc::Global;
 use std::process::Abort;
 use std::test::Fail;
+use test_tables::{ALIGNED_TO_2, ALIGNED_TO_8, Corners, Sides, rectangle, size};
 
 struct Row {
     size: Sides,

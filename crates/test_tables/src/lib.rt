@@ -1,6 +1,7 @@
 //! How tables of tests write sizes, boxes and options.
+#![tactic(auto)]
 
-use guillotiere::{AllocatorOptions, Point, Rectangle, Size};
+use atlas_model::{AllocatorOptions, Point, Rectangle, Size};
 
 /// A width and a height.
 pub type Sides = (i32, i32);

@@ -5,12 +5,12 @@ ghost use Rattle.guillotiere.specs.Pixels.{box_of};
 ghost use Rattle.guillotiere.specs.Simple.{live_boxes};
 ghost use Rattle.guillotiere.specs.Stored.{state_of};
 
-use crate::tables::{rectangle, size};
 use guillotiere::{
     AllocId, AtlasAllocator, AtlasError, Rectangle, SimpleAtlasAllocator, Size, laws, size2,
 };
 use std::alloc::Allocator;
 use std::test::Fail;
+use test_tables::{rectangle, size};
 
 // A rectangle apart from all that an atlas holds live, or none; the atlas stays as it is.
 fn place_beside<'a, B: Allocator>(

@@ -2,7 +2,24 @@
 use Rattle.std.proofs.Common.{◌≡◌, ℕ, ◌≢◌, ◌<◌, ◌⊎◌, List, [], ◌∷◌, ◌++◌, length, sym, ap, ◌∙◌, inl, inr, arith, length-append}
 use Rattle.std.proofs.lemmas.List.{nil_from_length}
 use Rattle.atlas_words.specs.Lines.{HasNoEnd, BeginsWithLine}
-use Rattle.atlas_lines.proofs.Readings.{same_first, no_first}
+
+-- A line with its LF stands at the front in one way.
+pub same_first : (l m x y : List ℕ) → HasNoEnd l → HasNoEnd m → l ++ 10 ∷ x ≡ m ++ 10 ∷ y → (l ≡ m) × (x ≡ y)
+same_first [] [] x y hl hm e = (refl, cc)
+same_first [] (b ∷ m) x y hl hm e = absurd (hm.0 (let h : 10 ≡ b = cc in sym h))
+same_first (a ∷ l) [] x y hl hm e = absurd (hl.0 cc)
+same_first (a ∷ l) (b ∷ m) x y hl hm e =
+    let tails : l ++ 10 ∷ x ≡ m ++ 10 ∷ y = cc in
+    let heads : a ≡ b = cc in
+    let more = same_first l m x y hl.1 hm.1 tails in
+    (let first = more.0 in cc, more.1)
+
+-- Bytes without an LF are no line with its LF.
+pub no_first : (l x rest : List ℕ) → HasNoEnd rest → rest ≡ l ++ 10 ∷ x → ⊥
+no_first [] x [] h e = absurd (cc)
+no_first [] x (r ∷ rest) h e = h.0 cc
+no_first (a ∷ l) x [] h e = absurd (cc)
+no_first (a ∷ l) x (r ∷ rest) h e = no_first l x rest h.1 cc
 
 parts : (t l r m s : List ℕ) → HasNoEnd l → HasNoEnd m
     → (t ≡ l ++ 10 ∷ r) ⊎ ((t ≡ l) × (r ≡ [])) → (t ≡ m ++ 10 ∷ s) ⊎ ((t ≡ m) × (s ≡ [])) → (l ≡ m) × (r ≡ s)

@@ -1,12 +1,8 @@
 //! Runs of all commands of the tool, with each request for memory refused in turn, and lines that are bad.
 
-use crate::tool_devices::{Sink, Source};
-use atlas_lines::{ToolEnd, parse_line, run_lines};
-use refusing::Refusing;
+use crate::playing::{Row, play, play_with_refusals, run_text};
+use atlas_lines::{ToolEnd, parse_line};
 use std::test::Fail;
-
-// What is read, what is written, and how the run ends.
-type Row = (&'static [u8], &'static [u8], ToolEnd);
 
 const REARRANGED: Row = (
     b"atlas 100 300\nalloc 100 100\nalloc 100 100\nalloc 100 100\nfree 1\nrearrange\nlive\nholes\nempty\n",
@@ -94,17 +90,10 @@ const BAD_LINES: [&[u8]; 26] = [
 ];
 
 #[test]
-fn rows(rt: HostRuntime) -> Result<(), Fail> {
-    for (text, want, end) in ROWS {
-        for step in [1, 7, 100000] {
-            let mut input = Source::ending(text, step);
-            let mut output = Sink::new(Vec::new(rt.alloc()), 5000, step, true);
-            let got = run_lines(rt.alloc(), &mut input, &mut output);
-            assert_eq!(rt; got, Ok(end), "{text:?} by {step}");
-            assert_eq!(rt; output.held(), want, "{text:?} by {step}");
-        }
+fn rows(rt: HostRuntime) {
+    for row in ROWS {
+        play(&rt, rt.alloc(), row, &[1, 7, 100000]);
     }
-    Ok(())
 }
 
 #[test]
@@ -115,54 +104,18 @@ fn bad_second_lines(rt: HostRuntime) -> Result<(), Fail> {
         text.extend_from_slice(b"simple 10 10\n")?;
         text.extend_from_slice(line)?;
         text.extend_from_slice(b"\ntake 1 1\n")?;
-        let mut input = Source::ending(&text, 1000);
-        let mut output = Sink::new(Vec::new(rt.alloc()), 1000, 1000, true);
-        let got = run_lines(rt.alloc(), &mut input, &mut output);
+        let mut held = Vec::new(rt.alloc());
+        let got = run_text(rt.alloc(), &text, &mut held);
         assert_eq!(rt; got, Ok(ToolEnd::BadLine(2)), "{line:?}");
-        assert_eq!(rt; output.held(), b"ok\nbad line 2\n".as_slice(), "{line:?}");
+        assert_eq!(rt; held.as_slice(), b"ok\nbad line 2\n".as_slice(), "{line:?}");
     }
     Ok(())
 }
 
-// Where two texts begin to differ.
-fn first_difference(got: &[u8], want: &[u8]) -> usize {
-    for (i, (one, other)) in got.iter().zip(want).enumerate() {
-        if one != other {
-            return i;
-        }
-    }
-    got.len().min(want.len())
-}
-
 #[test]
 fn rows_with_each_request_for_memory_refused_in_turn(rt: HostRuntime) {
-    let heap = Refusing::new(rt.alloc());
-    for (text, want, end) in [REARRANGED, STARTED] {
-        let mut refusals = 0;
-        for number in 1..100 {
-            heap.refuse_nth(number);
-            let mut input = Source::ending(text, 1000);
-            let mut output = Sink::new(Vec::new(rt.alloc()), 5000, 1000, true);
-            assert_eq!(rt;
-                run_lines(&heap, &mut input, &mut output),
-                Ok(end),
-                "{number}"
-            );
-            if !heap.is_done() {
-                assert_eq!(rt; output.held(), want);
-                break;
-            }
-            refusals = number;
-            let held = output.held();
-            let at = first_difference(held, want);
-            assert!(rt; at < held.len(), "{number}");
-            assert!(rt;
-                held[at..].starts_with(b"refused memory\n"),
-                "{number}: {held:?}"
-            );
-            assert!(rt; at == 0 || held[at - 1] == b'\n', "{number}: {held:?}");
-        }
-        assert!(rt; 0 < refusals && refusals < 99, "{text:?}");
+    for row in [REARRANGED, STARTED] {
+        play_with_refusals(&rt, rt.alloc(), row);
     }
 }
 

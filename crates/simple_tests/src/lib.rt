@@ -1,0 +1,10 @@
+//! Tests of the simple allocator. Expected values are worked by hand from the rules, or recorded from the Rust crate
+//! `guillotiere` 0.7.0; none is an answer of the code under test.
+#![tactic(auto)]
+
+#[cfg(test)]
+mod beside;
+#[cfg(test)]
+mod rows;
+#[cfg(test)]
+mod whole;

@@ -1,0 +1,24 @@
+//! Tests of the lines of `atlas_tool`: `atlas_lines` and `atlas_words`. Expected replies are worked by hand from the
+//! rules, or are those of the Rust crate `guillotiere` 0.7.0; none is an answer of the code under test.
+#![tactic(auto)]
+
+#[cfg(test)]
+mod atlas;
+#[cfg(test)]
+mod conversation;
+#[cfg(test)]
+mod devices;
+#[cfg(test)]
+mod faults;
+#[cfg(test)]
+mod playing;
+#[cfg(test)]
+mod recording;
+#[cfg(test)]
+mod replay;
+#[cfg(test)]
+mod rows;
+#[cfg(test)]
+mod whole;
+#[cfg(test)]
+mod words;
