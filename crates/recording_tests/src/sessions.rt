@@ -387,7 +387,11 @@ fn has_both(recording: &Recording<&Refusing<Global>>) -> bool {
 fn recorder_takes_no_memory_but_for_events(rt: HostRuntime) -> Result<(), Fail> {
     let heap = Refusing::new(rt.alloc());
     heap.refuse_every();
-    let mut recorder = Recorder::new(&heap, size((10, 10)), &DEFAULT_OPTIONS);
+    let whole = Size {
+        width: 10,
+        height: 10,
+    };
+    let mut recorder = Recorder::new(&heap, whole, &DEFAULT_OPTIONS);
     assert_eq!(rt; note_growth(&mut recorder), Err(RecordingError::Memory));
     assert!(rt; finished(&mut recorder).events().is_empty());
     heap.refuse_nth(0);
