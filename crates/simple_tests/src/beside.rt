@@ -12,6 +12,10 @@ use std::alloc::Allocator;
 use std::test::Fail;
 use test_tables::{rectangle, size};
 
+fn unit<'a, B: Allocator>(alloc: &'a B) -> Result<SimpleAtlasAllocator<&'a B>, AtlasError> {
+    SimpleAtlasAllocator::new(alloc, size2(1, 1))
+}
+
 // A rectangle apart from all that an atlas holds live, or none; the atlas stays as it is.
 fn place_beside<'a, B: Allocator>(
     alloc: &'a B,
@@ -22,7 +26,7 @@ fn place_beside<'a, B: Allocator>(
         AreDisjoint (box_of rectangle ∷ live_boxes (state_of atlas.now)))) }
 {
     laws::guarded_are_disjoint();
-    let mut simple = SimpleAtlasAllocator::new(alloc, size2(1, 1))?;
+    let mut simple = unit(alloc)?;
     simple.init_from_allocator(atlas)?;
     match simple.allocate(request) {
         Ok(Some(rectangle)) => Ok(Some(rectangle)),

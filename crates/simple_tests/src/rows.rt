@@ -1,6 +1,6 @@
 //! The simple allocator: worked rows, with ample memory and with requests for memory refused.
 
-use guillotiere::{AllocatorOptions, AtlasError, DEFAULT_OPTIONS, SimpleAtlasAllocator};
+use guillotiere::{AllocatorOptions, AtlasError, DEFAULT_OPTIONS, Rectangle, SimpleAtlasAllocator};
 use refusing::Refusing;
 use std::alloc::Global;
 use std::process::Abort;
@@ -105,60 +105,52 @@ fn created<'a>(
     }
 }
 
+// A request of a test, in a function without a contract: the tests' own proofs stay short.
+fn request(simple: &mut Simple<'_>, sides: Sides) -> Result<Option<Rectangle>, AtlasError> {
+    simple.allocate(size(sides))
+}
+
 // What a request is answered. Where it is refused, nothing has changed and it is made again with ample memory; a
 // request that is answered by None is never refused.
 fn allocated(
     rt: &impl Abort,
     heap: &Refusing<Global>,
     simple: &mut Simple<'_>,
-    (request, want): (Sides, Option<Corners>),
+    (sides, want): (Sides, Option<Corners>),
 ) -> Result<(), AtlasError> {
     let before = (simple.size(), simple.is_empty());
-    let mut answer = simple.allocate(size(request));
+    let mut answer = request(simple, sides);
     if answer == Err(AtlasError::Memory) {
-        assert!(rt; want.is_some(), "{request:?}");
-        assert_eq!(rt; (simple.size(), simple.is_empty()), before, "{request:?}");
+        assert!(rt; want.is_some(), "{sides:?}");
+        assert_eq!(rt; (simple.size(), simple.is_empty()), before, "{sides:?}");
         heap.refuse_nth(0);
-        answer = simple.allocate(size(request));
+        answer = request(simple, sides);
     }
-    assert_eq!(rt; answer?, want.map(rectangle), "{request:?}");
+    assert_eq!(rt; answer?, want.map(rectangle), "{sides:?}");
     Ok(())
 }
 
-#[test]
-fn rows(rt: HostRuntime) -> Result<(), Fail> {
-    let heap = Refusing::new(rt.alloc());
-    for row in &ROWS {
-        let mut simple = created(&rt, &heap, row)?;
-        assert!(rt; simple.is_empty(), "{:?}", row.size);
-        for &(request, want) in row.requests {
-            let granted = simple.allocate(size(request))?;
-            assert_eq!(rt;
-                granted,
-                want.map(rectangle),
-                "{request:?} of {:?}",
-                row.size
-            );
-        }
-        assert_eq!(rt; simple.size(), size(row.size));
-        assert_eq!(rt; simple.is_empty(), row.empty, "{:?}", row.size);
-    }
-    Ok(())
+// What a row begins with, and what it leaves.
+fn looks_as(rt: &impl Abort, simple: &Simple<'_>, row: &Row, empty: bool) {
+    assert_eq!(rt; simple.size(), size(row.size));
+    assert_eq!(rt; simple.is_empty(), empty, "{:?}", row.size);
 }
 
-// A row with one request for memory refused, whose call is made again.
-fn row_refused_once(rt: &impl Abort, heap: &Refusing<Global>, row: &Row) -> Result<(), AtlasError> {
+// A row with at most one request for memory refused, whose call is made again.
+fn play(rt: &impl Abort, heap: &Refusing<Global>, row: &Row) -> Result<(), AtlasError> {
     let mut simple = match created(rt, heap, row) {
         Err(AtlasError::Memory) => created(rt, heap, row)?,
         first => first?,
     };
+    looks_as(rt, &simple, row, true);
     for &request in row.requests {
         allocated(rt, heap, &mut simple, request)?;
     }
-    assert_eq!(rt; simple.is_empty(), row.empty, "{:?}", row.size);
+    looks_as(rt, &simple, row, row.empty);
     Ok(())
 }
 
+// The last time that a row is played no request for memory is refused.
 #[test]
 fn rows_with_each_request_for_memory_refused_in_turn(rt: HostRuntime) -> Result<(), Fail> {
     let heap = Refusing::new(rt.alloc());
@@ -166,7 +158,7 @@ fn rows_with_each_request_for_memory_refused_in_turn(rt: HostRuntime) -> Result<
         let mut refusals = 0;
         for number in 1..100 {
             heap.refuse_nth(number);
-            row_refused_once(&rt, &heap, row)?;
+            play(&rt, &heap, row)?;
             if !heap.is_done() {
                 break;
             }
@@ -177,19 +169,25 @@ fn rows_with_each_request_for_memory_refused_in_turn(rt: HostRuntime) -> Result<
     Ok(())
 }
 
+// A row with every request for memory refused once; each call is then made again.
+fn play_refused(rt: &impl Abort, heap: &Refusing<Global>, row: &Row) -> Result<(), AtlasError> {
+    heap.refuse_every();
+    assert_eq!(rt; created(rt, heap, row).err(), Some(AtlasError::Memory));
+    heap.refuse_nth(0);
+    let mut simple = created(rt, heap, row)?;
+    for &request in row.requests {
+        heap.refuse_every();
+        allocated(rt, heap, &mut simple, request)?;
+    }
+    looks_as(rt, &simple, row, row.empty);
+    Ok(())
+}
+
 #[test]
 fn rows_with_every_request_for_memory_refused(rt: HostRuntime) -> Result<(), Fail> {
     let heap = Refusing::new(rt.alloc());
     for row in &ROWS {
-        heap.refuse_every();
-        assert_eq!(rt; created(&rt, &heap, row).err(), Some(AtlasError::Memory));
-        heap.refuse_nth(0);
-        let mut simple = created(&rt, &heap, row)?;
-        for &request in row.requests {
-            heap.refuse_every();
-            allocated(&rt, &heap, &mut simple, request)?;
-        }
-        assert_eq!(rt; simple.is_empty(), row.empty, "{:?}", row.size);
+        play_refused(&rt, &heap, row)?;
     }
     Ok(())
 }

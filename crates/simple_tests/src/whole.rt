@@ -3,8 +3,8 @@
 
 use guillotiere::session::{SimpleCall, SimpleReply, run_simple};
 use guillotiere::{
-    AllocId, AllocatorOptions, AtlasAllocator, AtlasError, DEFAULT_OPTIONS, SimpleAtlasAllocator,
-    Size,
+    AllocId, AllocatorOptions, AtlasAllocator, AtlasError, DEFAULT_OPTIONS, Rectangle,
+    SimpleAtlasAllocator, Size,
 };
 use refusing::Refusing;
 use std::alloc::Global;
@@ -207,6 +207,8 @@ type Atlas<'a> = AtlasAllocator<&'a Refusing<Global>>;
 
 type Simple<'a> = SimpleAtlasAllocator<&'a Refusing<Global>>;
 
+type Replies<'a> = Vec<SimpleReply, &'a Refusing<Global>>;
+
 // The call and the reply of a step; None for a look.
 fn call_and_reply(step: Step) -> Option<(SimpleCall, SimpleReply)> {
     match step {
@@ -229,6 +231,29 @@ fn call_and_reply(step: Step) -> Option<(SimpleCall, SimpleReply)> {
     }
 }
 
+// The calls below stand in functions without contracts: the tests' own proofs stay short.
+
+fn is_granted(atlas: &mut Atlas<'_>, sides: Sides) -> Result<bool, AtlasError> {
+    Ok(atlas.allocate(size(sides))?.is_some())
+}
+
+fn free(atlas: &mut Atlas<'_>, id: u32) -> Result<(), AtlasError> {
+    atlas.deallocate(AllocId::deserialize(id))
+}
+
+fn request(simple: &mut Simple<'_>, sides: Sides) -> Result<Option<Rectangle>, AtlasError> {
+    simple.allocate(size(sides))
+}
+
+fn make<'a>(
+    simple: &mut Simple<'a>,
+    atlas: &Atlas<'a>,
+    calls: &[SimpleCall],
+    replies: &mut Replies<'a>,
+) -> Result<(), AtlasError> {
+    run_simple(simple, atlas, calls, replies)
+}
+
 fn atlas_of<'a>(
     rt: &impl Abort,
     heap: &'a Refusing<Global>,
@@ -239,11 +264,10 @@ fn atlas_of<'a>(
     assert!(rt; source.options.is_valid());
     let mut atlas = AtlasAllocator::with_options(heap, whole, &source.options)?;
     for &request in source.granted {
-        let granted = atlas.allocate(size(request))?;
-        assert!(rt; granted.is_some(), "{request:?}");
+        assert!(rt; is_granted(&mut atlas, request)?, "{request:?}");
     }
     for &id in source.freed {
-        atlas.deallocate(AllocId::deserialize(id))?;
+        free(&mut atlas, id)?;
     }
     Ok(atlas)
 }
@@ -258,21 +282,28 @@ fn simple_of<'a>(
     SimpleAtlasAllocator::new(heap, whole)
 }
 
-// Both allocators of a row, made again where a request for memory is refused.
-fn both_of<'a>(
+// The allocators of a row; where a request for memory is refused, each is made again.
+
+fn source_of<'a>(
     rt: &impl Abort,
     heap: &'a Refusing<Global>,
     row: &Row,
-) -> Result<(Atlas<'a>, Simple<'a>), AtlasError> {
-    let atlas = match atlas_of(rt, heap, &row.source) {
-        Err(AtlasError::Memory) => atlas_of(rt, heap, &row.source)?,
-        first => first?,
-    };
-    let simple = match simple_of(rt, heap, row) {
-        Err(AtlasError::Memory) => simple_of(rt, heap, row)?,
-        first => first?,
-    };
-    Ok((atlas, simple))
+) -> Result<Atlas<'a>, AtlasError> {
+    match atlas_of(rt, heap, &row.source) {
+        Err(AtlasError::Memory) => atlas_of(rt, heap, &row.source),
+        first => first,
+    }
+}
+
+fn begun<'a>(
+    rt: &impl Abort,
+    heap: &'a Refusing<Global>,
+    row: &Row,
+) -> Result<Simple<'a>, AtlasError> {
+    match simple_of(rt, heap, row) {
+        Err(AtlasError::Memory) => simple_of(rt, heap, row),
+        first => first,
+    }
 }
 
 fn grow(rt: &impl Abort, simple: &mut Simple<'_>, to: Size) -> Result<(), AtlasError> {
@@ -292,42 +323,34 @@ fn reset(
     simple.reset(to, options)
 }
 
-// Takes a step by the allocator's own calls; a bad call is none of them.
+// Takes a step by the allocator's own calls; a bad call is none of them. Returns whether it is answered as it must be.
+fn taken<'a>(
+    rt: &impl Abort,
+    simple: &mut Simple<'a>,
+    atlas: &Atlas<'a>,
+    step: Step,
+) -> Result<bool, AtlasError> {
+    match step {
+        Step::Grant(sides, want) => return Ok(request(simple, sides)? == Some(rectangle(want))),
+        Step::NoRoom(sides) => return Ok(request(simple, sides)?.is_none()),
+        Step::Grow(to) => grow(rt, simple, size(to))?,
+        Step::Clear => simple.clear()?,
+        Step::Reset(to, options) => reset(rt, simple, size(to), &options)?,
+        Step::Start => simple.init_from_allocator(atlas)?,
+        Step::SizeIs(want) => return Ok(simple.size() == size(want)),
+        Step::EmptyIs(want) => return Ok(simple.is_empty() == want),
+        Step::Shrink(_) | Step::BadReset(..) => {}
+    }
+    Ok(true)
+}
+
 fn take_step<'a>(
     rt: &impl Abort,
     simple: &mut Simple<'a>,
     atlas: &Atlas<'a>,
     step: Step,
 ) -> Result<(), AtlasError> {
-    match step {
-        Step::Grant(request, want) => {
-            let granted = simple.allocate(size(request))?;
-            assert_eq!(rt; granted, Some(rectangle(want)), "{step:?}");
-        }
-        Step::NoRoom(request) => {
-            let granted = simple.allocate(size(request))?;
-            assert_eq!(rt; granted, None, "{step:?}");
-        }
-        Step::Grow(to) => grow(rt, simple, size(to))?,
-        Step::Clear => simple.clear()?,
-        Step::Reset(to, options) => reset(rt, simple, size(to), &options)?,
-        Step::Start => simple.init_from_allocator(atlas)?,
-        Step::SizeIs(want) => assert_eq!(rt; simple.size(), size(want)),
-        Step::EmptyIs(want) => assert_eq!(rt; simple.is_empty(), want),
-        Step::Shrink(_) | Step::BadReset(..) => {}
-    }
-    Ok(())
-}
-
-#[test]
-fn rows_call_by_call(rt: HostRuntime) -> Result<(), Fail> {
-    let heap = Refusing::new(rt.alloc());
-    for row in &ROWS {
-        let (atlas, mut simple) = both_of(&rt, &heap, row)?;
-        for step in row.steps {
-            take_step(&rt, &mut simple, &atlas, *step)?;
-        }
-    }
+    assert!(rt; taken(rt, simple, atlas, step)?, "{step:?}");
     Ok(())
 }
 
@@ -348,6 +371,17 @@ fn take_step_or_again<'a>(
     }
 }
 
+// Takes a row's steps; one that is refused memory once is taken again.
+fn take_steps(rt: &impl Abort, heap: &Refusing<Global>, row: &Row) -> Result<(), AtlasError> {
+    let atlas = source_of(rt, heap, row)?;
+    let mut simple = begun(rt, heap, row)?;
+    for step in row.steps {
+        take_step_or_again(rt, &mut simple, &atlas, *step)?;
+    }
+    Ok(())
+}
+
+// The last time that a row is played no request for memory is refused.
 #[test]
 fn rows_with_each_request_for_memory_refused_in_turn(rt: HostRuntime) -> Result<(), Fail> {
     let heap = Refusing::new(rt.alloc());
@@ -355,10 +389,7 @@ fn rows_with_each_request_for_memory_refused_in_turn(rt: HostRuntime) -> Result<
         let mut refusals = 0;
         for number in 1..100 {
             heap.refuse_nth(number);
-            let (atlas, mut simple) = both_of(&rt, &heap, row)?;
-            for step in row.steps {
-                take_step_or_again(&rt, &mut simple, &atlas, *step)?;
-            }
+            take_steps(&rt, &heap, row)?;
             if !heap.is_done() {
                 break;
             }
@@ -369,51 +400,109 @@ fn rows_with_each_request_for_memory_refused_in_turn(rt: HostRuntime) -> Result<
     Ok(())
 }
 
+// The calls of a row's steps.
+fn calls_of(alloc: Global, steps: &[Step]) -> Result<Vec<SimpleCall>, AtlasError> {
+    let mut calls = Vec::new(alloc);
+    for step in steps {
+        if let Some((call, _)) = call_and_reply(*step) {
+            calls.push(call)?;
+        }
+    }
+    Ok(calls)
+}
+
+// Whether these are the replies to a row's steps, after the first, which was there before.
+fn are_replies(steps: &[Step], replies: &[SimpleReply]) -> bool {
+    let mut count = 1;
+    for step in steps {
+        if let Some((_, reply)) = call_and_reply(*step) {
+            if replies.get(count) != Some(&reply) {
+                return false;
+            }
+            count = count.saturating_add(1);
+        }
+    }
+    replies.len() == count && replies.first() == Some(&SimpleReply::NoRoom)
+}
+
+// Makes a list of calls for a row.
+fn made<'a>(
+    rt: &impl Abort,
+    heap: &'a Refusing<Global>,
+    row: &Row,
+    calls: &[SimpleCall],
+) -> Result<Replies<'a>, AtlasError> {
+    let atlas = source_of(rt, heap, row)?;
+    let mut simple = begun(rt, heap, row)?;
+    let mut replies = Vec::new(heap);
+    replies.push(SimpleReply::NoRoom)?;
+    make(&mut simple, &atlas, calls, &mut replies)?;
+    Ok(replies)
+}
+
 #[test]
 fn rows_as_lists_of_calls(rt: HostRuntime) -> Result<(), Fail> {
     let heap = Refusing::new(rt.alloc());
     for row in &ROWS {
-        let (atlas, mut simple) = both_of(&rt, &heap, row)?;
-        let mut calls = Vec::new(rt.alloc());
-        let mut want = Vec::new(rt.alloc());
-        // A reply that was there before stays.
-        let mut replies = Vec::new(&heap);
-        replies.push(SimpleReply::NoRoom)?;
-        want.push(SimpleReply::NoRoom)?;
-        for step in row.steps {
-            if let Some((call, reply)) = call_and_reply(*step) {
-                calls.push(call)?;
-                want.push(reply)?;
-            }
-        }
-        run_simple(&mut simple, &atlas, calls.as_slice(), &mut replies)?;
-        assert_eq!(rt; replies.as_slice(), want.as_slice(), "{:?}", row.size);
+        let calls = calls_of(rt.alloc(), row.steps)?;
+        let replies = made(&rt, &heap, row, calls.as_slice())?;
+        assert!(rt;
+            are_replies(row.steps, replies.as_slice()),
+            "{:?}",
+            row.size
+        );
     }
     Ok(())
 }
 
-// Makes a list of one call; where a request for memory is refused, nothing has changed, and the list is made again.
+// Makes a list of one call. Returns whether it met a refusal of memory; then nothing has changed.
+fn is_refused<'a>(
+    rt: &impl Abort,
+    simple: &mut Simple<'a>,
+    atlas: &Atlas<'a>,
+    call: SimpleCall,
+    replies: &mut Replies<'a>,
+) -> bool {
+    let before = (simple.size(), simple.is_empty());
+    let refused = match make(simple, atlas, &[call], replies) {
+        Ok(()) => replies.as_slice() == [SimpleReply::Refused(AtlasError::Memory)].as_slice(),
+        Err(error) => error == AtlasError::Memory && replies.is_empty(),
+    };
+    assert!(rt;
+        !refused || (simple.size(), simple.is_empty()) == before,
+        "{call:?}"
+    );
+    refused
+}
+
+// Makes a list of one call; one that is refused memory once is made again.
 fn run_or_again<'a>(
     rt: &impl Abort,
     heap: &'a Refusing<Global>,
     simple: &mut Simple<'a>,
     atlas: &Atlas<'a>,
     (call, want): (SimpleCall, SimpleReply),
-) -> Result<(), AtlasError> {
-    let before = (simple.size(), simple.is_empty());
-    let refused = SimpleReply::Refused(AtlasError::Memory);
+) {
     let mut replies = Vec::new(heap);
-    let first = run_simple(simple, atlas, &[call], &mut replies);
-    if first.is_err() {
-        assert_eq!(rt; first, Err(AtlasError::Memory));
-        assert!(rt; replies.is_empty());
-    }
-    if first.is_err() || replies.as_slice() == [refused].as_slice() {
-        assert_eq!(rt; (simple.size(), simple.is_empty()), before, "{call:?}");
+    if is_refused(rt, simple, atlas, call, &mut replies) {
         replies.clear();
-        run_simple(simple, atlas, &[call], &mut replies)?;
+        assert!(rt;
+            !is_refused(rt, simple, atlas, call, &mut replies),
+            "{call:?}"
+        );
     }
-    assert_eq!(rt; replies.as_slice(), [want].as_slice(), "{call:?}");
+    assert!(rt; replies.as_slice() == [want].as_slice(), "{call:?}");
+}
+
+// Makes a list of each call of a row.
+fn run_steps(rt: &impl Abort, heap: &Refusing<Global>, row: &Row) -> Result<(), AtlasError> {
+    let atlas = source_of(rt, heap, row)?;
+    let mut simple = begun(rt, heap, row)?;
+    for step in row.steps {
+        if let Some(made) = call_and_reply(*step) {
+            run_or_again(rt, heap, &mut simple, &atlas, made);
+        }
+    }
     Ok(())
 }
 
@@ -426,12 +515,7 @@ fn lists_of_one_call_with_each_request_for_memory_refused_in_turn(
         let mut refusals = 0;
         for number in 1..100 {
             heap.refuse_nth(number);
-            let (atlas, mut simple) = both_of(&rt, &heap, row)?;
-            for step in row.steps {
-                if let Some(made) = call_and_reply(*step) {
-                    run_or_again(&rt, &heap, &mut simple, &atlas, made)?;
-                }
-            }
+            run_steps(&rt, &heap, row)?;
             if !heap.is_done() {
                 break;
             }
@@ -442,19 +526,46 @@ fn lists_of_one_call_with_each_request_for_memory_refused_in_turn(
     Ok(())
 }
 
+// Makes two calls without memory for their replies.
+fn made_without_memory<'a>(
+    heap: &'a Refusing<Global>,
+    simple: &mut Simple<'a>,
+    atlas: &Atlas<'a>,
+) -> (Result<(), AtlasError>, usize) {
+    let mut replies = Vec::new(heap);
+    heap.refuse_every();
+    let calls = [SimpleCall::Grow(size((20, 30))), SimpleCall::Start];
+    let answer = make(simple, atlas, &calls, &mut replies);
+    (answer, replies.len())
+}
+
+fn keeps_all(rt: &impl Abort, heap: &Refusing<Global>, row: &Row) -> Result<(), AtlasError> {
+    let atlas = source_of(rt, heap, row)?;
+    let mut simple = begun(rt, heap, row)?;
+    let (answer, replies) = made_without_memory(heap, &mut simple, &atlas);
+    assert!(rt; answer == Err(AtlasError::Memory) && replies == 0);
+    assert!(rt; simple.is_empty() && simple.size() == size((10, 10)));
+    Ok(())
+}
+
 // A list whose replies find no memory is not begun.
 #[test]
 fn no_call_is_made_without_memory_for_its_replies(rt: HostRuntime) -> Result<(), Fail> {
     let heap = Refusing::new(rt.alloc());
-    let (atlas, mut simple) = both_of(&rt, &heap, &ROWS[1])?;
-    let mut replies = Vec::new(&heap);
+    keeps_all(&rt, &heap, &ROWS[1])?;
+    Ok(())
+}
+
+// Clears a row's allocator, of which a corner is taken, without memory.
+fn clears(rt: &impl Abort, heap: &Refusing<Global>, row: &Row) -> Result<(), AtlasError> {
+    let mut simple = begun(rt, heap, row)?;
+    let corner = request(&mut simple, (3, 4))?;
+    assert!(rt; corner == Some(rectangle((0, 0, 3, 4))));
+    let made = heap.requests();
     heap.refuse_every();
-    let calls = [SimpleCall::Grow(size((20, 30))), SimpleCall::Start];
-    let made = run_simple(&mut simple, &atlas, &calls, &mut replies);
-    assert_eq!(rt; made, Err(AtlasError::Memory));
-    assert!(rt; replies.is_empty());
-    assert_eq!(rt; simple.size(), size((10, 10)));
-    assert!(rt; simple.is_empty());
+    simple.clear()?;
+    assert!(rt; heap.requests() == made);
+    assert!(rt; simple.is_empty() && simple.size() == size((10, 10)));
     Ok(())
 }
 
@@ -462,16 +573,6 @@ fn no_call_is_made_without_memory_for_its_replies(rt: HostRuntime) -> Result<(),
 #[test]
 fn a_clearing_asks_for_no_memory_where_its_list_has_room(rt: HostRuntime) -> Result<(), Fail> {
     let heap = Refusing::new(rt.alloc());
-    let (_, mut simple) = both_of(&rt, &heap, &ROWS[1])?;
-    assert_eq!(rt;
-        simple.allocate(size((3, 4)))?,
-        Some(rectangle((0, 0, 3, 4)))
-    );
-    let made = heap.requests();
-    heap.refuse_every();
-    simple.clear()?;
-    assert_eq!(rt; heap.requests(), made);
-    assert!(rt; simple.is_empty());
-    assert_eq!(rt; simple.size(), size((10, 10)));
+    clears(&rt, &heap, &ROWS[1])?;
     Ok(())
 }
