@@ -4,7 +4,7 @@ use Rattle.std.specs.Io.KnownBytes.{Appends}
 use Rattle.atlas_words.proofs.Known.{Appends_none, Appends_twice}
 use Rattle.atlas_words.specs.Devices.{HoldsBytes}
 use Rattle.atlas_bench.specs.declared.answers.Answers.{Answers}
-use Rattle.atlas_bench.specs.declared.workload.Job.{Job}
+use Rattle.bench_jobs.specs.declared.workload.Job.{Job}
 use Rattle.atlas_bench.specs.Reports.{report_text, Reports}
 use Rattle.atlas_bench.specs.Workloads.{Makes}
 

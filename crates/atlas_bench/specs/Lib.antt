@@ -1,5 +1,4 @@
 pub mod SplitMix
 pub mod Checksums
 pub mod Workloads
-pub mod Grammar
 pub mod Reports

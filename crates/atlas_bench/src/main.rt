@@ -6,7 +6,6 @@ mod boards;
 mod caches;
 mod error;
 mod growth;
-mod jobs;
 mod random;
 mod recordings;
 mod run;
@@ -14,7 +13,6 @@ mod sheets;
 mod simple_sheets;
 mod sizes;
 mod sprites;
-mod workload;
 
 use error::BenchError;
 use run::run;

@@ -2,20 +2,21 @@
 ghost use Rattle.std.specs.Prelude.{◌≡◌, IfOk, OnOk, string_bytes};
 ghost use Rattle.atlas_bench.specs.Reports.{report_text, RunsAll};
 ghost use Rattle.atlas_bench.specs.Workloads.{Makes};
+ghost use Rattle.bench_jobs.specs.Grammar.{SpellsJobs};
 
 use crate::answers::Answers;
 use crate::boards::{checker, search};
 use crate::caches::{cache, tiles};
 use crate::error::BenchError;
 use crate::growth::growth;
-use crate::jobs::jobs;
 use crate::recordings::recorded;
 use crate::sheets::rearrange;
 use crate::simple_sheets::{large_sheet, sheet};
 use crate::sizes::Kind;
 use crate::sprites::{sorted_sprite, sprite};
-use crate::workload::{Job, Workload};
-use std::alloc::Global;
+use bench_jobs::jobs::{JobsError, jobs};
+use bench_jobs::workload::{Job, Workload};
+use std::alloc::{AllocError, Global};
 use std::io::{Read, Write};
 
 // Runs a job.
@@ -52,6 +53,17 @@ fn report(alloc: Global, workload: Workload, answers: Answers) -> Result<String,
     Ok(format!(in alloc; "{name} {calls} {checksum}\n")?)
 }
 
+// The jobs that a text spells.
+fn spelled(alloc: Global, text: &[u8]) -> Result<Vec<Job>, BenchError>
+    ensures { IfOk result (λ jobs. SpellsJobs jobs.items text.now) }
+{
+    match jobs(alloc, text) {
+        Ok(jobs) => Ok(jobs),
+        Err(JobsError::BadLine(number)) => Err(BenchError::BadLine(number)),
+        Err(JobsError::Memory) => Err(BenchError::Memory(AllocError)),
+    }
+}
+
 /// Runs the jobs that the lines of the reader spell, and writes a line for each. Nothing is run where a line is bad.
 pub fn run<R: Read, W: Write>(
     alloc: Global,
@@ -62,7 +74,7 @@ pub fn run<R: Read, W: Write>(
 {
     let mut text = Vec::new(alloc);
     input.read_to_end(&mut text)?;
-    let jobs = jobs(alloc, &text)?;
+    let jobs = spelled(alloc, &text)?;
     for job in &jobs {
         let answers = run_job(alloc, *job)?;
         let line = report(alloc, job.workload, answers)?;

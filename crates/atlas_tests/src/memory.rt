@@ -5,25 +5,42 @@ use refusing::Refusing;
 use std::alloc::Global;
 use std::test::Fail;
 
-// An atlas is filled, listed, copied, freed and started again; all of it is dropped, and a simple one too.
-fn used(heap: &Refusing<Global>) -> Result<(), AtlasError> {
+type Atlas<'a> = AtlasAllocator<&'a Refusing<Global>>;
+
+// Functions here are small: a function's proof grows with the square of its length.
+
+fn filled(heap: &Refusing<Global>) -> Result<Atlas<'_>, AtlasError> {
     let mut atlas = AtlasAllocator::new(heap, size2(256, 256))?;
     for width in 1..60 {
         let _granted = atlas.allocate(size2(width, 20))?;
     }
+    Ok(atlas)
+}
+
+// All that is live in the atlas is freed in a copy.
+fn freed_in_a_copy(atlas: &Atlas<'_>) -> Result<(), AtlasError> {
     let live = atlas.allocations()?;
-    let free = atlas.free_rectangles()?;
     let mut copy = atlas.clone()?;
     for allocation in live.as_slice() {
         let _freed = copy.deallocate(allocation.id);
     }
-    let _cleared = atlas.clear();
-    let _granted = atlas.allocate(size2(256, 256))?;
+    Ok(())
+}
+
+fn used_simple(heap: &Refusing<Global>) -> Result<(), AtlasError> {
     let mut simple = SimpleAtlasAllocator::new(heap, size2(64, 64))?;
     let _corner = simple.allocate(size2(10, 10))?;
-    drop(free);
-    drop(live);
     Ok(())
+}
+
+// An atlas is filled, listed, copied, freed and started again; all of it is dropped, and a simple one too.
+fn used(heap: &Refusing<Global>) -> Result<(), AtlasError> {
+    let mut atlas = filled(heap)?;
+    let _free = atlas.free_rectangles()?;
+    freed_in_a_copy(&atlas)?;
+    let _cleared = atlas.clear();
+    let _granted = atlas.allocate(size2(256, 256))?;
+    used_simple(heap)
 }
 
 #[test]

@@ -140,23 +140,42 @@ fn list(state: &mut u64, atlas: &AtlasAllocator, alloc: Global) -> Result<Vec<Ca
     Ok(calls)
 }
 
+fn have_alike_live(atlas: &AtlasAllocator, copy: &AtlasAllocator) -> Result<bool, AtlasError> {
+    Ok(atlas.allocations()?.as_slice() == copy.allocations()?.as_slice())
+}
+
+fn have_alike_free(atlas: &AtlasAllocator, copy: &AtlasAllocator) -> Result<bool, AtlasError> {
+    Ok(atlas.free_rectangles()?.as_slice() == copy.free_rectangles()?.as_slice())
+}
+
 // Both atlases look the same.
 fn are_alike(
     rt: &impl Abort,
     atlas: &AtlasAllocator,
     copy: &AtlasAllocator,
 ) -> Result<(), AtlasError> {
-    assert_eq!(rt; atlas.size(), copy.size());
-    assert_eq!(rt; atlas.slots(), copy.slots());
-    assert_eq!(rt;
-        atlas.allocations()?.as_slice(),
-        copy.allocations()?.as_slice()
-    );
-    assert_eq!(rt;
-        atlas.free_rectangles()?.as_slice(),
-        copy.free_rectangles()?.as_slice()
-    );
+    assert!(rt; atlas.size() == copy.size() && atlas.slots() == copy.slots());
+    assert!(rt; have_alike_live(atlas, copy)?);
+    assert!(rt; have_alike_free(atlas, copy)?);
     Ok(())
+}
+
+// Makes a list of calls, and each of its calls on the copy. Returns how many there were.
+fn play_list(
+    rt: &impl Abort,
+    state: &mut u64,
+    atlas: &mut AtlasAllocator,
+    copy: &mut AtlasAllocator,
+    alloc: Global,
+) -> Result<usize, AtlasError> {
+    let calls = list(state, atlas, alloc)?;
+    let mut replies = Vec::new(alloc);
+    run(atlas, calls.as_slice(), &mut replies)?;
+    assert!(rt; replies.len() == calls.len());
+    for (call, reply) in calls.iter().zip(&replies) {
+        assert!(rt; *reply == made(copy, call), "{call:?}");
+    }
+    Ok(calls.len())
 }
 
 #[test]
@@ -170,15 +189,9 @@ fn a_list_is_answered_as_its_calls_one_by_one(rt: HostRuntime) -> Result<(), Fai
         if count >= 20000 {
             break;
         }
-        let calls = list(&mut state, &atlas, rt.alloc())?;
-        let mut replies = Vec::new(rt.alloc());
-        run(&mut atlas, calls.as_slice(), &mut replies)?;
-        assert_eq!(rt; replies.len(), calls.len());
-        for (call, reply) in calls.iter().zip(&replies) {
-            assert_eq!(rt; *reply, made(&mut copy, call), "{call:?} after {count}");
-        }
+        let made = play_list(&rt, &mut state, &mut atlas, &mut copy, rt.alloc())?;
         are_alike(&rt, &atlas, &copy)?;
-        count = count.saturating_add(calls.len());
+        count = count.saturating_add(made);
     }
     assert!(rt; count >= 20000);
     Ok(())

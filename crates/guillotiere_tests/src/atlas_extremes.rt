@@ -1,7 +1,8 @@
 //! The largest sizes and alignments, the least sizes, and the allocated walk into a list.
 
 use crate::atlas_calls::Call::{Allocate, Deallocate, Free, IsEmpty, Live};
-use crate::atlas_calls::{MOST_SLOTS, Row, play};
+use crate::atlas_calls::{MOST_SLOTS, Row};
+use crate::playing::play;
 use guillotiere::{
     AllocId, AllocatorOptions, AtlasAllocator, DEFAULT_OPTIONS, Rectangle, SimpleAtlasAllocator,
     Size, size2,

@@ -1,7 +1,8 @@
 //! Grants of an atlas: worked rows.
 
 use crate::atlas_calls::Call::{Allocate, AllocateBeyondLimit, Free, IsEmpty, Live, Slots};
-use crate::atlas_calls::{MOST_SLOTS, Row, play_with_refusals};
+use crate::atlas_calls::{MOST_SLOTS, Row};
+use crate::playing::play_with_refusals;
 use guillotiere::{AllocId, AllocatorOptions, DEFAULT_OPTIONS, Size};
 use refusing::Refusing;
 use std::test::Fail;

@@ -4,7 +4,8 @@ use crate::atlas_calls::Call::{
     Allocate, Deallocate, Free, Grow, GrowBeyondLimit, IsEmpty, Live, RefuseEvery, RefuseNone,
     Slots,
 };
-use crate::atlas_calls::{Call, MOST_SLOTS, Row, play, play_with_refusals};
+use crate::atlas_calls::{Call, MOST_SLOTS, Row};
+use crate::playing::{play, play_with_refusals};
 use guillotiere::DEFAULT_OPTIONS;
 use refusing::Refusing;
 use std::test::Fail;

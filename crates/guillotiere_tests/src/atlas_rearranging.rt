@@ -4,12 +4,14 @@ use crate::atlas_calls::Call::{
     Allocate, Deallocate, DeallocateDead, IsEmpty, Live, Rearrange, RearrangeBeyondLimit,
     ResizeAndRearrange, Slots,
 };
-use crate::atlas_calls::{Call, MOST_SLOTS, Row, play_with_refusals};
+use crate::atlas_calls::{Call, MOST_SLOTS, Row};
+use crate::playing::play_with_refusals;
 use guillotiere::{
     AllocId, Allocation, AtlasAllocator, AtlasError, Change, ChangeList, DEFAULT_OPTIONS,
 };
 use refusing::Refusing;
 use std::alloc::Global;
+use std::process::Abort;
 use std::test::Fail;
 use test_tables::{rectangle, size};
 
@@ -178,30 +180,35 @@ fn lists_are_made_copied_and_compared(rt: HostRuntime) -> Result<(), Fail> {
             rectangle: rectangle((0, 0, 100, 100)),
         },
     };
-    let empty = ChangeList::empty(rt.alloc());
-    assert!(rt; empty.changes.is_empty() && empty.failures.is_empty());
     let list = one_of_each(rt.alloc(), change)?;
     let copy = list.clone()?;
-    assert_eq!(rt; (copy.changes.len(), copy.failures.len()), (1, 1));
-    assert_eq!(rt; copy.changes.first().copied(), Some(change));
-    assert_eq!(rt; copy.failures.first().copied(), Some(change.new));
-    assert!(rt; copy == list);
-    assert!(rt; copy != empty);
+    assert!(rt; copy.changes.as_slice() == [change].as_slice());
+    assert!(rt; copy.failures.as_slice() == [change.new].as_slice());
+    assert!(rt; copy == list && copy != ChangeList::empty(rt.alloc()));
     Ok(())
+}
+
+// The list of an atlas that one box fills.
+fn one_change<'a>(
+    rt: &impl Abort,
+    heap: &'a Refusing<Global>,
+) -> Result<ChangeList<&'a Refusing<Global>>, AtlasError> {
+    let whole = size((10, 10));
+    assert!(rt; !whole.is_empty());
+    let mut atlas = AtlasAllocator::new(heap, whole)?;
+    atlas.allocate(whole)?;
+    atlas.rearrange()
 }
 
 // An empty list takes no memory, and a copy of one that isn't empty does.
 #[test]
 fn lists_take_memory_to_be_copied(rt: HostRuntime) -> Result<(), Fail> {
     let heap = Refusing::new(rt.alloc());
-    let whole = size((10, 10));
-    assert!(rt; !whole.is_empty());
-    let mut atlas = AtlasAllocator::new(&heap, whole)?;
-    atlas.allocate(whole)?;
-    let list = atlas.rearrange()?;
-    assert_eq!(rt; list.changes.len(), 1);
+    let list = one_change(&rt, &heap)?;
+    assert!(rt; list.changes.len() == 1);
     heap.refuse_every();
     assert!(rt; list.clone().is_err());
-    assert_eq!(rt; ChangeList::empty(&heap).changes.len(), 0);
+    let empty = ChangeList::empty(&heap);
+    assert!(rt; empty.changes.is_empty() && empty.failures.is_empty());
     Ok(())
 }

@@ -17,4 +17,6 @@ mod atlas_rearranging;
 #[cfg(test)]
 mod atlas_starts;
 #[cfg(test)]
+mod playing;
+#[cfg(test)]
 mod session_rows;

@@ -1,6 +1,7 @@
 //! Sessions: worked rows, as one list, and call by call with requests for memory refused.
 
 use crate::atlas_calls::{Atlas, MOST_SLOTS, look_at};
+use crate::playing::is_as_before;
 use guillotiere::session::{Call, Reply, run, step};
 use guillotiere::{
     AllocId, Allocation, AllocatorOptions, AtlasAllocator, AtlasError, DEFAULT_OPTIONS, Size, size2,
@@ -161,31 +162,37 @@ fn created<A: Allocator + Copy>(
 
 fn is_left(rt: &impl Abort, atlas: &AtlasAllocator, row: &Row) -> Result<(), AtlasError> {
     let live = atlas.allocations()?;
-    assert_eq!(rt; live.len(), row.live.len());
-    for (allocation, (number, corners)) in live.iter().zip(row.live) {
-        assert_eq!(rt;
-            (allocation.id.serialize(), allocation.rectangle),
-            (*number, rectangle(*corners))
-        );
-    }
+    let same = live.iter().zip(row.live).all(|(found, (number, corners))| {
+        found.id.serialize() == *number && found.rectangle == rectangle(*corners)
+    });
+    assert!(rt; same && live.len() == row.live.len());
     Ok(())
+}
+
+fn calls_of(alloc: Global, row: &Row) -> Result<Vec<Call>, AtlasError> {
+    let mut calls = Vec::new(alloc);
+    for (line, _) in row.lines {
+        calls.push(call(line))?;
+    }
+    Ok(calls)
+}
+
+// Makes all calls of a row as one list.
+fn play_list(rt: &impl Abort, alloc: Global, row: &Row) -> Result<(), AtlasError> {
+    let mut atlas = created(rt, alloc, row)?;
+    let mut replies = Vec::new(alloc);
+    run(&mut atlas, calls_of(alloc, row)?.as_slice(), &mut replies)?;
+    assert!(rt; replies.len() == row.lines.len());
+    for (reply, (_, answer)) in replies.iter().zip(row.lines) {
+        check(rt, reply, answer);
+    }
+    is_left(rt, &atlas, row)
 }
 
 #[test]
 fn rows_as_one_list(rt: HostRuntime) -> Result<(), Fail> {
     for row in &ROWS {
-        let mut atlas = created(&rt, rt.alloc(), row)?;
-        let mut calls = Vec::new(rt.alloc());
-        for (line, _) in row.lines {
-            calls.push(call(line))?;
-        }
-        let mut replies = Vec::new(rt.alloc());
-        run(&mut atlas, calls.as_slice(), &mut replies)?;
-        assert_eq!(rt; replies.len(), row.lines.len());
-        for (reply, (_, answer)) in replies.iter().zip(row.lines) {
-            check(&rt, reply, answer);
-        }
-        is_left(&rt, &atlas, row)?;
+        play_list(&rt, rt.alloc(), row)?;
     }
     Ok(())
 }
@@ -205,38 +212,36 @@ fn rows_step_by_step(rt: HostRuntime) -> Result<(), Fail> {
 
 type Replies<'a> = Vec<Reply<&'a Refusing<Global>>, &'a Refusing<Global>>;
 
-// Whether a list of one call met a refusal of memory; then nothing that can be seen has changed.
-fn is_refused<'a>(
+// Makes a list of one call. Returns whether it met a refusal of memory; such a reply is taken out again.
+fn is_refused<'a>(atlas: &mut Atlas<'a>, call: Call, replies: &mut Replies<'a>) -> bool {
+    if run(atlas, &[call], replies) == Err(AtlasError::Memory) {
+        return true;
+    }
+    let refused = replies.last() == Some(&Reply::Refused(AtlasError::Memory));
+    if refused {
+        let _reply = replies.pop();
+    }
+    refused
+}
+
+// Makes a list of one call; one that is refused memory once has changed nothing that can be seen, and is made again.
+fn run_or_again<'a>(
     rt: &impl Abort,
     heap: &Refusing<Global>,
     atlas: &mut Atlas<'a>,
     call: Call,
     replies: &mut Replies<'a>,
-) -> bool {
+) {
     let before = look_at(atlas);
     let count = replies.len();
-    let refused = match run(atlas, &[call], replies) {
-        Ok(()) => {
-            let refused = replies.last() == Some(&Reply::Refused(AtlasError::Memory));
-            if refused {
-                let _reply = replies.pop();
-            }
-            refused
-        }
-        Err(error) => {
-            assert_eq!(rt; error, AtlasError::Memory);
-            true
-        }
-    };
-    if refused {
-        assert!(rt; heap.is_done(), "{call:?} met a second refusal");
-        assert_eq!(rt; look_at(atlas), before, "{call:?}");
-        assert_eq!(rt; replies.len(), count, "{call:?}");
+    if is_refused(atlas, call, replies) {
+        is_as_before(rt, heap, atlas, &before);
+        assert!(rt; replies.len() == count, "{call:?}");
+        assert!(rt; !is_refused(atlas, call, replies), "{call:?}");
     }
-    refused
 }
 
-// Plays a row call by call; a call that is refused memory once is made again.
+// Plays a row call by call.
 fn play(rt: &impl Abort, heap: &Refusing<Global>, row: &Row) -> Result<(), AtlasError> {
     let mut atlas = match created(rt, heap, row) {
         Err(AtlasError::Memory) => created(rt, heap, row)?,
@@ -244,19 +249,13 @@ fn play(rt: &impl Abort, heap: &Refusing<Global>, row: &Row) -> Result<(), Atlas
     };
     let mut replies = Vec::new(heap);
     for (line, answer) in row.lines {
-        let call = call(line);
-        if is_refused(rt, heap, &mut atlas, call, &mut replies) {
-            assert!(rt;
-                !is_refused(rt, heap, &mut atlas, call, &mut replies),
-                "{call:?}"
-            );
-        }
+        run_or_again(rt, heap, &mut atlas, call(line), &mut replies);
         let Some(reply) = replies.last() else {
-            panic!(rt; "no reply to {call:?}");
+            panic!(rt; "no reply");
         };
         check(rt, reply, answer);
     }
-    assert_eq!(rt; replies.len(), row.lines.len());
+    assert!(rt; replies.len() == row.lines.len());
     Ok(())
 }
 
@@ -278,22 +277,30 @@ fn rows_with_each_request_for_memory_refused_in_turn(rt: HostRuntime) -> Result<
     Ok(())
 }
 
+// Makes lists of 100 calls and of none, with every request for memory refused.
+fn run_without_memory<'a>(
+    rt: &impl Abort,
+    heap: &Refusing<Global>,
+    atlas: &mut Atlas<'a>,
+    replies: &mut Replies<'a>,
+) {
+    let before = look_at(atlas);
+    heap.refuse_every();
+    let calls = [Call::Clear; 100];
+    let answer = run(atlas, calls.as_slice(), replies);
+    assert!(rt; answer == Err(AtlasError::Memory) && look_at(atlas) == before);
+    let answer = run(atlas, &[], replies);
+    assert!(rt; answer == Ok(()) && look_at(atlas) == before);
+}
+
 #[test]
 fn without_room_for_the_replies_no_call_is_made(rt: HostRuntime) -> Result<(), Fail> {
     let heap = Refusing::new(rt.alloc());
     let mut atlas = AtlasAllocator::new(&heap, size2(10, 10))?;
     let mut replies = Vec::new(&heap);
     run(&mut atlas, &[Call::Allocate(size2(5, 10))], &mut replies)?;
-    let before = look_at(&atlas);
-    heap.refuse_every();
-    let calls = [Call::Clear; 100];
-    let answer = run(&mut atlas, calls.as_slice(), &mut replies);
-    assert_eq!(rt; answer, Err(AtlasError::Memory));
-    assert_eq!(rt; look_at(&atlas), before);
-    assert_eq!(rt; replies.len(), 1);
-    assert_eq!(rt; run(&mut atlas, &[], &mut replies), Ok(()));
-    assert_eq!(rt; look_at(&atlas), before);
-    assert_eq!(rt; replies.len(), 1);
+    run_without_memory(&rt, &heap, &mut atlas, &mut replies);
+    assert!(rt; replies.len() == 1);
     heap.refuse_nth(0);
     Ok(())
 }
@@ -319,8 +326,12 @@ fn replies_are_appended(rt: HostRuntime) -> Result<(), Fail> {
         Reply::Done,
         Reply::Refused(AtlasError::NotLive),
     ];
-    assert_eq!(rt; replies.as_slice(), want.as_slice());
+    assert!(rt; replies.as_slice() == want.as_slice());
+    Ok(())
+}
+
+#[test]
+fn calls_and_replies_are_compared(rt: HostRuntime) {
     assert!(rt; Reply::Done != Reply::NoRoom::<Global>);
     assert!(rt; Call::Clear != Call::Rearrange);
-    Ok(())
 }

@@ -71,18 +71,6 @@ fn column<A: Allocator + Copy>(alloc: A) -> Result<Recording<A>, RecordingError>
     Ok(finished(session))
 }
 
-// A recorder of an atlas of 10 by 10 pixels that recorded these events.
-fn recorder<A: Allocator + Copy + Drop>(
-    alloc: A,
-    events: Vec<Event<A>, A>,
-) -> Result<Recorder<A>, RecordingError> {
-    let mut recorder = Recorder::new(alloc, size2(10, 10), &DEFAULT_OPTIONS);
-    for event in events {
-        recorder.record(event)?;
-    }
-    Ok(recorder)
-}
-
 // Whether a replay answers these counts of grants, freeings and failed requests, and these live boxes.
 fn ends<A: Allocator + Copy>(
     recording: &Recording<A>,
@@ -116,105 +104,130 @@ fn are_equal<A: Allocator + Copy>(one: &Recording<A>, other: &Recording<A>) -> b
 const MOVED: &[(u32, Corners)] = &[(0, (0, 100, 100, 200)), (2, (0, 0, 100, 100))];
 
 #[test]
-fn whole_recordings(rt: HostRuntime) -> Result<(), Fail> {
-    let alloc = rt.alloc();
-    assert_eq!(rt; ends(&column(alloc)?, (3, 1, 1), MOVED), Ok(true));
+fn a_session_is_replayed(rt: HostRuntime) -> Result<(), Fail> {
+    let recording = column(rt.alloc())?;
+    assert!(rt; ends(&recording, (3, 1, 1), MOVED) == Ok(true));
+    Ok(())
+}
 
-    let idle = finished(begun(alloc, (10, 10))?);
-    assert_eq!(rt; ends(&idle, (0, 0, 0), &[]), Ok(true));
+#[test]
+fn an_idle_session_is_replayed(rt: HostRuntime) -> Result<(), Fail> {
+    let idle = finished(begun(rt.alloc(), (10, 10))?);
+    assert!(rt; ends(&idle, (0, 0, 0), &[]) == Ok(true));
+    Ok(())
+}
 
+// The whole atlas is granted and freed; and, where it is asked for, granted again.
+fn granted(alloc: Global, again: bool) -> Result<Recording<Global>, RecordingError> {
     let mut session = begun(alloc, (100, 100))?;
     request(&mut session, (100, 100))?;
     free(&mut session, 0)?;
-    let again = request(&mut session, (100, 100))?;
-    assert_eq!(rt; again, Some(allocation((1, (0, 0, 100, 100)))));
-    let mut recording = finished(session);
-    let live = [(1, (0, 0, 100, 100))];
-    assert_eq!(rt; ends(&recording, (2, 1, 0), &live), Ok(true));
-    remove(&rt, &mut recording, 1);
-    let cut = ends(&recording, (2, 0, 0), &[]);
-    assert_eq!(rt; cut, Err(ReplayFault::Differs(1)));
+    if again {
+        request(&mut session, (100, 100))?;
+    }
+    Ok(finished(session))
+}
 
-    let mut session = begun(alloc, (10, 10))?;
-    assert_eq!(rt; request(&mut session, (11, 1)), Ok(None));
-    let mut recording = finished(session);
-    assert_eq!(rt; ends(&recording, (0, 0, 1), &[]), Ok(true));
-    remove(&rt, &mut recording, 0);
-    assert_eq!(rt; ends(&recording, (0, 0, 0), &[]), Ok(true));
+#[test]
+fn a_second_grant_has_a_name_of_its_own(rt: HostRuntime) -> Result<(), Fail> {
+    let mut recording = granted(rt.alloc(), true)?;
+    let live = [(1, (0, 0, 100, 100))];
+    assert!(rt; ends(&recording, (2, 1, 0), &live) == Ok(true));
+    remove(&rt, &mut recording, 1);
+    assert!(rt; ends(&recording, (2, 0, 0), &[]) == Err(ReplayFault::Differs(1)));
     Ok(())
+}
+
+#[test]
+fn a_request_without_room_is_replayed(rt: HostRuntime) -> Result<(), Fail> {
+    let mut session = begun(rt.alloc(), (10, 10))?;
+    assert!(rt; request(&mut session, (11, 1)) == Ok(None));
+    let mut recording = finished(session);
+    assert!(rt; ends(&recording, (0, 0, 1), &[]) == Ok(true));
+    remove(&rt, &mut recording, 0);
+    assert!(rt; ends(&recording, (0, 0, 0), &[]) == Ok(true));
+    Ok(())
+}
+
+// What a recording answers without one of its events.
+fn fault_without(
+    rt: &impl Abort,
+    mut recording: Recording<Global>,
+    at: usize,
+) -> Option<ReplayFault> {
+    remove(rt, &mut recording, at);
+    recording.replay().err()
 }
 
 #[test]
 fn cut_recordings(rt: HostRuntime) -> Result<(), Fail> {
+    let recording = finished(filled(rt.alloc())?);
+    assert!(rt; fault_without(&rt, recording, 0) == Some(ReplayFault::Differs(0)));
+    let recording = granted(rt.alloc(), false)?;
+    assert!(rt; fault_without(&rt, recording, 0) == Some(ReplayFault::BadEvent(0)));
+    Ok(())
+}
+
+// Without the third grant the last request has room; without the freeing another list is the answer.
+#[test]
+fn cut_columns(rt: HostRuntime) -> Result<(), Fail> {
+    let recording = column(rt.alloc())?;
+    assert!(rt; fault_without(&rt, recording, 2) == Some(ReplayFault::Differs(2)));
+    let recording = column(rt.alloc())?;
+    assert!(rt; fault_without(&rt, recording, 4) == Some(ReplayFault::Differs(4)));
+    Ok(())
+}
+
+// What two made up events, or the first alone, are answered; finished again, their recorder has none.
+fn fault_of(
+    rt: &impl Abort,
+    alloc: Global,
+    first: Event<Global>,
+    second: Option<Event<Global>>,
+) -> Result<Option<ReplayFault>, RecordingError> {
+    let mut recorder = Recorder::new(alloc, size2(10, 10), &DEFAULT_OPTIONS);
+    recorder.record(first)?;
+    if let Some(event) = second {
+        recorder.record(event)?;
+    }
+    let fault = recorder.finish().replay().err();
+    assert!(rt; recorder.finish().events().is_empty());
+    Ok(fault)
+}
+
+fn box_of_seven(corners: Corners) -> Event<Global> {
+    Event::Allocate(size2(4, 4), Some(allocation((7, corners))))
+}
+
+#[test]
+fn made_up_events_that_no_call_has(rt: HostRuntime) -> Result<(), Fail> {
     let alloc = rt.alloc();
-    let mut recording = finished(filled(alloc)?);
-    remove(&rt, &mut recording, 0);
-    let cut = ends(&recording, (2, 0, 0), &[]);
-    assert_eq!(rt; cut, Err(ReplayFault::Differs(0)));
-
-    let mut session = begun(alloc, (100, 100))?;
-    request(&mut session, (100, 100))?;
-    free(&mut session, 0)?;
-    let mut recording = finished(session);
-    remove(&rt, &mut recording, 0);
-    let cut = ends(&recording, (0, 1, 0), &[]);
-    assert_eq!(rt; cut, Err(ReplayFault::BadEvent(0)));
-
-    // Without the third grant the last request has room; without the freeing another list is the answer.
-    let mut recording = column(alloc)?;
-    remove(&rt, &mut recording, 2);
-    let cut = ends(&recording, (2, 1, 1), &[]);
-    assert_eq!(rt; cut, Err(ReplayFault::Differs(2)));
-    let mut recording = column(alloc)?;
-    remove(&rt, &mut recording, 4);
-    let cut = ends(&recording, (3, 0, 1), &[]);
-    assert_eq!(rt; cut, Err(ReplayFault::Differs(4)));
+    let resize = Event::ResizeAndRearrange(size2(0, 5), ChangeList::empty(alloc));
+    let first = Some(ReplayFault::BadEvent(0));
+    assert!(rt; fault_of(&rt, alloc, Event::Grow(size2(9, 10)), None)? == first);
+    assert!(rt; fault_of(&rt, alloc, resize, None)? == first);
+    let twice = Some(box_of_seven((0, 0, 4, 4)));
+    let fault = fault_of(&rt, alloc, box_of_seven((0, 0, 4, 4)), twice)?;
+    assert!(rt; fault == Some(ReplayFault::BadEvent(1)));
     Ok(())
 }
 
 #[test]
-fn made_up_recordings(rt: HostRuntime) -> Result<(), Fail> {
+fn made_up_answers(rt: HostRuntime) -> Result<(), Fail> {
     let alloc = rt.alloc();
-    let box_of_seven = |corners: Corners| Event::Allocate(
-        size2(4, 4),
-        Some(allocation((7, corners))),
-    );
-    let rows = vec![in alloc;
-        (
-            vec![in alloc; Event::Grow(size2(9, 10))]?,
-            ReplayFault::BadEvent(0)
-        ),
-        (
-            vec![in alloc; box_of_seven((0, 0, 4, 4)), box_of_seven((0, 0, 4, 4))]?,
-            ReplayFault::BadEvent(1)
-        ),
-        (
-            vec![in alloc; Event::ResizeAndRearrange(size2(0, 5), ChangeList::empty(alloc))]?,
-            ReplayFault::BadEvent(0)
-        ),
-        (
-            vec![in alloc; box_of_seven((0, 0, 4, 5))]?,
-            ReplayFault::Differs(0)
-        ),
-        (
-            vec![in alloc; Event::Allocate(size2(4, 4), None)]?,
-            ReplayFault::Differs(0)
-        ),
-        (
-            vec![in alloc; box_of_seven((1, 0, 5, 4))]?,
-            ReplayFault::Differs(0)
-        ),
-    ]?;
-    for (events, fault) in rows {
-        let mut made = recorder(alloc, events)?;
-        assert_eq!(rt; ends(&made.finish(), (0, 0, 0), &[]), Err(fault));
-        assert_eq!(rt; made.finish().events().len(), 0);
-    }
-    let mut made = recorder(alloc, vec![in alloc; box_of_seven((0, 0, 4, 4))]?)?;
-    assert_eq!(rt;
-        ends(&made.finish(), (1, 0, 0), &[(7, (0, 0, 4, 4))]),
-        Ok(true)
-    );
+    let first = Some(ReplayFault::Differs(0));
+    assert!(rt; fault_of(&rt, alloc, box_of_seven((0, 0, 4, 5)), None)? == first);
+    assert!(rt; fault_of(&rt, alloc, Event::Allocate(size2(4, 4), None), None)? == first);
+    assert!(rt; fault_of(&rt, alloc, box_of_seven((1, 0, 5, 4)), None)? == first);
+    Ok(())
+}
+
+#[test]
+fn a_made_up_name_is_that_of_its_box(rt: HostRuntime) -> Result<(), Fail> {
+    let mut made = Recorder::new(rt.alloc(), size2(10, 10), &DEFAULT_OPTIONS);
+    made.record(box_of_seven((0, 0, 4, 4)))?;
+    let recording = made.finish();
+    assert!(rt; ends(&recording, (1, 0, 0), &[(7, (0, 0, 4, 4))]) == Ok(true));
     Ok(())
 }
 
@@ -229,18 +242,23 @@ fn refused_replays(rt: HostRuntime) -> Result<(), Fail> {
         let answer = ends(&recording, (3, 1, 1), MOVED);
         assert!(rt; are_equal(&recording, &copy));
         if !heap.is_done() {
-            assert_eq!(rt; answer, Ok(true));
+            assert!(rt; answer == Ok(true));
             break;
         }
-        assert_eq!(rt; answer, Err(ReplayFault::Memory));
+        assert!(rt; answer == Err(ReplayFault::Memory));
         refusals = number;
     }
     assert!(rt; refusals > 5, "too few requests for memory");
+    Ok(())
+}
 
+#[test]
+fn an_event_is_removed_without_memory(rt: HostRuntime) -> Result<(), Fail> {
+    let heap = Refusing::new(rt.alloc());
+    let mut recording = column(&heap)?;
     heap.refuse_every();
-    let mut shorter = copy;
-    remove(&rt, &mut shorter, 5);
-    assert_eq!(rt; shorter.events().len(), 5);
+    remove(&rt, &mut recording, 5);
+    assert!(rt; recording.events().len() == 5);
     Ok(())
 }
 
@@ -265,45 +283,59 @@ fn side(state: &mut u64, bound: u16) -> i32 {
     i32::from(below(state, bound))
 }
 
-// Makes the atlas larger.
+// Makes the atlas larger by up to 7 pixels a side.
 fn grow(
     rt: &impl Abort,
     session: &mut RecordingAllocator<Global>,
-    larger: Size,
+    state: &mut u64,
 ) -> Result<(), RecordingError> {
+    let before = session.size();
+    let larger = Size {
+        width: before.width.saturating_add(side(state, 8)),
+        height: before.height.saturating_add(side(state, 8)),
+    };
     assert!(rt; session.size().width <= larger.width);
     assert!(rt; session.size().height <= larger.height);
     session.grow(larger)
 }
 
+// Asks for a box of up to 59 pixels a side.
+fn ask(
+    session: &mut RecordingAllocator<Global>,
+    live: &mut Vec<AllocId>,
+    state: &mut u64,
+) -> Result<(), RecordingError> {
+    let sides = (side(state, 60), side(state, 60));
+    if let Some(granted) = request(session, sides)? {
+        live.push(granted.id)?;
+    }
+    Ok(())
+}
+
+// Frees one of the live boxes, if there is one.
+fn give_back(
+    session: &mut RecordingAllocator<Global>,
+    live: &mut Vec<AllocId>,
+    state: &mut u64,
+) -> Result<(), RecordingError> {
+    let count = u16::try_from(live.len()).unwrap_or(u16::MAX);
+    let at = usize::from(below(state, count));
+    if at < live.len() {
+        session.deallocate(live.swap_remove(at))?;
+    }
+    Ok(())
+}
+
 // A random session of 20000 calls: requests, freeings and a few growths.
 fn long_session(rt: &impl Abort, alloc: Global) -> Result<RecordingAllocator<Global>, Fail> {
-    let mut session = RecordingAllocator::new(alloc, size2(512, 512))?;
+    let mut session = begun(alloc, (512, 512))?;
     let mut live: Vec<AllocId> = Vec::new(alloc);
     let mut state = 7u64;
     for _ in 0..20000u32 {
         match below(&mut state, 200) {
-            0 => {
-                let before = session.size();
-                let larger = Size {
-                    width: before.width.saturating_add(side(&mut state, 8)),
-                    height: before.height.saturating_add(side(&mut state, 8)),
-                };
-                grow(rt, &mut session, larger)?;
-            }
-            1..=110 => {
-                let request = size2(side(&mut state, 60), side(&mut state, 60));
-                if let Some(granted) = session.allocate(request)? {
-                    live.push(granted.id)?;
-                }
-            }
-            _ => {
-                let count = u16::try_from(live.len()).unwrap_or(u16::MAX);
-                let at = usize::from(below(&mut state, count));
-                if at < live.len() {
-                    session.deallocate(live.swap_remove(at))?;
-                }
-            }
+            0 => grow(rt, &mut session, &mut state)?,
+            1..=110 => ask(&mut session, &mut live, &mut state)?,
+            _ => give_back(&mut session, &mut live, &mut state)?,
         }
     }
     Ok(session)
@@ -316,7 +348,7 @@ fn long_recording(rt: HostRuntime) -> Result<(), Fail> {
     let recording = session.finish();
     let stats = recording.replay()?;
     assert!(rt; live.len() > 10, "too few live boxes");
-    assert_eq!(rt; stats.live.as_slice(), live.as_slice());
+    assert!(rt; stats.live.as_slice() == live.as_slice());
     let copy = stats.clone()?;
     assert!(rt; copy == stats);
     Ok(())
@@ -342,20 +374,31 @@ fn turned(event: &Event<Global>) -> Result<Event<Global>, RecordingError> {
     })
 }
 
+// The same recording, its names counted down from the greatest.
+fn turned_recording(
+    alloc: Global,
+    recording: &Recording<Global>,
+) -> Result<Recording<Global>, RecordingError> {
+    let mut recorder = Recorder::new(alloc, size2(512, 512), &DEFAULT_OPTIONS);
+    for event in recording.events() {
+        recorder.record(turned(event)?)?;
+    }
+    Ok(recorder.finish())
+}
+
+fn are_turned(shown: &[Allocation], live: &[Allocation]) -> bool {
+    let same = shown.iter().zip(live.iter().rev()).all(|(one, other)| {
+        one.rectangle == other.rectangle && one.id.serialize() == u32::MAX - other.id.serialize()
+    });
+    same && shown.len() == live.len()
+}
+
 #[test]
 fn falling_names(rt: HostRuntime) -> Result<(), Fail> {
     let session = long_session(&rt, rt.alloc())?;
     let live = session.allocations()?;
-    let recording = session.finish();
-    let mut recorder = Recorder::new(rt.alloc(), size2(512, 512), &DEFAULT_OPTIONS);
-    for event in recording.events() {
-        recorder.record(turned(event)?)?;
-    }
-    let stats = recorder.finish().replay()?;
-    assert_eq!(rt; stats.live.len(), live.len());
-    for (shown, expected) in stats.live.iter().zip(live.iter().rev()) {
-        assert_eq!(rt; shown.rectangle, expected.rectangle);
-        assert_eq!(rt; shown.id.serialize(), u32::MAX - expected.id.serialize());
-    }
+    let recording = turned_recording(rt.alloc(), &session.finish())?;
+    let stats = recording.replay()?;
+    assert!(rt; are_turned(stats.live.as_slice(), live.as_slice()));
     Ok(())
 }

@@ -147,58 +147,65 @@ fn look_at(session: &Session<'_>) -> Sight {
     }
 }
 
-// Makes a call and compares its answer; false where memory was refused.
+// Each of these makes a call and compares its answer; false where memory was refused.
+
+fn granted(
+    rt: &impl Abort,
+    session: &mut Session<'_>,
+    sides: Sides,
+    want: Option<(u32, Corners)>,
+) -> bool {
+    let answer = session.allocate(size(sides));
+    if answer == Err(RecordingError::Memory) {
+        return false;
+    }
+    assert!(rt; answer == Ok(want.map(allocation)), "{sides:?}");
+    true
+}
+
+fn freed(
+    rt: &impl Abort,
+    session: &mut Session<'_>,
+    name: u32,
+    want: Result<(), RecordingError>,
+) -> bool {
+    let answer = session.deallocate(AllocId::deserialize(name));
+    if answer == Err(RecordingError::Memory) {
+        return false;
+    }
+    assert!(rt; answer == want, "{name}");
+    true
+}
+
+fn grew(rt: &impl Abort, session: &mut Session<'_>, new_size: Size) -> bool {
+    assert!(rt; session.size().width <= new_size.width);
+    assert!(rt; session.size().height <= new_size.height);
+    let answer = session.grow(new_size);
+    assert!(rt; matches!(answer, Ok(()) | Err(RecordingError::Memory)));
+    answer.is_ok()
+}
+
+fn resized<'a>(
+    rt: &impl Abort,
+    session: &mut Session<'a>,
+    new_size: Size,
+) -> Result<ChangeList<&'a Refusing<Global>>, RecordingError> {
+    assert!(rt; !new_size.is_empty());
+    session.resize_and_rearrange(new_size)
+}
+
 fn made(rt: &impl Abort, session: &mut Session<'_>, call: &Call) -> bool {
     match call {
-        Call::Allocate(request, answer) => match session.allocate(size(*request)) {
-            Ok(granted) => {
-                assert_eq!(rt; granted, answer.map(allocation));
-                true
-            }
-            Err(error) => {
-                assert_eq!(rt; error, RecordingError::Memory);
-                false
-            }
-        },
-        Call::Deallocate(name) => match session.deallocate(AllocId::deserialize(*name)) {
-            Ok(()) => true,
-            Err(error) => {
-                assert_eq!(rt; error, RecordingError::Memory);
-                false
-            }
-        },
-        Call::DeallocateDead(name) => {
-            let answer = session.deallocate(AllocId::deserialize(*name));
-            assert_eq!(rt; answer, Err(RecordingError::NotLive));
-            true
-        }
-        Call::Grow(sides) => grew(rt, session, *sides),
-        Call::Rearrange(changes, failures) => { told(rt, session.rearrange(), changes, failures) }
+        Call::Allocate(sides, want) => granted(rt, session, *sides, *want),
+        Call::Deallocate(name) => freed(rt, session, *name, Ok(())),
+        Call::DeallocateDead(name) => freed(rt, session, *name, Err(RecordingError::NotLive)),
+        Call::Grow(sides) => grew(rt, session, size(*sides)),
+        Call::Rearrange(changes, failures) => told(rt, session.rearrange(), changes, failures),
         Call::Resize(sides, changes, failures) => {
-            let new_size = size(*sides);
-            assert!(rt; !new_size.is_empty());
-            told(
-                rt,
-                session.resize_and_rearrange(new_size),
-                changes,
-                failures,
-            )
+            told(rt, resized(rt, session, size(*sides)), changes, failures)
         }
         Call::Live(boxes) => shows_live(rt, session, boxes),
         Call::Free(boxes) => shows_free(rt, session, boxes),
-    }
-}
-
-fn grew(rt: &impl Abort, session: &mut Session<'_>, sides: Sides) -> bool {
-    let new_size = size(sides);
-    assert!(rt; session.size().width <= new_size.width);
-    assert!(rt; session.size().height <= new_size.height);
-    match session.grow(new_size) {
-        Ok(()) => true,
-        Err(error) => {
-            assert_eq!(rt; error, RecordingError::Memory);
-            false
-        }
     }
 }
 
@@ -231,7 +238,7 @@ fn told(
             true
         }
         Err(error) => {
-            assert_eq!(rt; error, RecordingError::Memory);
+            assert!(rt; error == RecordingError::Memory);
             false
         }
     }
@@ -241,10 +248,11 @@ fn shows_live(rt: &impl Abort, session: &Session<'_>, boxes: &[(u32, Corners)]) 
     let Ok(found) = session.allocations() else {
         return false;
     };
-    assert_eq!(rt; found.len(), boxes.len());
-    for (shown, expected) in found.iter().zip(boxes) {
-        assert_eq!(rt; *shown, allocation(*expected));
-    }
+    let same = found
+        .iter()
+        .zip(boxes)
+        .all(|(shown, want)| *shown == allocation(*want));
+    assert!(rt; same && found.len() == boxes.len());
     true
 }
 
@@ -252,10 +260,11 @@ fn shows_free(rt: &impl Abort, session: &Session<'_>, boxes: &[Corners]) -> bool
     let Ok(found) = session.free_rectangles() else {
         return false;
     };
-    assert_eq!(rt; found.len(), boxes.len());
-    for (shown, expected) in found.iter().zip(boxes) {
-        assert_eq!(rt; *shown, rectangle(*expected));
-    }
+    let same = found
+        .iter()
+        .zip(boxes)
+        .all(|(shown, want)| *shown == rectangle(*want));
+    assert!(rt; same && found.len() == boxes.len());
     true
 }
 
@@ -298,7 +307,32 @@ fn begun<'a>(
     RecordingAllocator::new(heap, whole)
 }
 
-// Plays a row. A call that memory is refused for leaves all as before, and is made again.
+// Makes a call; one that memory is refused for leaves all as before, and is made again.
+fn made_or_again(rt: &impl Abort, heap: &Refusing<Global>, session: &mut Session<'_>, call: &Call) {
+    let before = look_at(session);
+    if !made(rt, session, call) {
+        assert!(rt; heap.is_done() && look_at(session) == before);
+        assert!(rt; made(rt, session, call), "a second refusal");
+    }
+}
+
+// Whether the events are those of the calls that are recorded, and no others.
+fn are_events(events: &[Event<&Refusing<Global>>], calls: &[Call]) -> bool {
+    let mut rest = events.iter();
+    for call in calls {
+        if is_recorded(call) {
+            let Some(event) = rest.next() else {
+                return false;
+            };
+            if !is_event(event, call) {
+                return false;
+            }
+        }
+    }
+    rest.next().is_none()
+}
+
+// Plays a row.
 fn play(
     rt: &impl Abort,
     heap: &Refusing<Global>,
@@ -311,26 +345,11 @@ fn play(
     };
     let mut session = created?;
     for call in calls {
-        let before = look_at(&session);
-        if !made(rt, &mut session, call) {
-            assert!(rt; heap.is_done());
-            assert_eq!(rt; look_at(&session), before);
-            assert!(rt; made(rt, &mut session, call), "a second refusal");
-        }
+        made_or_again(rt, heap, &mut session, call);
     }
     heap.refuse_every();
     let recording = session.finish();
-    let mut events = recording.events().iter();
-    for call in calls {
-        if is_recorded(call) {
-            let Some(event) = events.next() else {
-                assert!(rt; false, "an event is missing");
-                return Ok(());
-            };
-            assert!(rt; is_event(event, call), "{event:?}");
-        }
-    }
-    assert!(rt; events.next().is_none(), "an event too many");
+    assert!(rt; are_events(recording.events(), calls), "{sides:?}");
     Ok(())
 }
 

@@ -2,8 +2,8 @@
 use Rattle.std.specs.Prelude.{◌≡◌, ℕ, ◌≤◌, List, [], ◌∷◌, ◌++◌}
 use Rattle.atlas_words.specs.Grammar.{SpellsUnsigned}
 use Rattle.atlas_words.specs.Lines.{BeginsWithLine}
-use Rattle.atlas_bench.specs.declared.workload.Job.{Job}
-use Rattle.atlas_bench.specs.Workloads.{name, most_size}
+use Rattle.bench_jobs.specs.declared.workload.Job.{Job}
+use Rattle.bench_jobs.specs.Workloads.{name, most_size}
 
 -- A line, without its LF, spells this job: the name, one space, and the size in decimal digits.
 pub record SpellsJob (job : Job) (line : List ℕ) : Type 0 where

@@ -2,8 +2,8 @@
 use Rattle.std.proofs.Common.{ℕ, ◌≢◌, List, [], ◌∷◌, subst}
 use Rattle.atlas_words.specs.Lines.{BeginsWithLine}
 use Rattle.atlas_words.proofs.FirstLines.{one_first_line}
-use Rattle.atlas_bench.specs.declared.workload.Job.{Job}
-use Rattle.atlas_bench.specs.Grammar.{SpellsJob, SpellsJobs}
+use Rattle.bench_jobs.specs.declared.workload.Job.{Job}
+use Rattle.bench_jobs.specs.Grammar.{SpellsJob, SpellsJobs}
 
 -- A text that spells jobs has a first line that spells the first one.
 pub next_spelled : (all : List Job) (text line rest : List ℕ) → SpellsJobs all text → text ≢ [] → BeginsWithLine text line rest → (job : Job) × (others : List Job) × SpellsJob job line × SpellsJobs others rest

@@ -1,6 +1,6 @@
 //! Workloads, and jobs of a size.
 ghost use Rattle.std.specs.Prelude.{◌≡◌, ◌≤◌, IfSome, Some};
-ghost use Rattle.atlas_bench.specs.Workloads.{name, most_size};
+ghost use Rattle.bench_jobs.specs.Workloads.{name, most_size};
 
 /// What is run.
 #[derive(Clone, Copy)]

@@ -1,7 +1,7 @@
 use Rattle.std.proofs.Common.{◌≡◌, ◌∷◌, rules, subst, sym}
 use Rattle.atlas_words.specs.Grammar.{SpellsUnsigned}
-use Rattle.atlas_bench.proofs.Names.{name_first}
-use Rattle.atlas_bench.proofs.jobs.parse_line.Goals as goal
+use Rattle.bench_jobs.proofs.Names.{name_first}
+use Rattle.bench_jobs.proofs.jobs.parse_line.Goals as goal
 
 pub returns-in_err-workload-clause-only : goal.returns-in_err-workload-clause-only
 returns-in_err-workload-clause-only c job spells =

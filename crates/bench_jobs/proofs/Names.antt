@@ -3,9 +3,9 @@ use Rattle.std.proofs.Common.{◌≡◌, ℕ, List, ◌∷◌, ◌++◌, true, r
 use Rattle.atlas_words.specs.Words.{BeginsWithWord}
 use Rattle.atlas_words.proofs.Keywords.{has_no_space, no_space_by_test}
 use Rattle.atlas_words.proofs.Parting.{one_word}
-use Rattle.atlas_bench.specs.declared.workload.Workload.{Workload}
-use Rattle.atlas_bench.specs.declared.workload.Workload.TheVariants.{Glyph, Record, Sprite, SortedSprite, Checker, Search, Growth, Rearrange, Glyph1024, Glyph4096, Glyph8192, Glyph16384, Mixed4096, Tiles, Sheet, Sheet16384}
-use Rattle.atlas_bench.specs.Workloads.{name}
+use Rattle.bench_jobs.specs.declared.workload.Workload.{Workload}
+use Rattle.bench_jobs.specs.declared.workload.Workload.TheVariants.{Glyph, Record, Sprite, SortedSprite, Checker, Search, Growth, Rearrange, Glyph1024, Glyph4096, Glyph8192, Glyph16384, Mixed4096, Tiles, Sheet, Sheet16384}
+use Rattle.bench_jobs.specs.Workloads.{name}
 
 name_test : (w : Workload) → has_no_space (name w) ≡ true
 unfolding has_no_space

@@ -1,7 +1,7 @@
 use Rattle.std.proofs.Common.{List, ◌++◌, length}
-use Rattle.atlas_bench.specs.declared.workload.Job.{Job}
-use Rattle.atlas_bench.specs.Grammar.{SpellsJobs}
-use Rattle.atlas_bench.proofs.jobs.jobs.Given as goal
+use Rattle.bench_jobs.specs.declared.workload.Job.{Job}
+use Rattle.bench_jobs.specs.Grammar.{SpellsJobs}
+use Rattle.bench_jobs.proofs.jobs.jobs.Given as goal
 
 abbrev pub invariant-loop-rest : goal.invariant-loop-rest
 invariant-loop-rest l = record {

@@ -1,10 +1,10 @@
 use Rattle.std.proofs.Common.{◌≡◌, ◌≢◌, [], ◌∷◌, ◌++◌, length, append-nil, append_assoc, rules, ap, sym, subst, ◌∙◌, List}
 use Rattle.std.proofs.lemmas.List.{nil_from_length}
-use Rattle.atlas_bench.specs.declared.workload.Job.{Job}
-use Rattle.atlas_bench.specs.Grammar.{SpellsJobs}
+use Rattle.bench_jobs.specs.declared.workload.Job.{Job}
+use Rattle.bench_jobs.specs.Grammar.{SpellsJobs}
 use Rattle.atlas_words.proofs.FirstLines.{rest_shorter}
-use Rattle.atlas_bench.proofs.Lines.{next_spelled}
-use Rattle.atlas_bench.proofs.jobs.jobs.Goals as goal
+use Rattle.bench_jobs.proofs.Lines.{next_spelled}
+use Rattle.bench_jobs.proofs.jobs.jobs.Goals as goal
 
 pub returns-clause-found : goal.returns-clause-found
 returns-clause-found c =

@@ -1,12 +1,20 @@
 //! The jobs that lines of input spell.
 ghost use Rattle.std.specs.Prelude.{◌≡◌, ℕ, List, Err, IfSome, IfOk, IsSomeAnd};
-ghost use Rattle.atlas_bench.specs.declared.workload.Job.{Job};
-ghost use Rattle.atlas_bench.specs.Grammar.{SpellsJob, SpellsJobs};
+ghost use Rattle.bench_jobs.specs.declared.workload.Job.{Job};
+ghost use Rattle.bench_jobs.specs.Grammar.{SpellsJob, SpellsJobs};
 
-use crate::error::BenchError;
 use crate::workload::{Job, Workload};
 use atlas_words::words::{first_line, first_word, unsigned};
-use std::alloc::{AllocError, Global};
+use std::alloc::Global;
+
+/// Why a text spells no jobs.
+#[derive(Clone, Copy, Debug, PartialEq)]
+pub enum JobsError {
+    /// The line with this number, counted from 1, names no workload with a size.
+    BadLine(u64),
+    /// A request for memory was refused.
+    Memory,
+}
 
 // The job that the bytes of a line, without its LF, spell.
 fn parse_line(line: &[u8]) -> Option<Job>
@@ -25,19 +33,19 @@ fn parse_line(line: &[u8]) -> Option<Job>
 }
 
 /// The jobs that the lines of a text spell. `BadLine` at the first line that spells none.
-pub fn jobs(alloc: Global, text: &[u8]) -> Result<Vec<Job>, BenchError>
+pub fn jobs(alloc: Global, text: &[u8]) -> Result<Vec<Job>, JobsError>
     ensures found { IfOk result (λ jobs. SpellsJobs jobs.items text.now) }
-    ensures bad { (n : ℕ) (all : List Job) → result ≡ Err (BenchError.BadLine n) → SpellsJobs all text.now → ⊥ }
+    ensures bad { (n : ℕ) (all : List Job) → result ≡ Err (JobsError.BadLine n) → SpellsJobs all text.now → ⊥ }
 {
     let mut jobs = Vec::new(alloc);
     let mut rest = text;
     while !rest.is_empty() {
         let (line, after) = first_line(rest);
         let Some(job) = parse_line(line) else {
-            return Err(BenchError::BadLine(jobs.len() as u64 + 1));
+            return Err(JobsError::BadLine(jobs.len() as u64 + 1));
         };
         if jobs.push(job).is_err() {
-            return Err(BenchError::Memory(AllocError));
+            return Err(JobsError::Memory);
         }
         rest = after;
     }
@@ -51,7 +59,7 @@ mod tests {
     // The number of the bad line, or 0.
     fn bad_line(alloc: Global, text: &[u8]) -> u64 {
         match jobs(alloc, text) {
-            Err(BenchError::BadLine(number)) => number,
+            Err(JobsError::BadLine(number)) => number,
             _ => 0,
         }
     }
