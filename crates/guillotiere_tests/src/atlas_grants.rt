@@ -2,9 +2,8 @@
 
 use crate::atlas_calls::Call::{Allocate, AllocateBeyondLimit, Free, IsEmpty, Live, Slots};
 use crate::atlas_calls::{MOST_SLOTS, Row};
-use crate::playing::play_with_refusals;
+use crate::playing::play_all_with_refusals;
 use guillotiere::{AllocId, AllocatorOptions, DEFAULT_OPTIONS, Size};
-use refusing::Refusing;
 use std::test::Fail;
 use test_tables::{ALIGNED_TO_2, ALIGNED_TO_8};
 
@@ -226,10 +225,7 @@ const ROWS: [Row; 16] = [
 // Each with every request for memory refused in turn, and then with none refused.
 #[test]
 fn rows(rt: HostRuntime) -> Result<(), Fail> {
-    let heap = Refusing::new(rt.alloc());
-    for row in &ROWS {
-        play_with_refusals(&rt, rt.alloc(), &heap, row)?;
-    }
+    play_all_with_refusals(&rt, rt.alloc(), &ROWS)?;
     Ok(())
 }
 

@@ -5,9 +5,8 @@ use crate::atlas_calls::Call::{
     Slots,
 };
 use crate::atlas_calls::{Call, MOST_SLOTS, Row};
-use crate::playing::{play, play_with_refusals};
+use crate::playing::{play_all, play_all_with_refusals};
 use guillotiere::DEFAULT_OPTIONS;
-use refusing::Refusing;
 use std::test::Fail;
 
 // One box as large as an atlas of 100 by 100.
@@ -208,18 +207,12 @@ const ROWS_WITHOUT_MEMORY: [Row; 2] = [
 // Each with every request for memory refused in turn, and then with none refused.
 #[test]
 fn rows(rt: HostRuntime) -> Result<(), Fail> {
-    let heap = Refusing::new(rt.alloc());
-    for row in &ROWS {
-        play_with_refusals(&rt, rt.alloc(), &heap, row)?;
-    }
+    play_all_with_refusals(&rt, rt.alloc(), &ROWS)?;
     Ok(())
 }
 
 #[test]
 fn rows_without_memory(rt: HostRuntime) -> Result<(), Fail> {
-    let heap = Refusing::new(rt.alloc());
-    for row in &ROWS_WITHOUT_MEMORY {
-        play(&rt, rt.alloc(), &heap, row)?;
-    }
+    play_all(&rt, rt.alloc(), &ROWS_WITHOUT_MEMORY)?;
     Ok(())
 }

@@ -5,7 +5,7 @@ use crate::atlas_calls::Call::{
     ResizeAndRearrange, Slots,
 };
 use crate::atlas_calls::{Call, MOST_SLOTS, Row};
-use crate::playing::play_with_refusals;
+use crate::playing::play_all_with_refusals;
 use guillotiere::{
     AllocId, Allocation, AtlasAllocator, AtlasError, Change, ChangeList, DEFAULT_OPTIONS,
 };
@@ -148,13 +148,8 @@ const ROWS_WITH_LIMITS: [Row; 4] = [
 // Each with every request for memory refused in turn, and then with none refused.
 #[test]
 fn rows(rt: HostRuntime) -> Result<(), Fail> {
-    let heap = Refusing::new(rt.alloc());
-    for row in &ROWS {
-        play_with_refusals(&rt, rt.alloc(), &heap, row)?;
-    }
-    for row in &ROWS_WITH_LIMITS {
-        play_with_refusals(&rt, rt.alloc(), &heap, row)?;
-    }
+    play_all_with_refusals(&rt, rt.alloc(), &ROWS)?;
+    play_all_with_refusals(&rt, rt.alloc(), &ROWS_WITH_LIMITS)?;
     Ok(())
 }
 

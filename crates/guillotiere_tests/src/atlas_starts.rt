@@ -5,7 +5,7 @@ use crate::atlas_calls::Call::{
     RefuseNone, Reset, Slots,
 };
 use crate::atlas_calls::{Atlas, Call, MOST_SLOTS, Row, look_at};
-use crate::playing::{created, is_as_before, make_all, play, play_with_refusals};
+use crate::playing::{created, is_as_before, make_all, play_all, play_all_with_refusals};
 use guillotiere::{AllocId, AtlasError, DEFAULT_OPTIONS};
 use refusing::Refusing;
 use std::alloc::Global;
@@ -117,19 +117,13 @@ const AFTER_COPYING: [Call; 2] = [Allocate((100, 100), None), Get(1, Some((0, 10
 // Each with every request for memory refused in turn, and then with none refused.
 #[test]
 fn rows(rt: HostRuntime) -> Result<(), Fail> {
-    let heap = Refusing::new(rt.alloc());
-    for row in &ROWS {
-        play_with_refusals(&rt, rt.alloc(), &heap, row)?;
-    }
+    play_all_with_refusals(&rt, rt.alloc(), &ROWS)?;
     Ok(())
 }
 
 #[test]
 fn rows_without_memory(rt: HostRuntime) -> Result<(), Fail> {
-    let heap = Refusing::new(rt.alloc());
-    for row in &ROWS_WITHOUT_MEMORY {
-        play(&rt, rt.alloc(), &heap, row)?;
-    }
+    play_all(&rt, rt.alloc(), &ROWS_WITHOUT_MEMORY)?;
     Ok(())
 }
 

@@ -421,8 +421,8 @@ fn size_after(size: Sides, calls: &[Call]) -> Sides {
     last
 }
 
-/// Makes the calls of a row; one that is refused memory once is made again.
-pub fn play(
+// Makes the calls of a row; one that is refused memory once is made again.
+fn play(
     rt: &impl Abort,
     alloc: Global,
     heap: &Refusing<Global>,
@@ -441,8 +441,8 @@ pub fn play(
     Ok(())
 }
 
-/// Plays a row with each request for memory refused in turn, up to the first time that none is.
-pub fn play_with_refusals(
+// Plays a row with each request for memory refused in turn, up to the first time that none is.
+fn play_with_refusals(
     rt: &impl Abort,
     alloc: Global,
     heap: &Refusing<Global>,
@@ -458,5 +458,27 @@ pub fn play_with_refusals(
         refusals = number;
     }
     assert!(rt; 0 < refusals && refusals < 999, "{:?}", row.size);
+    Ok(())
+}
+
+/// Plays rows, each with each request for memory refused in turn, and then with none refused.
+pub fn play_all_with_refusals(
+    rt: &impl Abort,
+    alloc: Global,
+    rows: &[Row],
+) -> Result<(), AtlasError> {
+    let heap = Refusing::new(alloc);
+    for row in rows {
+        play_with_refusals(rt, alloc, &heap, row)?;
+    }
+    Ok(())
+}
+
+/// Plays rows that say themselves which requests for memory are refused.
+pub fn play_all(rt: &impl Abort, alloc: Global, rows: &[Row]) -> Result<(), AtlasError> {
+    let heap = Refusing::new(alloc);
+    for row in rows {
+        play(rt, alloc, &heap, row)?;
+    }
     Ok(())
 }

@@ -402,24 +402,43 @@ fn has_both(recording: &Recording<&Refusing<Global>>) -> bool {
     }
 }
 
-#[test]
-fn recorder_takes_no_memory_but_for_events(rt: HostRuntime) -> Result<(), Fail> {
-    let heap = Refusing::new(rt.alloc());
-    heap.refuse_every();
+fn empty_recorder(heap: &Refusing<Global>) -> Events<'_> {
     let whole = Size {
         width: 10,
         height: 10,
     };
-    let mut recorder = Recorder::new(&heap, whole, &DEFAULT_OPTIONS);
-    assert_eq!(rt; note_growth(&mut recorder), Err(RecordingError::Memory));
+    Recorder::new(heap, whole, &DEFAULT_OPTIONS)
+}
+
+#[test]
+fn a_refused_event_is_not_recorded(rt: HostRuntime) -> Result<(), Fail> {
+    let heap = Refusing::new(rt.alloc());
+    heap.refuse_every();
+    let mut recorder = empty_recorder(&heap);
+    assert!(rt; note_growth(&mut recorder) == Err(RecordingError::Memory));
     assert!(rt; finished(&mut recorder).events().is_empty());
-    heap.refuse_nth(0);
+    Ok(())
+}
+
+// What is recorded is taken out without memory, once.
+fn finished_without_memory<'a>(
+    rt: &impl Abort,
+    heap: &'a Refusing<Global>,
+) -> Result<Recording<&'a Refusing<Global>>, RecordingError> {
+    let mut recorder = empty_recorder(heap);
     note_growth(&mut recorder)?;
     note_freeing(&mut recorder)?;
     heap.refuse_every();
     let recording = finished(&mut recorder);
-    assert!(rt; has_both(&recording));
     assert!(rt; finished(&mut recorder).events().is_empty());
+    Ok(recording)
+}
+
+#[test]
+fn recorder_takes_no_memory_but_for_events(rt: HostRuntime) -> Result<(), Fail> {
+    let heap = Refusing::new(rt.alloc());
+    let recording = finished_without_memory(&rt, &heap)?;
+    assert!(rt; has_both(&recording));
     assert!(rt; recording.clone().is_err());
     heap.refuse_nth(0);
     assert!(rt; has_both(&recording.clone()?));

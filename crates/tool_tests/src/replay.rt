@@ -60,8 +60,8 @@ fn rows(rt: HostRuntime) {
             let mut input = Source::ending(text, step);
             let mut output = Sink::new(Vec::new(rt.alloc()), 5000, step, true);
             let got = run(&heap, &mut input, &mut output);
-            assert_eq!(rt; got, Ok(ToolEnd::Done), "{text:?} by {step}");
-            assert!(rt; is_made_of(output.held(), want), "{text:?} by {step}");
+            let same = is_made_of(output.held(), want);
+            assert!(rt; same && got == Ok(ToolEnd::Done), "{text:?} by {step}");
         }
     }
 }
@@ -87,17 +87,17 @@ fn rows_with_each_request_for_memory_refused_in_turn(rt: HostRuntime) {
             let mut input = Source::ending(text, 1000);
             let mut output = Sink::new(Vec::new(rt.alloc()), 5000, 1000, true);
             let got = run(&heap, &mut input, &mut output);
-            assert_eq!(rt; got, Ok(ToolEnd::Done), "{number}");
+            assert!(rt; got == Ok(ToolEnd::Done), "{number}");
             let held = output.held();
             if !heap.is_done() {
-                assert!(rt; is_made_of(held, want), "{number}: {held:?}");
+                assert!(rt; is_made_of(held, want), "{number}");
                 break;
             }
             refusals = number;
             if is_made_of(held, [before, b"replay refused memory\n", after]) {
                 told = true;
             } else {
-                assert!(rt; is_refused_after(held, before), "{number}: {held:?}");
+                assert!(rt; is_refused_after(held, before), "{number}");
             }
         }
         assert!(rt; told && refusals < 199, "{text:?}");

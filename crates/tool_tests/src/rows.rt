@@ -1,6 +1,6 @@
 //! Runs of the tool's lines.
 
-use crate::playing::{Row, play, run_text};
+use crate::playing::{Row, answers, play};
 use atlas_lines::{Command, ToolEnd, parse_line};
 use guillotiere::size2;
 
@@ -104,11 +104,7 @@ const BAD_LINES: [&[u8]; 34] = [
 #[test]
 fn rows(rt: HostRuntime) {
     for row in ROWS {
-        let (text, want, end) = row;
-        let mut held = Vec::new(rt.alloc());
-        let got = run_text(rt.alloc(), text, &mut held);
-        assert_eq!(rt; got, Ok(end), "{text:?}");
-        assert_eq!(rt; held.as_slice(), want, "{text:?}");
+        assert!(rt; answers(rt.alloc(), row), "{:?}", row.0);
         play(&rt, rt.alloc(), row, &[1, 2, 3, 7, 64, 5000]);
     }
 }
@@ -116,11 +112,11 @@ fn rows(rt: HostRuntime) {
 #[test]
 fn bad_lines(rt: HostRuntime) {
     for line in BAD_LINES {
-        assert_eq!(rt; parse_line(line), None, "{line:?}");
-        let mut held = Vec::new(rt.alloc());
-        let got = run_text(rt.alloc(), line, &mut held);
-        assert_eq!(rt; got, Ok(ToolEnd::BadLine(1)), "{line:?}");
-        assert_eq!(rt; held.as_slice(), b"bad line 1\n".as_slice(), "{line:?}");
+        let row: Row = (line, b"bad line 1\n", ToolEnd::BadLine(1));
+        assert!(rt;
+            parse_line(line).is_none() && answers(rt.alloc(), row),
+            "{line:?}"
+        );
     }
 }
 

@@ -2,6 +2,7 @@
 
 use crate::playing::{Row, play, play_with_refusals, run_text};
 use atlas_lines::{ToolEnd, parse_line};
+use std::alloc::{AllocError, Global};
 use std::test::Fail;
 
 const REARRANGED: Row = (
@@ -96,18 +97,24 @@ fn rows(rt: HostRuntime) {
     }
 }
 
+// A line between two that are well.
+fn between(alloc: Global, line: &[u8]) -> Result<Vec<u8>, AllocError> {
+    let mut text = Vec::new(alloc);
+    text.extend_from_slice(b"simple 10 10\n")?;
+    text.extend_from_slice(line)?;
+    text.extend_from_slice(b"\ntake 1 1\n")?;
+    Ok(text)
+}
+
 #[test]
 fn bad_second_lines(rt: HostRuntime) -> Result<(), Fail> {
     for line in BAD_LINES {
-        assert_eq!(rt; parse_line(line), None, "{line:?}");
-        let mut text = Vec::new(rt.alloc());
-        text.extend_from_slice(b"simple 10 10\n")?;
-        text.extend_from_slice(line)?;
-        text.extend_from_slice(b"\ntake 1 1\n")?;
+        assert!(rt; parse_line(line).is_none(), "{line:?}");
+        let text = between(rt.alloc(), line)?;
         let mut held = Vec::new(rt.alloc());
         let got = run_text(rt.alloc(), &text, &mut held);
-        assert_eq!(rt; got, Ok(ToolEnd::BadLine(2)), "{line:?}");
-        assert_eq!(rt; held.as_slice(), b"ok\nbad line 2\n".as_slice(), "{line:?}");
+        let same = held.as_slice() == b"ok\nbad line 2\n".as_slice();
+        assert!(rt; same && got == Ok(ToolEnd::BadLine(2)), "{line:?}");
     }
     Ok(())
 }

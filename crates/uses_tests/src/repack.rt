@@ -56,12 +56,8 @@ fn filled(rt: &impl Abort, alloc: Global) -> PictureCache {
 #[test]
 fn repacked(rt: HostRuntime) {
     let mut cache = filled(&rt, rt.alloc());
-    assert!(&rt; cache.get(3) == None);
-    let none = cache.put(3, size2(61, 61)).expect(&rt, "memory");
-    assert!(&rt; none == None);
     let done = cache.repack().expect(&rt, "memory");
-    assert!(&rt; done.lost.len() == 0);
-    assert!(&rt; done.moves.len() == 4);
+    assert!(&rt; done.lost.len() == 0 && done.moves.len() == 4);
     for (k, key) in KEYS.iter().enumerate() {
         let want = Move {
             key: *key,
@@ -71,6 +67,14 @@ fn repacked(rt: HostRuntime) {
         assert!(&rt; done.moves.get(k).copied() == Some(want), "move {key}");
         assert!(&rt; cache.get(*key) == Some(rectangle(PACKED[k])), "get {key}");
     }
+}
+
+#[test]
+fn what_has_no_room_is_not_put(rt: HostRuntime) {
+    let mut cache = filled(&rt, rt.alloc());
+    assert!(&rt; cache.get(3) == None);
+    let none = cache.put(3, size2(61, 61)).expect(&rt, "memory");
+    assert!(&rt; none == None);
 }
 
 // What is taken out leaves room for another.
@@ -87,30 +91,52 @@ fn removed(rt: HostRuntime) {
     put_new(&rt, &mut cache, 3, SIZES[1], FIRST[1]);
 }
 
-#[test]
-fn resized(rt: HostRuntime) {
-    let mut cache = filled(&rt, rt.alloc());
-    let _packed = cache.repack().expect(&rt, "memory");
-    let done = cache.resize(size2(64, 64)).expect(&rt, "memory");
+// One picture stays where it is.
+fn is_stay(moves: &[Move]) -> bool {
     let stays = Move {
         key: 5,
         from: rectangle(PACKED[1]),
         to: rectangle((0, 0, 60, 60)),
     };
-    assert!(&rt; done.moves.len() == 1);
-    assert!(&rt; done.moves.get(0).copied() == Some(stays));
-    assert!(&rt; done.lost.len() == 3);
+    moves == [stays].as_slice()
+}
+
+// The other three are lost.
+fn are_lost(cache: &PictureCache, lost: &[Picture]) -> bool {
     for (k, at) in [0_usize, 2, 3].iter().enumerate() {
         let want = Picture {
             key: KEYS[*at],
             area: rectangle(PACKED[*at]),
         };
-        assert!(&rt; done.lost.get(k).copied() == Some(want), "lost {k}");
-        assert!(&rt; cache.get(want.key) == None, "get {k}");
+        if lost.get(k).copied() != Some(want) || cache.get(want.key).is_some() {
+            return false;
+        }
     }
+    lost.len() == 3
+}
+
+#[test]
+fn resized(rt: HostRuntime) {
+    let mut cache = filled(&rt, rt.alloc());
+    let _packed = cache.repack().expect(&rt, "memory");
+    let done = cache.resize(size2(64, 64)).expect(&rt, "memory");
+    assert!(&rt; is_stay(done.moves.as_slice()));
+    assert!(&rt; are_lost(&cache, done.lost.as_slice()));
     assert!(&rt; cache.get(5) == Some(rectangle((0, 0, 60, 60))));
+}
+
+// A cache of 64 by 64 in which one of the pictures is left.
+fn smaller(rt: &impl Abort, alloc: Global) -> PictureCache {
+    let mut cache = filled(rt, alloc);
+    let _packed = cache.repack().expect(rt, "memory");
+    let _done = cache.resize(size2(64, 64)).expect(rt, "memory");
+    cache
+}
+
+#[test]
+fn nothing_has_room(rt: HostRuntime) {
+    let mut cache = smaller(&rt, rt.alloc());
     let none = cache.resize(size2(10, 10)).expect(&rt, "memory");
-    assert!(&rt; none.moves.len() == 0);
-    assert!(&rt; none.lost.len() == 1);
+    assert!(&rt; none.moves.len() == 0 && none.lost.len() == 1);
     assert!(&rt; cache.get(5) == None);
 }
