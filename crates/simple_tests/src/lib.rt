@@ -5,6 +5,10 @@
 #[cfg(test)]
 mod beside;
 #[cfg(test)]
+mod lists;
+#[cfg(test)]
 mod rows;
+#[cfg(test)]
+mod steps;
 #[cfg(test)]
 mod whole;

@@ -1,235 +1,18 @@
-//! The simple allocator whole: worked rows of growths and starts, call by call and as lists of calls, with ample memory
-//! and with requests for memory refused.
+//! The simple allocator whole: the steps call by call, with each request for memory refused in turn.
 
-use guillotiere::session::{SimpleCall, SimpleReply, run_simple};
+use crate::steps::{ROWS, Row, Source, Step};
 use guillotiere::{
-    AllocId, AllocatorOptions, AtlasAllocator, AtlasError, DEFAULT_OPTIONS, Rectangle,
-    SimpleAtlasAllocator, Size,
+    AllocId, AllocatorOptions, AtlasAllocator, AtlasError, Rectangle, SimpleAtlasAllocator, Size,
 };
 use refusing::Refusing;
 use std::alloc::Global;
 use std::process::Abort;
 use std::test::Fail;
-use test_tables::{ALIGNED_TO_8, Corners, Sides, rectangle, size};
+use test_tables::{Sides, rectangle, size};
 
-// A call of the simple allocator with its answer.
-#[derive(Clone, Copy, Debug)]
-enum Step {
-    Grant(Sides, Corners),
-    NoRoom(Sides),
-    Grow(Sides),
-    Clear,
-    Reset(Sides, AllocatorOptions),
-    Start,
-    // Its answer is `BadCall`.
-    Shrink(Sides),
-    // Its answer is `BadCall`.
-    BadReset(Sides, AllocatorOptions),
-    // Not a call: what `size` answers.
-    SizeIs(Sides),
-    // Not a call: what `is_empty` answers.
-    EmptyIs(bool),
-}
+pub type Atlas<'a> = AtlasAllocator<&'a Refusing<Global>>;
 
-// An atlas that was granted some sizes and freed some ids.
-struct Source {
-    size: Sides,
-    options: AllocatorOptions,
-    granted: &'static [Sides],
-    freed: &'static [u32],
-}
-
-struct Row {
-    size: Sides,
-    source: Source,
-    steps: &'static [Step],
-}
-
-// No row starts from it.
-const NO_SOURCE: Source = Source {
-    size: (1, 1),
-    options: DEFAULT_OPTIONS,
-    granted: &[],
-    freed: &[],
-};
-
-// An alignment that isn't above 0.
-const NO_HEIGHT: AllocatorOptions = AllocatorOptions {
-    alignment: Size {
-        width: 0,
-        height: 1,
-    },
-    small_size_threshold: 32,
-    large_size_threshold: 256,
-};
-
-const ROWS: [Row; 9] = [
-    Row {
-        size: (1, 1),
-        source: Source {
-            size: (100, 300),
-            options: DEFAULT_OPTIONS,
-            granted: &[(100, 100), (100, 100), (100, 100)],
-            freed: &[0, 1],
-        },
-        steps: &[
-            Step::Start,
-            Step::SizeIs((100, 300)),
-            Step::Grant((100, 100), (0, 0, 100, 100)),
-            Step::Grant((100, 100), (0, 100, 100, 200)),
-            Step::NoRoom((100, 100)),
-        ],
-    },
-    Row {
-        size: (10, 10),
-        source: NO_SOURCE,
-        steps: &[
-            Step::EmptyIs(true),
-            Step::Grow((20, 30)),
-            Step::SizeIs((20, 30)),
-            Step::EmptyIs(false),
-            Step::Grant((20, 20), (0, 10, 20, 30)),
-            Step::Grant((10, 10), (0, 0, 10, 10)),
-            Step::Grant((10, 10), (10, 0, 20, 10)),
-            Step::NoRoom((1, 1)),
-        ],
-    },
-    Row {
-        size: (10, 10),
-        source: NO_SOURCE,
-        steps: &[
-            Step::Grant((10, 10), (0, 0, 10, 10)),
-            Step::Grow((20, 30)),
-            Step::Grant((20, 20), (0, 10, 20, 30)),
-            Step::Grant((10, 10), (10, 0, 20, 10)),
-            Step::NoRoom((1, 1)),
-        ],
-    },
-    Row {
-        size: (1, 1),
-        source: Source {
-            size: (20, 20),
-            options: ALIGNED_TO_8,
-            granted: &[(16, 16)],
-            freed: &[],
-        },
-        steps: &[
-            Step::Start,
-            Step::SizeIs((20, 20)),
-            Step::NoRoom((1, 1)),
-            Step::EmptyIs(false),
-        ],
-    },
-    Row {
-        size: (1, 1),
-        source: Source {
-            size: (30, 40),
-            options: DEFAULT_OPTIONS,
-            granted: &[],
-            freed: &[],
-        },
-        steps: &[Step::Start, Step::EmptyIs(true), Step::SizeIs((30, 40))],
-    },
-    Row {
-        size: (10, 10),
-        source: Source {
-            size: (100, 300),
-            options: DEFAULT_OPTIONS,
-            granted: &[(100, 100), (100, 100), (100, 100)],
-            freed: &[1],
-        },
-        steps: &[
-            Step::Grant((10, 10), (0, 0, 10, 10)),
-            Step::Start,
-            Step::Grant((100, 100), (0, 100, 100, 200)),
-            Step::NoRoom((1, 1)),
-            Step::Shrink((99, 300)),
-            Step::BadReset((5, 5), NO_HEIGHT),
-            Step::Clear,
-            Step::Grant((100, 300), (0, 0, 100, 300)),
-        ],
-    },
-    // Parts beside a request and beside a growth, with an alignment.
-    Row {
-        size: (1, 1),
-        source: NO_SOURCE,
-        steps: &[
-            Step::Reset((20, 20), ALIGNED_TO_8),
-            Step::EmptyIs(true),
-            Step::Grant((9, 1), (0, 0, 16, 8)),
-            Step::EmptyIs(false),
-            // Both parts of the new size are just as wide or as high as the alignment.
-            Step::Grow((28, 28)),
-            Step::Grant((24, 8), (0, 20, 24, 28)),
-            Step::Grant((8, 16), (20, 0, 28, 16)),
-            Step::Clear,
-            Step::SizeIs((28, 28)),
-            Step::EmptyIs(true),
-            // Both parts of the new size are lower or narrower than the alignment.
-            Step::Grow((35, 35)),
-            Step::EmptyIs(false),
-            Step::NoRoom((25, 1)),
-            Step::Grant((24, 24), (0, 0, 24, 24)),
-            Step::NoRoom((1, 1)),
-        ],
-    },
-    // At an equal size nothing changes; an empty size is a bad reset.
-    Row {
-        size: (10, 10),
-        source: NO_SOURCE,
-        steps: &[
-            Step::Grow((10, 10)),
-            Step::EmptyIs(true),
-            Step::Shrink((10, 9)),
-            Step::BadReset((0, 5), DEFAULT_OPTIONS),
-            Step::BadReset((5, -2147483648), DEFAULT_OPTIONS),
-            Step::Grant((10, 10), (0, 0, 10, 10)),
-            Step::Grow((10, 10)),
-            Step::NoRoom((1, 1)),
-            Step::NoRoom((-2147483648, -2147483648)),
-        ],
-    },
-    // The greatest size.
-    Row {
-        size: (1, 1),
-        source: NO_SOURCE,
-        steps: &[
-            Step::Grow((2147483647, 2147483647)),
-            Step::Grant((2147483647, 2147483646), (0, 1, 2147483647, 2147483647)),
-            Step::Grant((2147483646, 1), (1, 0, 2147483647, 1)),
-            Step::Grant((1, 1), (0, 0, 1, 1)),
-            Step::NoRoom((1, 1)),
-        ],
-    },
-];
-
-type Atlas<'a> = AtlasAllocator<&'a Refusing<Global>>;
-
-type Simple<'a> = SimpleAtlasAllocator<&'a Refusing<Global>>;
-
-type Replies<'a> = Vec<SimpleReply, &'a Refusing<Global>>;
-
-// The call and the reply of a step; None for a look.
-fn call_and_reply(step: Step) -> Option<(SimpleCall, SimpleReply)> {
-    match step {
-        Step::Grant(request, want) => Some((
-            SimpleCall::Allocate(size(request)),
-            SimpleReply::Granted(rectangle(want)),
-        )),
-        Step::NoRoom(request) => Some((SimpleCall::Allocate(size(request)), SimpleReply::NoRoom)),
-        Step::Grow(to) => Some((SimpleCall::Grow(size(to)), SimpleReply::Done)),
-        Step::Clear => Some((SimpleCall::Clear, SimpleReply::Done)),
-        Step::Reset(to, options) => {
-            Some((SimpleCall::Reset(size(to), options), SimpleReply::Done))
-        }
-        Step::Start => Some((SimpleCall::Start, SimpleReply::Done)),
-        Step::Shrink(to) => Some((SimpleCall::Grow(size(to)), SimpleReply::BadCall)),
-        Step::BadReset(to, options) => {
-            Some((SimpleCall::Reset(size(to), options), SimpleReply::BadCall))
-        }
-        Step::SizeIs(_) | Step::EmptyIs(_) => None,
-    }
-}
+pub type Simple<'a> = SimpleAtlasAllocator<&'a Refusing<Global>>;
 
 // The calls below stand in functions without contracts: the tests' own proofs stay short.
 
@@ -243,15 +26,6 @@ fn free(atlas: &mut Atlas<'_>, id: u32) -> Result<(), AtlasError> {
 
 fn request(simple: &mut Simple<'_>, sides: Sides) -> Result<Option<Rectangle>, AtlasError> {
     simple.allocate(size(sides))
-}
-
-fn make<'a>(
-    simple: &mut Simple<'a>,
-    atlas: &Atlas<'a>,
-    calls: &[SimpleCall],
-    replies: &mut Replies<'a>,
-) -> Result<(), AtlasError> {
-    run_simple(simple, atlas, calls, replies)
 }
 
 fn atlas_of<'a>(
@@ -282,9 +56,8 @@ fn simple_of<'a>(
     SimpleAtlasAllocator::new(heap, whole)
 }
 
-// The allocators of a row; where a request for memory is refused, each is made again.
-
-fn source_of<'a>(
+/// The atlas of a row; where a request for memory is refused, it is made again.
+pub fn source_of<'a>(
     rt: &impl Abort,
     heap: &'a Refusing<Global>,
     row: &Row,
@@ -295,7 +68,8 @@ fn source_of<'a>(
     }
 }
 
-fn begun<'a>(
+/// The allocator of a row; where a request for memory is refused, it is made again.
+pub fn begun<'a>(
     rt: &impl Abort,
     heap: &'a Refusing<Global>,
     row: &Row,
@@ -397,162 +171,6 @@ fn rows_with_each_request_for_memory_refused_in_turn(rt: HostRuntime) -> Result<
         }
         assert!(rt; 0 < refusals && refusals < 99, "{:?}", row.size);
     }
-    Ok(())
-}
-
-// The calls of a row's steps.
-fn calls_of(alloc: Global, steps: &[Step]) -> Result<Vec<SimpleCall>, AtlasError> {
-    let mut calls = Vec::new(alloc);
-    for step in steps {
-        if let Some((call, _)) = call_and_reply(*step) {
-            calls.push(call)?;
-        }
-    }
-    Ok(calls)
-}
-
-// Whether these are the replies to a row's steps, after the first, which was there before.
-fn are_replies(steps: &[Step], replies: &[SimpleReply]) -> bool {
-    let mut count = 1;
-    for step in steps {
-        if let Some((_, reply)) = call_and_reply(*step) {
-            if replies.get(count) != Some(&reply) {
-                return false;
-            }
-            count = count.saturating_add(1);
-        }
-    }
-    replies.len() == count && replies.first() == Some(&SimpleReply::NoRoom)
-}
-
-// Makes a list of calls for a row.
-fn made<'a>(
-    rt: &impl Abort,
-    heap: &'a Refusing<Global>,
-    row: &Row,
-    calls: &[SimpleCall],
-) -> Result<Replies<'a>, AtlasError> {
-    let atlas = source_of(rt, heap, row)?;
-    let mut simple = begun(rt, heap, row)?;
-    let mut replies = Vec::new(heap);
-    replies.push(SimpleReply::NoRoom)?;
-    make(&mut simple, &atlas, calls, &mut replies)?;
-    Ok(replies)
-}
-
-#[test]
-fn rows_as_lists_of_calls(rt: HostRuntime) -> Result<(), Fail> {
-    let heap = Refusing::new(rt.alloc());
-    for row in &ROWS {
-        let calls = calls_of(rt.alloc(), row.steps)?;
-        let replies = made(&rt, &heap, row, calls.as_slice())?;
-        assert!(rt;
-            are_replies(row.steps, replies.as_slice()),
-            "{:?}",
-            row.size
-        );
-    }
-    Ok(())
-}
-
-// Makes a list of one call. Returns whether it met a refusal of memory; then nothing has changed.
-fn is_refused<'a>(
-    rt: &impl Abort,
-    simple: &mut Simple<'a>,
-    atlas: &Atlas<'a>,
-    call: SimpleCall,
-    replies: &mut Replies<'a>,
-) -> bool {
-    let before = (simple.size(), simple.is_empty());
-    let refused = match make(simple, atlas, &[call], replies) {
-        Ok(()) => replies.as_slice() == [SimpleReply::Refused(AtlasError::Memory)].as_slice(),
-        Err(error) => error == AtlasError::Memory && replies.is_empty(),
-    };
-    assert!(rt;
-        !refused || (simple.size(), simple.is_empty()) == before,
-        "{call:?}"
-    );
-    refused
-}
-
-// Makes a list of one call; one that is refused memory once is made again.
-fn run_or_again<'a>(
-    rt: &impl Abort,
-    heap: &'a Refusing<Global>,
-    simple: &mut Simple<'a>,
-    atlas: &Atlas<'a>,
-    (call, want): (SimpleCall, SimpleReply),
-) {
-    let mut replies = Vec::new(heap);
-    if is_refused(rt, simple, atlas, call, &mut replies) {
-        replies.clear();
-        assert!(rt;
-            !is_refused(rt, simple, atlas, call, &mut replies),
-            "{call:?}"
-        );
-    }
-    assert!(rt; replies.as_slice() == [want].as_slice(), "{call:?}");
-}
-
-// Makes a list of each call of a row.
-fn run_steps(rt: &impl Abort, heap: &Refusing<Global>, row: &Row) -> Result<(), AtlasError> {
-    let atlas = source_of(rt, heap, row)?;
-    let mut simple = begun(rt, heap, row)?;
-    for step in row.steps {
-        if let Some(made) = call_and_reply(*step) {
-            run_or_again(rt, heap, &mut simple, &atlas, made);
-        }
-    }
-    Ok(())
-}
-
-#[test]
-fn lists_of_one_call_with_each_request_for_memory_refused_in_turn(
-    rt: HostRuntime,
-) -> Result<(), Fail> {
-    let heap = Refusing::new(rt.alloc());
-    for row in &ROWS {
-        let mut refusals = 0;
-        for number in 1..100 {
-            heap.refuse_nth(number);
-            run_steps(&rt, &heap, row)?;
-            if !heap.is_done() {
-                break;
-            }
-            refusals = number;
-        }
-        assert!(rt; 0 < refusals && refusals < 99, "{:?}", row.size);
-    }
-    Ok(())
-}
-
-// Makes two calls without memory for their replies.
-fn made_without_memory<'a>(
-    heap: &'a Refusing<Global>,
-    simple: &mut Simple<'a>,
-    atlas: &Atlas<'a>,
-) -> (Result<(), AtlasError>, usize) {
-    let mut replies = Vec::new(heap);
-    heap.refuse_every();
-    let calls = [SimpleCall::Grow(size((20, 30))), SimpleCall::Start];
-    let answer = make(simple, atlas, &calls, &mut replies);
-    (answer, replies.len())
-}
-
-fn keeps_all(rt: &impl Abort, heap: &Refusing<Global>, row: &Row) -> Result<(), AtlasError> {
-    let atlas = source_of(rt, heap, row)?;
-    let mut simple = begun(rt, heap, row)?;
-    let (answer, replies) = made_without_memory(heap, &mut simple, &atlas);
-    assert!(rt; answer == Err(AtlasError::Memory) && replies == 0);
-    assert!(rt; simple.is_empty() && simple.size() == size((10, 10)));
-    Ok(())
-}
-
-// A list whose replies find no memory is not begun.
-#[test]
-fn no_call_is_made_without_memory_for_its_replies(rt: HostRuntime) -> Result<(), Fail> {
-    let heap = Refusing::new(rt.alloc());
-    keeps_all(&rt, &heap, &ROWS[1])?;
     Ok(())
 }
 
