@@ -1,6 +1,7 @@
 //! The simple allocator: worked rows, with ample memory and with requests for memory refused.
 
-use guillotiere::{AllocatorOptions, AtlasError, DEFAULT_OPTIONS, Rectangle, SimpleAtlasAllocator};
+use crate::whole::{Simple, request};
+use guillotiere::{AllocatorOptions, AtlasError, DEFAULT_OPTIONS, SimpleAtlasAllocator};
 use refusing::Refusing;
 use std::alloc::Global;
 use std::process::Abort;
@@ -87,8 +88,6 @@ const ROWS: [Row; 8] = [
     },
 ];
 
-type Simple<'a> = SimpleAtlasAllocator<&'a Refusing<Global>>;
-
 // The allocator of a row, by `new` where the options are the defaults.
 fn created<'a>(
     rt: &impl Abort,
@@ -103,11 +102,6 @@ fn created<'a>(
     } else {
         SimpleAtlasAllocator::with_options(heap, size, &row.options)
     }
-}
-
-// A request of a test, in a function without a contract: the tests' own proofs stay short.
-fn request(simple: &mut Simple<'_>, sides: Sides) -> Result<Option<Rectangle>, AtlasError> {
-    simple.allocate(size(sides))
 }
 
 // What a request is answered. Where it is refused, nothing has changed and it is made again with ample memory; a

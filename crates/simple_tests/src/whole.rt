@@ -24,7 +24,8 @@ fn free(atlas: &mut Atlas<'_>, id: u32) -> Result<(), AtlasError> {
     atlas.deallocate(AllocId::deserialize(id))
 }
 
-fn request(simple: &mut Simple<'_>, sides: Sides) -> Result<Option<Rectangle>, AtlasError> {
+/// What a request is answered.
+pub fn request(simple: &mut Simple<'_>, sides: Sides) -> Result<Option<Rectangle>, AtlasError> {
     simple.allocate(size(sides))
 }
 
