@@ -11,6 +11,7 @@ ghost use Rattle.guillotiere.specs.Boxes.{Fits, IsPositive};
 ghost use Rattle.guillotiere.specs.Choice.{AreValid};
 ghost use Rattle.guillotiere.specs.Pixels.{sides_of, size_of, options_of};
 ghost use Rattle.guillotiere.specs.Visits.{AreFreeAreas, CalledAtGrant};
+ghost use Rattle.guillotiere.specs.Walks.{IsCallableAlong, IsCallableAlongGrants, IsShownArea};
 ghost use Rattle.guillotiere.specs.States.{IsSound};
 ghost use Rattle.guillotiere.specs.Steps as atlas;
 ghost use Rattle.guillotiere.specs.Steps.{Step};
@@ -236,23 +237,26 @@ impl<A: Allocator + Copy> RecordingAllocator<A> {
         Ok(list)
     }
 
-    /// Calls `visit` on each free rectangle once, in an order that is left open. Asks that `visit` may be called. Takes
-    /// no memory.
+    /// Calls `visit` on each free rectangle once, in an order that is left open. Asks that `visit` may be called along
+    /// each list that may be shown, and no more: nothing else is called. Takes no memory.
     pub fn for_each_free_rectangle<F: FnMut(&Rectangle)>(&self, visit: F)
-        requires { F.IsAlwaysCallable visit }
+        requires { (areas : List Area) → AreFreeAreas (state_of self.now.atlas) areas
+            → IsCallableAlong F.FnMut IsShownArea visit areas }
         ensures { (areas : List Area) × AreFreeAreas (state_of self.now.atlas) areas × ((last : F)
             × FoldsTo (λ p x q. CalledAt F.FnMut p x tt q) visit areas last) }
     {
         self.atlas.for_each_free_rectangle(visit);
     }
 
-    /// Calls `visit` on each live name and its rectangle once, by rising name. Asks that `visit` may be called. Takes
-    /// no memory.
+    /// Calls `visit` on each live name and its rectangle once, by rising name. Asks that `visit` may be called along that
+    /// list, and no more: nothing else is called. Takes no memory.
     pub fn for_each_allocated_rectangle<F: FnMut(AllocId, &Rectangle)>(&self, visit: F)
-        requires { F.IsAlwaysCallable visit }
+        requires { (grants : List Grant) → AreBooked self.now.recording.events grants
+            → IsCallableAlongGrants F.FnMut (λ (a : Grant). IsShownArea a.rectangle) visit grants }
         ensures { (grants : List Grant) × AreBooked self.now.recording.events grants × ((last : F)
             × FoldsTo (CalledAtGrant F.FnMut) visit grants last) }
     {
+        let _size = self.atlas.size();
         visit_names(&self.atlas, &self.names, visit);
     }
 
