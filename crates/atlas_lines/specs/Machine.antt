@@ -186,10 +186,16 @@ declined_line recording.Slots = Declined refusal.Slots
 declined_line recording.NotLive = Declined refusal.NotLive
 declined_line recording.Names = NoNames
 
--- An event of a session: it led on, and was recorded.
+-- How many names are given after an event: a grant gives one more.
+abbrev pub given_after : EventValue → ℕ → ℕ
+given_after (EventValue.Allocate size (Some granted)) given = given + 1
+given_after _ given = given
+
+-- An event of a session: it led on, and was recorded; a grant took the next name.
 pub record Records (old : Session) (event : EventValue) (new : Session) : Type 0 where
   pub led : Leads old.named event new.named
   pub recorded : new.recording ≡ with_event event old.recording
+  pub given : new.given ≡ given_after event old.given
 
 -- A refusal of a call to a session, for memory, or for slots where its atlas may refuse it so; nothing changes.
 pub record Refuses (old : Session) (call : AtlasCall) (error : AtlasError) (new : Session) : Type 0 where
@@ -220,7 +226,8 @@ RecordsFreeing old name _ new = ⊥
 abbrev pub RecordsGrowth : Session → Size → Reply → Session → Type 0
 RecordsGrowth old size Completed new = Records old (EventValue.Grow size) new
 RecordsGrowth old size Invalid new = (Fits old.named.state.size (sides_of size) → ⊥) × (new ≡ old)
-RecordsGrowth old size (Declined error) new = Refuses old (AtlasCall.Grow (sides_of size)) error new
+RecordsGrowth old size (Declined error) new =
+    Fits old.named.state.size (sides_of size) × Refuses old (AtlasCall.Grow (sides_of size)) error new
 -- No other reply comes.
 RecordsGrowth old size _ new = ⊥
 
@@ -248,7 +255,7 @@ abbrev pub RecordsRearranging : Session → AtlasCall → (asks : Type 0) → (r
 RecordsRearranging old call asks recorded (ChangeLines changes failures) new =
     Records old (recorded (record { changes = changes; failures = failures })) new
 RecordsRearranging old call asks recorded (OneLine Invalid) new = (asks → ⊥) × (new ≡ old)
-RecordsRearranging old call asks recorded (OneLine (Declined error)) new = Refuses old call error new
+RecordsRearranging old call asks recorded (OneLine (Declined error)) new = asks × Refuses old call error new
 -- No other reply comes.
 RecordsRearranging old call asks recorded _ new = ⊥
 
