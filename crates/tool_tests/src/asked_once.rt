@@ -1,4 +1,5 @@
 //! A device of std that fails once and would then answer: it is asked one time a call.
+ghost use Rattle.std.specs.Prelude.{◌≡◌, IfOk};
 
 use atlas_lines::{StdInput, StdOutput, ToolInput, ToolOutput};
 use std::cell::Cell;
@@ -11,7 +12,9 @@ struct Failing<'a> {
 }
 
 impl Failing<'_> {
-    fn answer(&self) -> Result<usize, Error> {
+    fn answer(&self) -> Result<usize, Error>
+        ensures { IfOk result (λ count. count ≡ 1) }
+    {
         let before = self.calls.get();
         self.calls.set(before.wrapping_add(1));
         if before == 0 {
