@@ -3,6 +3,7 @@
 #![tactic(auto)]
 
 mod apart;
+mod asked;
 mod boxes;
 mod first;
 mod keep;

@@ -16,6 +16,7 @@ ghost use Rattle.atlas_model.specs.Steps.AtlasCall.{Allocate, Deallocate, Grow, 
 ghost use Rattle.atlas_model.specs.Steps.AtlasCall.{ResizeAndRearrange};
 ghost use Rattle.atlas_model.specs.Steps.AtlasReply.{Done};
 
+pub mod queries;
 pub mod rearranging;
 pub mod walks;
 

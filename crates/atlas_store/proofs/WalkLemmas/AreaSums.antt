@@ -151,7 +151,7 @@ module _ (v : Stored) (a : IsAtlas v) (turns : ℕ) where
   areas-IsAtlas = search (rules, areas_of_boxes, sum_by-append, sum_by-map)
 
   -- Both sides are below 2 ^ 31.
-  small-IsAtlas : ((sides_of v.size).width < 2 ^ 31) × ((sides_of v.size).height < 2 ^ 31)
+  pub small-IsAtlas : ((sides_of v.size).width < 2 ^ 31) × ((sides_of v.size).height < 2 ^ 31)
   small-IsAtlas = grind (arith, tree_of-IsAtlas, sides_small)
 
   area_fits : (sides_of v.size).width * (sides_of v.size).height < 2 ^ 31 * 2 ^ 31

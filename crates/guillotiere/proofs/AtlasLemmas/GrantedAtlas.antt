@@ -1,10 +1,11 @@
 -- Granting a request in an atlas.
 use Rattle.std.proofs.Common.{rules, ℕ, ◌+◌, ◌%◌, ◌^◌, ◌<◌, ◌≤◌, ◌≡◌, max, List, length, refl, sym, ap, subst, ◌∙◌, ◌⊎◌}
 use Rattle.std.proofs.Common.{inl, inr, arith, vec_capacity}
-use Rattle.std.specs.Prelude.{Err}
+use Rattle.std.proofs.lemmas.Bool.{false≢true}
+use Rattle.std.specs.Prelude.{Err, None, Some, IfSome, IsTrue, is_some, ◌↔◌}
 use Rattle.atlas_model.specs.Boxes.{Sides, Box, box_at, box_sides, Fits, IsPositive}
 use Rattle.atlas_model.specs.Changes.{place}
-use Rattle.atlas_model.specs.Choice.{rounded, IsFitting, HasNoRoom}
+use Rattle.atlas_model.specs.Choice.{rounded, IsFitting, HasRoom, HasNoRoom}
 use Rattle.atlas_model.specs.Pixels.{box_of, rectangle_of, sides_of, size_of, options_of}
 use Rattle.atlas_store.specs.Rectangles.{FitsInto, IsUnsigned}
 use Rattle.atlas_model.specs.Replies.{allocate_reply}
@@ -198,3 +199,23 @@ module _ (v : Stored) (a : IsAtlas v) (request : Sides) (size : Size) (sized : C
             atlas = atlas-placed v a request p chosen_here sized.0.positive u id got.0 got.1 got.2 same_options few (box_of rectangle) there;
             granted = (λ turns before. (box_of p.area, grants v a request p chosen_here sized.0.positive u id got.0 got.1 got.2 same_options few (box_of rectangle) there (v.used + slots_of p.plan) turns));
           })
+
+-- A request has room if a slot was found for it.
+pub found-room : (v : Stored) (a : IsAtlas v) (request : Sides) (size : Size)
+    → CanBeRounded (options_of v.shelf.options) request × (size ≡ size_of (rounded (options_of v.shelf.options) request))
+    → (found : Option Chosen)
+    → (found ≡ None → (free : List Box) → AreFreeBoxes (nodes v.shelf.slots) free → (b : Box) → IsFitting free (sides_of size) b → ⊥)
+    → IfSome found (IsChosen v.shelf (sides_of size))
+    → IsTrue (is_some found) ↔ HasRoom (free_in (now v a request)) (options_of v.shelf.options) request
+found-room v a request size sized None none some = (
+  (λ yes. absurd (false≢true yes)),
+  (λ room. absurd (no_room-none v a request (sides_of size) (sides_of-size size _ sized.1) (none refl) room)),
+)
+found-room v a request size sized (Some p) none some = (
+  (λ yes. record {
+    positive = sized.0.positive;
+    box = box_of p.area;
+    fitting = (takes v a request p (chosen_here v a request size sized p some) sized.0.positive).pick.best.candidate.fitting;
+  }),
+  (λ room. refl),
+)
