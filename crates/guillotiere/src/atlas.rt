@@ -18,6 +18,7 @@ ghost use Rattle.atlas_model.specs.Steps.AtlasReply.{Done};
 
 pub mod queries;
 pub mod rearranging;
+pub mod reserving;
 pub mod walks;
 
 use crate::atlas::rearranging::{refit, sort_for_refit};
@@ -56,6 +57,7 @@ pub struct AtlasAllocator<A: Allocator + Copy = Global> {
 }
 
 impl<A: Allocator + Copy> Model for AtlasAllocator<A> {
+    ghost use Rattle.std.specs.Prelude.{vec_capacity};
     ghost use Rattle.atlas_store.specs.Stored.{AtlasValue, IsAtlas};
     ghost use Rattle.atlas_store.specs.Store.Holdings.{shelf_of};
 
@@ -64,6 +66,7 @@ impl<A: Allocator + Copy> Model for AtlasAllocator<A> {
     ghost view = { λ a. record {
       stored = record { shelf = shelf_of a.store; first = a.first; used = a.used; size = a.size; limit = a.limit };
       turns = a.store.turns.count;
+      capacity = vec_capacity a.store.slots;
     } };
 
     ghost invariant = { λ a. IsAtlas
