@@ -13,6 +13,8 @@ mod memory;
 #[cfg(test)]
 mod queries;
 #[cfg(test)]
+mod reserving;
+#[cfg(test)]
 mod session_long;
 #[cfg(test)]
 mod walks;

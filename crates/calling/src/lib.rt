@@ -9,6 +9,7 @@ mod first;
 mod keep;
 mod lists;
 mod moves;
+mod reserved;
 mod sheet;
 mod shown;
 mod tiled;

@@ -50,7 +50,8 @@ pub fn choose<A: Allocator>(store: &Store<A>, size: Size) -> Option<Chosen>
 }
 
 /// Makes room for slots beside those that are used. `Slots` if there would be more than the limit; `Memory`, if they
-/// are more than were ever used and memory for them is refused. The slots and their lists stay as they are.
+/// are more than were ever used and more than there is room for, and memory for them is refused. The slots and their
+/// lists stay as they are.
 pub fn make_room<A: Allocator>(
     store: &mut Store<A>,
     used: u32,
