@@ -1,6 +1,7 @@
 //! The atlas allocator.
-ghost use Rattle.std.specs.Prelude.{◌≡◌, ◌≤◌, ◌<◌, ◌+◌, ◌-◌, ◌*◌, ◌↔◌, ◌≢◌, [], IsTrue, Err, IfOk, IfSome, OnErr};
+ghost use Rattle.std.specs.Prelude.{◌≡◌, ◌≤◌, ◌<◌, ◌+◌, ◌-◌, ◌*◌, ◌↔◌, [], IsTrue, IfOk, IfSome, OnErr};
 ghost use Rattle.std.specs.Prelude.{IsOkUnless, OnOk, length, IsSome, option_map, None, Some, Ok, All, map};
+ghost use Rattle.std.specs.Prelude.{◌≢◌, Err};
 ghost use Rattle.atlas_model.specs.Boxes.{area, Fits, IsPositive, IsWithin};
 ghost use Rattle.atlas_model.specs.Choice.{AreValid};
 ghost use Rattle.atlas_model.specs.Pixels.{sides_of, size_of, options_of, rectangle_of, box_of};
