@@ -3,11 +3,13 @@
 #![tactic(auto)]
 
 mod apart;
+mod asked;
 mod boxes;
 mod first;
 mod keep;
 mod lists;
 mod moves;
+mod reserved;
 mod sheet;
 mod shown;
 mod tiled;

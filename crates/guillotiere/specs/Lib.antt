@@ -8,6 +8,7 @@ pub use Rattle.atlas_store.specs.Visits
 pub use Rattle.atlas_store.specs.Walks
 pub use Rattle.atlas_store.specs.Batches
 pub use Rattle.atlas_store.specs.Generations
+pub use Rattle.atlas_store.specs.Reserves
 pub use Rattle.atlas_model.specs.Boxes
 pub use Rattle.atlas_model.specs.Pixels
 pub use Rattle.atlas_model.specs.Cuts

@@ -1,12 +1,12 @@
 //! An allocator that hands out boxes and never takes one back.
 ghost use Rattle.std.specs.Prelude.{◌≡◌, ◌↔◌, Any, IsTrue, true, ◌+◌, ◌<◌, ◌≤◌, ◌++◌, [], ◌∷◌, List};
 ghost use Rattle.std.specs.Prelude.{OnOk, OnErr, IfOk, IfSome, IsOkUnless};
-ghost use Rattle.atlas_model.specs.Boxes.{AreSameBoxes, Box, IsPositive, Sides, box_sides};
+ghost use Rattle.atlas_model.specs.Boxes.{AreSameBoxes, Box, Fits, IsPositive, Sides, box_sides};
 ghost use Rattle.atlas_model.specs.Choice.{AreValid};
 ghost use Rattle.guillotiere.specs.FreeBoxes.BoxCalls.{AreFiledBoxes, HasEntriesFor, HasTakenEntries, IsFoundFor};
 ghost use Rattle.guillotiere.specs.FreeBoxes.BoxShelves.{AreKept, box_shelf, free_item_boxes};
 ghost use Rattle.guillotiere.specs.FreeBoxes.FreeLists.{kept_of, simple_state_of};
-ghost use Rattle.atlas_model.specs.Pixels.{box_of, options_of, rectangle_of, sides_of, size_of};
+ghost use Rattle.atlas_model.specs.Pixels.{allocator_options_of, box_of, options_of, rectangle_of, sides_of, size_of};
 ghost use Rattle.atlas_store.specs.Rectangles.{IsUnsigned};
 ghost use Rattle.atlas_model.specs.Simple.{IsGuarded, IsSimple, SimpleStep, is_kept, kept_rest, simple_answer};
 ghost use Rattle.atlas_model.specs.Simple.{simple_start};
@@ -109,6 +109,22 @@ impl<A: Allocator + Copy> SimpleAtlasAllocator<A> {
         ensures simple { IsSimple self.now }
     {
         self.size
+    }
+
+    /// The options of the allocator.
+    pub fn options(&self) -> AllocatorOptions
+        ensures options { result ≡ allocator_options_of self.now.options }
+        ensures valid { AreValid (options_of result) }
+    {
+        self.options
+    }
+
+    /// Whether `grow` may be called with this size: neither side is less than the allocator's.
+    pub fn can_grow_to(&self, new_size: Size) -> bool
+        ensures { IsTrue result ↔ Fits self.now.size (sides_of new_size) }
+    {
+        let size = self.size();
+        size.width <= new_size.width && size.height <= new_size.height
     }
 
     /// Whether one free box has the allocator's size.
