@@ -1,7 +1,7 @@
 use Rattle.std.proofs.Common.{rules}
 use Rattle.guillotiere.specs.FreeBoxes.BoxShelves.{box_shelf}
 use Rattle.atlas_model.specs.Pixels.{sides_of}
-use Rattle.guillotiere.specs.FreeBoxes.FreeLists.{simple_state_of}
+use Rattle.guillotiere.specs.FreeBoxes.FreeLists.{state_of_items}
 use Rattle.atlas_model.proofs.SimpleLemmas.SimpleGrants.{step-guarded}
 use Rattle.atlas_store.proofs.StoreLemmas.Sizes.{natural-fits}
 use Rattle.guillotiere.proofs.SimpleLemmas.Storing.{stored-step}
@@ -22,7 +22,7 @@ returns-clause-simple g c =
 pub returns-clause-guarded : goal.returns-clause-guarded
 returns-clause-guarded g c held guarded =
     let a = c.self.inside in
-    step-guarded (simple_state_of (box_shelf a.boxes).entries (sides_of a.size) a.options) (simple_state_of (box_shelf c.grant.new.boxes).entries (sides_of a.size) a.options) (sides_of c.args.requested_size) c.grant.result held
+    step-guarded (state_of_items (box_shelf a.boxes).entries (sides_of a.size) a.options) (state_of_items (box_shelf c.grant.new.boxes).entries (sides_of a.size) a.options) (sides_of c.args.requested_size) c.grant.result held
     c.self.invariant.simple
     (c.grant.ensures.step (sides_of a.size) (natural-fits a.size.width (search rules)) (natural-fits a.size.height (search rules)) c.self.invariant.simple)
     (rw c.self.view_is guarded)

@@ -2,7 +2,7 @@ use Rattle.std.proofs.Common.{sym, subst, ◌∙◌, arith}
 use Rattle.atlas_model.specs.Boxes.{Fits}
 use Rattle.atlas_model.specs.Pixels.{sides_of}
 use Rattle.guillotiere.specs.FreeBoxes.BoxShelves.{box_shelf}
-use Rattle.guillotiere.specs.FreeBoxes.FreeLists.{simple_state_of}
+use Rattle.guillotiere.specs.FreeBoxes.FreeLists.{state_of_items}
 use Rattle.atlas_model.proofs.SimpleLemmas.SimpleSteps.{grow-guarded}
 use Rattle.guillotiere.proofs.SimpleLemmas.SimpleStarting.{grows-stored, grown-stored, equal-grows, same-sides}
 use Rattle.guillotiere.proofs.simple.SimpleAtlasAllocator.grow.Goals as goal
@@ -12,7 +12,7 @@ returns-then-eq-clause-step g c =
     let a = c.self.inside in
     let same = same-sides c.args.new_size a.size (sym c.eq.ensures ∙ c.if-eq.true) in
     rw (← c.self.view_is)
-    (equal-grows (simple_state_of (box_shelf a.boxes).entries (sides_of a.size) a.options) (sides_of c.args.new_size) c.self.invariant.simple same)
+    (equal-grows (state_of_items (box_shelf a.boxes).entries (sides_of a.size) a.options) (sides_of c.args.new_size) c.self.invariant.simple same)
 
 pub invariant_of-self-2 : goal.invariant_of-self-2
 invariant_of-self-2 g c =
@@ -27,7 +27,7 @@ pub returns-clause-guarded : goal.returns-clause-guarded
 returns-clause-guarded g c held guarded =
     let a = c.self.inside in
     let fits = subst (λ w. Fits w.size (sides_of c.args.new_size)) (sym c.self.view_is) c.requires in
-    grow-guarded (simple_state_of (box_shelf a.boxes).entries (sides_of a.size) a.options) (simple_state_of (box_shelf c.add_rest.new.boxes).entries (sides_of c.args.new_size) a.options) (sides_of c.args.new_size) held
+    grow-guarded (state_of_items (box_shelf a.boxes).entries (sides_of a.size) a.options) (state_of_items (box_shelf c.add_rest.new.boxes).entries (sides_of c.args.new_size) a.options) (sides_of c.args.new_size) held
     c.self.invariant.simple fits (grows-stored (box_shelf a.boxes).entries (box_shelf c.add_rest.new.boxes).entries a.size c.args.new_size a.options c.in_ok-add_rest.ensures.ok.boxes) (rw c.self.view_is guarded)
 
 pub returns-clause-simple : goal.returns-clause-simple
