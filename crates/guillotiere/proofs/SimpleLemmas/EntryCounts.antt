@@ -1,5 +1,6 @@
 -- Each entry of the simple allocator is a free box or unused: how many there are of both.
-use Rattle.std.proofs.Common.{◌≡◌, ℕ, zero, suc, ◌+◌, ◌<◌, ◌≤◌, inl, inr, true, false, List, [], ◌∷◌, length, refl, ap, arith}
+use Rattle.std.proofs.Common.{◌≡◌, ℕ, zero, suc, ◌+◌, ◌<◌, ◌≤◌, max, inl, inr, true, false, List, [], ◌∷◌, length, refl, sym, ap, subst, arith}
+use Rattle.std.proofs.Math.Nat.{max-eq_left}
 use Rattle.std.specs.List.{Contains}
 use Rattle.std.proofs.lemmas.Bool.{cases_eq, cases_Bool, cond-true, cond-false}
 use Rattle.atlas_model.specs.Choice.{Options}
@@ -7,7 +8,7 @@ use Rattle.atlas_store.specs.Search.Items.{Item, item_at, item_box, IsPath}
 use Rattle.atlas_store.specs.Slots.{no_slot}
 use Rattle.atlas_store.specs.Slots.Lists.{occurs}
 use Rattle.atlas_store.specs.Slots.Numbered.{same}
-use Rattle.guillotiere.specs.FreeBoxes.BoxShelves.{BoxShelf, AreKept, AreKeptWith, free_count, free_item_boxes}
+use Rattle.guillotiere.specs.FreeBoxes.BoxShelves.{BoxShelf, AddsWhatIsUsed, AreKept, AreKeptWith, free_count, free_item_boxes}
 use Rattle.atlas_store.proofs.ListLemmas.Occurrences.{same-self, same-ne}
 use Rattle.atlas_store.proofs.SearchLemmas.Showing.{path-inside}
 use Rattle.guillotiere.proofs.SimpleLemmas.FreeItems.{are-free}
@@ -118,3 +119,12 @@ used-less o v kept some = go kept.spare kept.chain kept.used
     go : (xs : List ℕ) → IsPath v.entries v.unused.number xs no_slot → v.used + length xs ≡ length v.entries → v.used < length v.entries
     go [] path count = absurd (some path)
     go (x ∷ xs) path count = omega arith
+
+-- Entries are added as free boxes are.
+pub uses-old : (o : Options) (old new : BoxShelf) → AreKept o new → AddsWhatIsUsed old new
+    → length new.entries ≡ max (length old.entries) (length (free_item_boxes new.entries))
+uses-old o old new kept adds = subst (λ n. length new.entries ≡ max (length old.entries) n) (used-free o new kept) adds
+
+-- Nothing is added where nothing changes.
+pub uses-same : (o : Options) (v : BoxShelf) → AreKept o v → length v.entries ≡ max (length v.entries) (length (free_item_boxes v.entries))
+uses-same o v kept = sym (max-eq_left (omega (arith, used-free o v kept, used-few (λ i. 0) o v kept)))

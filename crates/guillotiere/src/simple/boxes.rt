@@ -86,6 +86,7 @@ impl<A: Allocator> FreeBoxes<A> {
         ensures unless { IsOkUnless result AtlasError.Memory }
         ensures kept { IfOk result (λ it. (o : Options) → AreValid o → AreKept o (box_shelf it)) }
         ensures empty { IfOk result (λ it. (box_shelf it).entries ≡ []) }
+        ensures none { IfOk result (λ it. it.used ≡ 0) }
         ensures room { IfOk result (λ it. 0 < vec_capacity it.entries) }
     {
         let entries = Vec::with_capacity(alloc, 1)?;
