@@ -1,5 +1,5 @@
 -- Calls of a simple allocator as data, their replies, and what a list of calls made in turn keeps to.
-use Rattle.std.specs.Prelude.{◌≡◌, Bool, true, false, List, [], ◌∷◌, length, map}
+use Rattle.std.specs.Prelude.{◌≡◌, ⊤, Bool, true, false, List, [], ◌∷◌, length, map}
 use Rattle.guillotiere.specs.declared.session.simple.SimpleCall.{SimpleCall}
 use Rattle.guillotiere.specs.declared.session.simple.SimpleCall.TheVariants as call
 use Rattle.guillotiere.specs.declared.session.simple.SimpleReply.{SimpleReply}
@@ -49,10 +49,10 @@ is_denial _ = false
 
 -- What a call and its answer say of entries: unused ones come first, and after a start none is unused.
 abbrev pub UsesEntries : SimpleValue → SimpleAtlasCall → SimpleAnswer → SimpleValue → Type 0
-UsesEntries old (Allocate request) answer new = UsesOldEntries old new
-UsesEntries old (Grow size) answer new = UsesOldEntries old new
+UsesEntries old (Allocate request) (Granted box) new = UsesOldEntries old new
+UsesEntries old (Grow size) Done new = UsesOldEntries old new
 UsesEntries old call Done new = UsesEachEntry new
-UsesEntries old call answer new = new ≡ old
+UsesEntries old call answer new = ⊤
 
 -- A call has this reply and leads to new: it is a step of the model, and a granted rectangle is exact; where nothing
 -- was done, all is as before; memory is refused only to a call that may ask for it.

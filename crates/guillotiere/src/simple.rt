@@ -139,6 +139,7 @@ impl<A: Allocator + Copy> SimpleAtlasAllocator<A> {
         ensures used { result.used ≡ used_entries self.now }
         ensures kept { result.kept ≡ kept_entries self.now }
         ensures limit { result.limit ≡ 4294967295 }
+        ensures counted { used_entries self.now ≤ kept_entries self.now }
     {
         SlotCount {
             used: self.boxes.used,
