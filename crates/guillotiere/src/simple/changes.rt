@@ -1,5 +1,5 @@
 //! A simple allocator that grows or begins anew.
-ghost use Rattle.std.specs.Prelude.{◌≡◌, ◌+◌, ◌<◌, ◌≤◌, ◌++◌, [], List, All, map, Ok, OnOk, OnErr, IsOkUnless};
+ghost use Rattle.std.specs.Prelude.{◌≡◌, ◌+◌, ◌<◌, ◌≤◌, ◌++◌, ◌∷◌, [], List, All, map, Ok, OnOk, OnErr, IsOkUnless};
 ghost use Rattle.std.specs.Prelude.{length, vec_capacity};
 ghost use Rattle.atlas_model.specs.Boxes.{AreSameBoxes, Box, Fits, IsNonempty, IsPositive};
 ghost use Rattle.atlas_model.specs.Choice.{AreValid};
@@ -131,6 +131,27 @@ fn add_rest<A: Allocator>(
     Ok(())
 }
 
+// Adds a rectangle, and room for it.
+fn file_area<A: Allocator>(
+    boxes: &mut FreeBoxes<A>,
+    area: Rectangle,
+    options: &AllocatorOptions,
+) -> Result<(), AtlasError>
+    requires exact { IsUnsigned area × IsNonempty (box_of area) }
+    requires kept { AreKept (options_of options.now) (box_shelf boxes.old) }
+    requires used { boxes.old.used ≡ length (box_shelf boxes.old).entries }
+    ensures unless { IsOkUnless result AtlasError.Memory }
+    ensures kept { OnOk result (AreKept (options_of options.now) (box_shelf boxes.new)) }
+    ensures boxes { OnOk result (AreSameBoxes (free_item_boxes (box_shelf boxes.new).entries)
+        (box_of area ∷ free_item_boxes (box_shelf boxes.old).entries)) }
+    ensures used { OnOk result (boxes.new.used ≡ length (box_shelf boxes.new).entries) }
+    ensures capacity { vec_capacity boxes.old.entries ≤ vec_capacity boxes.new.entries }
+{
+    boxes.make_room(1)?;
+    boxes.add(area, options);
+    Ok(())
+}
+
 // Adds the rectangle of each free slot.
 fn file_free<A: Allocator>(
     boxes: &mut FreeBoxes<A>,
@@ -150,8 +171,7 @@ fn file_free<A: Allocator>(
 {
     for slot in slots {
         if slot.node.kind == NodeKind::Free {
-            boxes.make_room(1)?;
-            boxes.add(slot.node.area, options);
+            file_area(boxes, slot.node.area, options)?;
         }
     }
     Ok(())
