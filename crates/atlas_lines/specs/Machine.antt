@@ -21,6 +21,7 @@ use Rattle.guillotiere.specs.Replies.{IsLiveList}
 use Rattle.guillotiere.specs.Stored.{AtlasValue}
 use Rattle.guillotiere.specs.Stored as stored
 use Rattle.guillotiere.specs.Simple.{SimpleState, SimpleAtlasCall, SimpleAnswer, SimpleStep, simple_start}
+use Rattle.guillotiere.specs.SimpleStored.{SimpleValue, simple_state_of}
 use Rattle.guillotiere_recording.specs.declared.error.RecordingError.{RecordingError}
 use Rattle.guillotiere_recording.specs.declared.error.RecordingError.TheVariants as recording
 use Rattle.guillotiere_recording.specs.Events.{EventValue, ListValue}
@@ -62,7 +63,7 @@ pub record ToolState : Type 0 where
 -- What the tool stores: the values of its allocators.
 pub record Held : Type 0 where
   pub stand : Standing AtlasValue SessionValue
-  pub simple : Option SimpleState
+  pub simple : Option SimpleValue
 
 abbrev pub session_in : SessionValue → Session
 session_in value = record { named = session_of value; given = value.given; recording = value.recording }
@@ -72,8 +73,12 @@ standing_in stands.Nothing = stands.Nothing
 standing_in (stands.Atlas value) = stands.Atlas (stored.state_of value)
 standing_in (stands.Session value) = stands.Session (session_in value)
 
+abbrev pub simple_in : Option SimpleValue → Option SimpleState
+simple_in None = None
+simple_in (Some value) = Some (simple_state_of value)
+
 abbrev pub tool_state_of : Held → ToolState
-tool_state_of held = record { stand = standing_in held.stand; simple = held.simple }
+tool_state_of held = record { stand = standing_in held.stand; simple = simple_in held.simple }
 
 -- The atlas, if it stands there itself.
 abbrev pub atlas_of : Standing State Session → Option State

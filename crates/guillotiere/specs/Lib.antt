@@ -1,5 +1,6 @@
 pub mod Sessions
 pub mod SimpleSessions
+pub mod SimpleStored
 pub mod FreeBoxes
 pub mod Plans
 pub use Rattle.atlas_store.specs.Stored
