@@ -24,15 +24,15 @@ use crate::tree::growth::{grow_tree, grow_whole, growth_for, slots_for};
 use crate::tree::requests::{choose, grant, make_room};
 use crate::tree::{free_leaf, slots_needed};
 use atlas_model::{
-    AllocId, Allocation, AllocatorOptions, AtlasError, ChangeList, DEFAULT_OPTIONS, Rectangle,
-    Size, SlotCount,
+    AllocId, Allocation, AllocatorOptions, AtlasError, ChangeList, DEFAULT_OPTIONS, MOST_SLOTS,
+    Rectangle, Size, SlotCount,
 };
 use atlas_store::choice::rounded;
 use atlas_store::cut::granted;
 use atlas_store::search::table::Table;
 use atlas_store::slots::batch::are_named_once;
 use atlas_store::slots::walks::{named_slot, slot_number};
-use atlas_store::slots::{Link, MOST_SLOTS, NO_SLOT, NodeKind};
+use atlas_store::slots::{Link, NO_SLOT, NodeKind};
 use atlas_store::store::Store;
 use atlas_store::store::turns::Turns;
 use std::alloc::{Allocator, Global};
