@@ -87,6 +87,7 @@ impl<A: Allocator + Copy> AtlasAllocator<A> {
         ensures unless { IsOkUnless result AtlasError.Memory }
         ensures state { IfOk result
             (λ it. state_of it ≡ started (sides_of size) (options_of DEFAULT_OPTIONS) MOST_SLOTS) }
+        ensures anew { IfOk result AreFirstGenerations }
         ensures turns { IfOk result (λ it. it.turns ≡ 0) }
         ensures sound { IfOk result (λ it. IsSound (state_of it)) }
     {
@@ -103,6 +104,7 @@ impl<A: Allocator + Copy> AtlasAllocator<A> {
         requires options { AreValid (options_of options.now) }
         ensures unless { IsOkUnless result AtlasError.Memory }
         ensures state { IfOk result (λ it. state_of it ≡ started (sides_of size) (options_of options.now) MOST_SLOTS) }
+        ensures anew { IfOk result AreFirstGenerations }
         ensures turns { IfOk result (λ it. it.turns ≡ 0) }
         ensures sound { IfOk result (λ it. IsSound (state_of it)) }
     {
@@ -123,6 +125,7 @@ impl<A: Allocator + Copy> AtlasAllocator<A> {
         requires most { limit ≤ MOST_SLOTS }
         ensures unless { IsOkUnless result AtlasError.Memory }
         ensures state { IfOk result (λ it. state_of it ≡ started (sides_of size) (options_of options.now) limit) }
+        ensures anew { IfOk result AreFirstGenerations }
         ensures turns { IfOk result (λ it. it.turns ≡ 0) }
         ensures sound { IfOk result (λ it. IsSound (state_of it)) }
     {
