@@ -27,15 +27,15 @@ use crate::tree::growth::{grow_tree, grow_whole, growth_for, slots_for};
 use crate::tree::requests::{choose, grant, make_room};
 use crate::tree::{free_leaf, slots_needed};
 use atlas_model::{
-    AllocId, Allocation, AllocatorOptions, AtlasError, ChangeList, DEFAULT_OPTIONS, Rectangle,
-    Size, SlotCount,
+    AllocId, Allocation, AllocatorOptions, AtlasError, ChangeList, DEFAULT_OPTIONS, MOST_SLOTS,
+    Rectangle, Size, SlotCount,
 };
 use atlas_store::choice::rounded;
 use atlas_store::cut::granted;
 use atlas_store::search::table::Table;
 use atlas_store::slots::batch::are_named_once;
 use atlas_store::slots::walks::{named_slot, slot_number};
-use atlas_store::slots::{Link, MOST_SLOTS, NO_SLOT, NodeKind};
+use atlas_store::slots::{Link, NO_SLOT, NodeKind};
 use atlas_store::store::Store;
 use atlas_store::store::turns::Turns;
 use std::alloc::{Allocator, Global};
@@ -93,6 +93,7 @@ impl<A: Allocator + Copy> AtlasAllocator<A> {
         ensures unless { IsOkUnless result AtlasError.Memory }
         ensures state { IfOk result
             (λ it. state_of it ≡ started (sides_of size) (options_of DEFAULT_OPTIONS) MOST_SLOTS) }
+        ensures anew { IfOk result AreFirstGenerations }
         ensures turns { IfOk result (λ it. it.turns ≡ 0) }
         ensures sound { IfOk result (λ it. IsSound (state_of it)) }
     {
@@ -109,6 +110,7 @@ impl<A: Allocator + Copy> AtlasAllocator<A> {
         requires options { AreValid (options_of options.now) }
         ensures unless { IsOkUnless result AtlasError.Memory }
         ensures state { IfOk result (λ it. state_of it ≡ started (sides_of size) (options_of options.now) MOST_SLOTS) }
+        ensures anew { IfOk result AreFirstGenerations }
         ensures turns { IfOk result (λ it. it.turns ≡ 0) }
         ensures sound { IfOk result (λ it. IsSound (state_of it)) }
     {
@@ -129,6 +131,7 @@ impl<A: Allocator + Copy> AtlasAllocator<A> {
         requires most { limit ≤ MOST_SLOTS }
         ensures unless { IsOkUnless result AtlasError.Memory }
         ensures state { IfOk result (λ it. state_of it ≡ started (sides_of size) (options_of options.now) limit) }
+        ensures anew { IfOk result AreFirstGenerations }
         ensures turns { IfOk result (λ it. it.turns ≡ 0) }
         ensures sound { IfOk result (λ it. IsSound (state_of it)) }
     {
