@@ -1,10 +1,10 @@
 //! The atlas allocator.
-ghost use Rattle.std.specs.Prelude.{◌≡◌, ◌≤◌, ◌<◌, ◌+◌, ◌-◌, ◌*◌, ◌↔◌, [], IsTrue, IfOk, IfSome, OnErr};
+ghost use Rattle.std.specs.Prelude.{◌≡◌, ◌≤◌, ◌<◌, ◌+◌, ◌-◌, ◌*◌, ◌↔◌, [], IsTrue, IfErr, IfOk, IfSome, OnErr};
 ghost use Rattle.std.specs.Prelude.{IsOkUnless, OnOk, length, IsSome, option_map, None, Some, Ok, All, map};
 ghost use Rattle.atlas_model.specs.Boxes.{area, Fits, IsPositive, IsWithin};
-ghost use Rattle.atlas_model.specs.Choice.{AreValid};
+ghost use Rattle.atlas_model.specs.Choice.{AreValid, HasNoRoom};
 ghost use Rattle.atlas_model.specs.Pixels.{sides_of, size_of, options_of, rectangle_of, box_of};
-ghost use Rattle.atlas_model.specs.States.{live_in, used_in, started, after_freeing, IsSound, IsLive};
+ghost use Rattle.atlas_model.specs.States.{live_in, free_in, used_in, started, after_freeing, IsSound, IsLive};
 ghost use Rattle.atlas_store.specs.Visits.{AreFreeAreas, free_areas};
 ghost use Rattle.atlas_store.specs.Slots.{nodes};
 ghost use Rattle.atlas_model.specs.Changes.{only};
@@ -79,6 +79,7 @@ impl<A: Allocator + Copy> AtlasAllocator<A> {
     ghost use Rattle.atlas_model.specs.Refits.Refitted.{HasExactRectangle};
     ghost use Rattle.atlas_model.specs.Callers.{AreGuarded, KeepsLive, AddsBox, JoinsGuarded, LeavesNoBox};
     ghost use Rattle.atlas_model.specs.Callers.{LeavesNoBoxes, KeepsAll, AllLieApart, AllLieWithin};
+    ghost use Rattle.atlas_model.specs.Callers.{HasFrame, IsGranted, IsShortage, KeepsFrame, LiesWithin};
 
     /// An atlas of this size, in pixels, with the default options: one free rectangle. Asks a size that isn't empty.
     /// `Memory` is the only error.
@@ -191,6 +192,7 @@ impl<A: Allocator + Copy> AtlasAllocator<A> {
         ensures rectangle { result ≡ option_map rectangle_of (live_box (state_of self.now) id) }
         ensures live { IsSome result ↔ IsLive (state_of self.now) id }
         ensures within { IfSome result (λ rectangle. IsWithin (state_of self.now).size (box_of rectangle)) }
+        ensures lies { IfSome result (LiesWithin (state_of self.now).size) }
     {
         let at = named_slot(&self.store.slots, id)?;
         Some(self.store.slots[at].node.area)
@@ -212,6 +214,12 @@ impl<A: Allocator + Copy> AtlasAllocator<A> {
         ensures guarded { IfOk result (λ granted. IfSome granted (λ a.
             JoinsGuarded (state_of self.old) (state_of self.new) (box_of a.rectangle))) }
         ensures keeps { KeepsLive (state_of self.old) (state_of self.new) }
+        ensures grant { IfOk result (λ granted. IfSome granted (λ a.
+            IsGranted (state_of self.old) requested_size a.rectangle)) }
+        ensures denied { (result ≡ Ok None)
+            ↔ HasNoRoom (free_in (state_of self.old)) (state_of self.old).options (sides_of requested_size) }
+        ensures errors { IfErr result IsShortage }
+        ensures frame { KeepsFrame (state_of self.old) (state_of self.new) }
     {
         let Some(size) = rounded(requested_size, &self.store.options) else {
             return Ok(None);
@@ -239,6 +247,8 @@ impl<A: Allocator + Copy> AtlasAllocator<A> {
         ensures ok { (result ≡ Ok tt) ↔ IsLive (state_of self.old) id }
         ensures leaves { LeavesNoBox (state_of self.old) (state_of self.new) id }
         ensures count { OnOk result (length (live_in (state_of self.new)) + 1 ≡ length (live_in (state_of self.old))) }
+        ensures frame { KeepsFrame (state_of self.old) (state_of self.new) }
+        ensures kept { (state_of self.new).kept ≡ (state_of self.old).kept }
     {
         if !self.is_live(id) {
             return Err(AtlasError::NotLive);
@@ -261,6 +271,8 @@ impl<A: Allocator + Copy> AtlasAllocator<A> {
             ≡ self.old.turns + length ids.now + used_in (state_of self.old)) }
         ensures leaves { OnOk result (LeavesNoBoxes (state_of self.old) (state_of self.new) ids.now) }
         ensures sound { IsSound (state_of self.new) }
+        ensures frame { KeepsFrame (state_of self.old) (state_of self.new) }
+        ensures kept { (state_of self.new).kept ≡ (state_of self.old).kept }
     {
         if !self.are_live_once(ids) {
             return Err(AtlasError::NotLive);
@@ -283,6 +295,9 @@ impl<A: Allocator + Copy> AtlasAllocator<A> {
         ensures refused { OnErr result (self.new ≡ self.old) }
         ensures turns { self.new.turns ≡ self.old.turns }
         ensures keeps { KeepsAll (state_of self.old) (state_of self.new) }
+        ensures errors { IfErr result IsShortage }
+        ensures frame { OnOk result (HasFrame (state_of self.new) (sides_of new_size) (state_of self.old).options
+            (state_of self.old).limit) }
     {
         if self.is_empty() {
             self.grow_box(new_size);
@@ -307,6 +322,8 @@ impl<A: Allocator + Copy> AtlasAllocator<A> {
         ensures refused { OnErr result (self.new ≡ self.old) }
         ensures turns { self.new.turns ≡ self.old.turns }
         ensures sound { IsSound (state_of self.new) }
+        ensures errors { IfErr result IsShortage }
+        ensures frame { KeepsFrame (state_of self.old) (state_of self.new) }
     {
         self.resize_and_rearrange(self.size)
     }
@@ -328,6 +345,9 @@ impl<A: Allocator + Copy> AtlasAllocator<A> {
         ensures refused { OnErr result (self.new ≡ self.old) }
         ensures turns { self.new.turns ≡ self.old.turns }
         ensures sound { IsSound (state_of self.new) }
+        ensures errors { IfErr result IsShortage }
+        ensures frame { OnOk result (HasFrame (state_of self.new) (sides_of new_size) (state_of self.old).options
+            (state_of self.old).limit) }
     {
         let order = self.refit_order()?;
         let alloc = *self.store.slots.allocator();
@@ -378,6 +398,7 @@ impl<A: Allocator + Copy> AtlasAllocator<A> {
         ensures turns { self.new.turns ≡ self.old.turns }
         ensures sound { IsSound (state_of self.new) }
         ensures idle { live_in (state_of self.new) ≡ [] }
+        ensures frame { KeepsFrame (state_of self.old) (state_of self.new) }
     {
         let size = self.size;
         let options = self.store.options;
@@ -397,6 +418,7 @@ impl<A: Allocator + Copy> AtlasAllocator<A> {
         ensures turns { self.new.turns ≡ self.old.turns }
         ensures sound { IsSound (state_of self.new) }
         ensures idle { live_in (state_of self.new) ≡ [] }
+        ensures frame { HasFrame (state_of self.new) (sides_of size) (options_of options.now) (state_of self.old).limit }
     {
         self.restart(size, options);
         Ok(())

@@ -2,6 +2,7 @@ use Rattle.std.proofs.Common.{◌+◌, ap, sym, ◌∙◌, arith, drop}
 use Rattle.atlas_store.specs.Stored.{state_of}
 use Rattle.guillotiere.proofs.AtlasLemmas.FreedLists.{after_each, each-all, once-after, head-live, each-next, each-none}
 use Rattle.atlas_model.proofs.StepLemmas.CallerSteps.{batch_leaves}
+use Rattle.atlas_model.proofs.StepLemmas.CallerGrants.{freeing_frame, freeing_kept}
 use Rattle.guillotiere.proofs.atlas.AtlasAllocator.deallocate_all.Goals as goal
 
 pub loop-id-init : goal.loop-id-init
@@ -39,3 +40,12 @@ returns-clause-leaves g c =
 
 pub returns-clause-sound : goal.returns-clause-sound
 returns-clause-sound g c = (returns-clause-leaves g c).sound
+
+pub returns-clause-frame : goal.returns-clause-frame
+returns-clause-frame g c =
+    freeing_frame (state_of c.args.self.now) (state_of c.loop-id.self) _ (returns-clause-freed g c)
+
+pub returns-clause-kept : goal.returns-clause-kept
+returns-clause-kept g c =
+    freeing_kept (state_of c.args.self.now) (state_of c.loop-id.self) _ c.are_live_once.ensures.sound
+    (returns-clause-freed g c)
