@@ -1,13 +1,15 @@
 -- What a caller holds of an atlas: live boxes, which stay where they are and apart from one another.
 use Rattle.std.specs.Prelude.{◌≡◌, ◌≢◌, ℕ, ◌+◌, ◌≤◌, pos, ◌+ℤ◌, ◌≤ℤ◌, ◌<ℤ◌, ◌&&◌, ◌⊎◌, ◌↔◌, true, false, List, [], ◌∷◌, ◌++◌, map}
-use Rattle.std.specs.Prelude.{length, All, Option, Some, None, IsSome, IfSome, option_map, ◌==◌, if◌then◌else◌}
+use Rattle.std.specs.Prelude.{length, All, Option, Some, None, Result, Ok, Err, IsSome, IfSome, option_map, ◌==◌}
+use Rattle.std.specs.Prelude.{if◌then◌else◌}
+use Rattle.atlas_model.specs.declared.allocation.Allocation.{Allocation}
 use Rattle.atlas_model.specs.declared.error.AtlasError.{AtlasError}
 use Rattle.atlas_model.specs.declared.error.AtlasError.TheVariants.{Memory, Slots}
 use Rattle.atlas_model.specs.declared.geometry.Rectangle.{Rectangle}
 use Rattle.atlas_model.specs.declared.geometry.Size.{Size}
 use Rattle.atlas_model.specs.Boxes.{Sides, Box, box_sides, covers, Fits, IsPositive, IsNonempty, IsWithin, AreDisjoint}
-use Rattle.atlas_model.specs.Choice.{Options, rounded, HasRoom}
-use Rattle.atlas_model.specs.Pixels.{box_of, rectangle_of, sides_of}
+use Rattle.atlas_model.specs.Choice.{Options, rounded, HasRoom, HasNoRoom}
+use Rattle.atlas_model.specs.Pixels.{box_of, rectangle_of, sides_of, IsMeasurable}
 use Rattle.atlas_model.specs.States.{State, live_in, free_in, IsLive, IsSound}
 use Rattle.atlas_model.specs.Replies.{live_box}
 use Rattle.atlas_model.specs.Laws.TreeLaws.{is_among}
@@ -27,18 +29,30 @@ pub record LiesWithin (s : Sides) (r : Rectangle) : Type 0 where
   pub bottom : r.max.y ≤ℤ pos s.height
 
 -- What a request is granted in a state: a rectangle within the atlas, of the requested sides, rounded up to multiples
--- of the alignment. At alignment 1 they are the requested ones.
+-- of the alignment: less than one alignment above them, and so equal to them at alignment 1.
 pub record IsGranted (s : State) (request : Size) (r : Rectangle) : Type 0 where
-  pub within : LiesWithin s.size r
-  pub sides : box_sides (box_of r) ≡ rounded s.options (sides_of request)
+  pub positive : (pos 0 <ℤ request.width) × (pos 0 <ℤ request.height)
+  pub left : pos 0 ≤ℤ r.min.x
+  pub top : pos 0 ≤ℤ r.min.y
+  pub right : r.max.x ≤ℤ pos s.size.width
+  pub bottom : r.max.y ≤ℤ pos s.size.height
   pub wide : (r.min.x +ℤ request.width) ≤ℤ r.max.x
   pub high : (r.min.y +ℤ request.height) ≤ℤ r.max.y
-  pub width : s.options.alignment.width ≡ 1 → r.max.x ≡ r.min.x +ℤ request.width
-  pub height : s.options.alignment.height ≡ 1 → r.max.y ≡ r.min.y +ℤ request.height
+  pub barely_wide : r.max.x <ℤ ((r.min.x +ℤ request.width) +ℤ pos s.options.alignment.width)
+  pub barely_high : r.max.y <ℤ ((r.min.y +ℤ request.height) +ℤ pos s.options.alignment.height)
+  pub sides : box_sides (box_of r) ≡ rounded s.options (sides_of request)
+  pub measurable : IsMeasurable r
 
 -- Memory was refused, or the slots of the atlas don't suffice.
 abbrev pub IsShortage : AtlasError → Type 0
 IsShortage error = (error ≡ Memory) ⊎ (error ≡ Slots)
+
+-- What a request is answered: None exactly if it has no room; an error, if it has, only where memory or slots are
+-- wanting.
+abbrev pub IsAnswer : State → (request : Size) → Result (Option Allocation) AtlasError → Type 0
+IsAnswer s request (Ok None) = HasNoRoom (free_in s) s.options (sides_of request)
+IsAnswer s request (Ok (Some a)) = IsGranted s request a.rectangle
+IsAnswer s request (Err error) = IsShortage error × HasRoom (free_in s) s.options (sides_of request)
 
 -- The size, the options and the limit of an atlas.
 pub record HasFrame (s : State) (n : Sides) (o : Options) (most : ℕ) : Type 0 where

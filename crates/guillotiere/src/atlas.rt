@@ -2,9 +2,9 @@
 ghost use Rattle.std.specs.Prelude.{◌≡◌, ◌≤◌, ◌<◌, ◌+◌, ◌-◌, ◌*◌, ◌↔◌, [], IsTrue, IfErr, IfOk, IfSome, OnErr};
 ghost use Rattle.std.specs.Prelude.{IsOkUnless, OnOk, length, IsSome, option_map, None, Some, Ok, All, map};
 ghost use Rattle.atlas_model.specs.Boxes.{area, Fits, IsPositive, IsWithin};
-ghost use Rattle.atlas_model.specs.Choice.{AreValid, HasNoRoom};
+ghost use Rattle.atlas_model.specs.Choice.{AreValid};
 ghost use Rattle.atlas_model.specs.Pixels.{sides_of, size_of, options_of, rectangle_of, box_of};
-ghost use Rattle.atlas_model.specs.States.{live_in, free_in, used_in, started, after_freeing, IsSound, IsLive};
+ghost use Rattle.atlas_model.specs.States.{live_in, used_in, started, after_freeing, IsSound, IsLive};
 ghost use Rattle.atlas_store.specs.Visits.{AreFreeAreas, free_areas};
 ghost use Rattle.atlas_store.specs.Slots.{nodes};
 ghost use Rattle.atlas_model.specs.Changes.{only};
@@ -79,7 +79,7 @@ impl<A: Allocator + Copy> AtlasAllocator<A> {
     ghost use Rattle.atlas_model.specs.Refits.Refitted.{HasExactRectangle};
     ghost use Rattle.atlas_model.specs.Callers.{AreGuarded, KeepsLive, AddsBox, JoinsGuarded, LeavesNoBox};
     ghost use Rattle.atlas_model.specs.Callers.{LeavesNoBoxes, KeepsAll, AllLieApart, AllLieWithin};
-    ghost use Rattle.atlas_model.specs.Callers.{HasFrame, IsGranted, IsShortage, KeepsFrame, LiesWithin};
+    ghost use Rattle.atlas_model.specs.Callers.{HasFrame, IsAnswer, IsShortage, KeepsFrame, LiesWithin};
 
     /// An atlas of this size, in pixels, with the default options: one free rectangle. Asks a size that isn't empty.
     /// `Memory` is the only error.
@@ -214,11 +214,7 @@ impl<A: Allocator + Copy> AtlasAllocator<A> {
         ensures guarded { IfOk result (λ granted. IfSome granted (λ a.
             JoinsGuarded (state_of self.old) (state_of self.new) (box_of a.rectangle))) }
         ensures keeps { KeepsLive (state_of self.old) (state_of self.new) }
-        ensures grant { IfOk result (λ granted. IfSome granted (λ a.
-            IsGranted (state_of self.old) requested_size a.rectangle)) }
-        ensures denied { (result ≡ Ok None)
-            ↔ HasNoRoom (free_in (state_of self.old)) (state_of self.old).options (sides_of requested_size) }
-        ensures errors { IfErr result IsShortage }
+        ensures answer { IsAnswer (state_of self.old) requested_size result }
         ensures frame { KeepsFrame (state_of self.old) (state_of self.new) }
     {
         let Some(size) = rounded(requested_size, &self.store.options) else {

@@ -1,16 +1,16 @@
 -- What a request is granted and denied, and what stays of an atlas's frame.
-use Rattle.std.proofs.Common.{◌≡◌, ◌↔◌, ℕ, ◌<◌, ℤ, pos, negsuc, Bool, [], refl, ap, subst, sym, ◌∙◌, arith, Option, Some, None, Result, Ok, Err}
-use Rattle.std.proofs.Common.{IfSome, option_map}
+use Rattle.std.proofs.Common.{◌≡◌, ℕ, ◌<◌, ℤ, pos, negsuc, Bool, [], refl, ap, subst, sym, ◌∙◌, arith, Option, Some, None, Result, Ok, Err}
+use Rattle.std.proofs.Common.{IfSome, option_map, inl, inr}
 use Rattle.std.proofs.lemmas.Int.{ints}
 use Rattle.atlas_model.specs.Boxes.{Sides, Box, box_sides, whole_box, IsNonempty, IsWithin}
-use Rattle.atlas_model.specs.Callers.{rectangle_in, LiesWithin, IsGranted, IdleHasRoom, KeepsFrame}
-use Rattle.atlas_model.specs.Choice.{rounded, HasRoom, HasNoRoom}
-use Rattle.atlas_model.specs.Pixels.{natural, sides_of, box_of, rectangle_of}
+use Rattle.atlas_model.specs.Callers.{rectangle_in, LiesWithin, IsGranted, IsAnswer, IdleHasRoom, KeepsFrame}
+use Rattle.atlas_model.specs.Choice.{rounded, HasRoom}
+use Rattle.atlas_model.specs.Pixels.{natural, sides_of, box_of, rectangle_of, IsMeasurable}
 use Rattle.atlas_model.specs.Replies.{live_box, IsExact, allocate_reply}
 use Rattle.atlas_model.specs.States.{State, free_in, IsSound, after_freeing}
 use Rattle.atlas_model.specs.Steps.{Step, Takes}
 use Rattle.atlas_model.specs.Steps.AtlasCall.{Allocate}
-use Rattle.atlas_model.specs.Steps.AtlasReply.{Allocated}
+use Rattle.atlas_model.specs.Steps.AtlasReply.{Allocated, NoRoom}
 use Rattle.atlas_model.specs.Trees.{grant}
 use Rattle.atlas_model.specs.declared.allocation.Allocation.{Allocation}
 use Rattle.atlas_model.specs.declared.geometry.Rectangle.{Rectangle}
@@ -44,8 +44,8 @@ whole_side (negsuc n) some = absurd (omega (arith, some))
 
 pub request_granted : (old new : State) → IsSound old → (request : Size) (id : ℕ) (area : Rectangle)
     → Step old (Allocate (sides_of request)) (Allocated (grant id (box_of area))) new → IsExact area
-    → IsGranted old request area
-request_granted old new sound request id area step exact =
+    → IsMeasurable area → IsGranted old request area
+request_granted old new sound request id area step exact measurable =
     let b = box_of area in
     let r = sides_of request in
     let does = grants_lie_inside old new r (grant id b) sound step in
@@ -53,14 +53,20 @@ request_granted old new sound request id area step exact =
     let lies = live_lie_within new id b sound_new (grant_adds old new sound r (grant id b) step).here in
     let width = whole_side request.width step.1.takes.positive.0 in
     let height = whole_side request.height step.1.takes.positive.1 in
+    let within : IsWithin old.size b = subst (λ (s : State). IsWithin s.size b) step.1.state lies.1 in
     subst (IsGranted old request) (sym exact)
     (record {
-      within = rectangle_within old.size b lies.0 (subst (λ (s : State). IsWithin s.size b) step.1.state lies.1);
-      sides = ap box_sides step.1.box ∙ sides_at step.0.min (rounded old.options r);
+      positive = (omega (arith, ints, step.1.takes.positive.0, width), omega (arith, ints, step.1.takes.positive.1, height));
+      left = omega (arith, ints);
+      top = omega (arith, ints);
       wide = omega (arith, ints, does.width.0, lies.0.0, width);
       high = omega (arith, ints, does.height.0, lies.0.1, height);
-      width = λ one. omega (arith, ints, does.width.0, does.width.1, lies.0.0, one, width);
-      height = λ one. omega (arith, ints, does.height.0, does.height.1, lies.0.1, one, height);
+      right = omega (arith, ints, within.0);
+      bottom = omega (arith, ints, within.1);
+      barely_wide = omega (arith, ints, does.width.1, lies.0.0, width);
+      barely_high = omega (arith, ints, does.height.1, lies.0.1, height);
+      sides = ap box_sides step.1.box ∙ sides_at step.0.min (rounded old.options r);
+      measurable = subst IsMeasurable exact measurable;
     })
 
 -- A shown rectangle lies within the atlas.
@@ -87,13 +93,16 @@ idle_has_room s r sound idle positive fits = record {
 takes_room : (s : State) (r : Sides) (f : Box) → Takes s r f → HasRoom (free_in s) s.options r
 takes_room s r f takes = record { positive = takes.positive; box = f; fitting = takes.pick.best.candidate.fitting }
 
-pub request_denied : (old new : State) (r : Sides) (result : Result (Option Allocation) AtlasError)
-    → Step old (Allocate r) (allocate_reply result) new → (result ≡ Ok None) ↔ HasNoRoom (free_in old) old.options r
-request_denied old new r (Ok None) step = (λ e. step.0, λ none. refl)
-request_denied old new r (Ok (Some a)) step = (λ e. cc, λ none. absurd (none (takes_room old r step.0 step.1.takes)))
-request_denied old new r (Err Memory) step = (λ e. cc, λ none. absurd (none (takes_room old r step.0 step.1)))
-request_denied old new r (Err Slots) step = (λ e. cc, λ none. absurd (none (takes_room old r step.0 step.1)))
-request_denied old new r (Err NotLive) step = absurd step
+pub no_room_answer : (old new : State) (request : Size) → Step old (Allocate (sides_of request)) NoRoom new
+    → IsAnswer old request (Ok None)
+no_room_answer old new request step = step.0
+
+pub refused_answer : (old new : State) (request : Size) (result : Result (Option Allocation) AtlasError) (error : AtlasError)
+    → result ≡ Err error → Step old (Allocate (sides_of request)) (allocate_reply result) new → IsAnswer old request result
+refused_answer old new request (Ok o) error is step = cc
+refused_answer old new request (Err Memory) error is step = (inl refl, takes_room old (sides_of request) step.0 step.1)
+refused_answer old new request (Err Slots) error is step = (inr refl, takes_room old (sides_of request) step.0 step.1)
+refused_answer old new request (Err NotLive) error is step = absurd step
 
 -- A freeing keeps the frame, and the number of kept slots.
 pub freeing_frame : (old new : State) (set : ℕ → Bool) → new ≡ after_freeing old set → KeepsFrame old new

@@ -1,5 +1,5 @@
 use Rattle.std.proofs.Common.{rules, ◌≡◌, refl, subst, arith}
-use Rattle.std.specs.Prelude.{Err, Ok, Some, None}
+use Rattle.std.specs.Prelude.{Err}
 use Rattle.atlas_model.specs.Pixels.{box_of, sides_of}
 use Rattle.atlas_model.specs.Replies.{grant_of}
 use Rattle.atlas_model.specs.States.{IsSound}
@@ -10,7 +10,7 @@ use Rattle.atlas_store.proofs.StoreLemmas.Sizes.{natural-fits}
 use Rattle.guillotiere.proofs.SimpleLemmas.CuttingFromLists.{sides_of-size, unsigned-measurable, unsigned_of}
 use Rattle.guillotiere.proofs.AtlasLemmas.GrantedAtlas.{no_room-unrounded, no_room-none, area-unsigned, area-fits, refused-step, some-grantable, grant-done}
 use Rattle.atlas_model.proofs.StepLemmas.CallerSteps.{grant_adds, grant_guarded, request_keeps}
-use Rattle.atlas_model.proofs.StepLemmas.CallerGrants.{request_denied, request_granted}
+use Rattle.atlas_model.proofs.StepLemmas.CallerGrants.{no_room_answer, refused_answer, request_granted}
 use Rattle.guillotiere.proofs.atlas.AtlasAllocator.allocate.Goals as goal
 
 pub returns-in_default-clause-step : goal.returns-in_default-clause-step
@@ -85,24 +85,20 @@ returns-clause-guarded g c =
     grant_guarded _ _ (subst (λ w. IsSound (state_of w)) c.self.view_is c.self.invariant.sound) (sides_of c.args.requested_size)
     (grant_of (record { id = c.grant-id.result; rectangle = c.granted-rectangle.result })) (returns-clause-step g c)
 
-pub returns-clause-grant : goal.returns-clause-grant
-returns-clause-grant g c =
+pub returns-in_default-clause-answer : goal.returns-in_default-clause-answer
+returns-in_default-clause-answer g c = no_room_answer _ _ c.args.requested_size (returns-in_default-clause-step g c)
+
+pub returns-in_default-choose-clause-answer : goal.returns-in_default-choose-clause-answer
+returns-in_default-choose-clause-answer g c =
+    no_room_answer _ _ c.args.requested_size (returns-in_default-choose-clause-step g c)
+
+pub returns-in_err-make_room-clause-answer : goal.returns-in_err-make_room-clause-answer
+returns-in_err-make_room-clause-answer g c =
+    let same : c.from_residual.result ≡ Err c.in_err-make_room.field-0.0 = search rules in
+    refused_answer _ _ c.args.requested_size c.from_residual.result _ same (returns-in_err-make_room-clause-step g c)
+
+pub returns-clause-answer : goal.returns-clause-answer
+returns-clause-answer g c =
     request_granted _ _ (subst (λ w. IsSound (state_of w)) c.self.view_is c.self.invariant.sound) c.args.requested_size
     c.grant-id.result c.granted-rectangle.result (returns-clause-step g c) (returns-clause-exact g c)
-
-pub returns-in_default-clause-denied : goal.returns-in_default-clause-denied
-returns-in_default-clause-denied g c =
-    request_denied _ _ (sides_of c.args.requested_size) (Ok None) (returns-in_default-clause-step g c)
-
-pub returns-in_default-choose-clause-denied : goal.returns-in_default-choose-clause-denied
-returns-in_default-choose-clause-denied g c =
-    request_denied _ _ (sides_of c.args.requested_size) (Ok None) (returns-in_default-choose-clause-step g c)
-
-pub returns-in_err-make_room-clause-denied : goal.returns-in_err-make_room-clause-denied
-returns-in_err-make_room-clause-denied g c =
-    request_denied _ _ (sides_of c.args.requested_size) c.from_residual.result (returns-in_err-make_room-clause-step g c)
-
-pub returns-clause-denied : goal.returns-clause-denied
-returns-clause-denied g c =
-    request_denied _ _ (sides_of c.args.requested_size)
-    (Ok (Some (record { id = c.grant-id.result; rectangle = c.granted-rectangle.result }))) (returns-clause-step g c)
+    (unsigned-measurable c.granted-rectangle.result (returns-clause-exact g c) (search rules) (search rules) (search rules) (search rules))
