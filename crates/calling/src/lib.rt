@@ -3,11 +3,15 @@
 #![tactic(auto)]
 
 mod apart;
+mod back;
 mod boxes;
 mod first;
+mod frames;
 mod keep;
 mod lists;
 mod moves;
+mod pages;
+mod plain;
 mod sheet;
 mod shown;
 mod tiled;

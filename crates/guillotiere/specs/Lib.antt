@@ -2,6 +2,7 @@ pub mod Sessions
 pub mod SimpleSessions
 pub mod FreeBoxes
 pub mod Plans
+pub mod Pages
 pub use Rattle.atlas_store.specs.Stored
 pub use Rattle.atlas_store.specs.Rectangles
 pub use Rattle.atlas_store.specs.Visits

@@ -1,5 +1,5 @@
 -- Lists as callers meet them: counts and searches under a permutation, a filter and a map.
-use Rattle.std.proofs.Common.{rules, ◌≡◌, ◌≢◌, ◌↔◌, ℕ, zero, suc, ◌+◌, ◌≤◌, ◌<◌, slice_get, slice_set, Bool, true, false, cond, List, [], ◌∷◌, map, length}
+use Rattle.std.proofs.Common.{rules, ◌≡◌, ◌≢◌, ◌↔◌, ℕ, zero, suc, ◌+◌, ◌≤◌, ◌<◌, slice_get, slice_set, get_or, Bool, true, false, cond, List, [], ◌∷◌, map, length}
 use Rattle.std.proofs.Common.{refl, ap, subst, sym, ◌∙◌, arith, Contains, IsPermutation, inl, inr, Option, Some, None}
 use Rattle.std.proofs.lemmas.List.Sorted.{sum_by-IsPermutation, Contains-permutation}
 use Rattle.std.specs.List.{count_by, filter, find}
@@ -20,6 +20,15 @@ module _ {X : Type 0} where
   slice_get-set_other (x ∷ xs) zero (suc j) y differ = refl
   slice_get-set_other (x ∷ xs) (suc i) zero y differ = refl
   slice_get-set_other (x ∷ xs) (suc i) (suc j) y differ = slice_get-set_other xs i j y (λ e. differ (ap suc e))
+
+  -- To set what is there changes nothing.
+  slice_set-same : (xs : List X) (i : ℕ) (y d : X) → y ≡ get_or xs i d → i < length xs → slice_set xs i y ≡ xs
+  slice_set-same [] i y d is within = absurd (omega (arith, within))
+  slice_set-same (x ∷ xs) zero y d is within = ap (λ k. k ∷ xs) is
+  slice_set-same (x ∷ xs) (suc i) y d is within = ap (λ l. x ∷ l) (slice_set-same xs i y d is (omega (arith, within)))
+
+  pub slice_set-read : (xs : List X) (i : ℕ) (y : X) → y ≡ get_or xs i y → i < length xs → slice_set xs i y ≡ xs
+  slice_set-read xs i y is within = slice_set-same xs i y y is within
 
   -- Counts don't depend on the order.
   pub count_by-permutation : (p : X → Bool) (xs ys : List X) → IsPermutation xs ys → count_by p ys ≡ count_by p xs
