@@ -33,7 +33,7 @@ ghost use Rattle.atlas_model.specs.Laws.RunLaws.{RunsKeepOrder, RunsLeaveNoTrace
 ghost use Rattle.atlas_model.specs.Laws.Existence.{RoundingIsLeast, StartsAreSound, StepsExist};
 ghost use Rattle.atlas_model.specs.Renaming.{RenamingChangesNothing, AnswersWithoutIds, LiveNamesCount};
 ghost use Rattle.atlas_model.specs.Callers.{SoundIsTiled, LiveHaveBoxes, LiveShareNothing, LiveLieWithin};
-ghost use Rattle.atlas_model.specs.Callers.{LiveAreGuarded};
+ghost use Rattle.atlas_model.specs.Callers.{LiveAreGuarded, IdleHasRoom, GrantsAreGivenBack, ManyAreGivenBack};
 
 /// In a well formed tree of cuts each unit square of the atlas lies in exactly one leaf's box, and no
 /// such box is empty or passes the sides of the atlas.
@@ -337,6 +337,24 @@ pub fn live_boxes_lie_within()
 #[tactic(auto, using(crate::proofs::StepLemmas::Guarding::live_are_guarded))]
 pub fn live_boxes_are_guarded()
     ensures { LiveAreGuarded }
+{}
+
+/// Where nothing is live, each positive request has room whose rounded sides fit the atlas.
+#[tactic(auto, using(crate::proofs::StepLemmas::CallerGrants::idle_has_room))]
+pub fn idle_has_room()
+    ensures { IdleHasRoom }
+{}
+
+/// A grant that is freed leaves no trace: each id has the box that it had.
+#[tactic(auto, using(crate::proofs::StepLemmas::GivenBack::grants_are_given_back))]
+pub fn grants_are_given_back()
+    ensures { GrantsAreGivenBack }
+{}
+
+/// The same of a list of grants, freed one after another or by one call: each id has the box that it had.
+#[tactic(auto, using(crate::proofs::StepLemmas::GivenBack::many_are_given_back))]
+pub fn many_are_given_back()
+    ensures { ManyAreGivenBack }
 {}
 
 /// Along each run of a simple allocator, boxes that are held stay within it and disjoint from each other and from the

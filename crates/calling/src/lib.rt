@@ -4,11 +4,15 @@
 
 mod apart;
 mod asked;
+mod back;
 mod boxes;
 mod first;
+mod frames;
 mod keep;
 mod lists;
 mod moves;
+mod pages;
+mod plain;
 mod reserved;
 mod sheet;
 mod shown;

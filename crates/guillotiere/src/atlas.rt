@@ -1,5 +1,5 @@
 //! The atlas allocator.
-ghost use Rattle.std.specs.Prelude.{◌≡◌, ◌≤◌, ◌<◌, ◌+◌, ◌-◌, ◌*◌, ◌↔◌, [], IsTrue, IfOk, IfSome, OnErr};
+ghost use Rattle.std.specs.Prelude.{◌≡◌, ◌≤◌, ◌<◌, ◌+◌, ◌-◌, ◌*◌, ◌↔◌, [], IsTrue, IfErr, IfOk, IfSome, OnErr};
 ghost use Rattle.std.specs.Prelude.{IsOkUnless, OnOk, length, IsSome, option_map, None, Some, Ok, All, map};
 ghost use Rattle.std.specs.Prelude.{◌≢◌, Err};
 ghost use Rattle.atlas_model.specs.Boxes.{area, Fits, IsPositive, IsWithin};
@@ -85,6 +85,7 @@ impl<A: Allocator + Copy> AtlasAllocator<A> {
     ghost use Rattle.atlas_model.specs.Refits.Refitted.{HasExactRectangle};
     ghost use Rattle.atlas_model.specs.Callers.{AreGuarded, KeepsLive, AddsBox, JoinsGuarded, LeavesNoBox};
     ghost use Rattle.atlas_model.specs.Callers.{LeavesNoBoxes, KeepsAll, AllLieApart, AllLieWithin};
+    ghost use Rattle.atlas_model.specs.Callers.{HasFrame, IsAnswer, IsShortage, KeepsFrame, LiesWithin};
 
     /// An atlas of this size, in pixels, with the default options: one free rectangle. Asks a size that isn't empty.
     /// `Memory` is the only error.
@@ -202,6 +203,7 @@ impl<A: Allocator + Copy> AtlasAllocator<A> {
         ensures rectangle { result ≡ option_map rectangle_of (live_box (state_of self.now) id) }
         ensures live { IsSome result ↔ IsLive (state_of self.now) id }
         ensures within { IfSome result (λ rectangle. IsWithin (state_of self.now).size (box_of rectangle)) }
+        ensures lies { IfSome result (LiesWithin (state_of self.now).size) }
     {
         let at = named_slot(&self.store.slots, id)?;
         Some(self.store.slots[at].node.area)
@@ -226,6 +228,8 @@ impl<A: Allocator + Copy> AtlasAllocator<A> {
         ensures keeps { KeepsLive (state_of self.old) (state_of self.new) }
         ensures slots { UsesAtMost 4 self.old self.new }
         ensures memory { HasReserve 4 self.old → result ≢ Err AtlasError.Memory }
+        ensures answer { IsAnswer (state_of self.old) requested_size result }
+        ensures frame { KeepsFrame (state_of self.old) (state_of self.new) }
     {
         let Some(size) = rounded(requested_size, &self.store.options) else {
             return Ok(None);
@@ -254,6 +258,8 @@ impl<A: Allocator + Copy> AtlasAllocator<A> {
         ensures leaves { LeavesNoBox (state_of self.old) (state_of self.new) id }
         ensures count { OnOk result (length (live_in (state_of self.new)) + 1 ≡ length (live_in (state_of self.old))) }
         ensures slots { UsesAtMost 0 self.old self.new }
+        ensures frame { KeepsFrame (state_of self.old) (state_of self.new) }
+        ensures kept { (state_of self.new).kept ≡ (state_of self.old).kept }
     {
         if !self.is_live(id) {
             return Err(AtlasError::NotLive);
@@ -277,6 +283,8 @@ impl<A: Allocator + Copy> AtlasAllocator<A> {
         ensures leaves { OnOk result (LeavesNoBoxes (state_of self.old) (state_of self.new) ids.now) }
         ensures sound { IsSound (state_of self.new) }
         ensures slots { UsesAtMost 0 self.old self.new }
+        ensures frame { KeepsFrame (state_of self.old) (state_of self.new) }
+        ensures kept { (state_of self.new).kept ≡ (state_of self.old).kept }
     {
         if !self.are_live_once(ids) {
             return Err(AtlasError::NotLive);
@@ -302,6 +310,9 @@ impl<A: Allocator + Copy> AtlasAllocator<A> {
         ensures keeps { KeepsAll (state_of self.old) (state_of self.new) }
         ensures slots { UsesAtMost 3 self.old self.new }
         ensures memory { HasReserve 3 self.old → result ≢ Err AtlasError.Memory }
+        ensures errors { IfErr result IsShortage }
+        ensures frame { OnOk result (HasFrame (state_of self.new) (sides_of new_size) (state_of self.old).options
+            (state_of self.old).limit) }
     {
         if self.is_empty() {
             self.grow_box(new_size);
@@ -326,6 +337,8 @@ impl<A: Allocator + Copy> AtlasAllocator<A> {
         ensures refused { OnErr result (self.new ≡ self.old) }
         ensures turns { self.new.turns ≡ self.old.turns }
         ensures sound { IsSound (state_of self.new) }
+        ensures errors { IfErr result IsShortage }
+        ensures frame { KeepsFrame (state_of self.old) (state_of self.new) }
     {
         self.resize_and_rearrange(self.size)
     }
@@ -347,6 +360,9 @@ impl<A: Allocator + Copy> AtlasAllocator<A> {
         ensures refused { OnErr result (self.new ≡ self.old) }
         ensures turns { self.new.turns ≡ self.old.turns }
         ensures sound { IsSound (state_of self.new) }
+        ensures errors { IfErr result IsShortage }
+        ensures frame { OnOk result (HasFrame (state_of self.new) (sides_of new_size) (state_of self.old).options
+            (state_of self.old).limit) }
     {
         let order = self.refit_order()?;
         let alloc = *self.store.slots.allocator();
@@ -398,6 +414,7 @@ impl<A: Allocator + Copy> AtlasAllocator<A> {
         ensures sound { IsSound (state_of self.new) }
         ensures idle { live_in (state_of self.new) ≡ [] }
         ensures slots { UsesAtMost 0 self.old self.new }
+        ensures frame { KeepsFrame (state_of self.old) (state_of self.new) }
     {
         let size = self.size;
         let options = self.store.options;
@@ -418,6 +435,7 @@ impl<A: Allocator + Copy> AtlasAllocator<A> {
         ensures sound { IsSound (state_of self.new) }
         ensures idle { live_in (state_of self.new) ≡ [] }
         ensures slots { UsesAtMost 0 self.old self.new }
+        ensures frame { HasFrame (state_of self.new) (sides_of size) (options_of options.now) (state_of self.old).limit }
     {
         self.restart(size, options);
         Ok(())

@@ -12,6 +12,7 @@ use Rattle.guillotiere.proofs.SimpleLemmas.CuttingFromLists.{sides_of-size, unsi
 use Rattle.guillotiere.proofs.AtlasLemmas.GrantedAtlas.{no_room-unrounded, no_room-none, area-unsigned, area-fits, refused-step, some-grantable, grant-done}
 use Rattle.atlas_model.proofs.StepLemmas.CallerSteps.{grant_adds, grant_guarded, request_keeps}
 use Rattle.guillotiere.proofs.AtlasLemmas.Reserving.{request-few, plan-few}
+use Rattle.atlas_model.proofs.StepLemmas.CallerGrants.{no_room_answer, refused_answer, request_granted}
 use Rattle.guillotiere.proofs.atlas.AtlasAllocator.allocate.Goals as goal
 
 pub returns-in_default-clause-step : goal.returns-in_default-clause-step
@@ -109,3 +110,21 @@ returns-in_err-make_room-clause-memory g c =
       c.slots_needed-needed.ensures,
       used-IsAtlas _ c.self.invariant,
     )))
+
+pub returns-in_default-clause-answer : goal.returns-in_default-clause-answer
+returns-in_default-clause-answer g c = no_room_answer _ _ c.args.requested_size (returns-in_default-clause-step g c)
+
+pub returns-in_default-choose-clause-answer : goal.returns-in_default-choose-clause-answer
+returns-in_default-choose-clause-answer g c =
+    no_room_answer _ _ c.args.requested_size (returns-in_default-choose-clause-step g c)
+
+pub returns-in_err-make_room-clause-answer : goal.returns-in_err-make_room-clause-answer
+returns-in_err-make_room-clause-answer g c =
+    let same : c.from_residual.result ≡ Err c.in_err-make_room.field-0.0 = search rules in
+    refused_answer _ _ c.args.requested_size c.from_residual.result _ same (returns-in_err-make_room-clause-step g c)
+
+pub returns-clause-answer : goal.returns-clause-answer
+returns-clause-answer g c =
+    request_granted _ _ (subst (λ w. IsSound (state_of w)) c.self.view_is c.self.invariant.sound) c.args.requested_size
+    c.grant-id.result c.granted-rectangle.result (returns-clause-step g c) (returns-clause-exact g c)
+    (unsigned-measurable c.granted-rectangle.result (returns-clause-exact g c) (search rules) (search rules) (search rules) (search rules))

@@ -3,6 +3,7 @@ use Rattle.atlas_store.specs.Stored.{state_of}
 use Rattle.guillotiere.proofs.AtlasLemmas.FreedLists.{after_each, each-all, once-after, head-live, each-next, each-none}
 use Rattle.atlas_model.proofs.StepLemmas.CallerSteps.{batch_leaves}
 use Rattle.guillotiere.proofs.AtlasLemmas.Reserving.{freeing-few}
+use Rattle.atlas_model.proofs.StepLemmas.CallerGrants.{freeing_frame, freeing_kept}
 use Rattle.guillotiere.proofs.atlas.AtlasAllocator.deallocate_all.Goals as goal
 
 pub loop-id-init : goal.loop-id-init
@@ -47,3 +48,12 @@ returns-clause-slots g c = record {
   used = freeing-few _ _ _ (returns-clause-freed g c);
   capacity = c.loop-id.invariant.capacity;
 }
+
+pub returns-clause-frame : goal.returns-clause-frame
+returns-clause-frame g c =
+    freeing_frame (state_of c.args.self.now) (state_of c.loop-id.self) _ (returns-clause-freed g c)
+
+pub returns-clause-kept : goal.returns-clause-kept
+returns-clause-kept g c =
+    freeing_kept (state_of c.args.self.now) (state_of c.loop-id.self) _ c.are_live_once.ensures.sound
+    (returns-clause-freed g c)

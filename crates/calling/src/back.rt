@@ -1,0 +1,52 @@
+//! What is granted and then freed leaves no trace.
+ghost use Rattle.std.specs.Prelude.{OnErr};
+ghost use Rattle.guillotiere.specs.Callers.{HasSameBoxes};
+ghost use Rattle.guillotiere.specs.Stored.{state_of};
+
+use guillotiere::{AllocId, Allocation, AtlasAllocator, AtlasError, Size};
+use std::alloc::Allocator;
+
+/// A grant whose caller has no place to note it is given back: each id has the box that it had.
+pub fn noted<A: Allocator + Copy>(
+    atlas: &mut AtlasAllocator<A>,
+    size: Size,
+    notes: &mut Vec<Allocation, A>,
+) -> Result<(), AtlasError>
+    ensures { OnErr result (HasSameBoxes (state_of atlas.old) (state_of atlas.new)) }
+{
+    let Some(a) = atlas.allocate(size)? else {
+        return Ok(());
+    };
+    if notes.push(a).is_err() {
+        let _freed = atlas.deallocate(a.id);
+        return Err(AtlasError::Memory);
+    }
+    Ok(())
+}
+
+/// The same without an error: each id has the box that it had.
+pub fn tried<A: Allocator + Copy>(
+    atlas: &mut AtlasAllocator<A>,
+    size: Size,
+) -> Result<Option<Size>, AtlasError>
+    ensures { HasSameBoxes (state_of atlas.old) (state_of atlas.new) }
+{
+    let Some(a) = atlas.allocate(size)? else {
+        return Ok(None);
+    };
+    let _freed = atlas.deallocate(a.id);
+    Ok(Some(size))
+}
+
+/// The same by a test, over a function whose contract has this one clause.
+pub fn tested<A: Allocator + Copy>(
+    atlas: &mut AtlasAllocator<A>,
+    size: Size,
+    other: AllocId,
+) -> Result<(), AtlasError> {
+    let before = atlas.get(other);
+    let _tried = tried(atlas, size)?;
+    let after = atlas.get(other);
+    prove!(after == before);
+    Ok(())
+}
