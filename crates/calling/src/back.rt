@@ -6,6 +6,11 @@ ghost use Rattle.guillotiere.specs.Stored.{state_of};
 use guillotiere::{AllocId, Allocation, AtlasAllocator, AtlasError, Size};
 use std::alloc::Allocator;
 
+// What a caller keeps of a grant.
+fn note<A: Allocator>(notes: &mut Vec<Allocation, A>, a: Allocation) -> Result<(), AtlasError> {
+    Ok(notes.push(a)?)
+}
+
 /// A grant whose caller has no place to note it is given back: each id has the box that it had.
 pub fn noted<A: Allocator + Copy>(
     atlas: &mut AtlasAllocator<A>,
@@ -17,9 +22,9 @@ pub fn noted<A: Allocator + Copy>(
     let Some(a) = atlas.allocate(size)? else {
         return Ok(());
     };
-    if notes.push(a).is_err() {
+    if let Err(error) = note(notes, a) {
         let _freed = atlas.deallocate(a.id);
-        return Err(AtlasError::Memory);
+        return Err(error);
     }
     Ok(())
 }
