@@ -1,6 +1,7 @@
 //! What is granted and then freed leaves no trace.
-ghost use Rattle.std.specs.Prelude.{OnErr};
-ghost use Rattle.guillotiere.specs.Callers.{HasSameBoxes};
+ghost use Rattle.std.specs.Prelude.{◌≡◌, OnErr, IfOk, IfSome};
+ghost use Rattle.guillotiere.specs.Callers.{AddsBox, HasSameBoxes, LeavesNoBox};
+ghost use Rattle.guillotiere.specs.Pixels.{box_of};
 ghost use Rattle.guillotiere.specs.Stored.{state_of};
 
 use guillotiere::{AllocId, Allocation, AtlasAllocator, AtlasError, Size};
@@ -11,6 +12,25 @@ fn note<A: Allocator>(notes: &mut Vec<Allocation, A>, a: Allocation) -> Result<(
     Ok(notes.push(a)?)
 }
 
+// A request, by what it adds.
+fn ask<A: Allocator + Copy>(
+    atlas: &mut AtlasAllocator<A>,
+    size: Size,
+) -> Result<Option<Allocation>, AtlasError>
+    ensures refused { OnErr result (atlas.new ≡ atlas.old) }
+    ensures adds { IfOk result (λ granted. IfSome granted (λ a.
+        AddsBox (state_of atlas.old) (state_of atlas.new) a.id (box_of a.rectangle))) }
+{
+    atlas.allocate(size)
+}
+
+// A freeing, by what it leaves.
+fn give_back<A: Allocator + Copy>(atlas: &mut AtlasAllocator<A>, id: AllocId)
+    ensures { LeavesNoBox (state_of atlas.old) (state_of atlas.new) id }
+{
+    let _freed = atlas.deallocate(id);
+}
+
 /// A grant whose caller has no place to note it is given back: each id has the box that it had.
 pub fn noted<A: Allocator + Copy>(
     atlas: &mut AtlasAllocator<A>,
@@ -19,14 +39,15 @@ pub fn noted<A: Allocator + Copy>(
 ) -> Result<(), AtlasError>
     ensures { OnErr result (HasSameBoxes (state_of atlas.old) (state_of atlas.new)) }
 {
-    let Some(a) = atlas.allocate(size)? else {
+    let Some(a) = ask(atlas, size)? else {
         return Ok(());
     };
-    if let Err(error) = note(notes, a) {
-        let _freed = atlas.deallocate(a.id);
-        return Err(error);
+    let id = a.id;
+    let noted = note(notes, a);
+    if noted.is_err() {
+        give_back(atlas, id);
     }
-    Ok(())
+    noted
 }
 
 /// The same without an error: each id has the box that it had.
