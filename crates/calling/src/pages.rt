@@ -29,7 +29,19 @@ pub fn ask<A: Allocator + Copy>(
     }
 }
 
-/// Asks page after page, until one grants a box. The other pages stay as they are.
+// The first page with room.
+fn page_for<A: Allocator + Copy>(pages: &[AtlasAllocator<A>], size: Size) -> Option<usize>
+    ensures { IfSome result (λ page. page < length pages.now) }
+{
+    for page in 0..pages.len() {
+        if pages[page].can_fit(size) {
+            return Some(page);
+        }
+    }
+    None
+}
+
+/// Asks the first page that has room for a box. The other pages stay as they are.
 pub fn place<A: Allocator + Copy>(
     pages: &mut [AtlasAllocator<A>],
     size: Size,
@@ -39,12 +51,13 @@ pub fn place<A: Allocator + Copy>(
     ensures none { result ≡ Ok None → pages.new ≡ pages.old }
     ensures refused { OnErr result (pages.new ≡ pages.old) }
 {
-    for page in 0..pages.len() {
-        if let Some(a) = ask(pages, page, size)? {
-            return Ok(Some((page, a)));
-        }
+    let Some(page) = page_for(pages, size) else {
+        return Ok(None);
+    };
+    match ask(pages, page, size)? {
+        Some(a) => Ok(Some((page, a))),
+        None => Ok(None),
     }
-    Ok(None)
 }
 
 /// Frees a box by its page and its id. The other pages stay as they are.
