@@ -1,0 +1,22 @@
+-- What a call does with the atlas that a handle holds.
+use Rattle.std.specs.Prelude.{◌≡◌, Option, Some, None}
+use Rattle.guillotiere.specs.States.{State, IsSound}
+use Rattle.guillotiere.specs.Steps.{AtlasCall, AtlasReply, Step}
+use Rattle.guillotiere.specs.Stored.{AtlasValue, state_of}
+
+-- A fact of the atlas that is held: the handle holds one, and it is so.
+abbrev pub Holds : Option AtlasValue → (State → Type 0) → Type 0
+Holds None P = ⊥
+Holds (Some v) P = P (state_of v)
+
+-- The atlas that is held makes a step of the model, and the handle holds it still.
+abbrev pub IsHeldStep : Option AtlasValue → AtlasCall → AtlasReply → Option AtlasValue → Type 0
+IsHeldStep (Some old) call reply (Some new) = Step (state_of old) call reply (state_of new)
+IsHeldStep (Some old) call reply None = ⊥
+IsHeldStep None call reply new = ⊥
+
+-- Both handles hold an atlas, and what the two store is equal.
+abbrev pub StoreEqual : (copy atlas : Option AtlasValue) → Type 0
+StoreEqual (Some copy) (Some atlas) = copy.stored ≡ atlas.stored
+StoreEqual None atlas = ⊥
+StoreEqual (Some copy) None = ⊥

@@ -1,0 +1,1 @@
+//! The exports of an atlas that write lists.

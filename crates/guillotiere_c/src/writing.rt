@@ -1,0 +1,1 @@
+//! Lists, written into arrays of the caller's.
