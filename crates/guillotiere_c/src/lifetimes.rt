@@ -28,6 +28,7 @@ fn start(
         → IsPositive (sides_in width height) × AreValid (options_of options.now) × (1 ≤ limit) × (limit ≤ MOST_SLOTS)
         → ⊥ }
     ensures refused { result ≢ DONE → atlas.new.kept ≡ atlas.old.kept }
+    ensures memory { result ≢ DONE → result ≢ BAD_CALL → IsNone atlas.old.kept → result ≡ MEMORY }
     ensures full { IsSome atlas.old.kept → result ≡ EMPTY }
 {
     if atlas.holds() {
@@ -63,6 +64,7 @@ pub extern "C" fn guillotiere_atlas_new(
         (λ s. s ≡ started (sides_in width height) (options_of DEFAULT_OPTIONS) MOST_SLOTS) }
     ensures refused { result ≢ DONE → atlas.new.kept ≡ atlas.old.kept }
     ensures bad { result ≡ BAD_CALL → IsPositive (sides_in width height) → ⊥ }
+    ensures memory { result ≢ DONE → result ≢ BAD_CALL → IsNone atlas.old.kept → result ≡ MEMORY }
     ensures full { IsSome atlas.old.kept → result ≡ EMPTY }
 {
     start(alloc, width, height, &DEFAULT_OPTIONS, MOST_SLOTS, atlas)
@@ -81,6 +83,7 @@ pub extern "C" fn guillotiere_atlas_with_options(
         (λ s. s ≡ started (sides_in width height) (options_in options.now) MOST_SLOTS) }
     ensures refused { result ≢ DONE → atlas.new.kept ≡ atlas.old.kept }
     ensures bad { result ≡ BAD_CALL → IsPositive (sides_in width height) × AreValid (options_in options.now) → ⊥ }
+    ensures memory { result ≢ DONE → result ≢ BAD_CALL → IsNone atlas.old.kept → result ≡ MEMORY }
     ensures full { IsSome atlas.old.kept → result ≡ EMPTY }
 {
     let options = options_for(options);
@@ -103,6 +106,7 @@ pub extern "C" fn guillotiere_atlas_with_slot_limit(
     ensures bad { result ≡ BAD_CALL
         → IsPositive (sides_in width height) × AreValid (options_in options.now) × (1 ≤ limit) × (limit ≤ MOST_SLOTS)
         → ⊥ }
+    ensures memory { result ≢ DONE → result ≢ BAD_CALL → IsNone atlas.old.kept → result ≡ MEMORY }
     ensures full { IsSome atlas.old.kept → result ≡ EMPTY }
 {
     let options = options_for(options);
@@ -131,6 +135,7 @@ pub extern "C" fn guillotiere_atlas_clone(
     ensures equal { result ≡ DONE → StoreEqual copy.new.kept atlas.old.kept }
     ensures same { atlas.new.kept ≡ atlas.old.kept }
     ensures refused { result ≢ DONE → copy.new.kept ≡ copy.old.kept }
+    ensures memory { result ≢ DONE → IsSome atlas.old.kept → IsNone copy.old.kept → result ≡ MEMORY }
     ensures empty { IsNone atlas.old.kept → result ≡ EMPTY }
     ensures full { IsSome copy.old.kept → result ≡ EMPTY }
 {
