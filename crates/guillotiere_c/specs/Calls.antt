@@ -1,6 +1,7 @@
 -- What a call does with the atlas that a handle holds.
-use Rattle.std.specs.Prelude.{◌≡◌, Option, Some, None}
-use Rattle.guillotiere.specs.States.{State, IsSound}
+use Rattle.std.specs.Prelude.{◌≡◌, ℕ, List, Option, Some, None}
+use Rattle.guillotiere.specs.Laws.TreeLaws.{is_among}
+use Rattle.guillotiere.specs.States.{State, after_freeing}
 use Rattle.guillotiere.specs.Steps.{AtlasCall, AtlasReply, Step}
 use Rattle.guillotiere.specs.Stored.{AtlasValue, state_of}
 
@@ -20,3 +21,9 @@ abbrev pub StoreEqual : (copy atlas : Option AtlasValue) → Type 0
 StoreEqual (Some copy) (Some atlas) = copy.stored ≡ atlas.stored
 StoreEqual None atlas = ⊥
 StoreEqual (Some copy) None = ⊥
+
+-- The ids of a list are freed, and the handle holds the atlas still.
+abbrev pub FreesAll : (old : Option AtlasValue) → List ℕ → (new : Option AtlasValue) → Type 0
+FreesAll (Some old) ids (Some new) = state_of new ≡ after_freeing (state_of old) (is_among ids)
+FreesAll (Some old) ids None = ⊥
+FreesAll None ids new = ⊥

@@ -1,6 +1,7 @@
 pub mod Calls
 pub mod Keeping
 pub mod Numbers
+pub mod Rearrangings
 pub mod SimpleCalls
 pub mod SimpleStatuses
 pub mod SimpleValues
