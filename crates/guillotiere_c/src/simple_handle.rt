@@ -1,6 +1,7 @@
 //! What C holds of a simple allocator.
 ghost use Rattle.std.specs.Prelude.{◌≡◌, is_some, Option, Some, None, IsSome};
-ghost use Rattle.guillotiere_c.specs.SimpleValues.{SimpleValue};
+ghost use Rattle.guillotiere_c.specs.SimpleValues.{SimpleValue, simple_state};
+ghost use Rattle.guillotiere.specs.Simple.{IsSimple};
 
 use crate::held::{Held, hold, release};
 use guillotiere::SimpleAtlasAllocator;
@@ -80,8 +81,11 @@ impl SimpleHandle {
     /// Puts a simple allocator in. Asks that the handle holds nothing.
     pub fn put(&mut self, simple: Box<SimpleAtlasAllocator>)
         requires { self.old.kept ≡ None }
-        ensures { self.new.kept ≡ Some simple.value }
+        ensures put { self.new.kept ≡ Some simple.value }
+        ensures kept { IsSimple (simple_state simple.value) }
     {
+        // Its contract says what each simple allocator keeps.
+        let _size = simple.size();
         let empty = replace(self, SimpleHandle::close(hold(simple)));
         SimpleHandle::forget(empty);
     }
