@@ -1,0 +1,251 @@
+/* The atlas allocators of guillotiere, for C99.
+ *
+ * An atlas is one large rectangle, often a texture, that hands out boxes and takes them back. A simple allocator hands
+ * out boxes and takes none back. Lengths and coordinates are in pixels, areas in unit squares; y grows downwards.
+ *
+ * Handles. A handle is a place for an allocator, which its owner keeps:
+ *
+ *     guillotiere_atlas atlas = GUILLOTIERE_NONE;
+ *     if (guillotiere_atlas_new(1024, 1024, &atlas) != GUILLOTIERE_DONE) ...
+ *     ...
+ *     guillotiere_atlas_free(&atlas);
+ *
+ * A handle that is all zero holds nothing, and every call of such a handle answers GUILLOTIERE_EMPTY. After
+ * guillotiere_atlas_free it holds nothing again, so freeing twice does nothing. An allocator's memory is from malloc,
+ * and guillotiere_atlas_free gives all of it back.
+ *
+ * Statuses. A call answers a status. It is total: sizes, options, ids and limits may be any numbers, and what is wrong
+ * is answered. After each status but GUILLOTIERE_DONE all handles hold what they held, and nothing was written.
+ *
+ * What the caller owes, which nothing tests:
+ * - A handle has been written by calls of this library alone, or is all zero. It isn't copied by `=` or memcpy: a copy is
+ *   made by guillotiere_atlas_clone.
+ * - No pointer is null, not even that of an array of length 0, and each is that of a value of its type, or of as many as
+ *   the length says.
+ * - What is passed by pointers without `const` overlaps nothing else that is passed.
+ * - A handle is used by one call at a time. It may be handed to another thread, by a lock, a start or a join.
+ * - malloc, realloc and free are those of one allocator; no call is made from a signal handler. */
+#ifndef GUILLOTIERE_H
+#define GUILLOTIERE_H
+
+#include <stdbool.h>
+#include <stddef.h>
+#include <stdint.h>
+
+#ifdef __cplusplus
+extern "C" {
+#endif
+
+/* Statuses. */
+enum {
+    GUILLOTIERE_DONE = 0,     /* done; what is granted, found or listed was written */
+    GUILLOTIERE_NO_ROOM = 1,  /* the request has no room */
+    GUILLOTIERE_BAD_CALL = 2, /* an empty size, options that aren't valid, a growth that shrinks a side, a bad limit */
+    GUILLOTIERE_NOT_LIVE = 3, /* an id isn't live, or stands twice in a list of ids */
+    GUILLOTIERE_SLOTS = 4,    /* more slots would be used than the limit allows */
+    GUILLOTIERE_MEMORY = 5,   /* memory was refused */
+    GUILLOTIERE_SHORT = 6,    /* an array is too short */
+    GUILLOTIERE_EMPTY = 7     /* a handle holds nothing, or holds something where one is to be filled */
+};
+
+/* The greatest limit on the slots of an atlas, and that of an atlas without a limit of its own. */
+#define GUILLOTIERE_MOST_SLOTS 16777216
+
+/* A handle that holds nothing, and the default options: initializers. */
+#define GUILLOTIERE_NONE {NULL}
+#define GUILLOTIERE_DEFAULT_OPTIONS {1, 1, 32, 256}
+
+/* Handles. */
+typedef struct guillotiere_atlas {
+    void *at;
+} guillotiere_atlas;
+
+typedef struct guillotiere_simple {
+    void *at;
+} guillotiere_simple;
+
+typedef struct guillotiere_size {
+    int32_t width;
+    int32_t height;
+} guillotiere_size;
+
+/* The unit squares from min on and before max. */
+typedef struct guillotiere_rectangle {
+    int32_t min_x;
+    int32_t min_y;
+    int32_t max_x;
+    int32_t max_y;
+} guillotiere_rectangle;
+
+/* A live box. An id that was freed may be issued again, for another box. */
+typedef struct guillotiere_allocation {
+    uint32_t id;
+    guillotiere_rectangle rectangle;
+} guillotiere_allocation;
+
+/* A box that was placed anew: under its former id, and under the id that it has now. Its sides stay. */
+typedef struct guillotiere_change {
+    guillotiere_allocation before;
+    guillotiere_allocation after;
+} guillotiere_change;
+
+/* Sides of requests are rounded up to multiples of the alignment, whose sides are above 0. A size is small if both its
+ * sides are below the small threshold, large if one is at least the large one; the small one is at most the large one. */
+typedef struct guillotiere_options {
+    int32_t alignment_width;
+    int32_t alignment_height;
+    int32_t small_size_threshold;
+    int32_t large_size_threshold;
+} guillotiere_options;
+
+/* How many slots are used, the most that were used at once since the last start, and how many may be used. Each live and
+ * each free box takes a slot, and so does each container of the tree of cuts. */
+typedef struct guillotiere_slots {
+    uint32_t used;
+    uint32_t kept;
+    uint32_t limit;
+} guillotiere_slots;
+
+/* The areas of all live and of all free boxes: together that of the atlas. */
+typedef struct guillotiere_areas {
+    uint64_t allocated;
+    uint64_t free;
+} guillotiere_areas;
+
+/* How many changes and failures a rearranging wrote. */
+typedef struct guillotiere_change_count {
+    size_t changes;
+    size_t failures;
+} guillotiere_change_count;
+
+/* --- An atlas: its life ------------------------------------------------------------------------------------------- */
+
+/* Makes an atlas with the default options, where the handle holds nothing.
+ * DONE; BAD_CALL if a side isn't above 0; MEMORY; EMPTY if the handle holds an atlas already. */
+uint32_t guillotiere_atlas_new(int32_t width, int32_t height, guillotiere_atlas *atlas);
+
+/* The same with these options. BAD_CALL also if they aren't valid. */
+uint32_t guillotiere_atlas_with_options(int32_t width, int32_t height, const guillotiere_options *options,
+                                        guillotiere_atlas *atlas);
+
+/* The same with a limit on the slots that are used at once. BAD_CALL also if it isn't from 1 to GUILLOTIERE_MOST_SLOTS. */
+uint32_t guillotiere_atlas_with_slot_limit(int32_t width, int32_t height, const guillotiere_options *options,
+                                           uint32_t limit, guillotiere_atlas *atlas);
+
+/* Makes a copy that shares nothing with the atlas, where `copy` holds nothing: it answers later calls as the atlas does,
+ * want of memory aside. DONE; MEMORY; EMPTY if `atlas` holds nothing or `copy` something. */
+uint32_t guillotiere_atlas_clone(guillotiere_atlas *atlas, guillotiere_atlas *copy);
+
+/* Lets an atlas go, with all its memory; the handle holds nothing then. Of a handle that holds nothing: does nothing. */
+void guillotiere_atlas_free(guillotiere_atlas *atlas);
+
+/* --- An atlas: boxes ---------------------------------------------------------------------------------------------- */
+
+/* Asks for a box of this size, rounded up by the options. DONE: `granted` has its id and its rectangle, which overlaps no
+ * other live box. NO_ROOM if the size is empty or fits no free box; SLOTS; MEMORY; EMPTY. */
+uint32_t guillotiere_atlas_allocate(guillotiere_atlas *atlas, int32_t width, int32_t height,
+                                    guillotiere_allocation *granted);
+
+/* Frees the box of a live id: it joins the free space beside it. Takes no memory. DONE; NOT_LIVE; EMPTY. */
+uint32_t guillotiere_atlas_deallocate(guillotiere_atlas *atlas, uint32_t id);
+
+/* Frees the boxes of a list of ids, all or none. DONE; NOT_LIVE if one isn't live or stands twice; MEMORY, as the list is
+ * copied first; EMPTY. */
+uint32_t guillotiere_atlas_deallocate_all(guillotiere_atlas *atlas, const uint32_t *ids, size_t ids_len);
+
+/* The rectangle of a live id. DONE: it is in `found`. NOT_LIVE; EMPTY. */
+uint32_t guillotiere_atlas_get(guillotiere_atlas *atlas, uint32_t id, guillotiere_rectangle *found);
+
+/* --- An atlas: its size ------------------------------------------------------------------------------------------- */
+
+/* Makes the atlas larger; every live id keeps its rectangle. DONE; BAD_CALL if a side shrinks; SLOTS; MEMORY; EMPTY. */
+uint32_t guillotiere_atlas_grow(guillotiere_atlas *atlas, int32_t width, int32_t height);
+
+/* Starts again at the present size, options and limit: one free box, no id live. Takes no memory. DONE; EMPTY. */
+uint32_t guillotiere_atlas_clear(guillotiere_atlas *atlas);
+
+/* Starts again at this size and with these options; the limit stays. Takes no memory.
+ * DONE; BAD_CALL if a side isn't above 0 or the options aren't valid; EMPTY. */
+uint32_t guillotiere_atlas_reset(guillotiere_atlas *atlas, int32_t width, int32_t height,
+                                 const guillotiere_options *options);
+
+/* guillotiere_atlas_resize_and_rearrange at the present size. */
+uint32_t guillotiere_atlas_rearrange(guillotiere_atlas *atlas, guillotiere_change *changes, size_t changes_len,
+                                     guillotiere_allocation *failures, size_t failures_len,
+                                     guillotiere_change_count *count);
+
+/* Places what is live anew in an empty atlas of this size, the largest first; options and limit stay. All former ids are
+ * void. `changes` gets what was placed, `failures` what found no room and is live no more, `count` how many of each. Both
+ * arrays have room for as many as there are used slots (guillotiere_atlas_slots), else the answer is SHORT.
+ * DONE; BAD_CALL if a side isn't above 0; SHORT; SLOTS; MEMORY; EMPTY. */
+uint32_t guillotiere_atlas_resize_and_rearrange(guillotiere_atlas *atlas, int32_t width, int32_t height,
+                                                guillotiere_change *changes, size_t changes_len,
+                                                guillotiere_allocation *failures, size_t failures_len,
+                                                guillotiere_change_count *count);
+
+/* --- An atlas: what it holds -------------------------------------------------------------------------------------- */
+
+/* The size of the atlas. DONE; EMPTY. */
+uint32_t guillotiere_atlas_size(guillotiere_atlas *atlas, guillotiere_size *size);
+
+/* Whether no id is live; also true of a handle that holds nothing. */
+bool guillotiere_atlas_is_empty(guillotiere_atlas *atlas);
+
+/* The counts of slots. DONE; EMPTY. */
+uint32_t guillotiere_atlas_slots(guillotiere_atlas *atlas, guillotiere_slots *slots);
+
+/* The areas of all live and of all free boxes, in one pass over the slots. DONE; EMPTY. */
+uint32_t guillotiere_atlas_areas(guillotiere_atlas *atlas, guillotiere_areas *areas);
+
+/* Writes the live boxes, by rising slot, which is the low 24 bits of the id: as many as there is room for, and into
+ * `count` how many there are. What `found` has after them stays. DONE; MEMORY; EMPTY. */
+uint32_t guillotiere_atlas_live(guillotiere_atlas *atlas, guillotiere_allocation *found, size_t found_len,
+                                size_t *count);
+
+/* The same of the free boxes, in an order that is left open. */
+uint32_t guillotiere_atlas_free_boxes(guillotiere_atlas *atlas, guillotiere_rectangle *found, size_t found_len,
+                                      size_t *count);
+
+/* --- A simple allocator ------------------------------------------------------------------------------------------- */
+
+/* Makes a simple allocator with the default options, where the handle holds nothing.
+ * DONE; BAD_CALL if a side isn't above 0; MEMORY; EMPTY if the handle holds one already. */
+uint32_t guillotiere_simple_new(int32_t width, int32_t height, guillotiere_simple *simple);
+
+/* The same with these options. BAD_CALL also if they aren't valid. */
+uint32_t guillotiere_simple_with_options(int32_t width, int32_t height, const guillotiere_options *options,
+                                         guillotiere_simple *simple);
+
+/* Lets a simple allocator go, with all its memory; the handle holds nothing then. */
+void guillotiere_simple_free(guillotiere_simple *simple);
+
+/* Asks for a box of this size, rounded up by the options. DONE: its rectangle is in `granted`. NO_ROOM if the size is
+ * empty or fits no free box; MEMORY; EMPTY. */
+uint32_t guillotiere_simple_allocate(guillotiere_simple *simple, int32_t width, int32_t height,
+                                     guillotiere_rectangle *granted);
+
+/* Makes the allocator larger. DONE; BAD_CALL if a side shrinks; MEMORY; EMPTY. */
+uint32_t guillotiere_simple_grow(guillotiere_simple *simple, int32_t width, int32_t height);
+
+/* Starts again with one free box of the allocator's size. DONE; MEMORY; EMPTY. */
+uint32_t guillotiere_simple_clear(guillotiere_simple *simple);
+
+/* Starts again at this size and with these options.
+ * DONE; BAD_CALL if a side isn't above 0 or the options aren't valid; MEMORY; EMPTY. */
+uint32_t guillotiere_simple_reset(guillotiere_simple *simple, int32_t width, int32_t height,
+                                  const guillotiere_options *options);
+
+/* Takes over an atlas's size, options and free boxes, so that it never grants what is live there. The atlas stays as it
+ * is. DONE; MEMORY; EMPTY if one of the handles holds nothing. */
+uint32_t guillotiere_simple_init_from_allocator(guillotiere_simple *simple, guillotiere_atlas *atlas);
+
+/* The size of the allocator. DONE; EMPTY. */
+uint32_t guillotiere_simple_size(guillotiere_simple *simple, guillotiere_size *size);
+
+/* Whether one free box has the allocator's size; also true of a handle that holds nothing. */
+bool guillotiere_simple_is_empty(guillotiere_simple *simple);
+
+#ifdef __cplusplus
+}
+#endif
+#endif

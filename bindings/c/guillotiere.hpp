@@ -1,0 +1,265 @@
+// The atlas allocators of guillotiere, for C++17: guillotiere.h with owners.
+//
+// An atlas or a simple allocator is owned by an object that is moved and not copied, and lets it go at its end. An object
+// that was moved from holds nothing: each call of it answers status::empty. Nothing here throws but what a std::vector
+// throws where memory is wanting; it compiles without exceptions.
+//
+// Meaning, units and statuses are those of guillotiere.h, with what a caller owes there: one call at a time, and no two
+// threads at once.
+#ifndef GUILLOTIERE_HPP
+#define GUILLOTIERE_HPP
+
+#include "guillotiere.h"
+
+#include <cstddef>
+#include <cstdint>
+#include <optional>
+#include <utility>
+#include <vector>
+
+namespace guillotiere {
+
+enum class status : std::uint32_t {
+    done = GUILLOTIERE_DONE,
+    no_room = GUILLOTIERE_NO_ROOM,
+    bad_call = GUILLOTIERE_BAD_CALL,
+    not_live = GUILLOTIERE_NOT_LIVE,
+    slots = GUILLOTIERE_SLOTS,
+    memory = GUILLOTIERE_MEMORY,
+    too_short = GUILLOTIERE_SHORT,
+    empty = GUILLOTIERE_EMPTY,
+};
+
+using size = guillotiere_size;
+using rectangle = guillotiere_rectangle;
+using allocation = guillotiere_allocation;
+using change = guillotiere_change;
+using options = guillotiere_options;
+using slot_count = guillotiere_slots;
+using areas = guillotiere_areas;
+
+inline constexpr options default_options = GUILLOTIERE_DEFAULT_OPTIONS;
+inline constexpr std::uint32_t most_slots = GUILLOTIERE_MOST_SLOTS;
+
+// A value, or the status that says why there is none, which is never status::done.
+template <class T>
+class [[nodiscard]] result {
+public:
+    result(T value) : value_(std::move(value)), error_(status::done) {}
+    result(status error) : error_(error) {}
+
+    explicit operator bool() const { return value_.has_value(); }
+    bool has_value() const { return value_.has_value(); }
+    // Asks that there is a value.
+    T &operator*() { return *value_; }
+    const T &operator*() const { return *value_; }
+    T *operator->() { return &*value_; }
+    const T *operator->() const { return &*value_; }
+    // Why there is no value; status::done where there is one.
+    status error() const { return error_; }
+
+private:
+    std::optional<T> value_;
+    status error_;
+};
+
+// What a rearranging moved, and what found no room and is live no more.
+struct change_list {
+    std::vector<change> changes;
+    std::vector<allocation> failures;
+};
+
+class simple_atlas;
+
+// An atlas: hands out boxes, takes them back and joins free space at once.
+class atlas {
+public:
+    static result<atlas> make(size of, const options &with = default_options, std::uint32_t limit = most_slots) {
+        atlas made;
+        const auto answer = guillotiere_atlas_with_slot_limit(of.width, of.height, &with, limit, &made.handle_);
+        return made.held(answer);
+    }
+
+    atlas(atlas &&other) noexcept : handle_(std::exchange(other.handle_, guillotiere_atlas{})) {}
+    atlas &operator=(atlas &&other) noexcept {
+        std::swap(handle_, other.handle_);
+        return *this;
+    }
+    atlas(const atlas &) = delete;
+    atlas &operator=(const atlas &) = delete;
+    ~atlas() { guillotiere_atlas_free(&handle_); }
+
+    // A copy that shares nothing with this atlas.
+    result<atlas> clone() const {
+        atlas copy;
+        const auto answer = guillotiere_atlas_clone(&handle_, &copy.handle_);
+        return copy.held(answer);
+    }
+
+    // A box, or nothing where the request has no room.
+    result<std::optional<allocation>> allocate(size requested) {
+        allocation granted;
+        const auto answer = guillotiere_atlas_allocate(&handle_, requested.width, requested.height, &granted);
+        if (answer == GUILLOTIERE_DONE) return std::optional<allocation>(granted);
+        if (answer == GUILLOTIERE_NO_ROOM) return std::optional<allocation>();
+        return static_cast<status>(answer);
+    }
+
+    [[nodiscard]] status deallocate(std::uint32_t id) { return static_cast<status>(guillotiere_atlas_deallocate(&handle_, id)); }
+
+    // All of these, or none.
+    [[nodiscard]] status deallocate_all(const std::uint32_t *ids, std::size_t count) {
+        const std::uint32_t none = 0;
+        return static_cast<status>(guillotiere_atlas_deallocate_all(&handle_, count == 0 ? &none : ids, count));
+    }
+    [[nodiscard]] status deallocate_all(const std::vector<std::uint32_t> &ids) { return deallocate_all(ids.data(), ids.size()); }
+
+    // The rectangle of a live id.
+    std::optional<rectangle> get(std::uint32_t id) const {
+        rectangle found;
+        if (guillotiere_atlas_get(&handle_, id, &found) != GUILLOTIERE_DONE) return std::nullopt;
+        return found;
+    }
+
+    [[nodiscard]] status grow(size to) { return static_cast<status>(guillotiere_atlas_grow(&handle_, to.width, to.height)); }
+    [[nodiscard]] status clear() { return static_cast<status>(guillotiere_atlas_clear(&handle_)); }
+    [[nodiscard]] status reset(size of, const options &with = default_options) {
+        return static_cast<status>(guillotiere_atlas_reset(&handle_, of.width, of.height, &with));
+    }
+
+    // Places what is live anew, at the present size or at another one.
+    result<change_list> rearrange() {
+        return listed([this](auto &...places) { return guillotiere_atlas_rearrange(&handle_, places...); });
+    }
+    result<change_list> resize_and_rearrange(size to) {
+        return listed([this, to](auto &...places) {
+            return guillotiere_atlas_resize_and_rearrange(&handle_, to.width, to.height, places...);
+        });
+    }
+
+    // Of an atlas that was moved from: 0 by 0.
+    size extent() const {
+        size found{};
+        guillotiere_atlas_size(&handle_, &found);
+        return found;
+    }
+    bool is_empty() const { return guillotiere_atlas_is_empty(&handle_); }
+    slot_count slots() const {
+        slot_count found{};
+        guillotiere_atlas_slots(&handle_, &found);
+        return found;
+    }
+    // The areas of all live and of all free boxes.
+    areas covered() const {
+        areas found{};
+        guillotiere_atlas_areas(&handle_, &found);
+        return found;
+    }
+
+    // The live boxes, by rising slot.
+    result<std::vector<allocation>> live() const {
+        return gathered<allocation>([this](auto &...places) { return guillotiere_atlas_live(&handle_, places...); });
+    }
+    // The free boxes, in an order that is left open.
+    result<std::vector<rectangle>> free_boxes() const {
+        return gathered<rectangle>([this](auto &...places) { return guillotiere_atlas_free_boxes(&handle_, places...); });
+    }
+
+private:
+    friend class simple_atlas;
+
+    atlas() : handle_{} {}
+
+    result<atlas> held(std::uint32_t answer) {
+        if (answer == GUILLOTIERE_DONE) return std::move(*this);
+        return static_cast<status>(answer);
+    }
+
+    // There are as many live and free boxes as used slots at most; one more, as no array of the library's is at null.
+    template <class T, class Call>
+    result<std::vector<T>> gathered(Call call) const {
+        std::vector<T> found(slots().used + std::size_t{1});
+        T *const data = found.data();
+        const std::size_t room = found.size();
+        std::size_t count = 0;
+        std::size_t *const counted = &count;
+        const auto answer = call(data, room, counted);
+        if (answer != GUILLOTIERE_DONE) return static_cast<status>(answer);
+        found.resize(count);
+        return found;
+    }
+
+    template <class Call>
+    result<change_list> listed(Call call) {
+        change_list list;
+        list.changes.resize(slots().used + std::size_t{1});
+        list.failures.resize(list.changes.size());
+        change *const changes = list.changes.data();
+        allocation *const failures = list.failures.data();
+        const std::size_t room = list.changes.size();
+        guillotiere_change_count count{};
+        guillotiere_change_count *const counted = &count;
+        const auto answer = call(changes, room, failures, room, counted);
+        if (answer != GUILLOTIERE_DONE) return static_cast<status>(answer);
+        list.changes.resize(count.changes);
+        list.failures.resize(count.failures);
+        return list;
+    }
+
+    mutable guillotiere_atlas handle_;
+};
+
+// A simple allocator: hands out boxes and takes none back.
+class simple_atlas {
+public:
+    static result<simple_atlas> make(size of, const options &with = default_options) {
+        simple_atlas made;
+        const auto answer = guillotiere_simple_with_options(of.width, of.height, &with, &made.handle_);
+        if (answer != GUILLOTIERE_DONE) return static_cast<status>(answer);
+        return made;
+    }
+
+    simple_atlas(simple_atlas &&other) noexcept : handle_(std::exchange(other.handle_, guillotiere_simple{})) {}
+    simple_atlas &operator=(simple_atlas &&other) noexcept {
+        std::swap(handle_, other.handle_);
+        return *this;
+    }
+    simple_atlas(const simple_atlas &) = delete;
+    simple_atlas &operator=(const simple_atlas &) = delete;
+    ~simple_atlas() { guillotiere_simple_free(&handle_); }
+
+    // A box, or nothing where the request has no room.
+    result<std::optional<rectangle>> allocate(size requested) {
+        rectangle granted;
+        const auto answer = guillotiere_simple_allocate(&handle_, requested.width, requested.height, &granted);
+        if (answer == GUILLOTIERE_DONE) return std::optional<rectangle>(granted);
+        if (answer == GUILLOTIERE_NO_ROOM) return std::optional<rectangle>();
+        return static_cast<status>(answer);
+    }
+
+    [[nodiscard]] status grow(size to) { return static_cast<status>(guillotiere_simple_grow(&handle_, to.width, to.height)); }
+    [[nodiscard]] status clear() { return static_cast<status>(guillotiere_simple_clear(&handle_)); }
+    [[nodiscard]] status reset(size of, const options &with = default_options) {
+        return static_cast<status>(guillotiere_simple_reset(&handle_, of.width, of.height, &with));
+    }
+    // Takes over an atlas's size, options and free boxes; the atlas stays as it is.
+    [[nodiscard]] status init_from_allocator(const atlas &source) {
+        return static_cast<status>(guillotiere_simple_init_from_allocator(&handle_, &source.handle_));
+    }
+
+    size extent() const {
+        size found{};
+        guillotiere_simple_size(&handle_, &found);
+        return found;
+    }
+    bool is_empty() const { return guillotiere_simple_is_empty(&handle_); }
+
+private:
+    simple_atlas() : handle_{} {}
+
+    mutable guillotiere_simple handle_;
+};
+
+} // namespace guillotiere
+
+#endif

@@ -1,0 +1,26 @@
+//! The names of the Rust crate `guillotiere` 0.7.0 over allocators whose every call is proved (libguillotiere.a).
+//!
+//! A call panics where the crate's panics, and where memory or slots are wanting. Beside it stands a `try_` call that
+//! gives the error as a value; after an error everything is as before. What differs from the crate is listed in
+//! bindings/README.md.
+#![deny(unsafe_code)]
+#![warn(unsafe_op_in_unsafe_fn)]
+
+pub extern crate euclid;
+
+mod atlas;
+mod error;
+#[allow(unsafe_code)]
+mod ffi;
+mod plain;
+mod simple;
+mod values;
+
+pub use crate::atlas::AtlasAllocator;
+pub use crate::error::AtlasError;
+pub use crate::simple::SimpleAtlasAllocator;
+pub use crate::values::{
+    AllocId, Allocation, AllocatorOptions, Areas, Change, ChangeList, Point, Rectangle, Size, SlotCount,
+    DEFAULT_OPTIONS, MOST_SLOTS,
+};
+pub use euclid::{point2, size2};

@@ -1,0 +1,95 @@
+use core::marker::PhantomData;
+
+/// A point, in pixels; y grows downwards.
+pub type Point = euclid::default::Point2D<i32>;
+/// The size of a request, of a rectangle or of an atlas, in pixels.
+pub type Size = euclid::default::Size2D<i32>;
+/// The unit squares from `min` on and before `max`.
+pub type Rectangle = euclid::default::Box2D<i32>;
+
+/// The greatest limit on the slots of an atlas, and that of an atlas without a limit of its own.
+pub const MOST_SLOTS: u32 = crate::ffi::MOST_SLOTS;
+
+/// The id of an allocated rectangle. One that was freed may be issued again, for another rectangle.
+#[repr(C)]
+#[derive(Copy, Clone, Debug, PartialEq, Eq, Hash)]
+pub struct AllocId(pub(crate) u32);
+
+impl AllocId {
+    /// The number of the id.
+    pub fn serialize(&self) -> u32 {
+        self.0
+    }
+
+    /// The id of a number. Every number is accepted; whether the id is live is for the atlas to say.
+    pub fn deserialize(bytes: u32) -> Self {
+        AllocId(bytes)
+    }
+}
+
+/// How an allocator rounds requests and tells small, medium and large ones apart.
+#[derive(Copy, Clone, Debug, PartialEq, Eq, Hash)]
+pub struct AllocatorOptions {
+    /// Sides of requests are rounded up to multiples of these; both are above 0. By default (1, 1).
+    pub alignment: Size,
+    /// A size is small if both its sides are below this; at most `large_size_threshold`. By default 32.
+    pub small_size_threshold: i32,
+    /// A size is large if one of its sides is at least this. By default 256.
+    pub large_size_threshold: i32,
+}
+
+/// Alignment (1, 1), thresholds 32 and 256.
+pub const DEFAULT_OPTIONS: AllocatorOptions = AllocatorOptions {
+    alignment: Size { width: 1, height: 1, _unit: PhantomData },
+    small_size_threshold: 32,
+    large_size_threshold: 256,
+};
+
+impl Default for AllocatorOptions {
+    fn default() -> Self {
+        DEFAULT_OPTIONS
+    }
+}
+
+/// An allocated rectangle and its id.
+#[derive(Copy, Clone, Debug, PartialEq)]
+pub struct Allocation {
+    pub id: AllocId,
+    pub rectangle: Rectangle,
+}
+
+/// A rectangle that was placed anew: under its former id, and under the id that it has now.
+#[derive(Copy, Clone, Debug, PartialEq)]
+pub struct Change {
+    pub old: Allocation,
+    pub new: Allocation,
+}
+
+/// What a rearranging placed anew, and what found no room and is live no more.
+#[derive(Clone, Debug, PartialEq)]
+pub struct ChangeList {
+    pub changes: Vec<Change>,
+    pub failures: Vec<Allocation>,
+}
+
+impl ChangeList {
+    /// Two empty lists.
+    pub fn empty() -> Self {
+        ChangeList { changes: Vec::new(), failures: Vec::new() }
+    }
+}
+
+/// How many slots an atlas uses, the most that it used at once since its last start, and how many it may use.
+#[derive(Copy, Clone, Debug, PartialEq, Eq)]
+pub struct SlotCount {
+    pub used: u32,
+    pub kept: u32,
+    pub limit: u32,
+}
+
+/// The areas of all live and of all free rectangles of an atlas, in unit squares: together its own.
+#[derive(Copy, Clone, Debug, PartialEq, Eq)]
+pub struct Areas {
+    pub allocated: u64,
+    pub free: u64,
+}

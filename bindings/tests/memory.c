@@ -1,0 +1,142 @@
+/* Each request for memory is refused in turn: then nothing changed, and nothing is lost. The program is linked so that
+ * malloc, realloc and free are those below (-Wl,--wrap=malloc,--wrap=realloc,--wrap=free). */
+#include "check.h"
+
+#include <string.h>
+
+void *__real_malloc(size_t size);
+void *__real_realloc(void *block, size_t size);
+void __real_free(void *block);
+void *__wrap_malloc(size_t size);
+void *__wrap_realloc(void *block, size_t size);
+void __wrap_free(void *block);
+
+static long left = -1; /* how many requests are granted before one is refused; below 0: all */
+static long blocks;    /* how many blocks are out */
+static long refusals;
+
+static bool refuses(void) {
+    if (left < 0 || left-- > 0) return false;
+    refusals++;
+    return true;
+}
+
+void *__wrap_malloc(size_t size) {
+    void *const block = refuses() ? NULL : __real_malloc(size);
+    blocks += block != NULL;
+    return block;
+}
+
+void *__wrap_realloc(void *block, size_t size) {
+    void *const moved = refuses() ? NULL : __real_realloc(block, size);
+    blocks += block == NULL && moved != NULL;
+    return moved;
+}
+
+void __wrap_free(void *block) {
+    blocks -= block != NULL;
+    __real_free(block);
+}
+
+enum { ROOM = 100 };
+
+/* What an atlas holds, as far as C sees it. */
+typedef struct {
+    guillotiere_allocation live[ROOM];
+    guillotiere_rectangle free_boxes[ROOM];
+    guillotiere_size size;
+    guillotiere_slots slots;
+    size_t live_count, free_count;
+} view;
+
+/* Takes what `left` says away for its time. */
+static view view_of(guillotiere_atlas *atlas) {
+    view seen;
+    const long kept = left;
+    memset(&seen, 0, sizeof seen);
+    left = -1;
+    CHECK(guillotiere_atlas_live(atlas, seen.live, ROOM, &seen.live_count) == GUILLOTIERE_DONE);
+    CHECK(guillotiere_atlas_free_boxes(atlas, seen.free_boxes, ROOM, &seen.free_count) == GUILLOTIERE_DONE);
+    CHECK(guillotiere_atlas_size(atlas, &seen.size) == GUILLOTIERE_DONE);
+    CHECK(guillotiere_atlas_slots(atlas, &seen.slots) == GUILLOTIERE_DONE);
+    left = kept;
+    return seen;
+}
+
+/* A status of a call that may be refused memory. After a refusal the atlas is as it was. */
+static bool is_done(uint32_t status, const view *before, guillotiere_atlas *atlas) {
+    CHECK(status == GUILLOTIERE_DONE || status == GUILLOTIERE_MEMORY);
+    if (status == GUILLOTIERE_DONE) return true;
+    const view after = view_of(atlas);
+    CHECK(memcmp(before, &after, sizeof after) == 0);
+    return false;
+}
+
+static void use(guillotiere_atlas *atlas, guillotiere_atlas *copy, guillotiere_simple *simple) {
+    static guillotiere_change changes[ROOM];
+    static guillotiere_allocation found[ROOM];
+    guillotiere_allocation granted;
+    guillotiere_rectangle taken = {7, 7, 7, 7};
+    guillotiere_change_count moved;
+    uint32_t ids[12];
+    size_t count = 77;
+    if (guillotiere_atlas_new(512, 512, atlas) != GUILLOTIERE_DONE) return;
+    for (int32_t i = 0; i < 12; i++) {
+        const view before = view_of(atlas);
+        granted.id = 99;
+        if (!is_done(guillotiere_atlas_allocate(atlas, 20 + i, 30 + 2 * i, &granted), &before, atlas)) {
+            CHECK(granted.id == 99);
+            return;
+        }
+        ids[i] = granted.id;
+    }
+    const view full = view_of(atlas);
+    if (!is_done(guillotiere_atlas_grow(atlas, 600, 700), &full, atlas)) return;
+    const view grown = view_of(atlas);
+    if (!is_done(guillotiere_atlas_clone(atlas, copy), &grown, atlas)) {
+        CHECK(copy->at == NULL);
+        return;
+    }
+    if (!is_done(guillotiere_atlas_live(atlas, found, ROOM, &count), &grown, atlas)) {
+        CHECK(count == 77);
+        return;
+    }
+    if (!is_done(guillotiere_atlas_free_boxes(atlas, &taken, 1, &count), &grown, atlas)) {
+        CHECK(taken.min_x == 7);
+        return;
+    }
+    if (!is_done(guillotiere_atlas_rearrange(atlas, changes, ROOM, found, ROOM, &moved), &grown, atlas)) return;
+    if (guillotiere_simple_new(64, 64, simple) != GUILLOTIERE_DONE) {
+        CHECK(simple->at == NULL);
+        return;
+    }
+    const view packed = view_of(atlas);
+    if (!is_done(guillotiere_simple_init_from_allocator(simple, atlas), &packed, atlas)) {
+        CHECK(guillotiere_simple_is_empty(simple));
+        return;
+    }
+    if (guillotiere_simple_allocate(simple, 10, 10, &taken) != GUILLOTIERE_DONE) return;
+    if (guillotiere_simple_grow(simple, 1000, 1000) != GUILLOTIERE_DONE) return;
+    if (guillotiere_simple_reset(simple, 100, 100, &(guillotiere_options)GUILLOTIERE_DEFAULT_OPTIONS) != GUILLOTIERE_DONE) return;
+    const view last = view_of(copy);
+    if (!is_done(guillotiere_atlas_deallocate_all(copy, ids, 12), &last, copy)) return;
+    CHECK(guillotiere_atlas_is_empty(copy));
+}
+
+int main(void) {
+    for (long nth = 0;; nth++) {
+        guillotiere_atlas atlas = GUILLOTIERE_NONE, copy = GUILLOTIERE_NONE;
+        guillotiere_simple simple = GUILLOTIERE_NONE;
+        const long before = blocks, refused = refusals;
+        left = nth;
+        use(&atlas, &copy, &simple);
+        left = -1;
+        guillotiere_atlas_free(&atlas);
+        guillotiere_atlas_free(&copy);
+        guillotiere_simple_free(&simple);
+        CHECK(blocks == before);
+        if (refusals == refused) break;
+    }
+    CHECK(refusals > 20);
+    return 0;
+}

@@ -1,0 +1,93 @@
+// The owners of guillotiere.hpp: moved, cloned, and let go once.
+#include "check.h"
+
+#include <guillotiere.hpp>
+
+#include <type_traits>
+
+using namespace guillotiere;
+
+static_assert(!std::is_copy_constructible<atlas>::value && !std::is_copy_assignable<atlas>::value, "atlas is move-only");
+static_assert(std::is_nothrow_move_constructible<atlas>::value && std::is_nothrow_move_assignable<atlas>::value, "");
+static_assert(!std::is_copy_constructible<simple_atlas>::value, "simple_atlas is move-only");
+static_assert(std::is_nothrow_move_constructible<simple_atlas>::value, "");
+
+static atlas made(size of) {
+    auto answer = atlas::make(of);
+    CHECK(answer);
+    return std::move(*answer);
+}
+
+static allocation granted(atlas &from, size wanted) {
+    auto answer = from.allocate(wanted);
+    CHECK(answer && *answer);
+    return **answer;
+}
+
+static void makes() {
+    CHECK(atlas::make({0, 5}).error() == status::bad_call);
+    CHECK(atlas::make({5, 5}, {0, 1, 32, 256}).error() == status::bad_call);
+    CHECK(atlas::make({5, 5}, default_options, 0).error() == status::bad_call);
+    CHECK(simple_atlas::make({-1, 5}).error() == status::bad_call);
+    auto whole = made({100, 50});
+    CHECK(whole.extent().width == 100 && whole.extent().height == 50 && whole.is_empty());
+    CHECK(whole.slots().limit == most_slots && whole.covered().free == 5000);
+}
+
+static void moves() {
+    auto one = made({64, 64});
+    const auto box = granted(one, {10, 20});
+    atlas other = std::move(one);
+    CHECK(one.allocate({1, 1}).error() == status::empty && one.deallocate(box.id) == status::empty);
+    CHECK(one.is_empty() && one.extent().width == 0 && !one.get(box.id) && one.live().error() == status::empty);
+    CHECK(other.get(box.id) && other.get(box.id)->max_y == 20);
+    one = std::move(other);
+    CHECK(one.get(box.id));
+    auto *const alias = &one;
+    one = std::move(*alias);
+    CHECK(one.get(box.id));
+}
+
+static void calls() {
+    auto whole = made({64, 64});
+    CHECK(*whole.allocate({65, 1}) == std::nullopt);
+    const auto box = granted(whole, {10, 20}), next = granted(whole, {30, 5});
+    auto copy = whole.clone();
+    CHECK(copy && copy->get(next.id));
+    CHECK(whole.deallocate(box.id) == status::done && whole.deallocate(box.id) == status::not_live);
+    CHECK(copy->get(box.id) && copy->deallocate_all({box.id, next.id}) == status::done && copy->is_empty());
+    CHECK(copy->deallocate_all(std::vector<std::uint32_t>()) == status::done);
+    const auto live = whole.live();
+    CHECK(live && live->size() == 1 && (*live)[0].id == next.id);
+    const auto free = whole.free_boxes();
+    CHECK(free && !free->empty());
+    CHECK(whole.grow({63, 64}) == status::bad_call && whole.grow({128, 64}) == status::done);
+    auto list = whole.rearrange();
+    CHECK(list && list->changes.size() == 1 && list->failures.empty() && list->changes[0].before.id == next.id);
+    list = whole.resize_and_rearrange({4, 4});
+    CHECK(list && list->changes.empty() && list->failures.size() == 1 && whole.is_empty());
+    CHECK(whole.reset({0, 0}) == status::bad_call && whole.reset({9, 9}) == status::done && whole.clear() == status::done);
+}
+
+static void simple_calls() {
+    auto whole = made({64, 64});
+    const auto box = granted(whole, {40, 40});
+    auto answer = simple_atlas::make({8, 8});
+    CHECK(answer);
+    simple_atlas simple = std::move(*answer);
+    CHECK(simple.is_empty() && simple.init_from_allocator(whole) == status::done && !simple.is_empty());
+    auto taken = simple.allocate({20, 20});
+    CHECK(taken && *taken && are_apart(&**taken, &box.rectangle));
+    CHECK(*simple.allocate({64, 64}) == std::nullopt);
+    CHECK(simple.grow({1, 1}) == status::bad_call && simple.grow({80, 64}) == status::done);
+    CHECK(simple.extent().width == 80 && simple.clear() == status::done && simple.is_empty());
+    CHECK(simple.reset({0, 1}) == status::bad_call && simple.reset({5, 6}) == status::done && simple.extent().height == 6);
+}
+
+int main() {
+    makes();
+    moves();
+    calls();
+    simple_calls();
+    return 0;
+}

@@ -1,0 +1,25 @@
+-- What a handle owns. Where it holds nothing it is null and owns nothing; else it owns the allocator at its pointer, and
+-- the right to free its block.
+use Rattle.std.specs.Prelude.{Option, Some, None}
+use mir.Syntax.{Ty}
+use base.Fml.{Fml, feq}
+use denote.RawPtr.{Ptr, null_ptr}
+use Rattle.std.specs.Box.Ownership.{box_owns}
+use Rattle.std.specs.contracts.alloc.Global
+use Rattle.std.specs.contracts.impls.GlobalAllocator.TheImpl
+use Rattle.guillotiere.specs.contracts.atlas.AtlasAllocator
+use Rattle.guillotiere.specs.contracts.simple.SimpleAtlasAllocator
+use Rattle.guillotiere.specs.Stored.{AtlasValue}
+use Rattle.guillotiere_c.specs.SimpleValues.{SimpleValue}
+
+-- The right to free a block of the heap; all handles of the heap are alike.
+abbrev pub token : Ty → Ptr → Fml
+token = TheImpl.ghosts.dealloc_token (record { memory = record { seal = tt } })
+
+abbrev pub keeps_atlas : Option AtlasValue → Ptr → Fml
+keeps_atlas None p = feq Ptr p null_ptr
+keeps_atlas (Some v) p = box_owns token (AtlasAllocator.the_row Global.the_row TheImpl.ghosts) p v
+
+abbrev pub keeps_simple : Option SimpleValue → Ptr → Fml
+keeps_simple None p = feq Ptr p null_ptr
+keeps_simple (Some v) p = box_owns token (SimpleAtlasAllocator.the_row Global.the_row TheImpl.ghosts) p v

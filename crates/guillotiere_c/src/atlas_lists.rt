@@ -1,0 +1,253 @@
+//! The exports of an atlas that take or write lists.
+ghost use Rattle.std.specs.Prelude.{◌≡◌, ◌≢◌, ◌≤◌, List, length, IfOk, IsSome, IsNone};
+ghost use Rattle.guillotiere.specs.Batches.{AreLiveOnce};
+ghost use Rattle.guillotiere.specs.Laws.StepLaws.{IsRearrangingStep};
+ghost use Rattle.guillotiere.specs.Rearranging.{rearrangement_of};
+ghost use Rattle.guillotiere.specs.Refits.{Rearrangement};
+ghost use Rattle.guillotiere.specs.States.{State, used_in, IsSound};
+ghost use Rattle.guillotiere.specs.Steps.AtlasCall.{Rearrange, ResizeAndRearrange};
+ghost use Rattle.guillotiere.specs.Steps.AtlasReply.{Changed};
+ghost use Rattle.guillotiere.specs.Visits.{AreFreeAreas, AreGrants};
+ghost use Rattle.guillotiere.specs.declared.Allocation.{Allocation as Granted};
+ghost use Rattle.guillotiere.specs.declared.Rectangle.{Rectangle as Area};
+ghost use Rattle.guillotiere_c.specs.Calls.{FreesAll, Holds, IsHeldStep};
+ghost use Rattle.guillotiere_c.specs.Numbers.{allocation_in, change_in, rectangle_in, sides_in};
+ghost use Rattle.guillotiere_c.specs.Rearrangings.{IsListed};
+ghost use Rattle.guillotiere_c.specs.Statuses.{plain_reply};
+ghost use Rattle.guillotiere_c.specs.Writing.{IsWritten};
+
+use crate::atlas_handle::AtlasHandle;
+use crate::plain::{
+    BAD_CALL, DONE, EMPTY, MEMORY, NOT_LIVE, PlainAllocation, PlainChange, PlainChangeCount,
+    PlainRectangle, SHORT, status_of, status_of_done,
+};
+use crate::writing::{write_allocations, write_changes, write_rectangles};
+use guillotiere::{AllocId, AtlasError, ChangeList, size2};
+use std::alloc::Global;
+
+/// Writes the live ids with their rectangles, by rising number of the slot, as many as there is room for, and into
+/// `count` how many there are. `DONE` or `MEMORY`.
+#[unsafe(no_mangle)]
+pub extern "C" fn guillotiere_atlas_live(
+    alloc: Global,
+    atlas: &mut AtlasHandle,
+    found: &mut [PlainAllocation],
+    count: &mut usize,
+) -> u32
+    ensures list { result ≡ DONE → Holds atlas.old.kept (λ s. (list : List Granted) × AreGrants s list
+        × (count.new ≡ length list) × IsWritten allocation_in list found.old found.new) }
+    ensures same { atlas.new.kept ≡ atlas.old.kept }
+    ensures refused { result ≢ DONE → (found.new ≡ found.old) × (count.new ≡ count.old) }
+    ensures memory { result ≢ DONE → IsSome atlas.old.kept → result ≡ MEMORY }
+    ensures empty { IsNone atlas.old.kept → result ≡ EMPTY }
+{
+    if !atlas.holds() {
+        return EMPTY;
+    }
+    let held = atlas.take(alloc);
+    let list = held.allocations();
+    atlas.put(held);
+    let Ok(list) = list else {
+        return MEMORY;
+    };
+    write_allocations(&list, found);
+    *count = list.len();
+    DONE
+}
+
+/// Writes the free rectangles, in an order that is left open, as many as there is room for, and into `count` how many
+/// there are. `DONE` or `MEMORY`.
+#[unsafe(no_mangle)]
+pub extern "C" fn guillotiere_atlas_free_boxes(
+    alloc: Global,
+    atlas: &mut AtlasHandle,
+    found: &mut [PlainRectangle],
+    count: &mut usize,
+) -> u32
+    ensures list { result ≡ DONE → Holds atlas.old.kept (λ s. (list : List Area) × AreFreeAreas s list
+        × (count.new ≡ length list) × IsWritten rectangle_in list found.old found.new) }
+    ensures same { atlas.new.kept ≡ atlas.old.kept }
+    ensures refused { result ≢ DONE → (found.new ≡ found.old) × (count.new ≡ count.old) }
+    ensures memory { result ≢ DONE → IsSome atlas.old.kept → result ≡ MEMORY }
+    ensures empty { IsNone atlas.old.kept → result ≡ EMPTY }
+{
+    if !atlas.holds() {
+        return EMPTY;
+    }
+    let held = atlas.take(alloc);
+    let list = held.free_rectangles();
+    atlas.put(held);
+    let Ok(list) = list else {
+        return MEMORY;
+    };
+    write_rectangles(&list, found);
+    *count = list.len();
+    DONE
+}
+
+// Writes both lists of a rearranging.
+fn write_list(
+    list: &ChangeList,
+    changes: &mut [PlainChange],
+    failures: &mut [PlainAllocation],
+) -> PlainChangeCount
+    ensures changes { IsWritten change_in list.now.changes.items changes.old changes.new }
+    ensures failures { IsWritten allocation_in list.now.failures.items failures.old failures.new }
+    ensures changes_count { result.changes ≡ length list.now.changes.items }
+    ensures failures_count { result.failures ≡ length list.now.failures.items }
+{
+    write_changes(&list.changes, changes);
+    write_allocations(&list.failures, failures);
+    PlainChangeCount {
+        changes: list.changes.len(),
+        failures: list.failures.len(),
+    }
+}
+
+// Writes what a rearranging answered, into arrays that have room for each member that was used.
+fn write_whole_list(
+    list: &ChangeList,
+    changes: &mut [PlainChange],
+    failures: &mut [PlainAllocation],
+) -> PlainChangeCount
+    ensures { (old new : State) → IsRearrangingStep old (rearrangement_of list.now) new
+        → used_in old ≤ length changes.old → used_in old ≤ length failures.old
+        → IsListed (rearrangement_of list.now) (record { changes = changes.old; failures = failures.old })
+        (record { changes = changes.new; failures = failures.new }) result }
+{
+    write_list(list, changes, failures)
+}
+
+/// `guillotiere_atlas_resize_and_rearrange` at the present size.
+#[unsafe(no_mangle)]
+pub extern "C" fn guillotiere_atlas_rearrange(
+    alloc: Global,
+    atlas: &mut AtlasHandle,
+    changes: &mut [PlainChange],
+    failures: &mut [PlainAllocation],
+    count: &mut PlainChangeCount,
+) -> u32
+    ensures done { result ≡ DONE → (list : Rearrangement)
+        × IsHeldStep atlas.old.kept Rearrange (Changed list) atlas.new.kept
+        × IsListed list (record { changes = changes.old; failures = failures.old })
+        (record { changes = changes.new; failures = failures.new }) count.new }
+    ensures step { IsSome atlas.old.kept → result ≢ DONE → result ≢ SHORT
+        → IsHeldStep atlas.old.kept Rearrange (plain_reply result) atlas.new.kept }
+    ensures short { result ≡ SHORT → Holds atlas.old.kept
+        (λ s. (used_in s ≤ length changes.old) × (used_in s ≤ length failures.old) → ⊥) }
+    ensures sound { IsSome atlas.old.kept → Holds atlas.new.kept IsSound }
+    ensures refused { result ≢ DONE → atlas.new.kept ≡ atlas.old.kept }
+    ensures unwritten { result ≢ DONE
+        → (changes.new ≡ changes.old) × (failures.new ≡ failures.old) × (count.new ≡ count.old) }
+    ensures empty { IsNone atlas.old.kept → result ≡ EMPTY }
+{
+    if !atlas.holds() {
+        return EMPTY;
+    }
+    let mut held = atlas.take(alloc);
+    let used = held.slots().used as usize;
+    if changes.len() < used || failures.len() < used {
+        atlas.put(held);
+        return SHORT;
+    }
+    let answer = held.rearrange();
+    atlas.put(held);
+    match &answer {
+        Ok(list) => {
+            *count = write_whole_list(list, changes, failures);
+            DONE
+        }
+        Err(error) => status_of(*error),
+    }
+}
+
+/// Places what is live anew in an empty atlas of this size, the largest first, and lists what moved and what found no
+/// room; the ids of the latter are live no more, and all former ids are void. Each array has room for as many as there
+/// are used slots, else the answer is `SHORT`. `DONE`; `BAD_CALL` if the size is empty; `SHORT`, `SLOTS` or `MEMORY`.
+#[unsafe(no_mangle)]
+pub extern "C" fn guillotiere_atlas_resize_and_rearrange(
+    alloc: Global,
+    atlas: &mut AtlasHandle,
+    width: i32,
+    height: i32,
+    changes: &mut [PlainChange],
+    failures: &mut [PlainAllocation],
+    count: &mut PlainChangeCount,
+) -> u32
+    ensures done { result ≡ DONE → (list : Rearrangement)
+        × IsHeldStep atlas.old.kept (ResizeAndRearrange (sides_in width height)) (Changed list) atlas.new.kept
+        × IsListed list (record { changes = changes.old; failures = failures.old })
+        (record { changes = changes.new; failures = failures.new }) count.new }
+    ensures step { IsSome atlas.old.kept → result ≢ DONE → result ≢ SHORT → IsHeldStep atlas.old.kept
+        (ResizeAndRearrange (sides_in width height)) (plain_reply result) atlas.new.kept }
+    ensures short { result ≡ SHORT → Holds atlas.old.kept
+        (λ s. (used_in s ≤ length changes.old) × (used_in s ≤ length failures.old) → ⊥) }
+    ensures sound { IsSome atlas.old.kept → Holds atlas.new.kept IsSound }
+    ensures refused { result ≢ DONE → atlas.new.kept ≡ atlas.old.kept }
+    ensures unwritten { result ≢ DONE
+        → (changes.new ≡ changes.old) × (failures.new ≡ failures.old) × (count.new ≡ count.old) }
+    ensures empty { IsNone atlas.old.kept → result ≡ EMPTY }
+{
+    if !atlas.holds() {
+        return EMPTY;
+    }
+    let mut held = atlas.take(alloc);
+    if width <= 0 || height <= 0 {
+        atlas.put(held);
+        return BAD_CALL;
+    }
+    let used = held.slots().used as usize;
+    if changes.len() < used || failures.len() < used {
+        atlas.put(held);
+        return SHORT;
+    }
+    let answer = held.resize_and_rearrange(size2(width, height));
+    atlas.put(held);
+    match &answer {
+        Ok(list) => {
+            *count = write_whole_list(list, changes, failures);
+            DONE
+        }
+        Err(error) => status_of(*error),
+    }
+}
+
+// The ids of these numbers.
+fn ids_of(alloc: Global, numbers: &[u32]) -> Result<Vec<AllocId>, AtlasError>
+    ensures { IfOk result (λ ids. ids.items ≡ numbers.now) }
+{
+    let mut ids = Vec::with_capacity(alloc, numbers.len())?;
+    for number in numbers {
+        ids.push_reserved(AllocId::deserialize(*number));
+    }
+    Ok(ids)
+}
+
+/// Frees the boxes of the ids of a list. `DONE`; `NOT_LIVE` if one of them isn't live or stands twice; `MEMORY`, as
+/// the list is copied first.
+#[unsafe(no_mangle)]
+pub extern "C" fn guillotiere_atlas_deallocate_all(
+    alloc: Global,
+    atlas: &mut AtlasHandle,
+    ids: &[u32],
+) -> u32
+    ensures freed { result ≡ DONE → FreesAll atlas.old.kept ids.now atlas.new.kept }
+    ensures live { result ≡ DONE → Holds atlas.old.kept (λ s. AreLiveOnce s ids.now) }
+    ensures not_live { result ≡ NOT_LIVE → Holds atlas.old.kept (λ s. AreLiveOnce s ids.now → ⊥) }
+    ensures unless { IsSome atlas.old.kept → result ≢ DONE → result ≢ NOT_LIVE → result ≡ MEMORY }
+    ensures refused { result ≢ DONE → atlas.new.kept ≡ atlas.old.kept }
+    ensures sound { IsSome atlas.old.kept → Holds atlas.new.kept IsSound }
+    ensures empty { IsNone atlas.old.kept → result ≡ EMPTY }
+{
+    if !atlas.holds() {
+        return EMPTY;
+    }
+    let mut held = atlas.take(alloc);
+    let Ok(list) = ids_of(alloc, ids) else {
+        atlas.put(held);
+        return MEMORY;
+    };
+    let answer = held.deallocate_all(&list);
+    atlas.put(held);
+    status_of_done(answer)
+}

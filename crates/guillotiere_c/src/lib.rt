@@ -1,0 +1,16 @@
+//! The allocators of `guillotiere` for C, and for every language that can call C (bindings/README.md).
+//!
+//! An allocator stands behind a handle of one pointer, which its caller keeps and which is all zero while it holds
+//! nothing. Each call is total: it tests its own conditions, answers a status (`plain`), and writes what it gives back
+//! where its arguments point. A call that isn't `DONE` changes nothing.
+#![tactic(auto)]
+
+mod atlas;
+mod atlas_handle;
+mod atlas_lists;
+mod held;
+mod lifetimes;
+mod plain;
+mod simple;
+mod simple_handle;
+mod writing;

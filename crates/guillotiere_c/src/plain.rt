@@ -1,0 +1,205 @@
+//! What crosses to C: statuses, numbers, and structs of numbers. All lengths are in pixels, all areas in unit squares.
+ghost use Rattle.std.specs.Prelude.{◌≡◌, ◌↔◌, IsOk};
+ghost use Rattle.guillotiere_c.specs.Numbers.{allocation_in, change_in, options_in, rectangle_in, size_in};
+ghost use Rattle.guillotiere_c.specs.Statuses.{plain_reply, request_reply};
+ghost use Rattle.guillotiere_c.specs.SimpleStatuses.{plain_answer, request_answer};
+ghost use Rattle.guillotiere_c.specs.declared.plain.PlainAllocation.{PlainAllocation as Numbers};
+ghost use Rattle.guillotiere_c.specs.declared.plain.PlainRectangle.{PlainRectangle as Corners};
+ghost use Rattle.guillotiere.specs.Steps.AtlasReply.{Refused};
+ghost use Rattle.guillotiere.specs.Simple.SimpleAnswer.{Refused as SimplyRefused};
+ghost use Rattle.guillotiere.specs.Replies.{done_reply};
+ghost use Rattle.guillotiere.specs.Simple.{simple_done};
+ghost use Rattle.guillotiere.specs.Pixels.{options_of};
+
+use guillotiere::{
+    AllocId, Allocation, AllocatorOptions, AtlasError, Change, Point, Rectangle, Size, SlotCount,
+    size2,
+};
+
+/// Done; what is granted, found or listed was written.
+pub const DONE: u32 = 0;
+
+/// The request has no room.
+pub const NO_ROOM: u32 = 1;
+
+/// The condition of the call doesn't hold: an empty size, options that aren't valid, a growth that shrinks a side.
+pub const BAD_CALL: u32 = 2;
+
+/// An id isn't live, or stands twice in a list of ids.
+pub const NOT_LIVE: u32 = 3;
+
+/// More slots would be used than the limit allows.
+pub const SLOTS: u32 = 4;
+
+/// Memory was refused.
+pub const MEMORY: u32 = 5;
+
+/// An array of the caller's is too short.
+pub const SHORT: u32 = 6;
+
+/// A handle that is to hold an allocator holds nothing; or one that is to hold nothing holds one.
+pub const EMPTY: u32 = 7;
+
+/// The greatest limit on the slots of an atlas, which is also that of an atlas without a limit of its own.
+pub const MOST_SLOTS: u32 = 16_777_216;
+
+/// As `Size`.
+#[repr(C)]
+#[derive(Clone, Copy)]
+pub struct PlainSize {
+    pub width: i32,
+    pub height: i32,
+}
+
+/// As `Rectangle`: the unit squares from `min` on and before `max`.
+#[repr(C)]
+#[derive(Clone, Copy)]
+pub struct PlainRectangle {
+    pub min_x: i32,
+    pub min_y: i32,
+    pub max_x: i32,
+    pub max_y: i32,
+}
+
+/// As `Allocation`.
+#[repr(C)]
+#[derive(Clone, Copy)]
+pub struct PlainAllocation {
+    pub id: u32,
+    pub rectangle: PlainRectangle,
+}
+
+/// As `Change`, whose `new` is a word that C++ keeps for itself.
+#[repr(C)]
+#[derive(Clone, Copy)]
+pub struct PlainChange {
+    pub before: PlainAllocation,
+    pub after: PlainAllocation,
+}
+
+/// As `AllocatorOptions`.
+#[repr(C)]
+#[derive(Clone, Copy)]
+pub struct PlainOptions {
+    pub alignment_width: i32,
+    pub alignment_height: i32,
+    pub small_size_threshold: i32,
+    pub large_size_threshold: i32,
+}
+
+/// As `SlotCount`.
+#[repr(C)]
+#[derive(Clone, Copy)]
+pub struct PlainSlots {
+    pub used: u32,
+    pub kept: u32,
+    pub limit: u32,
+}
+
+/// What is live and what is free, in unit squares.
+#[repr(C)]
+#[derive(Clone, Copy)]
+pub struct PlainAreas {
+    pub allocated: u64,
+    pub free: u64,
+}
+
+/// How many changes and failures a rearranging wrote.
+#[repr(C)]
+#[derive(Clone, Copy)]
+pub struct PlainChangeCount {
+    pub changes: usize,
+    pub failures: usize,
+}
+
+/// The same for C.
+pub fn plain_size(size: Size) -> PlainSize
+    ensures { size_in result ≡ size }
+{
+    PlainSize {
+        width: size.width,
+        height: size.height,
+    }
+}
+
+/// The same for C.
+pub fn plain_rectangle(rectangle: Rectangle) -> PlainRectangle
+    ensures { rectangle_in result ≡ rectangle }
+{
+    let Rectangle { min, max } = rectangle;
+    PlainRectangle {
+        min_x: min.x,
+        min_y: min.y,
+        max_x: max.x,
+        max_y: max.y,
+    }
+}
+
+/// The same for C.
+pub fn plain_allocation(allocation: Allocation) -> PlainAllocation
+    ensures { allocation_in result ≡ allocation }
+{
+    PlainAllocation {
+        id: allocation.id.serialize(),
+        rectangle: plain_rectangle(allocation.rectangle),
+    }
+}
+
+/// The same for C.
+pub fn plain_change(change: Change) -> PlainChange
+    ensures { change_in result ≡ change }
+{
+    PlainChange {
+        before: plain_allocation(change.old),
+        after: plain_allocation(change.new),
+    }
+}
+
+/// The same for C.
+pub fn plain_slots(slots: SlotCount) -> PlainSlots
+    ensures used { result.used ≡ slots.used }
+    ensures kept { result.kept ≡ slots.kept }
+    ensures limit { result.limit ≡ slots.limit }
+{
+    PlainSlots {
+        used: slots.used,
+        kept: slots.kept,
+        limit: slots.limit,
+    }
+}
+
+/// The same for Rattle.
+pub fn options_for(options: &PlainOptions) -> AllocatorOptions
+    ensures { options_of result ≡ options_in options.now }
+{
+    AllocatorOptions {
+        alignment: size2(options.alignment_width, options.alignment_height),
+        small_size_threshold: options.small_size_threshold,
+        large_size_threshold: options.large_size_threshold,
+    }
+}
+
+/// The status of an error.
+pub fn status_of(error: AtlasError) -> u32
+    ensures plain { plain_reply result ≡ Refused error }
+    ensures request { (written : Numbers) → request_reply result written ≡ Refused error }
+    ensures answer { (written : Corners) → request_answer result written ≡ SimplyRefused error }
+{
+    match error {
+        AtlasError::NotLive => NOT_LIVE,
+        AtlasError::Slots => SLOTS,
+        AtlasError::Memory => MEMORY,
+    }
+}
+
+/// The status of an answer that gives nothing back.
+pub fn status_of_done(answer: Result<(), AtlasError>) -> u32
+    ensures reply { plain_reply result ≡ done_reply answer }
+    ensures answer { plain_answer result ≡ simple_done answer }
+    ensures done { (result ≡ DONE) ↔ IsOk answer }
+{
+    match answer {
+        Ok(()) => DONE,
+        Err(error) => status_of(error),
+    }
+}

@@ -1,0 +1,297 @@
+//! The exports of a simple allocator.
+ghost use Rattle.std.specs.Prelude.{◌≡◌, ◌≢◌, ◌↔◌, Any, IsTrue, IsSome, IsNone, None, Ok, IfOk, IfSome, OnErr};
+ghost use Rattle.guillotiere.specs.Boxes.{box_sides, IsPositive};
+ghost use Rattle.guillotiere.specs.Choice.{AreValid};
+ghost use Rattle.guillotiere.specs.Pixels.{options_of, sides_of, size_of};
+ghost use Rattle.guillotiere.specs.Replies.{IsExact};
+ghost use Rattle.guillotiere.specs.Simple.{IsSimple, SimpleStep, simple_answer, simple_start};
+ghost use Rattle.guillotiere.specs.Simple.SimpleAtlasCall.{Allocate, Clear, Grow, Reset};
+ghost use Rattle.guillotiere.specs.TheConstants.{DEFAULT_OPTIONS};
+ghost use Rattle.guillotiere_c.specs.Numbers.{options_in, rectangle_in, sides_in, size_in};
+ghost use Rattle.guillotiere_c.specs.SimpleCalls.{HoldsSimple, IsHeldSimpleStep, IsHeldStart};
+ghost use Rattle.guillotiere_c.specs.SimpleStatuses.{plain_answer, request_answer};
+ghost use Rattle.guillotiere_c.specs.SimpleValues.{simple_state};
+
+use crate::atlas_handle::AtlasHandle;
+use crate::plain::{
+    BAD_CALL, DONE, EMPTY, MEMORY, NO_ROOM, PlainOptions, PlainRectangle, PlainSize, options_for,
+    plain_rectangle, plain_size, status_of, status_of_done,
+};
+use crate::simple_handle::SimpleHandle;
+use guillotiere::{
+    AllocatorOptions, AtlasError, DEFAULT_OPTIONS, Rectangle, SimpleAtlasAllocator, Size, size2,
+};
+use std::alloc::Global;
+
+// Makes a simple allocator where the handle holds nothing.
+fn start(
+    alloc: Global,
+    width: i32,
+    height: i32,
+    options: &AllocatorOptions,
+    simple: &mut SimpleHandle,
+) -> u32
+    ensures state { result ≡ DONE → HoldsSimple simple.new.kept
+        (λ s. s ≡ simple_start (sides_in width height) (options_of options.now)) }
+    ensures bad { result ≡ BAD_CALL → IsPositive (sides_in width height) × AreValid (options_of options.now) → ⊥ }
+    ensures refused { result ≢ DONE → simple.new.kept ≡ simple.old.kept }
+    ensures memory { result ≢ DONE → result ≢ BAD_CALL → IsNone simple.old.kept → result ≡ MEMORY }
+    ensures full { IsSome simple.old.kept → result ≡ EMPTY }
+{
+    if simple.holds() {
+        return EMPTY;
+    }
+    if width <= 0 || height <= 0 || !options.is_valid() {
+        return BAD_CALL;
+    }
+    let made = SimpleAtlasAllocator::with_options(alloc, size2(width, height), options);
+    let Ok(made) = made else {
+        return MEMORY;
+    };
+    match Box::new(alloc, made) {
+        Ok(held) => {
+            simple.put(held);
+            DONE
+        }
+        Err(_) => MEMORY,
+    }
+}
+
+/// Makes a simple allocator of this size with the default options, where the handle holds nothing. `DONE`; `BAD_CALL`
+/// if the size is empty; `MEMORY`; `EMPTY` if the handle holds one already.
+#[unsafe(no_mangle)]
+pub extern "C" fn guillotiere_simple_new(
+    alloc: Global,
+    width: i32,
+    height: i32,
+    simple: &mut SimpleHandle,
+) -> u32
+    ensures state { result ≡ DONE → HoldsSimple simple.new.kept
+        (λ s. s ≡ simple_start (sides_in width height) (options_of DEFAULT_OPTIONS)) }
+    ensures bad { result ≡ BAD_CALL → IsPositive (sides_in width height) → ⊥ }
+    ensures refused { result ≢ DONE → simple.new.kept ≡ simple.old.kept }
+    ensures memory { result ≢ DONE → result ≢ BAD_CALL → IsNone simple.old.kept → result ≡ MEMORY }
+    ensures full { IsSome simple.old.kept → result ≡ EMPTY }
+{
+    start(alloc, width, height, &DEFAULT_OPTIONS, simple)
+}
+
+/// The same with these options. `BAD_CALL` also if they aren't valid.
+#[unsafe(no_mangle)]
+pub extern "C" fn guillotiere_simple_with_options(
+    alloc: Global,
+    width: i32,
+    height: i32,
+    options: &PlainOptions,
+    simple: &mut SimpleHandle,
+) -> u32
+    ensures state { result ≡ DONE → HoldsSimple simple.new.kept
+        (λ s. s ≡ simple_start (sides_in width height) (options_in options.now)) }
+    ensures bad { result ≡ BAD_CALL → IsPositive (sides_in width height) × AreValid (options_in options.now) → ⊥ }
+    ensures refused { result ≢ DONE → simple.new.kept ≡ simple.old.kept }
+    ensures memory { result ≢ DONE → result ≢ BAD_CALL → IsNone simple.old.kept → result ≡ MEMORY }
+    ensures full { IsSome simple.old.kept → result ≡ EMPTY }
+{
+    let options = options_for(options);
+    start(alloc, width, height, &options, simple)
+}
+
+/// Lets a simple allocator go, with all that it takes; the handle holds nothing then.
+#[unsafe(no_mangle)]
+pub extern "C" fn guillotiere_simple_free(alloc: Global, simple: &mut SimpleHandle)
+    ensures { simple.new.kept ≡ None }
+{
+    if !simple.holds() {
+        return;
+    }
+    let _held = simple.take(alloc);
+}
+
+// Requests a rectangle; what the export's contract needs of the answer.
+fn request(simple: &mut SimpleAtlasAllocator, size: Size) -> Result<Option<Rectangle>, AtlasError>
+    ensures step { SimpleStep (simple_state simple.old) (Allocate (sides_of size)) (simple_answer result)
+        (simple_state simple.new) }
+    ensures exact { IfOk result (λ granted. IfSome granted (λ rectangle. IsExact rectangle)) }
+    ensures none { result ≡ Ok None → simple.new ≡ simple.old }
+    ensures refused { OnErr result (simple.new ≡ simple.old) }
+    ensures simple { IsSimple (simple_state simple.new) }
+{
+    simple.allocate(size)
+}
+
+/// Grants a request. `DONE`, and then the rectangle is in `granted`; `NO_ROOM` or `MEMORY`.
+#[unsafe(no_mangle)]
+pub extern "C" fn guillotiere_simple_allocate(
+    alloc: Global,
+    simple: &mut SimpleHandle,
+    width: i32,
+    height: i32,
+    granted: &mut PlainRectangle,
+) -> u32
+    ensures step { IsSome simple.old.kept → IsHeldSimpleStep simple.old.kept (Allocate (sides_in width height))
+        (request_answer result granted.new) simple.new.kept }
+    ensures kept { IsSome simple.old.kept → HoldsSimple simple.new.kept IsSimple }
+    ensures exact { result ≡ DONE → IsExact (rectangle_in granted.new) }
+    ensures refused { result ≢ DONE → (simple.new.kept ≡ simple.old.kept) × (granted.new ≡ granted.old) }
+    ensures empty { IsNone simple.old.kept → result ≡ EMPTY }
+{
+    if !simple.holds() {
+        return EMPTY;
+    }
+    let mut held = simple.take(alloc);
+    let answer = request(&mut held, size2(width, height));
+    simple.put(held);
+    match answer {
+        Ok(Some(rectangle)) => {
+            *granted = plain_rectangle(rectangle);
+            DONE
+        }
+        Ok(None) => NO_ROOM,
+        Err(error) => status_of(error),
+    }
+}
+
+/// Makes the allocator larger. `DONE`; `BAD_CALL` if a side shrinks; `MEMORY`.
+#[unsafe(no_mangle)]
+pub extern "C" fn guillotiere_simple_grow(
+    alloc: Global,
+    simple: &mut SimpleHandle,
+    width: i32,
+    height: i32,
+) -> u32
+    ensures step { IsSome simple.old.kept → IsHeldSimpleStep simple.old.kept (Grow (sides_in width height))
+        (plain_answer result) simple.new.kept }
+    ensures kept { IsSome simple.old.kept → HoldsSimple simple.new.kept IsSimple }
+    ensures refused { result ≢ DONE → simple.new.kept ≡ simple.old.kept }
+    ensures empty { IsNone simple.old.kept → result ≡ EMPTY }
+{
+    if !simple.holds() {
+        return EMPTY;
+    }
+    let mut held = simple.take(alloc);
+    let size = held.size();
+    if width < size.width || height < size.height {
+        simple.put(held);
+        return BAD_CALL;
+    }
+    let answer = held.grow(size2(width, height));
+    simple.put(held);
+    status_of_done(answer)
+}
+
+/// Starts again with one free box of the allocator's size. `DONE` or `MEMORY`.
+#[unsafe(no_mangle)]
+pub extern "C" fn guillotiere_simple_clear(alloc: Global, simple: &mut SimpleHandle) -> u32
+    ensures step { IsSome simple.old.kept → IsHeldSimpleStep simple.old.kept Clear (plain_answer result)
+        simple.new.kept }
+    ensures kept { IsSome simple.old.kept → HoldsSimple simple.new.kept IsSimple }
+    ensures refused { result ≢ DONE → simple.new.kept ≡ simple.old.kept }
+    ensures empty { IsNone simple.old.kept → result ≡ EMPTY }
+{
+    if !simple.holds() {
+        return EMPTY;
+    }
+    let mut held = simple.take(alloc);
+    let answer = held.clear();
+    simple.put(held);
+    status_of_done(answer)
+}
+
+/// Starts again at this size and with these options. `DONE`; `BAD_CALL` if the size is empty or the options aren't
+/// valid; `MEMORY`.
+#[unsafe(no_mangle)]
+pub extern "C" fn guillotiere_simple_reset(
+    alloc: Global,
+    simple: &mut SimpleHandle,
+    width: i32,
+    height: i32,
+    options: &PlainOptions,
+) -> u32
+    ensures step { IsSome simple.old.kept → IsHeldSimpleStep simple.old.kept
+        (Reset (sides_in width height) (options_in options.now)) (plain_answer result) simple.new.kept }
+    ensures kept { IsSome simple.old.kept → HoldsSimple simple.new.kept IsSimple }
+    ensures refused { result ≢ DONE → simple.new.kept ≡ simple.old.kept }
+    ensures empty { IsNone simple.old.kept → result ≡ EMPTY }
+{
+    if !simple.holds() {
+        return EMPTY;
+    }
+    let options = options_for(options);
+    let mut held = simple.take(alloc);
+    if width <= 0 || height <= 0 || !options.is_valid() {
+        simple.put(held);
+        return BAD_CALL;
+    }
+    let answer = held.reset(size2(width, height), &options);
+    simple.put(held);
+    status_of_done(answer)
+}
+
+/// Takes over an atlas's size, its options and its free rectangles, so that what is live there is never granted. The
+/// atlas stays as it is. `DONE` or `MEMORY`; `EMPTY` if one of the handles holds nothing.
+#[unsafe(no_mangle)]
+pub extern "C" fn guillotiere_simple_init_from_allocator(
+    alloc: Global,
+    simple: &mut SimpleHandle,
+    atlas: &mut AtlasHandle,
+) -> u32
+    ensures step { IsSome simple.old.kept → IsSome atlas.old.kept
+        → IsHeldStart simple.old.kept atlas.old.kept (plain_answer result) simple.new.kept }
+    ensures kept { IsSome simple.old.kept → HoldsSimple simple.new.kept IsSimple }
+    ensures same { atlas.new.kept ≡ atlas.old.kept }
+    ensures refused { result ≢ DONE → simple.new.kept ≡ simple.old.kept }
+    ensures empty { IsNone simple.old.kept → result ≡ EMPTY }
+    ensures no_source { IsNone atlas.old.kept → result ≡ EMPTY }
+{
+    if !simple.holds() {
+        return EMPTY;
+    }
+    let mut held = simple.take(alloc);
+    if !atlas.holds() {
+        simple.put(held);
+        return EMPTY;
+    }
+    let source = atlas.take(alloc);
+    let answer = held.init_from_allocator(&source);
+    atlas.put(source);
+    simple.put(held);
+    status_of_done(answer)
+}
+
+/// The size of the allocator, in pixels. `DONE`.
+#[unsafe(no_mangle)]
+pub extern "C" fn guillotiere_simple_size(
+    alloc: Global,
+    simple: &mut SimpleHandle,
+    size: &mut PlainSize,
+) -> u32
+    ensures size { IsSome simple.old.kept → HoldsSimple simple.old.kept (λ s. size_in size.new ≡ size_of s.size) }
+    ensures done { IsSome simple.old.kept → result ≡ DONE }
+    ensures same { simple.new.kept ≡ simple.old.kept }
+    ensures empty { IsNone simple.old.kept → (result ≡ EMPTY) × (size.new ≡ size.old) }
+{
+    if !simple.holds() {
+        return EMPTY;
+    }
+    let held = simple.take(alloc);
+    *size = plain_size(held.size());
+    simple.put(held);
+    DONE
+}
+
+/// Whether one free box has the allocator's size; also true of a handle that holds nothing.
+#[unsafe(no_mangle)]
+pub extern "C" fn guillotiere_simple_is_empty(alloc: Global, simple: &mut SimpleHandle) -> bool
+    ensures free { IsSome simple.old.kept → HoldsSimple simple.old.kept
+        (λ s. IsTrue result ↔ Any (λ b. box_sides b ≡ s.size) s.free) }
+    ensures same { simple.new.kept ≡ simple.old.kept }
+    ensures empty { IsNone simple.old.kept → IsTrue result }
+{
+    if !simple.holds() {
+        return true;
+    }
+    let held = simple.take(alloc);
+    let is_empty = held.is_empty();
+    simple.put(held);
+    is_empty
+}

@@ -1,0 +1,92 @@
+//! What C holds of a simple allocator.
+ghost use Rattle.std.specs.Prelude.{◌≡◌, is_some, Option, Some, None, IsSome};
+ghost use Rattle.guillotiere_c.specs.SimpleValues.{SimpleValue, simple_state};
+ghost use Rattle.guillotiere.specs.Simple.{IsSimple};
+
+use crate::held::{Held, hold, release};
+use guillotiere::SimpleAtlasAllocator;
+use std::alloc::Global;
+use std::marker::Model;
+use std::mem::replace;
+
+/// A place for a simple allocator: it holds one, or nothing, and then it is null.
+#[repr(C)]
+pub struct SimpleHandle {
+    at: *mut u8,
+    pub ghost kept: { Option SimpleValue },
+}
+
+impl Model for SimpleHandle {
+    ghost use Rattle.guillotiere_c.specs.Keeping.{keeps_simple};
+
+    ghost also_owns = { λ h. keeps_simple h.kept h.at };
+}
+
+impl SimpleHandle {
+    /// A handle that holds nothing.
+    pub fn none() -> SimpleHandle
+        ensures { result.kept ≡ None }
+    {
+        SimpleHandle {
+            at: std::ptr::null_mut(),
+        }
+    }
+
+    /// Lets a handle go. Asks that it holds nothing, so that nothing is lost.
+    pub fn forget(handle: SimpleHandle)
+        requires { handle.kept ≡ None }
+    {
+        let SimpleHandle { at: _ } = handle;
+    }
+
+    /// Whether it holds a simple allocator.
+    pub fn holds(&mut self) -> bool
+        ensures { (self.new ≡ self.old) × (result ≡ is_some self.old.kept) }
+    {
+        !self.at.is_null()
+    }
+
+    /// A handle that holds what was taken apart.
+    pub fn close(held: Held<SimpleAtlasAllocator, Global>) -> SimpleHandle
+        ensures { result.kept ≡ Some held.value }
+    {
+        let Held { at, alloc: _ } = held;
+        SimpleHandle { at: at as *mut u8 }
+    }
+
+    /// What it holds, taken apart. Asks that it holds a simple allocator.
+    pub fn open(alloc: Global, handle: SimpleHandle) -> Held<SimpleAtlasAllocator, Global>
+        requires { IsSome handle.kept }
+        ensures { handle.kept ≡ Some result.value }
+    {
+        let SimpleHandle { at } = handle;
+        Held {
+            at: at as *mut SimpleAtlasAllocator,
+            alloc,
+        }
+    }
+}
+
+impl SimpleHandle {
+    /// Takes the allocator out; the handle holds nothing then. Asks that it holds a simple allocator.
+    pub fn take(&mut self, alloc: Global) -> Box<SimpleAtlasAllocator>
+        requires { IsSome self.old.kept }
+        ensures taken { self.old.kept ≡ Some result.value }
+        ensures none { self.new.kept ≡ None }
+    {
+        let handle = replace(self, SimpleHandle::none());
+        release(SimpleHandle::open(alloc, handle))
+    }
+
+    /// Puts a simple allocator in. Asks that the handle holds nothing.
+    pub fn put(&mut self, simple: Box<SimpleAtlasAllocator>)
+        requires { self.old.kept ≡ None }
+        ensures put { self.new.kept ≡ Some simple.value }
+        ensures kept { IsSimple (simple_state simple.value) }
+    {
+        // Its contract says what each simple allocator keeps.
+        let _size = simple.size();
+        let empty = replace(self, SimpleHandle::close(hold(simple)));
+        SimpleHandle::forget(empty);
+    }
+}
