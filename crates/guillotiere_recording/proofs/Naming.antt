@@ -8,7 +8,7 @@ use Rattle.guillotiere.specs.Pixels.{sides_of, box_of}
 use Rattle.guillotiere.specs.Trees.{Grant, grant, ids, slot_count}
 use Rattle.guillotiere.specs.States.{State, IsLive, IsSound, live_in}
 use Rattle.guillotiere.specs.Steps as atlas
-use Rattle.guillotiere.specs.Steps.{AtlasCall, Step}
+use Rattle.guillotiere.specs.Steps.{AtlasCall}
 use Rattle.guillotiere.specs.Laws.StepLaws.{live_count, IsGrantStep, IsFreeingStep, IsGrowthStep, IsRearrangingStep}
 use Rattle.guillotiere.specs.Refits.{Transfer}
 use Rattle.guillotiere.specs.Renaming.{IsOneToOne}

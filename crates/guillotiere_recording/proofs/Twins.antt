@@ -10,7 +10,7 @@ use Rattle.guillotiere.specs.Pixels.{sides_of, box_of}
 use Rattle.guillotiere.specs.Trees.{Tree, Grant, grant, ids}
 use Rattle.guillotiere.specs.States.{State, IsLive}
 use Rattle.guillotiere.specs.Steps as atlas
-use Rattle.guillotiere.specs.Steps.{AtlasCall, AtlasReply, Step}
+use Rattle.guillotiere.specs.Steps.{AtlasReply, Step}
 use Rattle.guillotiere.specs.Steps.AtlasReply.{Allocated, NoRoom, Done, Changed, Refused, BadCall}
 use Rattle.guillotiere.specs.Renaming.{renamed_tree, with_name, IsNewName, AreNamedAlike, AreAlike, AnswerAlike, is_out_of_memory}
 use Rattle.guillotiere.proofs.StepLemmas.Alike.{named_at, ids_placed, ids_released, answers_without_ids, live_names_count}

@@ -1,6 +1,6 @@
 -- What is granted and then freed.
-use Rattle.std.proofs.Common.{◌≡◌, ℕ, ◌==◌, ◌||◌, Bool, true, false, List, [], ◌∷◌, ◌++◌, refl, ap, sym, ◌∙◌, arith, inl, inr}
-use Rattle.std.proofs.Common.{Option, Some, None}
+use Rattle.std.proofs.Common.{◌≡◌, ℕ, ◌==◌, ◌||◌, Bool, true, false, List, [], ◌∷◌, ◌++◌, refl, sym, ◌∙◌, arith, inl, inr}
+use Rattle.std.proofs.Common.{None}
 use Rattle.std.proofs.lemmas.Bool.Decides.{eqb_tells}
 use Rattle.atlas_model.specs.Boxes.{Box}
 use Rattle.atlas_model.specs.Callers.{AddsBox, LeavesNoBox, LeavesNoBoxes, HasSameBoxes, AddsAtMost}

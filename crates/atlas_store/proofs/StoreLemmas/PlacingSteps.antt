@@ -1,5 +1,5 @@
 -- The calls of the store, one after another, by which a plan is carried out.
-use Rattle.std.proofs.Common.{ℕ, ◌+◌, ◌-◌, ◌≤◌, ◌≡◌, ◌≢◌, List, [], ◌∷◌, length, Bool, true, false, ap, ◌∙◌, ◌⊎◌, inl, inr, arith}
+use Rattle.std.proofs.Common.{ℕ, ◌+◌, ◌-◌, ◌≤◌, ◌≡◌, ◌≢◌, List, ◌∷◌, length, Bool, true, false, ap, ◌∙◌, ◌⊎◌, inl, inr, arith}
 use Rattle.std.proofs.lemmas.Bool.{cases_eq}
 use Rattle.atlas_store.specs.declared.store.Store.{Store}
 use Rattle.atlas_store.specs.declared.slots.Link.{Link}

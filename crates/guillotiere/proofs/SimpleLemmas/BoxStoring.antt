@@ -11,7 +11,7 @@ use Rattle.atlas_store.specs.declared.slots.Link.{Link}
 use Rattle.atlas_store.specs.declared.search.table.ListHead.{ListHead}
 use Rattle.atlas_store.specs.Search.Bands.{list_of, strip_of, number_of}
 use Rattle.atlas_model.specs.Boxes.{Box, AreSameBoxes, same_box}
-use Rattle.guillotiere.specs.FreeBoxes.BoxShelves.{has_width, stored_item, free_item_boxes, free_count, idle_item, with_after, AreKept, AreKeptWith, IsInHand}
+use Rattle.guillotiere.specs.FreeBoxes.BoxShelves.{has_width, stored_item, free_item_boxes, free_count, idle_item, with_after, AreKept, IsInHand}
 use Rattle.atlas_model.specs.Choice.{Options, AreValid}
 use Rattle.atlas_store.specs.Search.Items.{Item, no_item, item_at, item_box, item_sides, IsPath}
 use Rattle.atlas_store.specs.Slots.Links.{IsSolid}

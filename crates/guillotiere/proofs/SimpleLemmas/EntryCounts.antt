@@ -1,7 +1,6 @@
 -- Each entry of the simple allocator is a free box or unused: how many there are of both.
 use Rattle.std.proofs.Common.{◌≡◌, ℕ, zero, suc, ◌+◌, ◌<◌, ◌≤◌, max, inl, inr, true, false, List, [], ◌∷◌, length, refl, sym, ap, subst, arith}
 use Rattle.std.proofs.Math.Nat.{max-eq_left}
-use Rattle.std.specs.List.{Contains}
 use Rattle.std.proofs.lemmas.Bool.{cases_eq, cases_Bool, cond-true, cond-false}
 use Rattle.atlas_model.specs.Choice.{Options}
 use Rattle.atlas_store.specs.Search.Items.{Item, item_at, item_box, IsPath}

@@ -1,4 +1,4 @@
-use Rattle.std.proofs.Common.{rules, ◌≡◌, refl, sym, ap, subst, ◌∙◌, arith}
+use Rattle.std.proofs.Common.{rules, ◌≡◌, refl, ap, subst, arith}
 use Rattle.std.specs.Prelude.{Err}
 use Rattle.atlas_model.specs.Pixels.{box_of, sides_of}
 use Rattle.atlas_model.specs.Replies.{grant_of}

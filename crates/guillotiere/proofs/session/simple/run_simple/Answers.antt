@@ -1,4 +1,4 @@
-use Rattle.std.proofs.Common.{[], ◌∷◌, length, length-append, map, take, drop, vec_len, sym, ap, subst, ◌+◌, ◌∙◌, arith}
+use Rattle.std.proofs.Common.{[], ◌∷◌, length, length-append, take, drop, vec_len, sym, ap, subst, ◌+◌, ◌∙◌, arith}
 use Rattle.std.proofs.Common.{All}
 use Rattle.std.proofs.lemmas.List.{take_all}
 use Rattle.std.proofs.lemmas.List.Elements.{All-append, All-cons, All-nil}

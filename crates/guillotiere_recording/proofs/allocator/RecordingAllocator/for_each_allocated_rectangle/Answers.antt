@@ -3,7 +3,7 @@ use Rattle.std.proofs.lemmas.Int.{ints}
 use Rattle.guillotiere.specs.declared.Allocation.{Allocation}
 use Rattle.guillotiere.specs.Stored.{state_of}
 use Rattle.guillotiere.specs.Replies.{live_box}
-use Rattle.guillotiere.specs.Walks.{IsCallableAlongGrants, IsShownArea}
+use Rattle.guillotiere.specs.Walks.{IsShownArea}
 use Rattle.guillotiere_recording.specs.declared.names.LiveName.{LiveName as Entry}
 use Rattle.guillotiere_recording.specs.Names.{shown}
 use Rattle.guillotiere_recording.specs.Recordings.{SessionValue, AreBooked}
