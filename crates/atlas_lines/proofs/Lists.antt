@@ -21,11 +21,11 @@ use Rattle.guillotiere.specs.Replies.{grant_of, IsExact}
 use Rattle.guillotiere.specs.Stored.{AtlasValue, state_of}
 use Rattle.guillotiere.specs.Visits.{AreGrants, AreFreeAreas}
 use Rattle.guillotiere.specs.Rearranging.{IsExactChange, transfer_of}
-use Rattle.guillotiere.specs.Simple.{SimpleState}
+use Rattle.guillotiere.specs.SimpleStored.{SimpleValue}
 use Rattle.guillotiere_recording.specs.Recordings.{SessionValue}
 use Rattle.atlas_lines.specs.declared.standing.Standing.TheVariants.{Atlas, Session}
 use Rattle.atlas_lines.specs.Machine.{tool_state_of}
-use Rattle.atlas_lines.specs.Machine.{ToolReply, Held, with_atlas, with_session, session_in, ShowsLive, HoldsHoles, AreInOrder, allocation_of, change_of}
+use Rattle.atlas_lines.specs.Machine.{ToolReply, Held, with_atlas, with_session, session_in, simple_in, ShowsLive, HoldsHoles, AreInOrder, allocation_of, change_of}
 
 same_allocation : (a : Allocation) → IsExact a.rectangle → a ≡ allocation_of (grant_of a)
 same_allocation a e = λ i. record { id = a.id; rectangle = e i }
@@ -125,11 +125,11 @@ holes_listed state found sorted areas moved order =
     )
 
 -- A new atlas in the tool.
-pub made_atlas : (held : Held) (simple : Option SimpleState) (value : AtlasValue) (made : State) → simple ≡ held.simple → state_of value ≡ made
+pub made_atlas : (held : Held) (simple : Option SimpleValue) (value : AtlasValue) (made : State) → simple ≡ held.simple → state_of value ≡ made
     → tool_state_of (record { stand = Atlas value; simple = simple }) ≡ with_atlas (tool_state_of held) made
-made_atlas held simple value made e f = λ i. record { stand = Atlas (f i); simple = e i }
+made_atlas held simple value made e f = λ i. record { stand = Atlas (f i); simple = simple_in (e i) }
 
 -- A new session in the tool.
-pub made_session : (held : Held) (simple : Option SimpleState) (value : SessionValue) → simple ≡ held.simple
+pub made_session : (held : Held) (simple : Option SimpleValue) (value : SessionValue) → simple ≡ held.simple
     → tool_state_of (record { stand = Session value; simple = simple }) ≡ with_session (tool_state_of held) (session_in value)
-made_session held simple value e = λ i. record { stand = Session (session_in value); simple = e i }
+made_session held simple value e = λ i. record { stand = Session (session_in value); simple = simple_in (e i) }

@@ -376,11 +376,12 @@ stop_not_read (Err Write) place bytes p q before stops = refl
 stop_not_read (Err Read) place bytes p q before stops = absurd stops
 
 -- A read that failed.
-pub read_ends : (i j k o p : Option (List ℕ)) (place : Place) (n : ℕ) → HasRun i j o p place n → KeepsOrHides j k → HasNoEnd place.line → EndsAtRead i k o p
-read_ends i j k o p place n run kept no_end = record {
+pub read_ends : (i j k o p : Option (List ℕ)) (place : Place) (n : ℕ) → HasRun i j o p place n → KeepsOrHides j k → HasNoEnd place.line
+    → length place.line ≤ 120 → EndsAtRead i k o p
+read_ends i j k o p place n run kept no_end short = record {
   bytes = run.bytes;
   text = run.text;
   read = ReadsBeginning_kept i j k run.bytes run.read kept;
-  owes = record { lines = run.advances.lines; rest = place.line; state = state_at place; pieces = record { whole = run.advances.whole; each = run.advances.each; partial = no_end }; owed = run.advances.owed };
+  owes = record { lines = run.advances.lines; rest = place.line; state = state_at place; pieces = record { whole = run.advances.whole; each = run.advances.each; partial = no_end }; short = short; owed = run.advances.owed };
   written = run.written;
 }

@@ -1,5 +1,5 @@
 -- How a run of the tool ends, and what was written by then.
-use Rattle.std.specs.Prelude.{◌≡◌, ℕ, ◌+◌, ◌-◌, ◌^◌, ◌⊎◌, Bool, true, false, Option, Result, Ok, Err, List, ◌∷◌, ◌++◌}
+use Rattle.std.specs.Prelude.{◌≡◌, ℕ, ◌+◌, ◌-◌, ◌^◌, ◌≤◌, ◌⊎◌, Bool, true, false, Option, Result, Ok, Err, List, ◌∷◌, ◌++◌}
 use Rattle.std.specs.Prelude.{length}
 use Rattle.std.specs.Io.KnownBytes.{Appends, Consumes, IsAtEnd}
 use Rattle.atlas_lines.specs.declared.run.ToolEnd.{ToolEnd}
@@ -18,12 +18,13 @@ pub record OwesFirst (input : List ℕ) (lines others : List (List ℕ)) (text :
   pub lines_are : AreLines input (lines ++ others)
   pub owed : OwesText at_start lines text state
 
--- The whole lines read, none of them bad, owe this text; the rest is no whole line.
+-- The whole lines read, none of them bad, owe this text; the rest is no whole line, and not so long that it is bad.
 pub record OwesRead (bytes text : List ℕ) : Type 0 where
   pub lines : List (List ℕ)
   pub rest : List ℕ
   pub state : ToolState
   pub pieces : ArePieces bytes lines rest
+  pub short : length rest ≤ 120
   pub owed : OwesText at_start lines text state
 
 -- The first bad line of the input has this number, and this is the text up to it and with its answer.

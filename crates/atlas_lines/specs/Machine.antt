@@ -21,6 +21,7 @@ use Rattle.guillotiere.specs.Replies.{IsLiveList}
 use Rattle.guillotiere.specs.Stored.{AtlasValue}
 use Rattle.guillotiere.specs.Stored as stored
 use Rattle.guillotiere.specs.Simple.{SimpleState, SimpleAtlasCall, SimpleAnswer, SimpleStep, simple_start}
+use Rattle.guillotiere.specs.SimpleStored.{SimpleValue, simple_state_of}
 use Rattle.guillotiere_recording.specs.declared.error.RecordingError.{RecordingError}
 use Rattle.guillotiere_recording.specs.declared.error.RecordingError.TheVariants as recording
 use Rattle.guillotiere_recording.specs.Events.{EventValue, ListValue}
@@ -62,7 +63,7 @@ pub record ToolState : Type 0 where
 -- What the tool stores: the values of its allocators.
 pub record Held : Type 0 where
   pub stand : Standing AtlasValue SessionValue
-  pub simple : Option SimpleState
+  pub simple : Option SimpleValue
 
 abbrev pub session_in : SessionValue → Session
 session_in value = record { named = session_of value; given = value.given; recording = value.recording }
@@ -72,8 +73,12 @@ standing_in stands.Nothing = stands.Nothing
 standing_in (stands.Atlas value) = stands.Atlas (stored.state_of value)
 standing_in (stands.Session value) = stands.Session (session_in value)
 
+abbrev pub simple_in : Option SimpleValue → Option SimpleState
+simple_in None = None
+simple_in (Some value) = Some (simple_state_of value)
+
 abbrev pub tool_state_of : Held → ToolState
-tool_state_of held = record { stand = standing_in held.stand; simple = held.simple }
+tool_state_of held = record { stand = standing_in held.stand; simple = simple_in held.simple }
 
 -- The atlas, if it stands there itself.
 abbrev pub atlas_of : Standing State Session → Option State
@@ -186,10 +191,16 @@ declined_line recording.Slots = Declined refusal.Slots
 declined_line recording.NotLive = Declined refusal.NotLive
 declined_line recording.Names = NoNames
 
--- An event of a session: it led on, and was recorded.
+-- How many names are given after an event: a grant gives one more.
+abbrev pub given_after : EventValue → ℕ → ℕ
+given_after (EventValue.Allocate size (Some granted)) given = given + 1
+given_after _ given = given
+
+-- An event of a session: it led on, and was recorded; a grant took the next name.
 pub record Records (old : Session) (event : EventValue) (new : Session) : Type 0 where
   pub led : Leads old.named event new.named
   pub recorded : new.recording ≡ with_event event old.recording
+  pub given : new.given ≡ given_after event old.given
 
 -- A refusal of a call to a session, for memory, or for slots where its atlas may refuse it so; nothing changes.
 pub record Refuses (old : Session) (call : AtlasCall) (error : AtlasError) (new : Session) : Type 0 where
@@ -220,7 +231,8 @@ RecordsFreeing old name _ new = ⊥
 abbrev pub RecordsGrowth : Session → Size → Reply → Session → Type 0
 RecordsGrowth old size Completed new = Records old (EventValue.Grow size) new
 RecordsGrowth old size Invalid new = (Fits old.named.state.size (sides_of size) → ⊥) × (new ≡ old)
-RecordsGrowth old size (Declined error) new = Refuses old (AtlasCall.Grow (sides_of size)) error new
+RecordsGrowth old size (Declined error) new =
+    Fits old.named.state.size (sides_of size) × Refuses old (AtlasCall.Grow (sides_of size)) error new
 -- No other reply comes.
 RecordsGrowth old size _ new = ⊥
 
@@ -248,7 +260,7 @@ abbrev pub RecordsRearranging : Session → AtlasCall → (asks : Type 0) → (r
 RecordsRearranging old call asks recorded (ChangeLines changes failures) new =
     Records old (recorded (record { changes = changes; failures = failures })) new
 RecordsRearranging old call asks recorded (OneLine Invalid) new = (asks → ⊥) × (new ≡ old)
-RecordsRearranging old call asks recorded (OneLine (Declined error)) new = Refuses old call error new
+RecordsRearranging old call asks recorded (OneLine (Declined error)) new = asks × Refuses old call error new
 -- No other reply comes.
 RecordsRearranging old call asks recorded _ new = ⊥
 

@@ -213,6 +213,7 @@ impl<'a, A: Allocator> Progress<'a, A> {
         ensures continues { Continues result self.old block.now self.new (W.contents output.old)
             (W.contents output.new) waiting.old [] }
         ensures line { IsNone result → HasNoEnd self.new.line }
+        ensures short { IsNone result → length self.new.line ≤ 120 }
         ensures room { IsNone result
             → self.new.number + length self.new.line ≤ self.old.number + length self.old.line + length block.now }
         ensures waiting { IsNone result → waiting.new ≡ [] }
@@ -224,6 +225,7 @@ impl<'a, A: Allocator> Progress<'a, A> {
         if !flush(output, waiting) {
             return Some(Err(ToolFault::Write));
         }
+        prove!(self.line.len() <= LINE);
         None
     }
 

@@ -11,7 +11,7 @@ ghost use Rattle.atlas_lines.specs.Machine.{CreatesAtlas, BeginsSession, CallsSt
 ghost use Rattle.atlas_lines.specs.Machine.{LooksAtStanding, ReplaysStanding, HasNoAtlas, RecordsRequest};
 ghost use Rattle.atlas_lines.specs.Machine.{RecordsFreeing, RecordsGrowth, RecordsRearranging, IsLine, ShowsLive};
 ghost use Rattle.atlas_lines.specs.Machine.{ShowsNames, ShowsHoles, ShowsSize, ShowsEmpty, SaysNoAtlas, atlas_of};
-ghost use Rattle.atlas_lines.specs.Machine.{standing_in, tool_state_of};
+ghost use Rattle.atlas_lines.specs.Machine.{simple_in, standing_in, tool_state_of};
 
 use crate::atlas_calls::is_positive;
 use crate::listing::{Waiting, send};
@@ -115,7 +115,7 @@ impl<'a, A: Allocator> Tool<'a, A> {
     }
 
     fn request_simple(&mut self, size: Size) -> Reply
-        ensures step { RequestsSimple self.old.simple (sides_of size) result self.new.simple }
+        ensures step { RequestsSimple (simple_in self.old.simple) (sides_of size) result (simple_in self.new.simple) }
         ensures stand { self.new.stand ≡ self.old.stand }
     {
         let Some(simple) = &mut self.simple else {
@@ -129,7 +129,8 @@ impl<'a, A: Allocator> Tool<'a, A> {
     }
 
     fn start_simple(&mut self) -> Reply
-        ensures step { StartsSimple (atlas_of (standing_in self.old.stand)) self.old.simple result self.new.simple }
+        ensures step { StartsSimple (atlas_of (standing_in self.old.stand)) (simple_in self.old.simple) result
+            (simple_in self.new.simple) }
         ensures stand { self.new.stand ≡ self.old.stand }
     {
         let Standing::Atlas(atlas) = &self.stand else {

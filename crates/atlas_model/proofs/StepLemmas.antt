@@ -15,3 +15,5 @@ pub mod LiveBoxes
 pub mod LyingApart
 pub mod Guarding
 pub mod CallerSteps
+pub mod CallerGrants
+pub mod GivenBack

@@ -34,6 +34,15 @@ options_of o =
 abbrev pub size_of : Sides → Size
 size_of s = record { width = pos s.width; height = pos s.height }
 
+-- The options that have this alignment and these thresholds.
+abbrev pub allocator_options_of : Options → AllocatorOptions
+allocator_options_of o =
+    record {
+      alignment = size_of o.alignment;
+      small_size_threshold = o.small_threshold;
+      large_size_threshold = o.large_threshold;
+    }
+
 abbrev pub rectangle_of : Box → Rectangle
 rectangle_of b =
     record {

@@ -99,12 +99,11 @@ SimpleStep old (Grow n) BadCall new = (Fits old.size n → ⊥) × (new ≡ old)
 SimpleStep old (Grow n) Done new = Fits old.size n × SimplyGrows old n new
 -- Memory is asked for only where a part is added.
 SimpleStep old (Grow n) (Refused Memory) new = Fits old.size n × (added_by old n ≢ []) × (new ≡ old)
+-- A clearing always succeeds.
 SimpleStep old Clear Done new = new ≡ simple_start old.size old.options
-SimpleStep old Clear (Refused Memory) new = new ≡ old
 -- A reset asks for a size that isn't empty and for valid options.
 SimpleStep old (Reset n o) BadCall new = (IsPositive n × AreValid o → ⊥) × (new ≡ old)
 SimpleStep old (Reset n o) Done new = IsPositive n × AreValid o × (new ≡ simple_start n o)
-SimpleStep old (Reset n o) (Refused Memory) new = IsPositive n × AreValid o × (new ≡ old)
 SimpleStep old (Start source) Done new = StartsFrom source new
 SimpleStep old (Start source) (Refused Memory) new = new ≡ old
 -- No other answer comes.

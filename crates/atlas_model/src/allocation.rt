@@ -42,6 +42,10 @@ pub struct Allocation {
     pub rectangle: Rectangle,
 }
 
+/// The most slots that an atlas may use at once, 16777216: an id has 24 bits for the number of its slot. It is the
+/// limit of an atlas that is made without one (docs/MODEL.md, "States and steps").
+pub const MOST_SLOTS: u32 = 16777216;
+
 /// How many slots an atlas uses, the most that it used at once since its last start, and how many it may use.
 #[derive(Clone, Copy, Debug, PartialEq, Eq)]
 pub struct SlotCount {

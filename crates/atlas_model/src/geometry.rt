@@ -1,7 +1,8 @@
 //! Points, sizes and rectangles in pixels.
 ghost use Rattle.std.specs.Prelude.{◌≡◌, ◌↔◌, ◌⊎◌, ◌-ℤ◌, ◌≤ℤ◌, pos, IsTrue, FitsSigned};
 ghost use Rattle.std.specs.Int.{w32};
-ghost use Rattle.atlas_model.specs.Pixels.{IsMeasurable};
+ghost use Rattle.atlas_model.specs.Boxes.{IsPositive};
+ghost use Rattle.atlas_model.specs.Pixels.{IsMeasurable, sides_of};
 
 /// A point, in pixels; y grows downwards.
 #[derive(Clone, Copy, Debug, PartialEq, Eq, Hash)]
@@ -51,6 +52,13 @@ impl Size {
         ensures { IsTrue result ↔ ((self.now.width ≤ℤ pos 0) ⊎ (self.now.height ≤ℤ pos 0)) }
     {
         self.width <= 0 || self.height <= 0
+    }
+
+    /// Whether both sides are above 0: what each allocator asks of the size that it is made with or started again at.
+    pub fn is_positive(&self) -> bool
+        ensures { IsTrue result ↔ IsPositive (sides_of self.now) }
+    {
+        self.width > 0 && self.height > 0
     }
 }
 

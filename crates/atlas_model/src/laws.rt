@@ -1,5 +1,5 @@
 //! Laws over the definitions of docs/MODEL.md, each the contract of a function that does nothing.
-ghost use Rattle.std.specs.Prelude.{◌≡◌, true, false, [], ◌∷◌};
+ghost use Rattle.std.specs.Prelude.{◌≡◌, ◌^◌, true, false, [], ◌∷◌, pos};
 ghost use Rattle.atlas_model.specs.Boxes.Axis.{Horizontal, Vertical};
 ghost use Rattle.atlas_model.specs.Trees.{grant, live};
 ghost use Rattle.atlas_model.specs.Trees.Members.{End, Free, Alloc};
@@ -9,7 +9,10 @@ ghost use Rattle.atlas_model.specs.Laws.Examples.{grown_full, grown_below, quart
 ghost use Rattle.atlas_model.specs.Choice.{up, class_of, IsPick};
 ghost use Rattle.atlas_model.specs.Laws.ChoiceExamples.{IsDefaultPick, default_options, large_options, alike_boxes};
 ghost use Rattle.atlas_model.specs.Laws.ChoiceExamples.{large_boxes, mixed_boxes};
+ghost use Rattle.atlas_model.specs.Pixels.{options_of};
+ghost use Rattle.atlas_model.specs.declared.allocation.TheConstants.{MOST_SLOTS};
 ghost use Rattle.atlas_model.specs.declared.error.AtlasError.TheVariants.{Slots};
+ghost use Rattle.atlas_model.specs.declared.options.TheConstants.{DEFAULT_OPTIONS};
 ghost use Rattle.atlas_model.specs.States.{after_refit};
 ghost use Rattle.atlas_model.specs.Refits.{Refits, RefitPasses, IsRanked, IsRefitOrder};
 ghost use Rattle.atlas_model.specs.Laws.RefitExamples.{three_boxes, three_within, three_in_order, three_moved};
@@ -30,7 +33,7 @@ ghost use Rattle.atlas_model.specs.Laws.RunLaws.{RunsKeepOrder, RunsLeaveNoTrace
 ghost use Rattle.atlas_model.specs.Laws.Existence.{RoundingIsLeast, StartsAreSound, StepsExist};
 ghost use Rattle.atlas_model.specs.Renaming.{RenamingChangesNothing, AnswersWithoutIds, LiveNamesCount};
 ghost use Rattle.atlas_model.specs.Callers.{SoundIsTiled, LiveHaveBoxes, LiveShareNothing, LiveLieWithin};
-ghost use Rattle.atlas_model.specs.Callers.{LiveAreGuarded};
+ghost use Rattle.atlas_model.specs.Callers.{LiveAreGuarded, IdleHasRoom, GrantsAreGivenBack, ManyAreGivenBack};
 
 /// In a well formed tree of cuts each unit square of the atlas lies in exactly one leaf's box, and no
 /// such box is empty or passes the sides of the atlas.
@@ -131,6 +134,20 @@ pub fn examples()
     // Its neighbours at both sides are free, and two sequences give way.
     ensures half_freed { release (only 5) half_between
         ≡ record { axis = Vertical; members = Alloc 0 100 (Free 100 End) } }
+{}
+
+/// The numbers of `DEFAULT_OPTIONS`: alignment 1 by 1, and the thresholds 32 and 256, in pixels.
+pub fn default_options()
+    ensures alignment { DEFAULT_OPTIONS.alignment ≡ record { width = pos 1; height = pos 1 } }
+    ensures small { DEFAULT_OPTIONS.small_size_threshold ≡ pos 32 }
+    ensures large { DEFAULT_OPTIONS.large_size_threshold ≡ pos 256 }
+    ensures options { options_of DEFAULT_OPTIONS ≡ default_options }
+{}
+
+/// The most slots of an atlas are 16777216, as many as 24 bits can number.
+pub fn most_slots()
+    ensures number { MOST_SLOTS ≡ 16777216 }
+    ensures bits { MOST_SLOTS ≡ 2 ^ 24 }
 {}
 
 /// Worked roundings and classes, by computation.
@@ -320,6 +337,24 @@ pub fn live_boxes_lie_within()
 #[tactic(auto, using(crate::proofs::StepLemmas::Guarding::live_are_guarded))]
 pub fn live_boxes_are_guarded()
     ensures { LiveAreGuarded }
+{}
+
+/// Where nothing is live, each positive request has room whose rounded sides fit the atlas.
+#[tactic(auto, using(crate::proofs::StepLemmas::CallerGrants::idle_has_room))]
+pub fn idle_has_room()
+    ensures { IdleHasRoom }
+{}
+
+/// A grant that is freed leaves no trace: each id has the box that it had.
+#[tactic(auto, using(crate::proofs::StepLemmas::GivenBack::grants_are_given_back))]
+pub fn grants_are_given_back()
+    ensures { GrantsAreGivenBack }
+{}
+
+/// The same of a list of grants, freed one after another or by one call: each id has the box that it had.
+#[tactic(auto, using(crate::proofs::StepLemmas::GivenBack::many_are_given_back))]
+pub fn many_are_given_back()
+    ensures { ManyAreGivenBack }
 {}
 
 /// Along each run of a simple allocator, boxes that are held stay within it and disjoint from each other and from the

@@ -9,7 +9,7 @@ mod geometry;
 pub mod laws;
 mod options;
 
-pub use allocation::{AllocId, Allocation, SlotCount};
+pub use allocation::{AllocId, Allocation, MOST_SLOTS, SlotCount};
 pub use change::{Change, ChangeList};
 pub use error::AtlasError;
 pub use geometry::{Point, Rectangle, Size, point2, size2};

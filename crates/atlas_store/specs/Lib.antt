@@ -7,3 +7,4 @@ pub mod Visits
 pub mod Walks
 pub mod Batches
 pub mod Generations
+pub mod Reserves

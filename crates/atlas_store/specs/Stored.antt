@@ -31,10 +31,11 @@ pub record Stored : Type 0 where
   pub size : Size
   pub limit : ℕ
 
--- What contracts see of an atlas: what it stores, and how many turns it took.
+-- What contracts see of an atlas: what it stores, how many turns it took, and for how many slots it has memory.
 pub record AtlasValue : Type 0 where
   pub stored : Stored
   pub turns : ℕ
+  pub capacity : ℕ
 
 -- The state that an atlas stands for.
 abbrev pub state_of : AtlasValue → State
@@ -90,6 +91,6 @@ pub record IsAtlas (v : Stored) : Type 0 where
   pub across : holding.sequence.width ≡ side (other holding.sequence.axis) (sides_of v.size)
   pub first : v.first.number ≡ first_slot holding.tree
   pub used : v.used ≡ numbers holding.tree
-  pub sound : IsSound (state_of (record { stored = v; turns = 0 }))
+  pub sound : IsSound (state_of (record { stored = v; turns = 0; capacity = 0 }))
   pub exact : v.size ≡ size_of (sides_of v.size)
   pub limited : v.limit ≤ most_slots

@@ -53,6 +53,7 @@ pub trait Entry {
 }
 
 // Shows the boxes of a list to a search.
+#[inline(always)]
 fn show_list<E: Entry>(entries: &[E], head: Link, place: Place, best: &mut Best)
     requires { IsShowable (map E.item entries.now) head.number }
     ensures { HasShown (map E.item entries.now) head.number place best.old best.new }
@@ -70,6 +71,7 @@ fn show_list<E: Entry>(entries: &[E], head: Link, place: Place, best: &mut Best)
 }
 
 // Shows the list at a place to a search, unless nothing in it can be the best.
+#[inline(always)]
 fn search_list<A: Allocator, E: Entry>(
     entries: &[E],
     table: &Table<A>,
@@ -90,6 +92,7 @@ fn search_list<A: Allocator, E: Entry>(
 }
 
 // Shows lists of a row to a search.
+#[inline(always)]
 fn search_row<A: Allocator, E: Entry>(
     entries: &[E],
     table: &Table<A>,
@@ -111,6 +114,7 @@ fn search_row<A: Allocator, E: Entry>(
 }
 
 // Shows lists of a column to a search.
+#[inline(always)]
 fn search_column<A: Allocator, E: Entry>(
     entries: &[E],
     table: &Table<A>,
@@ -132,6 +136,7 @@ fn search_column<A: Allocator, E: Entry>(
 }
 
 // The columns of a row, from one on and in a window, with lists that aren't empty.
+#[inline(always)]
 fn columns_in<A: Allocator>(table: &Table<A>, window: Window, row: usize, first: usize) -> Mask
     requires row { row < window.end }
     requires first { first ≤ BANDS }
@@ -150,6 +155,7 @@ fn columns_in<A: Allocator>(table: &Table<A>, window: Window, row: usize, first:
 }
 
 // The rows of a column, from one on and in a window, with lists that aren't empty.
+#[inline(always)]
 fn rows_in<A: Allocator>(table: &Table<A>, window: Window, column: usize, first: usize) -> Mask
     requires column { column < window.end }
     requires first { first ≤ BANDS }
@@ -181,6 +187,7 @@ fn rows_with<A: Allocator>(table: &Table<A>, first: usize, end: usize) -> Mask
 }
 
 // Shows lists of these rows to a search, from a column on.
+#[inline(always)]
 fn search_rows<A: Allocator, E: Entry>(
     entries: &[E],
     table: &Table<A>,
@@ -206,6 +213,7 @@ fn search_rows<A: Allocator, E: Entry>(
 }
 
 // A row or column that each list with a slot reaches, of those from a place on.
+#[inline(always)]
 fn least_from<A: Allocator>(table: &Table<A>, own: Place) -> usize
     requires row { own.row < BANDS }
     requires column { own.column < BANDS }
@@ -219,6 +227,7 @@ fn least_from<A: Allocator>(table: &Table<A>, own: Place) -> usize
 
 // A search that was shown the free entries of a class: those with an equal side first, which stand in the request's row
 // and column, and the others only if none of those is free.
+#[inline(always)]
 fn search_class<A: Allocator, E: Entry>(
     entries: &[E],
     table: &Table<A>,

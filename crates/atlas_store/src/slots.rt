@@ -42,9 +42,6 @@ impl Link {
 /// The number that stands for no slot.
 pub const NO_SLOT: u32 = 4294967295;
 
-/// The most slots that an atlas may use: an id has 24 bits for the number of its slot.
-pub const MOST_SLOTS: u32 = 16777216;
-
 /// The tree's part of a slot: its place among its siblings, what it is, and its rectangle.
 #[derive(Clone, Copy, Debug, PartialEq, Eq)]
 pub struct Node {

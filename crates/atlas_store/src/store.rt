@@ -75,6 +75,7 @@ impl<A: Allocator> Store<A> {
     }
 
     /// Takes a free leaf out of its list.
+    #[inline(always)]
     pub fn unlist(&mut self, at: Link)
         requires ready { (h : Holding) × Holds (shelf_of self.old) h × (h.loose at.number ≡ false) }
         requires free { (node_in (shelf_of self.old) at.number).kind ≡ Free }
@@ -101,6 +102,7 @@ impl<A: Allocator> Store<A> {
     }
 
     /// Puts a loose leaf into its list.
+    #[inline(always)]
     pub fn list(&mut self, at: Link)
         requires { IsLoose self.old at.number }
         ensures { IsListed self.old self.new at.number }
@@ -144,6 +146,7 @@ impl<A: Allocator> Store<A> {
 
     /// A loose leaf keeps the first `extent` pixels along its axis; the slot that is returned takes the rest, and is
     /// loose too.
+    #[inline(always)]
     pub fn split(&mut self, at: Link, extent: u32) -> Link
         requires ready { IsReadyFor 1 self.old at.number }
         requires positive { 0 < extent }

@@ -34,6 +34,18 @@ fn sizes_are_empty_at_zero_and_below(rt: HostRuntime) {
 }
 
 #[test]
+fn sizes_are_positive_above_zero(rt: HostRuntime) {
+    for (sides, want) in [
+        ((1, 1), true),
+        ((0, 5), false),
+        ((5, 0), false),
+        ((-3, 5), false),
+    ] {
+        assert_eq!(rt; size(sides).is_positive(), want, "{sides:?}");
+    }
+}
+
+#[test]
 fn options_have_defaults(rt: HostRuntime) {
     let default = AllocatorOptions::default();
     assert!(rt; default == DEFAULT_OPTIONS && default.alignment == size2(1, 1));

@@ -11,6 +11,10 @@ mod geometry;
 #[cfg(test)]
 mod memory;
 #[cfg(test)]
+mod queries;
+#[cfg(test)]
+mod reserving;
+#[cfg(test)]
 mod session_long;
 #[cfg(test)]
 mod walks;

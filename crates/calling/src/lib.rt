@@ -1,13 +1,19 @@
-//! What callers write first over an atlas. All is proved with no proof file but `apart::two` and `tiled`, which show
-//! how a clause and a law are cited.
+//! What callers write first over an atlas. All is proved with no proof file but `apart::two`, `tiled`, and two calls of
+//! `pages`, which show how a clause and a law are cited.
 #![tactic(auto)]
 
 mod apart;
+mod asked;
+mod back;
 mod boxes;
 mod first;
+mod frames;
 mod keep;
 mod lists;
 mod moves;
+mod pages;
+mod plain;
+mod reserved;
 mod sheet;
 mod shown;
 mod tiled;

@@ -5,7 +5,7 @@ ghost use Rattle.guillotiere.specs.Pixels.{sides_of, box_of};
 ghost use Rattle.guillotiere.specs.Stored.{state_of};
 ghost use Rattle.guillotiere.specs.Laws.StepLaws.{IsRearrangingStep};
 
-use guillotiere::{AtlasAllocator, AtlasError, Change, Rectangle, Size};
+use guillotiere::{AtlasAllocator, AtlasError, Rectangle, Size};
 use std::alloc::Allocator;
 
 // Stands for what a texture does: it copies pixels between two rectangles of the same sides.
@@ -27,19 +27,17 @@ pub fn repack<A: Allocator + Copy>(atlas: &mut AtlasAllocator<A>) -> Result<usiz
     Ok(list.failures.len())
 }
 
-/// Packs what is live into another size, and shows each move; whether nothing was lost.
-pub fn resized<A: Allocator + Copy, F: FnMut(&Change)>(
+/// Packs what is live into another size and moves the pixels of each picture; whether nothing was lost.
+pub fn resized<A: Allocator + Copy>(
     atlas: &mut AtlasAllocator<A>,
     size: Size,
-    mut show: F,
 ) -> Result<bool, AtlasError>
-    requires size { IsPositive (sides_of size) }
-    requires callable { F.IsAlwaysCallable show }
+    requires { IsPositive (sides_of size) }
     ensures refused { OnErr result (atlas.new ≡ atlas.old) }
 {
     let list = atlas.resize_and_rearrange(size)?;
     for change in &list.changes {
-        show(change);
+        copy_pixels(change.old.rectangle, change.new.rectangle);
     }
     Ok(list.failures.is_empty())
 }

@@ -9,3 +9,4 @@ pub mod RefitParts
 pub mod RefitLoops
 pub mod RearrangedAtlas
 pub mod Measuring
+pub mod Reserving

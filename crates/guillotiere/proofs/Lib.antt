@@ -2,6 +2,7 @@ pub mod SimpleLemmas
 pub mod AtlasLemmas
 pub mod PlanLemmas
 pub mod Playing
+pub mod Callers
 pub use Rattle.atlas_model.proofs.TreeLemmas
 pub use Rattle.atlas_model.proofs.StepLemmas
 pub use Rattle.atlas_model.proofs.ChoiceLemmas

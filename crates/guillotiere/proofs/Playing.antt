@@ -5,7 +5,8 @@ use Rattle.std.proofs.lemmas.List.{take_more, map-append, length-map, drop-appen
 use Rattle.std.proofs.lemmas.List.Elements.{All-map}
 use Rattle.atlas_model.specs.RunTurns.{freeings_of, turns_within}
 use Rattle.atlas_model.specs.Runs.{Run, is_plain}
-use Rattle.guillotiere.specs.Sessions.{call_of, reply_of, calls_of, replies_of, TakesTurns, IsSession}
+use Rattle.guillotiere.specs.Sessions.{call_of, reply_of, calls_of, replies_of, TakesTurns, IsAnswered, AreAnswered}
+use Rattle.guillotiere.specs.Sessions.{IsSession}
 use Rattle.atlas_model.specs.States.{State, used_in, IsSound}
 use Rattle.atlas_model.specs.Steps.{AtlasCall, AtlasReply, Step}
 use Rattle.atlas_model.specs.Steps.AtlasCall.{Deallocate}
@@ -34,12 +35,27 @@ run-more (c ∷ calls) [] old mid new call reply run step = absurd run
 run-more (c ∷ calls) (r ∷ replies) old mid new call reply (first, its, run) step =
     (first, its, run-more calls replies first mid new call reply run step)
 
+-- One call more is answered.
+pub answered-more : {A : Type 0} (calls : List Call) (replies : List (Reply A)) (old mid new : AtlasValue) (call : Call)
+    (reply : Reply A) → AreAnswered old calls replies mid → IsAnswered mid (call_of call) reply new
+    → AreAnswered old (calls ++ call ∷ []) (replies ++ reply ∷ []) new
+answered-more [] [] old mid new call reply same one =
+    (new, subst (λ v. IsAnswered v (call_of call) reply new) same one, refl)
+answered-more [] (r ∷ replies) old mid new call reply chain one = absurd chain
+answered-more (c ∷ calls) [] old mid new call reply chain one = absurd chain
+answered-more (c ∷ calls) (r ∷ replies) old mid new call reply (first, its, chain) one =
+    (first, its, answered-more calls replies first mid new call reply chain one)
+
 -- Lists with one item more.
+
+pub taken-more : {X : Type 0} (xs : List X) (i : ℕ) (x : X) → i < length xs → x ≡ get_or xs i x
+    → take (i + 1) xs ≡ take i xs ++ x ∷ []
+taken-more xs i x below is = take_more xs i x below ∙ ap (λ y. take i xs ++ y ∷ []) (sym is)
 
 pub map_take-more : {X Y : Type 0} (f : X → Y) (xs : List X) (i : ℕ) (x : X) → i < length xs → x ≡ get_or xs i x
     → map f (take (i + 1) xs) ≡ map f (take i xs) ++ f x ∷ []
 map_take-more f xs i x below is =
-    ap (map f) (take_more xs i x below ∙ ap (λ y. take i xs ++ y ∷ []) (sym is)) ∙ map-append f (take i xs) (x ∷ [])
+    ap (map f) (taken-more xs i x below is) ∙ map-append f (take i xs) (x ∷ [])
 
 pub drop-more : {X : Type 0} (n : ℕ) (xs ys : List X) (x : X) → ys ≡ xs ++ x ∷ [] → n ≤ length xs
     → drop n ys ≡ drop n xs ++ x ∷ []
@@ -87,12 +103,13 @@ plain_mapped : (calls : List Call) → All (λ c. is_plain (call_of c) ≡ true)
 plain_mapped calls plain = All-map (λ c. is_plain c ≡ true) call_of calls plain
 
 pub session_played : {A : Type 0} (old new : AtlasValue) (calls : List Call) (replies : List (Reply A)) → IsSound (state_of old)
-    → IsPlayed old (calls_of calls) (replies_of replies) new → IsSession old calls replies new
-session_played old new calls replies sound h =
+    → AreAnswered old calls replies new → IsPlayed old (calls_of calls) (replies_of replies) new → IsSession old calls replies new
+session_played old new calls replies sound chain h =
     let order = runs_keep_order (state_of old) (state_of new) (calls_of calls) (replies_of replies) sound h.run in
     let some : 1 ≤ used_in (state_of new) =
     nodes_positive (state_of new).size (state_of new).tree order.1.sound.well_formed in
     record {
+      answered = chain;
       count = sym (length-map replies reply_of)
           ∙ sym (run-length (calls_of calls) (replies_of replies) (state_of old) (state_of new) h.run)
           ∙ length-map calls call_of;

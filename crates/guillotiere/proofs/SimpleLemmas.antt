@@ -1,5 +1,6 @@
 -- Lemmas of the simple allocator.
 pub mod FreeItems
+pub mod EntryCounts
 pub mod CuttingBoxes
 pub mod BoxStoring
 pub mod CuttingFromLists

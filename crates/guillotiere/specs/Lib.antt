@@ -1,13 +1,16 @@
 pub mod Sessions
 pub mod SimpleSessions
+pub mod SimpleStored
 pub mod FreeBoxes
 pub mod Plans
+pub mod Pages
 pub use Rattle.atlas_store.specs.Stored
 pub use Rattle.atlas_store.specs.Rectangles
 pub use Rattle.atlas_store.specs.Visits
 pub use Rattle.atlas_store.specs.Walks
 pub use Rattle.atlas_store.specs.Batches
 pub use Rattle.atlas_store.specs.Generations
+pub use Rattle.atlas_store.specs.Reserves
 pub use Rattle.atlas_model.specs.Boxes
 pub use Rattle.atlas_model.specs.Pixels
 pub use Rattle.atlas_model.specs.Cuts

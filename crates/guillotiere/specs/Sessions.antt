@@ -1,5 +1,5 @@
 -- Sessions: calls of an atlas as data, their replies, and what a list of calls made in turn keeps to.
-use Rattle.std.specs.Prelude.{◌≡◌, ◌+◌, ◌≤◌, true, List, length, map, All}
+use Rattle.std.specs.Prelude.{◌≡◌, ◌+◌, ◌≤◌, true, List, [], ◌∷◌, length, map, All}
 use Rattle.guillotiere.specs.declared.session.Call.{Call}
 use Rattle.guillotiere.specs.declared.session.Call.TheVariants as call
 use Rattle.guillotiere.specs.declared.session.Reply.{Reply}
@@ -56,17 +56,27 @@ pub record IsAnswered {A : Type 0} (old : AtlasValue) (call : AtlasCall) (reply 
   pub unchanged : is_refusal (reply_of reply) ≡ true → new ≡ old
   pub turns : TakesTurns old call (reply_of reply) new
 
+-- As many replies as calls, and each call is answered from what the one before it left.
+abbrev pub AreAnswered : {A : Type 0} → AtlasValue → List Call → List (Reply A) → AtlasValue → Type 0
+AreAnswered old [] [] new = new ≡ old
+AreAnswered old (call ∷ calls) (reply ∷ replies) new =
+    (mid : AtlasValue) × IsAnswered old (call_of call) reply mid × AreAnswered mid calls replies new
+AreAnswered old [] (reply ∷ replies) new = ⊥
+AreAnswered old (call ∷ calls) [] new = ⊥
+
 abbrev pub calls_of : List Call → List AtlasCall
 calls_of calls = map call_of calls
 
 abbrev pub replies_of : {A : Type 0} → List (Reply A) → List AtlasReply
 replies_of replies = map reply_of replies
 
--- Calls made of an atlas in turn, and their replies, one for each. They are a run of the model. Along it everything is
--- in order and each reply owed, and at its end everything is in order. Where all calls are grants, freeings and
--- growths, they leave no trace. The turns are few; the second bound is for an atlas with one member, as a new one has.
+-- Calls made of an atlas in turn, and their replies, one for each: a chain of answers through all that is stored. They
+-- are a run of the model. Along it everything is in order and each reply owed, and at its end everything is in order.
+-- Where all calls are grants, freeings and growths, they leave no trace. The turns are few; the second bound is for an
+-- atlas with one member, as a new one has.
 pub record IsSession {A : Type 0} (old : AtlasValue) (calls : List Call) (replies : List (Reply A)) (new : AtlasValue)
     : Type 0 where
+  pub answered : AreAnswered old calls replies new
   pub count : length replies ≡ length calls
   pub run : Run (state_of old) (calls_of calls) (replies_of replies) (state_of new)
   pub along : IsRunInOrder (state_of old) (calls_of calls) (replies_of replies) (state_of new)

@@ -1,6 +1,7 @@
 //! The atlas allocator.
-ghost use Rattle.std.specs.Prelude.{◌≡◌, ◌≤◌, ◌<◌, ◌+◌, ◌-◌, ◌*◌, ◌↔◌, [], IsTrue, IfOk, IfSome, OnErr};
+ghost use Rattle.std.specs.Prelude.{◌≡◌, ◌≤◌, ◌<◌, ◌+◌, ◌-◌, ◌*◌, ◌↔◌, [], IsTrue, IfErr, IfOk, IfSome, OnErr};
 ghost use Rattle.std.specs.Prelude.{IsOkUnless, OnOk, length, IsSome, option_map, None, Some, Ok, All, map};
+ghost use Rattle.std.specs.Prelude.{◌≢◌, Err};
 ghost use Rattle.atlas_model.specs.Boxes.{area, Fits, IsPositive, IsWithin};
 ghost use Rattle.atlas_model.specs.Choice.{AreValid};
 ghost use Rattle.atlas_model.specs.Pixels.{sides_of, size_of, options_of, rectangle_of, box_of};
@@ -16,7 +17,9 @@ ghost use Rattle.atlas_model.specs.Steps.AtlasCall.{Allocate, Deallocate, Grow, 
 ghost use Rattle.atlas_model.specs.Steps.AtlasCall.{ResizeAndRearrange};
 ghost use Rattle.atlas_model.specs.Steps.AtlasReply.{Done};
 
+pub mod queries;
 pub mod rearranging;
+pub mod reserving;
 pub mod walks;
 
 use crate::atlas::rearranging::{refit, sort_for_refit};
@@ -24,15 +27,15 @@ use crate::tree::growth::{grow_tree, grow_whole, growth_for, slots_for};
 use crate::tree::requests::{choose, grant, make_room};
 use crate::tree::{free_leaf, slots_needed};
 use atlas_model::{
-    AllocId, Allocation, AllocatorOptions, AtlasError, ChangeList, DEFAULT_OPTIONS, Rectangle,
-    Size, SlotCount,
+    AllocId, Allocation, AllocatorOptions, AtlasError, ChangeList, DEFAULT_OPTIONS, MOST_SLOTS,
+    Rectangle, Size, SlotCount,
 };
 use atlas_store::choice::rounded;
 use atlas_store::cut::granted;
 use atlas_store::search::table::Table;
 use atlas_store::slots::batch::are_named_once;
 use atlas_store::slots::walks::{named_slot, slot_number};
-use atlas_store::slots::{Link, MOST_SLOTS, NO_SLOT, NodeKind};
+use atlas_store::slots::{Link, NO_SLOT, NodeKind};
 use atlas_store::store::Store;
 use atlas_store::store::turns::Turns;
 use std::alloc::{Allocator, Global};
@@ -43,8 +46,8 @@ use std::ops::Index;
 ///
 /// The atlas is a tree of cuts (docs/MODEL.md, "Trees of cuts"): its allocated and free rectangles are the leaves, and
 /// tile it. Freeing takes no memory; allocating and growing take it only where more slots are used than ever since the
-/// last start. An empty one takes 21,672 bytes on the heap: 21,632 for the table of its lists of free rectangles, and
-/// 40 for its one slot.
+/// last start, and never for slots that `reserve` made ready. An empty one takes 21,672 bytes on the heap: 21,632 for
+/// the table of its lists of free rectangles, and 40 for its one slot.
 #[derive(Drop)]
 pub struct AtlasAllocator<A: Allocator + Copy = Global> {
     store: Store<A>,
@@ -55,6 +58,7 @@ pub struct AtlasAllocator<A: Allocator + Copy = Global> {
 }
 
 impl<A: Allocator + Copy> Model for AtlasAllocator<A> {
+    ghost use Rattle.std.specs.Prelude.{vec_capacity};
     ghost use Rattle.atlas_store.specs.Stored.{AtlasValue, IsAtlas};
     ghost use Rattle.atlas_store.specs.Store.Holdings.{shelf_of};
 
@@ -63,6 +67,7 @@ impl<A: Allocator + Copy> Model for AtlasAllocator<A> {
     ghost view = { λ a. record {
       stored = record { shelf = shelf_of a.store; first = a.first; used = a.used; size = a.size; limit = a.limit };
       turns = a.store.turns.count;
+      capacity = vec_capacity a.store.slots;
     } };
 
     ghost invariant = { λ a. IsAtlas
@@ -72,6 +77,7 @@ impl<A: Allocator + Copy> Model for AtlasAllocator<A> {
 impl<A: Allocator + Copy> AtlasAllocator<A> {
     ghost use Rattle.atlas_store.specs.Stored.{state_of};
     ghost use Rattle.atlas_store.specs.Generations.{AreFirstGenerations};
+    ghost use Rattle.atlas_store.specs.Reserves.{HasReserve, UsesAtMost};
     ghost use Rattle.atlas_model.specs.Replies.{allocate_reply, done_reply, grant_of, live_box, IsExact};
     ghost use Rattle.atlas_model.specs.Rearranging.{change_reply, rearrangement_of, AreExactChanges, KeepsSides};
     ghost use Rattle.atlas_model.specs.Laws.StepLaws.{IsRearrangingStep};
@@ -79,6 +85,7 @@ impl<A: Allocator + Copy> AtlasAllocator<A> {
     ghost use Rattle.atlas_model.specs.Refits.Refitted.{HasExactRectangle};
     ghost use Rattle.atlas_model.specs.Callers.{AreGuarded, KeepsLive, AddsBox, JoinsGuarded, LeavesNoBox};
     ghost use Rattle.atlas_model.specs.Callers.{LeavesNoBoxes, KeepsAll, AllLieApart, AllLieWithin};
+    ghost use Rattle.atlas_model.specs.Callers.{HasFrame, IsAnswer, IsShortage, KeepsFrame, LiesWithin};
 
     /// An atlas of this size, in pixels, with the default options: one free rectangle. Asks a size that isn't empty.
     /// `Memory` is the only error.
@@ -87,6 +94,7 @@ impl<A: Allocator + Copy> AtlasAllocator<A> {
         ensures unless { IsOkUnless result AtlasError.Memory }
         ensures state { IfOk result
             (λ it. state_of it ≡ started (sides_of size) (options_of DEFAULT_OPTIONS) MOST_SLOTS) }
+        ensures anew { IfOk result AreFirstGenerations }
         ensures turns { IfOk result (λ it. it.turns ≡ 0) }
         ensures sound { IfOk result (λ it. IsSound (state_of it)) }
     {
@@ -103,6 +111,7 @@ impl<A: Allocator + Copy> AtlasAllocator<A> {
         requires options { AreValid (options_of options.now) }
         ensures unless { IsOkUnless result AtlasError.Memory }
         ensures state { IfOk result (λ it. state_of it ≡ started (sides_of size) (options_of options.now) MOST_SLOTS) }
+        ensures anew { IfOk result AreFirstGenerations }
         ensures turns { IfOk result (λ it. it.turns ≡ 0) }
         ensures sound { IfOk result (λ it. IsSound (state_of it)) }
     {
@@ -123,6 +132,7 @@ impl<A: Allocator + Copy> AtlasAllocator<A> {
         requires most { limit ≤ MOST_SLOTS }
         ensures unless { IsOkUnless result AtlasError.Memory }
         ensures state { IfOk result (λ it. state_of it ≡ started (sides_of size) (options_of options.now) limit) }
+        ensures anew { IfOk result AreFirstGenerations }
         ensures turns { IfOk result (λ it. it.turns ≡ 0) }
         ensures sound { IfOk result (λ it. IsSound (state_of it)) }
     {
@@ -173,11 +183,13 @@ impl<A: Allocator + Copy> AtlasAllocator<A> {
         first.kind == NodeKind::Free && first.next.number == NO_SLOT
     }
 
-    /// How many slots are used, the most that were used at once since the last start, and how many may be used.
+    /// How many slots are used, the most that were used at once since the last start, and how many may be used. There is
+    /// memory for the second number at least.
     pub fn slots(&self) -> SlotCount
         ensures used { result.used ≡ used_in (state_of self.now) }
         ensures kept { result.kept ≡ (state_of self.now).kept }
         ensures limit { result.limit ≡ (state_of self.now).limit }
+        ensures memory { result.kept ≤ self.now.capacity }
     {
         SlotCount {
             used: self.used,
@@ -191,6 +203,7 @@ impl<A: Allocator + Copy> AtlasAllocator<A> {
         ensures rectangle { result ≡ option_map rectangle_of (live_box (state_of self.now) id) }
         ensures live { IsSome result ↔ IsLive (state_of self.now) id }
         ensures within { IfSome result (λ rectangle. IsWithin (state_of self.now).size (box_of rectangle)) }
+        ensures lies { IfSome result (LiesWithin (state_of self.now).size) }
     {
         let at = named_slot(&self.store.slots, id)?;
         Some(self.store.slots[at].node.area)
@@ -199,7 +212,8 @@ impl<A: Allocator + Copy> AtlasAllocator<A> {
     /// Grants a request: the part of the rounded size at the `min` of the free rectangle that is picked. None if the
     /// size is empty or, rounded up, fits no free rectangle. `Slots` if more slots would be used than the limit allows;
     /// `Memory` if more would be used than ever since the last start, and memory for them is refused. Unless something
-    /// is granted, nothing changes. Takes no turns.
+    /// is granted, nothing changes. Takes no turns. At most 4 more slots are used: with 4 in reserve the answer is never
+    /// `Memory`.
     pub fn allocate(&mut self, requested_size: Size) -> Result<Option<Allocation>, AtlasError>
         ensures step { Step (state_of self.old) (Allocate (sides_of requested_size)) (allocate_reply result)
             (state_of self.new) }
@@ -212,6 +226,10 @@ impl<A: Allocator + Copy> AtlasAllocator<A> {
         ensures guarded { IfOk result (λ granted. IfSome granted (λ a.
             JoinsGuarded (state_of self.old) (state_of self.new) (box_of a.rectangle))) }
         ensures keeps { KeepsLive (state_of self.old) (state_of self.new) }
+        ensures slots { UsesAtMost 4 self.old self.new }
+        ensures memory { HasReserve 4 self.old → result ≢ Err AtlasError.Memory }
+        ensures answer { IsAnswer (state_of self.old) requested_size result }
+        ensures frame { KeepsFrame (state_of self.old) (state_of self.new) }
     {
         let Some(size) = rounded(requested_size, &self.store.options) else {
             return Ok(None);
@@ -239,6 +257,9 @@ impl<A: Allocator + Copy> AtlasAllocator<A> {
         ensures ok { (result ≡ Ok tt) ↔ IsLive (state_of self.old) id }
         ensures leaves { LeavesNoBox (state_of self.old) (state_of self.new) id }
         ensures count { OnOk result (length (live_in (state_of self.new)) + 1 ≡ length (live_in (state_of self.old))) }
+        ensures slots { UsesAtMost 0 self.old self.new }
+        ensures frame { KeepsFrame (state_of self.old) (state_of self.new) }
+        ensures kept { (state_of self.new).kept ≡ (state_of self.old).kept }
     {
         if !self.is_live(id) {
             return Err(AtlasError::NotLive);
@@ -261,6 +282,9 @@ impl<A: Allocator + Copy> AtlasAllocator<A> {
             ≡ self.old.turns + length ids.now + used_in (state_of self.old)) }
         ensures leaves { OnOk result (LeavesNoBoxes (state_of self.old) (state_of self.new) ids.now) }
         ensures sound { IsSound (state_of self.new) }
+        ensures slots { UsesAtMost 0 self.old self.new }
+        ensures frame { KeepsFrame (state_of self.old) (state_of self.new) }
+        ensures kept { (state_of self.new).kept ≡ (state_of self.old).kept }
     {
         if !self.are_live_once(ids) {
             return Err(AtlasError::NotLive);
@@ -276,13 +300,19 @@ impl<A: Allocator + Copy> AtlasAllocator<A> {
     /// appended, and then, across it, a free strip along the whole side (docs/MODEL.md, "Changes of a tree"); each only
     /// if that side grows. `Slots` if more slots would be used than the limit allows; `Memory` if more would be used
     /// than ever since the last start, and memory for them is refused; then nothing changes. Takes no turns, and one
-    /// pass along the top sequence for each side that grows.
+    /// pass along the top sequence for each side that grows. At most 3 more slots are used: with 3 in reserve the answer
+    /// is never `Memory`.
     pub fn grow(&mut self, new_size: Size) -> Result<(), AtlasError>
         requires { Fits (state_of self.old).size (sides_of new_size) }
         ensures step { Step (state_of self.old) (Grow (sides_of new_size)) (done_reply result) (state_of self.new) }
         ensures refused { OnErr result (self.new ≡ self.old) }
         ensures turns { self.new.turns ≡ self.old.turns }
         ensures keeps { KeepsAll (state_of self.old) (state_of self.new) }
+        ensures slots { UsesAtMost 3 self.old self.new }
+        ensures memory { HasReserve 3 self.old → result ≢ Err AtlasError.Memory }
+        ensures errors { IfErr result IsShortage }
+        ensures frame { OnOk result (HasFrame (state_of self.new) (sides_of new_size) (state_of self.old).options
+            (state_of self.old).limit) }
     {
         if self.is_empty() {
             self.grow_box(new_size);
@@ -307,6 +337,8 @@ impl<A: Allocator + Copy> AtlasAllocator<A> {
         ensures refused { OnErr result (self.new ≡ self.old) }
         ensures turns { self.new.turns ≡ self.old.turns }
         ensures sound { IsSound (state_of self.new) }
+        ensures errors { IfErr result IsShortage }
+        ensures frame { KeepsFrame (state_of self.old) (state_of self.new) }
     {
         self.resize_and_rearrange(self.size)
     }
@@ -328,6 +360,9 @@ impl<A: Allocator + Copy> AtlasAllocator<A> {
         ensures refused { OnErr result (self.new ≡ self.old) }
         ensures turns { self.new.turns ≡ self.old.turns }
         ensures sound { IsSound (state_of self.new) }
+        ensures errors { IfErr result IsShortage }
+        ensures frame { OnOk result (HasFrame (state_of self.new) (sides_of new_size) (state_of self.old).options
+            (state_of self.old).limit) }
     {
         let order = self.refit_order()?;
         let alloc = *self.store.slots.allocator();
@@ -378,6 +413,8 @@ impl<A: Allocator + Copy> AtlasAllocator<A> {
         ensures turns { self.new.turns ≡ self.old.turns }
         ensures sound { IsSound (state_of self.new) }
         ensures idle { live_in (state_of self.new) ≡ [] }
+        ensures slots { UsesAtMost 0 self.old self.new }
+        ensures frame { KeepsFrame (state_of self.old) (state_of self.new) }
     {
         let size = self.size;
         let options = self.store.options;
@@ -397,6 +434,8 @@ impl<A: Allocator + Copy> AtlasAllocator<A> {
         ensures turns { self.new.turns ≡ self.old.turns }
         ensures sound { IsSound (state_of self.new) }
         ensures idle { live_in (state_of self.new) ≡ [] }
+        ensures slots { UsesAtMost 0 self.old self.new }
+        ensures frame { HasFrame (state_of self.new) (sides_of size) (options_of options.now) (state_of self.old).limit }
     {
         self.restart(size, options);
         Ok(())
@@ -429,6 +468,7 @@ impl<A: Allocator + Copy> AtlasAllocator<A> {
         ensures anew { AreFirstGenerations self.new }
         ensures turns { self.new.turns ≡ self.old.turns }
         ensures sound { IsSound (state_of self.new) }
+        ensures slots { UsesAtMost 0 self.old self.new }
     {
         self.store.start(whole, options);
         self.first = Link { number: 0 };
@@ -443,6 +483,7 @@ impl<A: Allocator + Copy> AtlasAllocator<A> {
         ensures step { Step (state_of self.old) (Grow (sides_of size)) Done (state_of self.new) }
         ensures turns { self.new.turns ≡ self.old.turns }
         ensures keeps { KeepsAll (state_of self.old) (state_of self.new) }
+        ensures slots { UsesAtMost 3 self.old self.new }
     {
         grow_whole(&mut self.store, self.first, size);
         self.size = size;
@@ -471,6 +512,7 @@ impl<A: Allocator + Copy> AtlasAllocator<A> {
         ensures state { state_of self.new ≡ after_freeing (state_of self.old) (only id) }
         ensures turns { self.new.turns + used_in (state_of self.new)
             ≡ self.old.turns + 1 + used_in (state_of self.old) }
+        ensures slots { UsesAtMost 0 self.old self.new }
     {
         let number = slot_number(id);
         let given = free_leaf(&mut self.store, Link { number });

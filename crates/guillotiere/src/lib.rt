@@ -11,7 +11,8 @@ mod tree;
 
 pub use atlas::AtlasAllocator;
 pub use atlas_model::{
-    AllocId, Allocation, AllocatorOptions, AtlasError, Change, ChangeList, DEFAULT_OPTIONS, Point,
-    Rectangle, Size, SlotCount, laws, point2, size2,
+    AllocId, Allocation, AllocatorOptions, AtlasError, Change, ChangeList, DEFAULT_OPTIONS,
+    MOST_SLOTS, Point, Rectangle, Size, SlotCount, laws, point2, size2,
 };
+pub use atlas_store::slots::NodeKind;
 pub use simple::SimpleAtlasAllocator;

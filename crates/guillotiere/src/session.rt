@@ -1,5 +1,6 @@
 //! Sessions: lists of calls of an atlas, and their replies.
-ghost use Rattle.std.specs.Prelude.{◌≡◌, ◌↔◌, true, All, take, drop, vec_len, IsTrue, IfOk, OnOk, OnErr, IsOkUnless};
+ghost use Rattle.std.specs.Prelude.{◌≡◌, ◌↔◌, ◌+◌, ◌≤◌, true, All, take, drop, length, vec_len, vec_capacity};
+ghost use Rattle.std.specs.Prelude.{IsTrue, IfOk, Ok, OnOk, OnErr, IsOkUnless};
 ghost use Rattle.atlas_model.specs.Boxes.{Fits, IsPositive};
 ghost use Rattle.atlas_model.specs.Pixels.{sides_of, options_of};
 ghost use Rattle.atlas_model.specs.Steps.{Step};
@@ -159,7 +160,8 @@ pub fn step<A: Allocator + Copy>(atlas: &mut AtlasAllocator<A>, call: &Call) -> 
 }
 
 /// Makes calls of an atlas in turn, and appends a reply for each. Room for all replies comes first: `Memory` is the
-/// only error, and after it atlas and replies are as before. So after any list of calls the boxes tile the atlas as
+/// only error, it comes only where `replies` has less room, and after it atlas and replies are as before. Each call is
+/// answered as by `step`, from what the one before it left. So after any list of calls the boxes tile the atlas as
 /// leaves of one normal tree of cuts, and each reply is owed (docs/MODEL.md, "Sessions").
 pub fn run<A: Allocator + Copy>(
     atlas: &mut AtlasAllocator<A>,
@@ -167,6 +169,7 @@ pub fn run<A: Allocator + Copy>(
     replies: &mut Vec<Reply<A>, A>,
 ) -> Result<(), AtlasError>
     ensures unless { IsOkUnless result AtlasError.Memory }
+    ensures room { vec_len replies.old + length calls.now ≤ vec_capacity replies.old → result ≡ Ok tt }
     ensures session { OnOk result
         (IsSession atlas.old calls.now (drop (vec_len replies.old) replies.new.items) atlas.new) }
     ensures exact { OnOk result (All IsExactReply (drop (vec_len replies.old) replies.new.items)) }

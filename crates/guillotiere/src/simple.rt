@@ -1,37 +1,40 @@
 //! An allocator that hands out boxes and never takes one back.
-ghost use Rattle.std.specs.Prelude.{◌≡◌, ◌↔◌, Any, IsTrue, true, ◌+◌, ◌<◌, ◌≤◌, ◌++◌, [], ◌∷◌, List};
-ghost use Rattle.std.specs.Prelude.{OnOk, OnErr, IfOk, IfSome, IsOkUnless};
-ghost use Rattle.atlas_model.specs.Boxes.{AreSameBoxes, Box, IsPositive, Sides, box_sides};
+ghost use Rattle.std.specs.Prelude.{◌≡◌, ◌↔◌, Any, IsTrue, None, Ok, true, ◌+◌, ◌<◌, ◌≤◌, ◌++◌, [], ◌∷◌, List};
+ghost use Rattle.std.specs.Prelude.{OnOk, OnErr, IfOk, IfSome, IsOkUnless, length, vec_capacity};
+ghost use Rattle.atlas_model.specs.Boxes.{AreSameBoxes, Box, Fits, IsPositive, Sides, box_sides};
 ghost use Rattle.atlas_model.specs.Choice.{AreValid};
 ghost use Rattle.guillotiere.specs.FreeBoxes.BoxCalls.{AreFiledBoxes, HasEntriesFor, HasTakenEntries, IsFoundFor};
-ghost use Rattle.guillotiere.specs.FreeBoxes.BoxShelves.{AreKept, box_shelf, free_item_boxes};
-ghost use Rattle.guillotiere.specs.FreeBoxes.FreeLists.{kept_of, simple_state_of};
-ghost use Rattle.atlas_model.specs.Pixels.{box_of, options_of, rectangle_of, sides_of, size_of};
+ghost use Rattle.guillotiere.specs.FreeBoxes.BoxShelves.{AddsWhatIsUsed, AreKept, box_shelf, free_item_boxes};
+ghost use Rattle.guillotiere.specs.FreeBoxes.FreeLists.{kept_of, state_of_items};
+ghost use Rattle.atlas_model.specs.Pixels.{allocator_options_of, box_of, options_of, rectangle_of, sides_of, size_of};
 ghost use Rattle.atlas_store.specs.Rectangles.{IsUnsigned};
 ghost use Rattle.atlas_model.specs.Simple.{IsGuarded, IsSimple, SimpleStep, is_kept, kept_rest, simple_answer};
 ghost use Rattle.atlas_model.specs.Simple.{simple_start};
 ghost use Rattle.atlas_model.specs.Simple.SimpleAtlasCall.{Allocate};
+ghost use Rattle.guillotiere.specs.SimpleStored.{LacksEntries};
 
 pub mod boxes;
 mod changes;
 
 use crate::simple::boxes::{FreeBox, FreeBoxes};
-use atlas_model::{AllocatorOptions, AtlasError, DEFAULT_OPTIONS, Rectangle, Size};
+use atlas_model::{AllocatorOptions, AtlasError, DEFAULT_OPTIONS, Rectangle, Size, SlotCount};
 use atlas_store::choice::rounded;
-use atlas_store::cut::{granted, guillotine};
+use atlas_store::cut::{Rest, granted, guillotine};
 use atlas_store::search::best::Found;
 use atlas_store::search::pick;
+use atlas_store::slots::NO_SLOT;
 use std::alloc::{Allocator, Global};
 use std::marker::Model;
 
 /// A simpler allocator, which hands out boxes and never takes one back: its free boxes make up no tree, and a part that
 /// is narrower or lower than the alignment is lost (docs/MODEL.md, "The simple allocator").
 ///
-/// It keeps the allocator that it was made with. Contracts see its free boxes, its size and its options.
+/// It keeps the allocator that it was made with. Contracts see what it stores; `simple_state_of` reads its free boxes,
+/// its size and its options there.
 ///
-/// The table of its lists of free boxes takes 21,632 bytes on the heap, and each free box 20 more. There are at most
-/// 4,294,967,295 free boxes: where 4,294,967,294 or more were free at once since the last start, `Memory` is the answer
-/// to each request that fits a free box, and to a growth that adds one.
+/// The table of its lists of free boxes takes 21,632 bytes on the heap, and each entry for a free box 20 more. Entries
+/// that aren't used any more are used first by later calls. There are at most 4,294,967,295 entries: where more would
+/// be used, `Memory` is the answer.
 #[derive(Drop)]
 pub struct SimpleAtlasAllocator<A: Allocator + Copy = Global> {
     boxes: FreeBoxes<A>,
@@ -41,25 +44,29 @@ pub struct SimpleAtlasAllocator<A: Allocator + Copy = Global> {
 
 impl<A: Allocator + Copy> Model for SimpleAtlasAllocator<A> {
     ghost use Rattle.guillotiere.specs.FreeBoxes.BoxShelves.{box_shelf};
-    ghost use Rattle.guillotiere.specs.FreeBoxes.FreeLists.{IsStoredState, simple_state_of};
-    ghost use Rattle.atlas_model.specs.Pixels.{sides_of};
-    ghost use Rattle.atlas_model.specs.Simple.{SimpleState};
+    ghost use Rattle.guillotiere.specs.FreeBoxes.FreeLists.{IsSimpleStored};
+    ghost use Rattle.guillotiere.specs.SimpleStored.{SimpleValue};
 
-    ghost Value = { SimpleState };
+    ghost Value = { SimpleValue };
 
-    ghost view = { λ a. simple_state_of (box_shelf a.boxes).entries (sides_of a.size) a.options };
+    ghost view = { λ a. record { shelf = box_shelf a.boxes; size = a.size; options = a.options } };
 
-    ghost invariant = { λ a. IsStoredState (box_shelf a.boxes) a.size a.options };
+    ghost invariant = { λ a. IsSimpleStored a.boxes a.size a.options };
 }
 
 impl<A: Allocator + Copy> SimpleAtlasAllocator<A> {
+    ghost use Rattle.guillotiere.specs.SimpleStored.{MayAskMemory, UsesEachEntry, UsesOldEntries, kept_entries};
+    ghost use Rattle.guillotiere.specs.SimpleStored.{simple_state_of, used_entries};
+
     /// An allocator of one free box of this size, in pixels, with `DEFAULT_OPTIONS`. Asks a size that isn't empty. The
     /// only error is `Memory`.
     pub fn new(alloc: A, size: Size) -> Result<Self, AtlasError>
         requires { IsPositive (sides_of size) }
         ensures unless { IsOkUnless result AtlasError.Memory }
-        ensures start { IfOk result (λ it. it ≡ simple_start (sides_of size) (options_of DEFAULT_OPTIONS)) }
-        ensures guarded { IfOk result (λ it. IsGuarded it []) }
+        ensures start { IfOk result
+            (λ it. simple_state_of it ≡ simple_start (sides_of size) (options_of DEFAULT_OPTIONS)) }
+        ensures guarded { IfOk result (λ it. IsGuarded (simple_state_of it) []) }
+        ensures entries { IfOk result UsesEachEntry }
     {
         Self::with_options(alloc, size, &DEFAULT_OPTIONS)
     }
@@ -74,11 +81,13 @@ impl<A: Allocator + Copy> SimpleAtlasAllocator<A> {
         requires nonempty { IsPositive (sides_of size) }
         requires valid { AreValid (options_of options.now) }
         ensures unless { IsOkUnless result AtlasError.Memory }
-        ensures start { IfOk result (λ it. it ≡ simple_start (sides_of size) (options_of options.now)) }
-        ensures guarded { IfOk result (λ it. IsGuarded it []) }
+        ensures start { IfOk result
+            (λ it. simple_state_of it ≡ simple_start (sides_of size) (options_of options.now)) }
+        ensures guarded { IfOk result (λ it. IsGuarded (simple_state_of it) []) }
+        ensures entries { IfOk result UsesEachEntry }
     {
         let mut boxes = FreeBoxes::new(alloc)?;
-        boxes.restart(Rectangle::from(size), options)?;
+        boxes.restart(Rectangle::from(size), options);
         Ok(SimpleAtlasAllocator {
             boxes,
             size,
@@ -88,34 +97,71 @@ impl<A: Allocator + Copy> SimpleAtlasAllocator<A> {
 
     /// Grants a request: the box of the rounded size at the `min` of the free box that is picked. None if the size is
     /// empty, if a rounded side passes 2147483647, or if the rounded size fits no free box; then no memory is asked
-    /// for. The only error is `Memory`, and after it everything is as before.
+    /// for. The only error is `Memory`, if more entries would be used than there are and memory for them is refused.
+    /// Unless something is granted, nothing changes.
     pub fn allocate(&mut self, requested_size: Size) -> Result<Option<Rectangle>, AtlasError>
         ensures unless { IsOkUnless result AtlasError.Memory }
-        ensures step { SimpleStep self.old (Allocate (sides_of requested_size)) (simple_answer result) self.new }
+        ensures step { SimpleStep (simple_state_of self.old) (Allocate (sides_of requested_size))
+            (simple_answer result) (simple_state_of self.new) }
         ensures exact { IfOk result
             (λ granted. IfSome granted (λ rectangle. rectangle ≡ rectangle_of (box_of rectangle))) }
+        ensures none { result ≡ Ok None → self.new ≡ self.old }
+        ensures refused { OnErr result (self.new ≡ self.old) }
+        ensures entries { UsesOldEntries self.old self.new }
+        ensures memory { OnErr result (MayAskMemory self.old (Allocate (sides_of requested_size))) }
 
         // Boxes that are held stay apart from each other, from the granted box and from the free boxes.
-        ensures guarded { (held : List Box) → IsGuarded self.old held
-            → IfOk result (λ granted. IfSome granted (λ rectangle. IsGuarded self.new (box_of rectangle ∷ held))) }
-        ensures simple { IsSimple self.new }
+        ensures guarded { (held : List Box) → IsGuarded (simple_state_of self.old) held → IfOk result
+            (λ granted. IfSome granted (λ rectangle. IsGuarded (simple_state_of self.new) (box_of rectangle ∷ held))) }
+        ensures simple { IsSimple (simple_state_of self.new) }
     {
         grant(&mut self.boxes, requested_size, &self.options)
     }
 
     /// The size of the allocator.
     pub fn size(&self) -> Size
-        ensures size { result ≡ size_of self.now.size }
-        ensures simple { IsSimple self.now }
+        ensures size { result ≡ size_of (simple_state_of self.now).size }
+        ensures simple { IsSimple (simple_state_of self.now) }
     {
         self.size
     }
 
+    /// The options of the allocator.
+    pub fn options(&self) -> AllocatorOptions
+        ensures options { result ≡ allocator_options_of (simple_state_of self.now).options }
+        ensures valid { AreValid (options_of result) }
+    {
+        self.options
+    }
+
+    /// Whether `grow` may be called with this size: neither side is less than the allocator's.
+    pub fn can_grow_to(&self, new_size: Size) -> bool
+        ensures { IsTrue result ↔ Fits (simple_state_of self.now).size (sides_of new_size) }
+    {
+        let size = self.size();
+        size.width <= new_size.width && size.height <= new_size.height
+    }
+
     /// Whether one free box has the allocator's size.
     pub fn is_empty(&self) -> bool
-        ensures { IsTrue result ↔ Any (λ b. box_sides b ≡ self.now.size) self.now.free }
+        ensures { IsTrue result
+            ↔ Any (λ b. box_sides b ≡ (simple_state_of self.now).size) (simple_state_of self.now).free }
     {
         is_listed(&self.boxes.entries, &Rectangle::from(self.size))
+    }
+
+    /// How many entries are used, one for each free box, how many there are, and how many there may be: 4,294,967,295.
+    pub fn slots(&self) -> SlotCount
+        ensures used { result.used ≡ used_entries self.now }
+        ensures kept { result.kept ≡ kept_entries self.now }
+        ensures limit { result.limit ≡ 4294967295 }
+        ensures counted { used_entries self.now ≤ kept_entries self.now }
+    {
+        SlotCount {
+            used: self.boxes.used,
+            kept: self.boxes.entries.len() as u32,
+            limit: NO_SLOT,
+        }
     }
 }
 
@@ -148,14 +194,31 @@ fn keep<A: Allocator>(boxes: &mut FreeBoxes<A>, part: Rectangle, options: &Alloc
     requires room { is_kept (options_of options.now) (box_of part) ≡ true → HasEntriesFor 1 boxes.old }
     ensures boxes { AreFiledBoxes (options_of options.now) (kept_of (options_of options.now) (box_of part)) boxes.old
         boxes.new }
-    ensures entries { HasTakenEntries 1 boxes.old boxes.new }
+    ensures entries { HasTakenEntries (length (kept_of (options_of options.now) (box_of part))) boxes.old boxes.new }
 {
     if is_kept(part, options) {
         boxes.add(part, options);
     }
 }
 
-// Cuts a picked box: it gives way to what is kept of it.
+// How many parts of a rest are kept.
+fn kept_count(rest: &Rest, options: &AllocatorOptions) -> u32
+    requires valid { AreValid (options_of options.now) }
+    requires split { IsUnsigned rest.now.split }
+    requires leftover { IsUnsigned rest.now.leftover }
+    ensures { result ≡ length (kept_of (options_of options.now) (box_of rest.now.split))
+        + length (kept_of (options_of options.now) (box_of rest.now.leftover)) }
+{
+    let split = if is_kept(rest.split, options) { 1 } else { 0 };
+    let leftover = if is_kept(rest.leftover, options) {
+        1
+    } else {
+        0
+    };
+    split + leftover
+}
+
+// Cuts a picked box: it gives way to what is kept of it, and its entry is used again.
 fn cut_picked<A: Allocator>(
     boxes: &mut FreeBoxes<A>,
     found: Found,
@@ -170,9 +233,13 @@ fn cut_picked<A: Allocator>(
         (kept_rest (options_of options.now) (box_of found.rectangle) (sides_of size)
         ++ free_item_boxes (box_shelf boxes.old).entries)) }
     ensures err { OnErr result (box_shelf boxes.new ≡ box_shelf boxes.old) }
+    ensures entries { AddsWhatIsUsed (box_shelf boxes.old) (box_shelf boxes.new) }
+    ensures needed { OnErr result (length (box_shelf boxes.old).entries + 1 < boxes.old.used
+        + length (kept_rest (options_of options.now) (box_of found.rectangle) (sides_of size))) }
+    ensures capacity { vec_capacity boxes.old.entries ≤ vec_capacity boxes.new.entries }
 {
     let rest = guillotine(found.rectangle, size);
-    boxes.make_room(2)?;
+    boxes.make_room(kept_count(&rest, options).saturating_sub(1))?;
     boxes.remove(found, options);
     keep(boxes, rest.split, options);
     keep(boxes, rest.leftover, options);
@@ -192,10 +259,16 @@ fn grant<A: Allocator>(
 
     // The boxes are those of an atlas of any size that an `i32` can hold.
     ensures step { (size : Sides) → size.width ≤ 2147483647 → size.height ≤ 2147483647
-        → IsSimple (simple_state_of (box_shelf boxes.old).entries size options.now)
-        → SimpleStep (simple_state_of (box_shelf boxes.old).entries size options.now)
+        → IsSimple (state_of_items (box_shelf boxes.old).entries size options.now)
+        → SimpleStep (state_of_items (box_shelf boxes.old).entries size options.now)
         (Allocate (sides_of requested_size)) (simple_answer result)
-        (simple_state_of (box_shelf boxes.new).entries size options.now) }
+        (state_of_items (box_shelf boxes.new).entries size options.now) }
+    ensures none { result ≡ Ok None → box_shelf boxes.new ≡ box_shelf boxes.old }
+    ensures refused { OnErr result (box_shelf boxes.new ≡ box_shelf boxes.old) }
+    ensures entries { AddsWhatIsUsed (box_shelf boxes.old) (box_shelf boxes.new) }
+    ensures needed { OnErr result (LacksEntries (length (box_shelf boxes.old).entries)
+        (free_item_boxes (box_shelf boxes.old).entries) (options_of options.now) (sides_of requested_size)) }
+    ensures capacity { vec_capacity boxes.old.entries ≤ vec_capacity boxes.new.entries }
 {
     let Some(size) = rounded(requested_size, options) else {
         return Ok(None);

@@ -1,15 +1,16 @@
 //! The exports of a simple allocator.
-ghost use Rattle.std.specs.Prelude.{◌≡◌, ◌≢◌, ◌↔◌, Any, IsTrue, IsSome, IsNone, None};
+ghost use Rattle.std.specs.Prelude.{◌≡◌, ◌≢◌, ◌↔◌, Any, IsTrue, IsSome, IsNone, None, Ok, IfOk, IfSome, OnErr};
 ghost use Rattle.guillotiere.specs.Boxes.{box_sides, IsPositive};
 ghost use Rattle.guillotiere.specs.Choice.{AreValid};
-ghost use Rattle.guillotiere.specs.Pixels.{options_of, size_of};
+ghost use Rattle.guillotiere.specs.Pixels.{options_of, sides_of, size_of};
 ghost use Rattle.guillotiere.specs.Replies.{IsExact};
-ghost use Rattle.guillotiere.specs.Simple.{IsSimple, simple_start};
+ghost use Rattle.guillotiere.specs.Simple.{IsSimple, SimpleStep, simple_answer, simple_start};
 ghost use Rattle.guillotiere.specs.Simple.SimpleAtlasCall.{Allocate, Clear, Grow, Reset};
 ghost use Rattle.guillotiere.specs.TheConstants.{DEFAULT_OPTIONS};
 ghost use Rattle.guillotiere_c.specs.Numbers.{options_in, rectangle_in, sides_in, size_in};
 ghost use Rattle.guillotiere_c.specs.SimpleCalls.{HoldsSimple, IsHeldSimpleStep, IsHeldStart};
 ghost use Rattle.guillotiere_c.specs.SimpleStatuses.{plain_answer, request_answer};
+ghost use Rattle.guillotiere_c.specs.SimpleValues.{simple_state};
 
 use crate::atlas_handle::AtlasHandle;
 use crate::plain::{
@@ -17,7 +18,9 @@ use crate::plain::{
     plain_rectangle, plain_size, status_of, status_of_done,
 };
 use crate::simple_handle::SimpleHandle;
-use guillotiere::{AllocatorOptions, DEFAULT_OPTIONS, SimpleAtlasAllocator, size2};
+use guillotiere::{
+    AllocatorOptions, AtlasError, DEFAULT_OPTIONS, Rectangle, SimpleAtlasAllocator, Size, size2,
+};
 use std::alloc::Global;
 
 // Makes a simple allocator where the handle holds nothing.
@@ -104,6 +107,18 @@ pub extern "C" fn guillotiere_simple_free(alloc: Global, simple: &mut SimpleHand
     let _held = simple.take(alloc);
 }
 
+// Requests a rectangle; what the export's contract needs of the answer.
+fn request(simple: &mut SimpleAtlasAllocator, size: Size) -> Result<Option<Rectangle>, AtlasError>
+    ensures step { SimpleStep (simple_state simple.old) (Allocate (sides_of size)) (simple_answer result)
+        (simple_state simple.new) }
+    ensures exact { IfOk result (λ granted. IfSome granted (λ rectangle. IsExact rectangle)) }
+    ensures none { result ≡ Ok None → simple.new ≡ simple.old }
+    ensures refused { OnErr result (simple.new ≡ simple.old) }
+    ensures simple { IsSimple (simple_state simple.new) }
+{
+    simple.allocate(size)
+}
+
 /// Grants a request. `DONE`, and then the rectangle is in `granted`; `NO_ROOM` or `MEMORY`.
 #[unsafe(no_mangle)]
 pub extern "C" fn guillotiere_simple_allocate(
@@ -124,7 +139,7 @@ pub extern "C" fn guillotiere_simple_allocate(
         return EMPTY;
     }
     let mut held = simple.take(alloc);
-    let answer = held.allocate(size2(width, height));
+    let answer = request(&mut held, size2(width, height));
     simple.put(held);
     match answer {
         Ok(Some(rectangle)) => {

@@ -1,11 +1,14 @@
 -- What a recording allocator shows is the book of its events.
-use Rattle.std.proofs.Common.{◌≡◌, ℕ, ◌+◌, ◌<◌, ◌≤◌, ◌==◌, Bool, get_or, List, [], ◌∷◌, ◌++◌, length, map, find, refl, ap, sym, subst, ◌∙◌, arith, All, AllPairs, Contains, Option, Some, IsSome, option_map}
+use Rattle.std.proofs.Common.{◌≡◌, ℕ, ◌+◌, ◌<◌, ◌≤◌, ◌==◌, Bool, get_or, List, [], ◌∷◌, ◌++◌, length, map, find, refl, ap, sym, subst, ◌∙◌, arith, All, AllPairs, Contains, Option, Some, None, IsSome, IfSome, option_map}
 use Rattle.std.specs.List.{count_by}
 use Rattle.std.proofs.lemmas.Bool.{eqb-true, eq-eqb}
 use Rattle.std.proofs.lemmas.List.{get_or-map, get_or_default, length-map}
 use Rattle.std.proofs.lemmas.List.Elements.{All-map}
 use Rattle.guillotiere.specs.declared.Allocation.{Allocation}
-use Rattle.guillotiere.specs.Pixels.{sides_of, options_of}
+use Rattle.guillotiere.specs.Boxes.{Box, IsNonempty, IsWithin}
+use Rattle.guillotiere.specs.Pixels.{sides_of, options_of, box_of, rectangle_of}
+use Rattle.guillotiere.specs.Walks.{IsShownArea}
+use Rattle.guillotiere.proofs.StepLemmas.LyingApart.{all_lie_within}
 use Rattle.guillotiere.specs.Trees.{Grant, grant}
 use Rattle.guillotiere.specs.States.{State, IsSound, live_in}
 use Rattle.guillotiere.specs.Renaming.{renamed_grant}
@@ -130,3 +133,18 @@ shown_book v found h is = subst (AreBooked v.recording.events) (sym is) it
       rising = rises;
       exact = All-map (λ (a : Allocation). IsExact a.rectangle) (shown (state_of v.atlas)) v.names (λ k d below. refl);
     }
+
+-- A live box shows a rectangle that can be measured and isn't empty.
+shown_area : (s : State) (o : Option Box) → s.size.width ≤ 2147483647 → s.size.height ≤ 2147483647 → IsSome o
+    → IfSome (option_map rectangle_of o) (λ r. IsNonempty (box_of r) × IsWithin s.size (box_of r))
+    → IsShownArea (rectangle_of (box_or_none o))
+shown_area s (Some b) wide high some h = record { exact = refl; measurable = grind arith; nonempty = h.0 }
+shown_area s None wide high some h = absurd (cc)
+
+pub entries_show_areas : (v : SessionValue) → IsSession v → (state_of v.atlas).size.width ≤ 2147483647
+    → (state_of v.atlas).size.height ≤ 2147483647
+    → All (λ (a : Allocation). IsShownArea a.rectangle) (map (shown (state_of v.atlas)) v.names)
+entries_show_areas v h wide high =
+    All-map (λ (a : Allocation). IsShownArea a.rectangle) (shown (state_of v.atlas)) v.names
+    (λ k d below. shown_area (state_of v.atlas) (live_box (state_of v.atlas) (get_or v.names k d).id) wide high (entries_have_boxes v h k d below)
+    (all_lie_within (state_of v.atlas) (session_named v h).sound (get_or v.names k d).id))

@@ -11,6 +11,7 @@ ghost use Rattle.guillotiere.specs.Boxes.{Fits, IsPositive};
 ghost use Rattle.guillotiere.specs.Choice.{AreValid};
 ghost use Rattle.guillotiere.specs.Pixels.{sides_of, size_of, options_of};
 ghost use Rattle.guillotiere.specs.Visits.{AreFreeAreas, CalledAtGrant};
+ghost use Rattle.guillotiere.specs.Walks.{IsCallableAlong, IsCallableAlongGrants, IsShownArea};
 ghost use Rattle.guillotiere.specs.States.{IsSound};
 ghost use Rattle.guillotiere.specs.Steps as atlas;
 ghost use Rattle.guillotiere.specs.Steps.{Step};
@@ -64,6 +65,7 @@ impl<A: Allocator + Copy> Model for RecordingAllocator<A> {
 impl<A: Allocator + Copy> RecordingAllocator<A> {
     ghost use Rattle.guillotiere.specs.Stored.{state_of};
     ghost use Rattle.guillotiere_recording.specs.Recordings.{IsFaithful, IsNew, AreBooked, session_of};
+    ghost use Rattle.guillotiere_recording.specs.Replays.{IsRecorded};
 
     /// A recording atlas of this size, in pixels, with the default options: one free rectangle. Asks a size that isn't
     /// empty. `Memory` is the only error.
@@ -114,6 +116,8 @@ impl<A: Allocator + Copy> RecordingAllocator<A> {
         ensures led { IfOk result
             (λ answer. Leads (session_of self.old) (Allocate requested_size answer) (session_of self.new)) }
         ensures given { IfOk result (λ answer. IfSome answer (λ granted. granted.id ≡ self.old.given)) }
+        ensures next { IfOk result (λ answer. IfSome answer (λ _. self.new.given ≡ self.old.given + 1)) }
+        ensures none { result ≡ Ok None → self.new.given ≡ self.old.given }
         ensures names { (result ≡ Err RecordingError.Names) ↔ (self.old.given ≡ 2 ^ 32) }
         ensures slots { result ≡ Err RecordingError.Slots
             → Step (state_of self.old.atlas) (atlas.Allocate (sides_of requested_size))
@@ -155,6 +159,7 @@ impl<A: Allocator + Copy> RecordingAllocator<A> {
         ensures led { OnOk result (Leads (session_of self.old) (Deallocate id) (session_of self.new)) }
         ensures not_live { (result ≡ Err RecordingError.NotLive) ↔ (IsLiveName (session_of self.old) id → ⊥) }
         ensures only { IfErr result (λ e. (e ≡ RecordingError.NotLive) ⊎ (e ≡ RecordingError.Memory)) }
+        ensures given { self.new.given ≡ self.old.given }
         ensures refused { OnErr result (self.new ≡ self.old) }
     {
         let Some(found) = find(&self.names, id.serialize()) else {
@@ -177,6 +182,7 @@ impl<A: Allocator + Copy> RecordingAllocator<A> {
             → Step (state_of self.old.atlas) (atlas.Grow (sides_of new_size))
             (atlas.Refused AtlasError.Slots) (state_of self.old.atlas) }
         ensures only { IfErr result (λ e. (e ≡ RecordingError.Slots) ⊎ (e ≡ RecordingError.Memory)) }
+        ensures given { self.new.given ≡ self.old.given }
         ensures refused { OnErr result (self.new ≡ self.old) }
     {
         self.log.make_room()?;
@@ -196,6 +202,7 @@ impl<A: Allocator + Copy> RecordingAllocator<A> {
             → Step (state_of self.old.atlas) atlas.Rearrange
             (atlas.Refused AtlasError.Slots) (state_of self.old.atlas) }
         ensures only { IfErr result (λ e. (e ≡ RecordingError.Slots) ⊎ (e ≡ RecordingError.Memory)) }
+        ensures given { self.new.given ≡ self.old.given }
         ensures refused { OnErr result (self.new ≡ self.old) }
     {
         let mut atlas = self.atlas.clone()?;
@@ -223,6 +230,7 @@ impl<A: Allocator + Copy> RecordingAllocator<A> {
             → Step (state_of self.old.atlas) (atlas.ResizeAndRearrange (sides_of new_size))
             (atlas.Refused AtlasError.Slots) (state_of self.old.atlas) }
         ensures only { IfErr result (λ e. (e ≡ RecordingError.Slots) ⊎ (e ≡ RecordingError.Memory)) }
+        ensures given { self.new.given ≡ self.old.given }
         ensures refused { OnErr result (self.new ≡ self.old) }
     {
         let mut atlas = self.atlas.clone()?;
@@ -236,23 +244,26 @@ impl<A: Allocator + Copy> RecordingAllocator<A> {
         Ok(list)
     }
 
-    /// Calls `visit` on each free rectangle once, in an order that is left open. Asks that `visit` may be called. Takes
-    /// no memory.
+    /// Calls `visit` on each free rectangle once, in an order that is left open. Asks that `visit` may be called along
+    /// each list that may be shown, and no more: nothing else is called. Takes no memory.
     pub fn for_each_free_rectangle<F: FnMut(&Rectangle)>(&self, visit: F)
-        requires { F.IsAlwaysCallable visit }
+        requires { (areas : List Area) → AreFreeAreas (state_of self.now.atlas) areas
+            → IsCallableAlong F.FnMut IsShownArea visit areas }
         ensures { (areas : List Area) × AreFreeAreas (state_of self.now.atlas) areas × ((last : F)
             × FoldsTo (λ p x q. CalledAt F.FnMut p x tt q) visit areas last) }
     {
         self.atlas.for_each_free_rectangle(visit);
     }
 
-    /// Calls `visit` on each live name and its rectangle once, by rising name. Asks that `visit` may be called. Takes
-    /// no memory.
+    /// Calls `visit` on each live name and its rectangle once, by rising name. Asks that `visit` may be called along that
+    /// list, and no more: nothing else is called. Takes no memory.
     pub fn for_each_allocated_rectangle<F: FnMut(AllocId, &Rectangle)>(&self, visit: F)
-        requires { F.IsAlwaysCallable visit }
+        requires { (grants : List Grant) → AreBooked self.now.recording.events grants
+            → IsCallableAlongGrants F.FnMut (λ (a : Grant). IsShownArea a.rectangle) visit grants }
         ensures { (grants : List Grant) × AreBooked self.now.recording.events grants × ((last : F)
             × FoldsTo (CalledAtGrant F.FnMut) visit grants last) }
     {
+        let _size = self.atlas.size();
         visit_names(&self.atlas, &self.names, visit);
     }
 
@@ -272,9 +283,11 @@ impl<A: Allocator + Copy> RecordingAllocator<A> {
         gather_names(*self.names.allocator(), &self.atlas, &self.names)
     }
 
-    /// Ends the session. The answer is what was recorded. Takes no memory.
+    /// Ends the session. The answer is what was recorded: events of a session, so that a replay of it may fail only as
+    /// such a one's. Takes no memory.
     pub fn finish(self) -> Recording<A>
-        ensures { result ≡ self.recording }
+        ensures taken { result ≡ self.recording }
+        ensures recorded { IsRecorded result }
     {
         Recording::from_log(self.log)
     }

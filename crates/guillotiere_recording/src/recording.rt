@@ -73,6 +73,7 @@ impl<A: Allocator + Copy> Recording<A> {
     pub fn clone(&self) -> Result<Recording<A>, RecordingError>
         ensures unless { IsOkUnless result RecordingError.Memory }
         ensures same { IfOk result (λ recording. recording ≡ self.now) }
+        ensures recorded { IsRecorded self.now → IfOk result IsRecorded }
     {
         let mut events = Vec::new(*self.log.events.allocator());
         for event in &self.log.events {

@@ -1,9 +1,12 @@
 //! One event of a replay: it is carried out in an atlas, and its answer is compared.
-ghost use Rattle.std.specs.Prelude.{◌≡◌, OnOk, IfOk, IfErr, IsSome, All, None, Some, map, ◌↔◌, IsTrue, ℕ};
+ghost use Rattle.std.specs.Prelude.{◌≡◌, OnOk, IfOk, IfErr, IfSome, IsSome, All, None, Some, map, ◌↔◌, IsTrue, ℕ};
 ghost use Rattle.std.specs.Ordering.{nat_cmp};
 ghost use Rattle.std.specs.BTreeMap.{get, IsOrdered};
 ghost use Rattle.guillotiere.specs.Stored.{state_of};
-ghost use Rattle.guillotiere.specs.Replies.{live_box};
+ghost use Rattle.guillotiere.specs.Pixels.{sides_of};
+ghost use Rattle.guillotiere.specs.Replies.{allocate_reply, live_box, IsExact};
+ghost use Rattle.guillotiere.specs.Steps as atlas_steps;
+ghost use Rattle.guillotiere.specs.Steps.{Step};
 ghost use Rattle.guillotiere_recording.specs.Events.{event_of, list_value_of};
 ghost use Rattle.guillotiere_recording.specs.Sessions.{Named};
 ghost use Rattle.guillotiere_recording.specs.Events.EventValue.{Allocate, Deallocate, Grow};
@@ -93,6 +96,18 @@ fn request_again<A: Allocator + Copy>(
     }
 }
 
+// Requests a rectangle; what the proofs of this module need of the answer.
+fn ask<A: Allocator + Copy>(
+    atlas: &mut AtlasAllocator<A>,
+    size: Size,
+) -> Result<Option<Allocation>, AtlasError>
+    ensures step { Step (state_of atlas.old) (atlas_steps.Allocate (sides_of size)) (allocate_reply result)
+        (state_of atlas.new) }
+    ensures exact { IfOk result (λ granted. IfSome granted (λ a. IsExact a.rectangle)) }
+{
+    atlas.allocate(size)
+}
+
 // A request that was granted.
 fn grant_again<A: Allocator + Copy>(
     atlas: &mut AtlasAllocator<A>,
@@ -107,7 +122,7 @@ fn grant_again<A: Allocator + Copy>(
     if names.contains_key(&name) {
         return Err(EventFault::Bad);
     }
-    match atlas.allocate(size)? {
+    match ask(atlas, size)? {
         Some(granted) => {
             if !are_same(&granted.rectangle, &recorded.rectangle) {
                 return Err(EventFault::Differs);
@@ -136,7 +151,7 @@ fn deny_again<A: Allocator + Copy>(
     ensures fault { IfErr result (IsStopped atlas.old names.now (Allocate size None)) }
 {
     let _names = names;
-    match atlas.allocate(size)? {
+    match ask(atlas, size)? {
         Some(_) => Err(EventFault::Differs),
         None => Ok(()),
     }

@@ -4,6 +4,8 @@ ghost use Rattle.std.specs.List.{FoldsTo};
 ghost use Rattle.guillotiere.specs.Stored.{state_of};
 ghost use Rattle.guillotiere.specs.Replies.{live_box};
 ghost use Rattle.guillotiere.specs.Visits.{CalledAtGrant};
+ghost use Rattle.guillotiere.specs.Walks.{IsCallableAlongGrants, IsShownArea};
+ghost use Rattle.guillotiere.specs.declared.Allocation.{Allocation as Grant};
 ghost use Rattle.guillotiere_recording.specs.declared.names.LiveName.{LiveName as Entry};
 ghost use Rattle.guillotiere_recording.specs.Names.{shown};
 
@@ -12,14 +14,16 @@ use crate::names::LiveName;
 use guillotiere::{AllocId, Allocation, AtlasAllocator, Rectangle};
 use std::alloc::Allocator;
 
-/// Calls `visit` on each name and its rectangle, in order.
+/// Calls `visit` on each name and its rectangle, in order. Asks that `visit` may be called along that list.
 pub fn visit_names<A: Allocator + Copy, F: FnMut(AllocId, &Rectangle)>(
     atlas: &AtlasAllocator<A>,
     names: &[LiveName],
     mut visit: F,
 )
     requires live { All (λ (n : Entry). IsSome (live_box (state_of atlas.now) n.id)) names.now }
-    requires callable { F.IsAlwaysCallable visit }
+    requires shown { All (λ (a : Grant). IsShownArea a.rectangle) (map (shown (state_of atlas.now)) names.now) }
+    requires callable { IsCallableAlongGrants F.FnMut (λ (a : Grant). IsShownArea a.rectangle) visit
+        (map (shown (state_of atlas.now)) names.now) }
     ensures { (last : F) × FoldsTo (CalledAtGrant F.FnMut) visit (map (shown (state_of atlas.now)) names.now) last }
 {
     for entry in names {

@@ -6,7 +6,7 @@ use crate::atlas_calls::Call::{
 };
 use crate::atlas_calls::{Atlas, Call, MOST_SLOTS, Row, look_at};
 use crate::playing::{created, is_as_before, make_all, play_all, play_all_with_refusals};
-use guillotiere::{AllocId, AtlasError, DEFAULT_OPTIONS};
+use guillotiere::{AllocId, AtlasAllocator, AtlasError, DEFAULT_OPTIONS, size2};
 use refusing::Refusing;
 use std::alloc::Global;
 use std::process::Abort;
@@ -167,5 +167,28 @@ fn a_copy_goes_its_own_way(rt: HostRuntime) -> Result<(), Fail> {
         refusals = number;
     }
     assert!(rt; 0 < refusals && refusals < 999);
+    Ok(())
+}
+
+// Of at most 4 slots; one box of 20x60 in a corner would take 5.
+fn is_limited_to_4<'a>(atlas: &mut Atlas<'a>) -> bool {
+    let corner = atlas.allocate(size2(20, 60));
+    atlas.slots().limit == 4 && matches!(&corner, Err(AtlasError::Slots))
+}
+
+fn limited<'a>(rt: &impl Abort, heap: &'a Refusing<Global>) -> Result<(), AtlasError> {
+    let mut atlas = AtlasAllocator::with_slot_limit(heap, size2(100, 100), &DEFAULT_OPTIONS, 4)?;
+    assert!(rt; is_limited_to_4(&mut atlas));
+    atlas.clear()?;
+    assert!(rt; is_limited_to_4(&mut atlas));
+    atlas.reset(size2(100, 200), &ALIGNED_TO_8)?;
+    assert!(rt; is_limited_to_4(&mut atlas));
+    Ok(())
+}
+
+#[test]
+fn a_new_start_keeps_the_limit(rt: HostRuntime) -> Result<(), Fail> {
+    let heap = Refusing::new(rt.alloc());
+    limited(&rt, &heap)?;
     Ok(())
 }

@@ -17,6 +17,8 @@ mod atlas_rearranging;
 #[cfg(test)]
 mod atlas_starts;
 #[cfg(test)]
+mod node_kinds;
+#[cfg(test)]
 mod playing;
 #[cfg(test)]
 mod session_rows;

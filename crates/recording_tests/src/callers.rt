@@ -1,8 +1,8 @@
 //! First callers of replays: each is proved from the contracts alone.
-ghost use Rattle.std.specs.Prelude.{◌≡◌, IfSome, IfOk, true, count_by};
-ghost use Rattle.guillotiere_recording.specs.Replays.{IsRecorded, is_granted_event};
+ghost use Rattle.std.specs.Prelude.{◌≡◌, ℕ, IfSome, IfOk, IfErr, Err, true, count_by};
+ghost use Rattle.guillotiere_recording.specs.Replays.{IsRecorded, MayFail, is_granted_event};
 
-use guillotiere_recording::{Recording, ReplayFault};
+use guillotiere_recording::{Recording, RecordingAllocator, ReplayFault};
 
 /// Whether a recording is replayed to its end; then it is that of a session.
 pub fn is_replayed(recording: &Recording) -> bool
@@ -23,7 +23,8 @@ pub fn bad_event(recording: &Recording) -> Option<usize>
 
 /// How many requests of a recording were granted.
 pub fn grants(recording: &Recording) -> Result<u64, ReplayFault>
-    ensures { IfOk result (λ count. count ≡ count_by is_granted_event recording.now.events) }
+    ensures count { IfOk result (λ count. count ≡ count_by is_granted_event recording.now.events) }
+    ensures fault { IsRecorded recording.now → IfErr result (MayFail recording.now) }
 {
     Ok(recording.replay()?.allocations)
 }
@@ -33,4 +34,11 @@ pub fn remove_first(recording: &mut Recording) {
     if !recording.events().is_empty() {
         recording.remove_event(0);
     }
+}
+
+/// Ends a session and replays it: how many requests were granted. No event is bad, so the fault isn't that.
+pub fn granted_in(session: RecordingAllocator) -> Result<u64, ReplayFault>
+    ensures { (at : ℕ) → result ≡ Err (ReplayFault.BadEvent at) → ⊥ }
+{
+    grants(&session.finish())
 }

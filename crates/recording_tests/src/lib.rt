@@ -6,3 +6,7 @@ pub mod callers;
 mod replay;
 #[cfg(test)]
 mod sessions;
+#[cfg(test)]
+mod texts;
+#[cfg(test)]
+mod without_memory;

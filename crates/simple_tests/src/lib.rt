@@ -7,6 +7,8 @@ mod beside;
 #[cfg(test)]
 mod lists;
 #[cfg(test)]
+mod queries;
+#[cfg(test)]
 mod rows;
 #[cfg(test)]
 mod steps;

@@ -3,6 +3,8 @@
 #![tactic(auto)]
 
 #[cfg(test)]
+mod asked_once;
+#[cfg(test)]
 mod atlas;
 #[cfg(test)]
 mod conversation;

@@ -15,7 +15,7 @@ const REARRANGED: Row = (
     ToolEnd::Done,
 );
 
-const ROWS: [Row; 4] = [
+const ROWS: [Row; 5] = [
     NAMED,
     REARRANGED,
     // An atlas stays where a session isn't begun; a session takes its place, and then another session.
@@ -23,6 +23,12 @@ const ROWS: [Row; 4] = [
         b"atlas 7 7\nrecord 0 1\nsize\nrecord 100 100\nalloc 20 60\nholes\nresize 0 5\ngrow 99 100\nalloc 101 1\nrecord 5 5\nlive\nsize\nreply\nsize\n",
         b"ok\nbad call\nsize 7 7\nok\nid 0 at 0 0 20 60\nhole 20 0 100 100\nhole 0 60 20 100\nholes 2\nbad call\nbad call\nnone\nok\nlive 0\nsize 5 5\nbad line 13\n",
         ToolEnd::BadLine(13),
+    ),
+    // Bad calls of a session, and a name that is freed twice.
+    (
+        b"record 10 10\nalloc 4 4\ngrow 5 5\nresize 0 5\nalloc 4 4\nfree 0\nfree 0\n",
+        b"ok\nid 0 at 0 0 4 4\nbad call\nbad call\nid 1 at 4 0 8 4\nok\nrefused not live\n",
+        ToolEnd::Done,
     ),
     // A simple allocator beside a session.
     (

@@ -4,7 +4,7 @@ use crate::playing::{Row, answers, play};
 use atlas_lines::{Command, ToolEnd, parse_line};
 use guillotiere::size2;
 
-const ROWS: [Row; 13] = [
+const ROWS: [Row; 14] = [
     (b"", b"", ToolEnd::Done),
     (
         b"simple 100 300\ntake 100 100\ntake 100 100\ntake 100 100\ntake 1 1\n",
@@ -35,6 +35,12 @@ const ROWS: [Row; 13] = [
     // A line of 121 bytes.
     (
         b"simple 10 10\ntake 000000000000000000000000000000000000000000000000000000000000000000000000000000000000000000000000000000000000000004 4\n",
+        b"ok\nbad line 2\n",
+        ToolEnd::BadLine(2),
+    ),
+    // The same as the last line, without its end.
+    (
+        b"simple 10 10\ntake 000000000000000000000000000000000000000000000000000000000000000000000000000000000000000000000000000000000000000004 4",
         b"ok\nbad line 2\n",
         ToolEnd::BadLine(2),
     ),

@@ -1,5 +1,5 @@
 -- Lists as callers meet them: counts and searches under a permutation, a filter and a map.
-use Rattle.std.proofs.Common.{rules, ◌≡◌, ◌↔◌, zero, suc, ◌+◌, ◌≤◌, Bool, true, false, cond, List, [], ◌∷◌, map, length}
+use Rattle.std.proofs.Common.{rules, ◌≡◌, ◌≢◌, ◌↔◌, ℕ, zero, suc, ◌+◌, ◌≤◌, ◌<◌, slice_get, slice_set, get_or, Bool, true, false, cond, List, [], ◌∷◌, map, length}
 use Rattle.std.proofs.Common.{refl, ap, subst, sym, ◌∙◌, arith, Contains, IsPermutation, inl, inr, Option, Some, None}
 use Rattle.std.proofs.lemmas.List.Sorted.{sum_by-IsPermutation, Contains-permutation}
 use Rattle.std.specs.List.{count_by, filter, find}
@@ -8,6 +8,28 @@ use Rattle.atlas_model.proofs.TreeLemmas.TreeIds.{Contains-first, Contains-later
 use Rattle.atlas_model.proofs.ListLemmas.Counting.{count_by-cons, count_some, counted_once}
 
 module _ {X : Type 0} where
+  -- What a list has once one of its members was set.
+  pub slice_get-set_here : (xs : List X) (i : ℕ) (y : X) → i < length xs → slice_get (slice_set xs i y) i ≡ Some y
+  slice_get-set_here [] i y within = absurd (omega (arith, within))
+  slice_get-set_here (x ∷ xs) zero y within = refl
+  slice_get-set_here (x ∷ xs) (suc i) y within = slice_get-set_here xs i y (omega (arith, within))
+
+  pub slice_get-set_other : (xs : List X) (i j : ℕ) (y : X) → j ≢ i → slice_get (slice_set xs i y) j ≡ slice_get xs j
+  slice_get-set_other [] i j y differ = refl
+  slice_get-set_other (x ∷ xs) zero zero y differ = absurd (differ refl)
+  slice_get-set_other (x ∷ xs) zero (suc j) y differ = refl
+  slice_get-set_other (x ∷ xs) (suc i) zero y differ = refl
+  slice_get-set_other (x ∷ xs) (suc i) (suc j) y differ = slice_get-set_other xs i j y (λ e. differ (ap suc e))
+
+  -- To set what is there changes nothing.
+  slice_set-same : (xs : List X) (i : ℕ) (y d : X) → y ≡ get_or xs i d → i < length xs → slice_set xs i y ≡ xs
+  slice_set-same [] i y d is within = absurd (omega (arith, within))
+  slice_set-same (x ∷ xs) zero y d is within = ap (λ k. k ∷ xs) is
+  slice_set-same (x ∷ xs) (suc i) y d is within = ap (λ l. x ∷ l) (slice_set-same xs i y d is (omega (arith, within)))
+
+  pub slice_set-read : (xs : List X) (i : ℕ) (y : X) → y ≡ get_or xs i y → i < length xs → slice_set xs i y ≡ xs
+  slice_set-read xs i y is within = slice_set-same xs i y y is within
+
   -- Counts don't depend on the order.
   pub count_by-permutation : (p : X → Bool) (xs ys : List X) → IsPermutation xs ys → count_by p ys ≡ count_by p xs
   count_by-permutation p xs ys h = sum_by-IsPermutation (λ k. one_if (p k)) xs ys h

@@ -82,7 +82,7 @@ box_is (Some b) r e = let same : rectangle_of b ≡ r = cc in ap (λ (q : Rectan
 
 module _ (v : Stored) (a : IsAtlas v) (turns : ℕ) where
   shown-slot : (i : ℕ) → is_alloc (node_at (nodes v.shelf.slots) i).kind ≡ true
-      → IsShownGrant (state_of (record { stored = v; turns = turns })) (allocation_at i (node_at (nodes v.shelf.slots) i))
+      → IsShownGrant (state_of (record { stored = v; turns = turns; capacity = 0 })) (allocation_at i (node_at (nodes v.shelf.slots) i))
   shown-slot i is =
       let ns = nodes v.shelf.slots in
       let id = id_of i (node_at ns i).generation in
@@ -106,10 +106,10 @@ module _ (v : Stored) (a : IsAtlas v) (turns : ℕ) where
 
   -- Each allocated slot shows a live id with its rectangle.
   pub shown-IsAtlas : (slots : List Slot) → slots ≡ v.shelf.slots
-      → All (IsShownGrant (state_of (record { stored = v; turns = turns }))) (allocated_from 0 (nodes slots))
+      → All (IsShownGrant (state_of (record { stored = v; turns = turns; capacity = 0 }))) (allocated_from 0 (nodes slots))
   shown-IsAtlas slots same =
-      subst (λ l. All (IsShownGrant (state_of (record { stored = v; turns = turns }))) (allocated_from 0 (nodes l))) (sym same)
-      (each-allocated (IsShownGrant (state_of (record { stored = v; turns = turns }))) (nodes v.shelf.slots) 0 (nodes v.shelf.slots) (λ j. ap (λ i. node_at (nodes v.shelf.slots) i) (let e : 0 + j ≡ j = omega arith in e)) shown-slot)
+      subst (λ l. All (IsShownGrant (state_of (record { stored = v; turns = turns; capacity = 0 }))) (allocated_from 0 (nodes l))) (sym same)
+      (each-allocated (IsShownGrant (state_of (record { stored = v; turns = turns; capacity = 0 }))) (nodes v.shelf.slots) 0 (nodes v.shelf.slots) (λ j. ap (λ i. node_at (nodes v.shelf.slots) i) (let e : 0 + j ≡ j = omega arith in e)) shown-slot)
 
   shown-area : (i : ℕ) → is_free (node_at (nodes v.shelf.slots) i).kind ≡ true → IsShownArea (node_at (nodes v.shelf.slots) i).area
   shown-area i is =
@@ -132,9 +132,9 @@ module _ (v : Stored) (a : IsAtlas v) (turns : ℕ) where
   pub shown_live-IsAtlas : (slots : List Slot) → slots ≡ v.shelf.slots → All IsShownArea (live_areas (nodes slots))
   shown_live-IsAtlas slots same =
       live_areas-shown IsShownArea 0 (nodes slots)
-      (All-weaker (IsShownGrant (state_of (record { stored = v; turns = 0 }))) (λ (x : Allocation). IsShownArea x.rectangle)
+      (All-weaker (IsShownGrant (state_of (record { stored = v; turns = 0; capacity = 0 }))) (λ (x : Allocation). IsShownArea x.rectangle)
       (λ x w. record { exact = w.exact; measurable = w.measurable; nonempty = w.nonempty }) (allocated_from 0 (nodes slots))
       (shown-zero slots same))
     where
-      shown-zero : (slots : List Slot) → slots ≡ v.shelf.slots → All (IsShownGrant (state_of (record { stored = v; turns = 0 }))) (allocated_from 0 (nodes slots))
+      shown-zero : (slots : List Slot) → slots ≡ v.shelf.slots → All (IsShownGrant (state_of (record { stored = v; turns = 0; capacity = 0 }))) (allocated_from 0 (nodes slots))
       shown-zero slots same = shown-IsAtlas slots same

@@ -140,18 +140,18 @@ sides_small Vertical s h k = (k, h)
 
 -- Of an atlas.
 module _ (v : Stored) (a : IsAtlas v) (turns : ℕ) where
-  pub live_sum-IsAtlas : area_sum (live_areas (nodes v.shelf.slots)) ≡ sum_by (λ (g : Grant). area g.box) (live_in (state_of (record { stored = v; turns = turns })))
+  pub live_sum-IsAtlas : area_sum (live_areas (nodes v.shelf.slots)) ≡ sum_by (λ (g : Grant). area g.box) (live_in (state_of (record { stored = v; turns = turns; capacity = 0 })))
   live_sum-IsAtlas = live_sum-list 0 (nodes v.shelf.slots) ∙ sum_by-counts grant_area (map grant_of (allocated_from 0 (nodes v.shelf.slots))) (live (sides_of v.size) (tree_of (nodes v.shelf.slots))) (live-IsAtlas v a)
 
-  pub free_sum-IsAtlas : area_sum (free_areas (nodes v.shelf.slots)) ≡ sum_by area (free_in (state_of (record { stored = v; turns = turns })))
+  pub free_sum-IsAtlas : area_sum (free_areas (nodes v.shelf.slots)) ≡ sum_by area (free_in (state_of (record { stored = v; turns = turns; capacity = 0 })))
   free_sum-IsAtlas = sym (sum_by-map area box_of (free_areas (nodes v.shelf.slots))) ∙ sum_by-counts area (map box_of (free_areas (nodes v.shelf.slots))) (free_boxes (sides_of v.size) (tree_of (nodes v.shelf.slots))) (free-IsAtlas v a)
 
-  pub areas-IsAtlas : sum_by (λ (g : Grant). area g.box) (live_in (state_of (record { stored = v; turns = turns }))) + sum_by area (free_in (state_of (record { stored = v; turns = turns })))
+  pub areas-IsAtlas : sum_by (λ (g : Grant). area g.box) (live_in (state_of (record { stored = v; turns = turns; capacity = 0 }))) + sum_by area (free_in (state_of (record { stored = v; turns = turns; capacity = 0 })))
       ≡ (sides_of v.size).width * (sides_of v.size).height
   areas-IsAtlas = search (rules, areas_of_boxes, sum_by-append, sum_by-map)
 
   -- Both sides are below 2 ^ 31.
-  small-IsAtlas : ((sides_of v.size).width < 2 ^ 31) × ((sides_of v.size).height < 2 ^ 31)
+  pub small-IsAtlas : ((sides_of v.size).width < 2 ^ 31) × ((sides_of v.size).height < 2 ^ 31)
   small-IsAtlas = grind (arith, tree_of-IsAtlas, sides_small)
 
   area_fits : (sides_of v.size).width * (sides_of v.size).height < 2 ^ 31 * 2 ^ 31

@@ -101,10 +101,10 @@ module _ (v : Stored) (a : IsAtlas v) (id : ℕ) where
         ∙ ap with_members (freed.tree ∙ ap (λ k. nf (mark (only k) (erase a.holding.tree))) is.names)
         ∙ sym (ap (release (only id)) (tree_of-IsAtlas v a))
 
-    pub state-IsFreed : (m turns before : ℕ) → state_of (record { stored = record { shelf = u; first = v.first; used = m; size = v.size; limit = v.limit }; turns = turns })
-        ≡ after_freeing (state_of (record { stored = v; turns = before })) (only id)
+    pub state-IsFreed : (m turns before : ℕ) → state_of (record { stored = record { shelf = u; first = v.first; used = m; size = v.size; limit = v.limit }; turns = turns; capacity = 0 })
+        ≡ after_freeing (state_of (record { stored = v; turns = before; capacity = 0 })) (only id)
     state-IsFreed m turns before =
-        state-freed (state_of (record { stored = record { shelf = u; first = v.first; used = m; size = v.size; limit = v.limit }; turns = turns })) (state_of (record { stored = v; turns = before })) (only id) tree-freed refl (ap options_of same_options) refl same_length a.sound
+        state-freed (state_of (record { stored = record { shelf = u; first = v.first; used = m; size = v.size; limit = v.limit }; turns = turns; capacity = 0 })) (state_of (record { stored = v; turns = before; capacity = 0 })) (only id) tree-freed refl (ap options_of same_options) refl same_length a.sound
 
     pub given-few : n ≤ v.used
     given-few = omega (arith, freed.given, a.used)
@@ -118,24 +118,24 @@ module _ (v : Stored) (a : IsAtlas v) (id : ℕ) where
       across = rw freed.sequence a.across;
       first = a.first ∙ sym freed.first;
       used = omega (arith, freed.given, a.used);
-      sound = subst IsSound (sym (state-IsFreed (v.used - n) 0 0)) (freeing_sound (state_of (record { stored = v; turns = 0 })) (only id) a.sound);
+      sound = subst IsSound (sym (state-IsFreed (v.used - n) 0 0)) (freeing_sound (state_of (record { stored = v; turns = 0; capacity = 0 })) (only id) a.sound);
       exact = a.exact;
       limited = a.limited;
     }
 
     -- As many members fewer as slots were given back.
-    pub used-IsFreed : (m turns before : ℕ) → used_in (state_of (record { stored = record { shelf = u; first = v.first; used = m; size = v.size; limit = v.limit }; turns = turns })) + n
-        ≡ used_in (state_of (record { stored = v; turns = before }))
+    pub used-IsFreed : (m turns before : ℕ) → used_in (state_of (record { stored = record { shelf = u; first = v.first; used = m; size = v.size; limit = v.limit }; turns = turns; capacity = 0 })) + n
+        ≡ used_in (state_of (record { stored = v; turns = before; capacity = 0 }))
     used-IsFreed m turns before = grind (arith, tree-freed, named-parts, live-named, members-IsAtlas, numbers-erase)
 
 -- What a call that frees the leaf of a live id leaves: n slots were given back.
 pub record FreesBox (v : Stored) (u : Shelf) (id n : ℕ) : Type 0 where
   pub few : n ≤ v.used
   pub atlas : IsAtlas (record { shelf = u; first = v.first; used = v.used - n; size = v.size; limit = v.limit })
-  pub state : (m turns before : ℕ) → state_of (record { stored = record { shelf = u; first = v.first; used = m; size = v.size; limit = v.limit }; turns = turns })
-      ≡ after_freeing (state_of (record { stored = v; turns = before })) (only id)
-  pub used : (m turns before : ℕ) → used_in (state_of (record { stored = record { shelf = u; first = v.first; used = m; size = v.size; limit = v.limit }; turns = turns })) + n
-      ≡ used_in (state_of (record { stored = v; turns = before }))
+  pub state : (m turns before : ℕ) → state_of (record { stored = record { shelf = u; first = v.first; used = m; size = v.size; limit = v.limit }; turns = turns; capacity = 0 })
+      ≡ after_freeing (state_of (record { stored = v; turns = before; capacity = 0 })) (only id)
+  pub used : (m turns before : ℕ) → used_in (state_of (record { stored = record { shelf = u; first = v.first; used = m; size = v.size; limit = v.limit }; turns = turns; capacity = 0 })) + n
+      ≡ used_in (state_of (record { stored = v; turns = before; capacity = 0 }))
 
 pub frees-box : (v : Stored) (a : IsAtlas v) (u : Shelf) (id at n : ℕ) → Contains (ids (tree_of (nodes v.shelf.slots)).members) id → at ≡ slot_of id
     → ((h : Holding) → IsFreeable v.shelf at h → (h' : Holding) × IsFreed v.shelf u at n h h')

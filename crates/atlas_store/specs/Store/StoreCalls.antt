@@ -1,5 +1,5 @@
 -- What each call of the store does, in one word. No public clause cites this module.
-use Rattle.std.specs.Prelude.{ℕ, ◌+◌, ◌-◌, ◌<◌, ◌≤◌, ◌≡◌, ◌≢◌, ◌⊎◌, List, length, true, false}
+use Rattle.std.specs.Prelude.{ℕ, ◌+◌, ◌-◌, ◌<◌, ◌≤◌, ◌≡◌, ◌≢◌, ◌⊎◌, List, length, true, false, vec_capacity}
 use Rattle.atlas_store.specs.declared.store.Store.{Store}
 use Rattle.atlas_store.specs.declared.search.bands.Place.{Place}
 use Rattle.atlas_store.specs.declared.slots.Link.{Link}
@@ -105,6 +105,7 @@ pub record IsSlotTaken {A : Type 0} (old new : Store A) (k : ℕ) : Type 0 where
   pub longer : length old.slots.items ≤ length new.slots.items
   pub others : (j : ℕ) → j ≢ k → node_in (shelf_of new) j ≡ node_in (shelf_of old) j
   pub options : new.options ≡ old.options
+  pub capacity : vec_capacity new.slots ≡ vec_capacity old.slots
   pub turns : new.turns ≡ old.turns
 
 -- The loose leaf of slot `at` keeps p of its extent, and slot `fresh`, which was in hand, takes the rest.
@@ -148,6 +149,7 @@ pub record IsSplit {A : Type 0} (old new : Store A) (at k p : ℕ) : Type 0 wher
   pub apart : k ≢ at
   pub others : (j : ℕ) → j ≢ at → j ≢ k → KeepsUse (node_in (shelf_of old) j) (node_in (shelf_of new) j)
   pub options : new.options ≡ old.options
+  pub capacity : vec_capacity new.slots ≡ vec_capacity old.slots
   pub turns : new.turns ≡ old.turns
 
 -- The loose leaf of slot `at` is a container, and slot k its lone child, which is loose.
@@ -159,6 +161,7 @@ pub record IsWrapped {A : Type 0} (old new : Store A) (at k : ℕ) : Type 0 wher
   pub apart : k ≢ at
   pub others : (j : ℕ) → j ≢ at → j ≢ k → KeepsUse (node_in (shelf_of old) j) (node_in (shelf_of new) j)
   pub options : new.options ≡ old.options
+  pub capacity : vec_capacity new.slots ≡ vec_capacity old.slots
   pub turns : new.turns ≡ old.turns
 
 -- The loose leaf of slot `at` is a container of slot k, which keeps p of it, and slot l, which has the rest; both are
@@ -172,6 +175,7 @@ pub record IsWrappedTwo {A : Type 0} (old new : Store A) (at k l p : ℕ) : Type
   pub back_apart : (l ≢ at) × (l ≢ k)
   pub others : (j : ℕ) → j ≢ at → j ≢ k → j ≢ l → KeepsUse (node_in (shelf_of old) j) (node_in (shelf_of new) j)
   pub options : new.options ≡ old.options
+  pub capacity : vec_capacity new.slots ≡ vec_capacity old.slots
   pub turns : new.turns ≡ old.turns
 
 -- The granted leaf of slot i is free, and loose; a turn was taken.

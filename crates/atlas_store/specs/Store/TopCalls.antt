@@ -1,5 +1,5 @@
 -- What each call of the store on the top sequence does, in one word. No public clause cites this module.
-use Rattle.std.specs.Prelude.{ℕ, ◌<◌, ◌≡◌, ◌≢◌}
+use Rattle.std.specs.Prelude.{ℕ, ◌<◌, ◌≡◌, ◌≢◌, vec_capacity}
 use Rattle.atlas_store.specs.declared.store.Store.{Store}
 use Rattle.atlas_store.specs.declared.slots.NodeKind.TheVariants as kind
 use Rattle.atlas_model.specs.Boxes.{Sides}
@@ -76,6 +76,7 @@ pub record IsAppended {A : Type 0} (old new : Store A) (size : Sides) (last k : 
   pub kept : (d : ℕ) → TakesSlots old new 1 (IsExtendable (shelf_of old) size last d) (after_append k d)
   pub free : (node_in (shelf_of new) k).kind ≡ kind.Free
   pub options : new.options ≡ old.options
+  pub capacity : vec_capacity new.slots ≡ vec_capacity old.slots
   pub turns : new.turns ≡ old.turns
 
 -- The top sequence begins at slot `first` and spans the size `inner`, and the other size is d wider.
@@ -90,4 +91,5 @@ pub record IsNested {A : Type 0} (old new : Store A) (inner size : Sides) (first
   pub kept : (d : ℕ) → TakesSlots old new 2 (IsNestable (shelf_of old) inner size first d) (after_nest c k d)
   pub free : (node_in (shelf_of new) k).kind ≡ kind.Free
   pub options : new.options ≡ old.options
+  pub capacity : vec_capacity new.slots ≡ vec_capacity old.slots
   pub turns : new.turns ≡ old.turns

@@ -106,6 +106,7 @@ fn strip_in(area: Rectangle) -> u8
 }
 
 /// Takes a free slot, whose rectangle is exact, out of its list; it is loose from then on.
+#[inline(always)]
 pub fn unlist<A: Allocator>(
     slots: &mut [Slot],
     lists: &mut Table<A>,
@@ -150,6 +151,7 @@ pub fn unlist_at<A: Allocator>(slots: &mut [Slot], lists: &mut Table<A>, at: Lin
 }
 
 /// Puts a free and loose slot, whose rectangle is exact, into its list.
+#[inline(always)]
 pub fn enlist<A: Allocator>(
     slots: &mut [Slot],
     lists: &mut Table<A>,

@@ -35,6 +35,7 @@ pub fn across(axis: Orientation) -> Orientation
 }
 
 // The two parts of a leaf's rectangle that is cut after its first `extent` pixels along an axis.
+#[inline(always)]
 fn parts(area: Rectangle, axis: Orientation, extent: u32) -> (Rectangle, Rectangle)
     requires exact { area ≡ rectangle_of (box_of area) }
     requires less { extent < side (axis_of axis) (box_sides (box_of area)) }
@@ -58,6 +59,7 @@ fn parts(area: Rectangle, axis: Orientation, extent: u32) -> (Rectangle, Rectang
 
 /// The free leaf at `at` keeps its first `extent` pixels along its axis, and the unused slot `fresh` takes the rest as
 /// a free leaf after it.
+#[inline(always)]
 pub fn split_leaf(slots: &mut [Slot], at: Link, fresh: Link, extent: u32)
     requires stands { IsTree (nodes slots.old) }
     requires ready { CanSplitInto (nodes slots.old) at.number fresh.number extent }

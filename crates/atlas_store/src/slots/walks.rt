@@ -11,8 +11,8 @@ ghost use Rattle.atlas_store.specs.Slots.Areas.{live_areas, area_sum};
 ghost use Rattle.atlas_model.specs.Boxes.{area};
 ghost use Rattle.atlas_model.specs.Pixels.{box_of};
 
-use crate::slots::{MOST_SLOTS, NodeKind, Slot};
-use atlas_model::{AllocId, Allocation, AtlasError, Rectangle};
+use crate::slots::{NodeKind, Slot};
+use atlas_model::{AllocId, Allocation, AtlasError, MOST_SLOTS, Rectangle};
 use std::alloc::Allocator;
 
 /// The id of the slot with this number in this generation.

@@ -77,10 +77,10 @@ each-none s ids k l = ap (after_each s) (drop_all k ids l)
 
 -- Ids that name slots are live.
 
-pub named-live_once : (v : Stored) (a : IsAtlas v) (turns : ℕ) (ids : List ℕ) → AreNamedOnce (nodes v.shelf.slots) ids → AreLiveOnce (state_of (record { stored = v; turns = turns })) ids
+pub named-live_once : (v : Stored) (a : IsAtlas v) (turns : ℕ) (ids : List ℕ) → AreNamedOnce (nodes v.shelf.slots) ids → AreLiveOnce (state_of (record { stored = v; turns = turns; capacity = 0 })) ids
 named-live_once v a turns [] h = tt
 named-live_once v a turns (id ∷ rest) h = (named-live v a id h.0, h.1, named-live_once v a turns rest h.2)
 
-pub live-named_once : (v : Stored) (a : IsAtlas v) (turns : ℕ) (ids : List ℕ) → AreLiveOnce (state_of (record { stored = v; turns = turns })) ids → AreNamedOnce (nodes v.shelf.slots) ids
+pub live-named_once : (v : Stored) (a : IsAtlas v) (turns : ℕ) (ids : List ℕ) → AreLiveOnce (state_of (record { stored = v; turns = turns; capacity = 0 })) ids → AreNamedOnce (nodes v.shelf.slots) ids
 live-named_once v a turns [] h = tt
 live-named_once v a turns (id ∷ rest) h = (live-named v a id h.0, h.1, live-named_once v a turns rest h.2)

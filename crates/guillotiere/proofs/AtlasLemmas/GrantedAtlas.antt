@@ -1,10 +1,11 @@
 -- Granting a request in an atlas.
 use Rattle.std.proofs.Common.{rules, ℕ, ◌+◌, ◌%◌, ◌^◌, ◌<◌, ◌≤◌, ◌≡◌, max, List, length, refl, sym, ap, subst, ◌∙◌, ◌⊎◌}
 use Rattle.std.proofs.Common.{inl, inr, arith, vec_capacity}
-use Rattle.std.specs.Prelude.{Err}
+use Rattle.std.proofs.lemmas.Bool.{false≢true}
+use Rattle.std.specs.Prelude.{Err, None, Some, IfSome, IsTrue, is_some, ◌↔◌}
 use Rattle.atlas_model.specs.Boxes.{Sides, Box, box_at, box_sides, Fits, IsPositive}
 use Rattle.atlas_model.specs.Changes.{place}
-use Rattle.atlas_model.specs.Choice.{rounded, IsFitting, HasNoRoom}
+use Rattle.atlas_model.specs.Choice.{rounded, IsFitting, HasRoom, HasNoRoom}
 use Rattle.atlas_model.specs.Pixels.{box_of, rectangle_of, sides_of, size_of, options_of}
 use Rattle.atlas_store.specs.Rectangles.{FitsInto, IsUnsigned}
 use Rattle.atlas_model.specs.Replies.{allocate_reply}
@@ -54,7 +55,7 @@ state-placed new old f r id et es eo el ek = rw (← ek, ← et, ← es, ← eo,
 
 module _ (v : Stored) (a : IsAtlas v) (request : Sides) where
   abbrev pub now : State
-  now = state_of (record { stored = v; turns = 0 })
+  now = state_of (record { stored = v; turns = 0; capacity = 0 })
 
   pub at-rest : IsAtRest v.shelf a.holding
   at-rest = record { holds = a.holds; listed = a.at_rest; start = a.start }
@@ -62,7 +63,7 @@ module _ (v : Stored) (a : IsAtlas v) (request : Sides) where
   abbrev pub wanted : Sides
   wanted = rounded (options_of v.shelf.options) request
 
-  free_here : AreFreeBoxes (nodes v.shelf.slots) (free_in (state_of (record { stored = v; turns = 0 })))
+  free_here : AreFreeBoxes (nodes v.shelf.slots) (free_in (state_of (record { stored = v; turns = 0; capacity = 0 })))
   free_here = grind (arith, tree_of-IsAtlas, rest-free, at-rest)
 
   -- Nothing is granted.
@@ -101,7 +102,7 @@ module _ (v : Stored) (a : IsAtlas v) (request : Sides) where
     module _ (u : Shelf) (id to : ℕ) (h : Holding) (w : IsGrantMade u p id to a.holding h) (same_options : u.options ≡ v.shelf.options) (few : v.used + slots_of p.plan ≤ v.limit) (box : Box)
         (there : box ≡ box_at (box_of p.area).min (rounded (options_of v.shelf.options) request)) where
       abbrev pub after : (used turns : ℕ) → State
-      after used turns = state_of (record { stored = record { shelf = u; first = v.first; used = used; size = v.size; limit = v.limit }; turns = turns })
+      after used turns = state_of (record { stored = record { shelf = u; first = v.first; used = used; size = v.size; limit = v.limit }; turns = turns; capacity = 0 })
 
       tree-placed : tree_of (nodes u.slots) ≡ place (sides_of v.size) (box_of p.area) wanted id (tree_of (nodes v.shelf.slots))
       tree-placed = grind (arith, planned-tree, placing)
@@ -144,8 +145,8 @@ module _ (v : Stored) (a : IsAtlas v) (request : Sides) where
 -- What a grant leaves: the request is granted under this id and in this box.
 pub record IsDone (v : Stored) (request : Sides) (u : Shelf) (needed id : ℕ) (box : Box) : Type 0 where
   pub atlas : IsAtlas (record { shelf = u; first = v.first; used = v.used + needed; size = v.size; limit = v.limit })
-  pub granted : (turns before : ℕ) → (f : Box) × Grants (state_of (record { stored = v; turns = before })) request f (record { id = id; box = box })
-      (state_of (record { stored = record { shelf = u; first = v.first; used = v.used + needed; size = v.size; limit = v.limit }; turns = turns }))
+  pub granted : (turns before : ℕ) → (f : Box) × Grants (state_of (record { stored = v; turns = before; capacity = 0 })) request f (record { id = id; box = box })
+      (state_of (record { stored = record { shelf = u; first = v.first; used = v.used + needed; size = v.size; limit = v.limit }; turns = turns; capacity = 0 }))
 
 -- A request that was rounded, and the slot that it takes.
 module _ (v : Stored) (a : IsAtlas v) (request : Sides) (size : Size) (sized : CanBeRounded (options_of v.shelf.options) request × (size ≡ size_of (rounded (options_of v.shelf.options) request)))
@@ -168,8 +169,8 @@ module _ (v : Stored) (a : IsAtlas v) (request : Sides) (size : Size) (sized : C
   -- In the words of the calls: `made` are the slots once there is room.
   module _ {A : Type 0} (made : Store A) (same : shelf_of made ≡ v.shelf) (needed : ℕ) (is_needed : needed ≡ slots_of p.plan) where
     pub refused-step : (result : Result (Option Allocation) AtlasError) (error : AtlasError) → result ≡ Err error → IsShortOf v.used v.limit needed (length v.shelf.slots) error → (turns before : ℕ)
-        → Step (state_of (record { stored = v; turns = before })) (Allocate request) (allocate_reply result)
-        (state_of (record { stored = record { shelf = shelf_of made; first = v.first; used = v.used; size = v.size; limit = v.limit }; turns = turns }))
+        → Step (state_of (record { stored = v; turns = before; capacity = 0 })) (Allocate request) (allocate_reply result)
+        (state_of (record { stored = record { shelf = shelf_of made; first = v.first; used = v.used; size = v.size; limit = v.limit }; turns = turns; capacity = 0 }))
     refused-step result error is short turns before = grind (arith, step-refused, chosen_here)
 
     module _ (ok : (v.used + needed ≤ v.limit) × ((v.used + needed ≤ length made.slots.items) ⊎ (v.used + needed ≤ vec_capacity made.slots))) where
@@ -198,3 +199,23 @@ module _ (v : Stored) (a : IsAtlas v) (request : Sides) (size : Size) (sized : C
             atlas = atlas-placed v a request p chosen_here sized.0.positive u id got.0 got.1 got.2 same_options few (box_of rectangle) there;
             granted = (λ turns before. (box_of p.area, grants v a request p chosen_here sized.0.positive u id got.0 got.1 got.2 same_options few (box_of rectangle) there (v.used + slots_of p.plan) turns));
           })
+
+-- A request has room if a slot was found for it.
+pub found-room : (v : Stored) (a : IsAtlas v) (request : Sides) (size : Size)
+    → CanBeRounded (options_of v.shelf.options) request × (size ≡ size_of (rounded (options_of v.shelf.options) request))
+    → (found : Option Chosen)
+    → (found ≡ None → (free : List Box) → AreFreeBoxes (nodes v.shelf.slots) free → (b : Box) → IsFitting free (sides_of size) b → ⊥)
+    → IfSome found (IsChosen v.shelf (sides_of size))
+    → IsTrue (is_some found) ↔ HasRoom (free_in (now v a request)) (options_of v.shelf.options) request
+found-room v a request size sized None none some = (
+  (λ yes. absurd (false≢true yes)),
+  (λ room. absurd (no_room-none v a request (sides_of size) (sides_of-size size _ sized.1) (none refl) room)),
+)
+found-room v a request size sized (Some p) none some = (
+  (λ yes. record {
+    positive = sized.0.positive;
+    box = box_of p.area;
+    fitting = (takes v a request p (chosen_here v a request size sized p some) sized.0.positive).pick.best.candidate.fitting;
+  }),
+  (λ room. refl),
+)

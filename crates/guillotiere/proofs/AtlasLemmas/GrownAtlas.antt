@@ -52,12 +52,12 @@ state-grown new old n et es eo el ek = rw (← ek, ← et, ← es, ← eo, ← e
 -- What a growth leaves: so many slots are used, and the tree begins at this slot.
 pub record HasGrown (v : Stored) (size : Size) (u : Shelf) (link : Link) (used : ℕ) : Type 0 where
   pub atlas : IsAtlas (record { shelf = u; first = link; used = used; size = size; limit = v.limit })
-  pub step : (turns before : ℕ) → Step (state_of (record { stored = v; turns = before })) (Grow (sides_of size)) Done
-      (state_of (record { stored = record { shelf = u; first = link; used = used; size = size; limit = v.limit }; turns = turns }))
+  pub step : (turns before : ℕ) → Step (state_of (record { stored = v; turns = before; capacity = 0 })) (Grow (sides_of size)) Done
+      (state_of (record { stored = record { shelf = u; first = link; used = used; size = size; limit = v.limit }; turns = turns; capacity = 0 }))
 
 module _ (v : Stored) (a : IsAtlas v) where
   abbrev pub now : State
-  now = state_of (record { stored = v; turns = 0 })
+  now = state_of (record { stored = v; turns = 0; capacity = 0 })
 
   pub tree-here : IsTreeOf v.shelf (sides_of v.size) v.first.number a.holding
   tree-here = grind (arith, tree_of-IsAtlas, side_positive)
@@ -100,7 +100,7 @@ module _ (v : Stored) (a : IsAtlas v) where
         kept-grown = omega (arith, spare-count v.shelf a.holding a.holds, spare-count u h w.tree.holds, more, w.spare, nodes-grown)
 
         abbrev pub after : (link : Link) (used turns : ℕ) → State
-        after link used turns = state_of (record { stored = record { shelf = u; first = link; used = used; size = size; limit = v.limit }; turns = turns })
+        after link used turns = state_of (record { stored = record { shelf = u; first = link; used = used; size = size; limit = v.limit }; turns = turns; capacity = 0 })
 
         pub state-after : (link : Link) (used turns : ℕ) → after link used turns ≡ after_growth now (sides_of size)
         state-after link used turns = state-grown (after link used turns) now (sides_of size) tree-grown refl (ap options_of same_options) refl kept-grown
@@ -170,8 +170,8 @@ module _ (v : Stored) (a : IsAtlas v) where
           -- In the words of the calls: `made` are the slots once there is room.
           module _ {A : Type 0} (made : Store A) (same : shelf_of made ≡ v.shelf) where
             pub refused-step : (result : Result (Unit {0}) AtlasError) (error : AtlasError) → result ≡ Err error → IsShortOf v.used v.limit n (length v.shelf.slots) error → (turns before : ℕ)
-                → Step (state_of (record { stored = v; turns = before })) (Grow (sides_of size)) (done_reply result)
-                (state_of (record { stored = record { shelf = shelf_of made; first = v.first; used = v.used; size = v.size; limit = v.limit }; turns = turns }))
+                → Step (state_of (record { stored = v; turns = before; capacity = 0 })) (Grow (sides_of size)) (done_reply result)
+                (state_of (record { stored = record { shelf = shelf_of made; first = v.first; used = v.used; size = v.size; limit = v.limit }; turns = turns; capacity = 0 }))
             refused-step result error is short turns before = grind (arith, step-refused)
 
             module _ (ok : (v.used + n ≤ v.limit) × ((v.used + n ≤ length made.slots.items) ⊎ (v.used + n ≤ vec_capacity made.slots))) where

@@ -45,7 +45,7 @@ changes_of P (c ∷ rest) all =
 
 -- A state is read from what is stored.
 same_state : (v w : AtlasValue) → v.stored ≡ w.stored → state_of v ≡ state_of w
-same_state v w is = ap (λ s. state_of (record { stored = s; turns = 0 })) is
+same_state v w is = ap (λ s. state_of (record { stored = s; turns = 0; capacity = 0 })) is
 
 -- In the words of the calls: `start` is the fresh atlas, `placed` the same with all boxes placed, and `new` stores that.
 module _ (old start placed new : AtlasValue) (n : Sides) (positive : IsPositive n)

@@ -11,7 +11,7 @@ use Rattle.atlas_store.specs.declared.slots.Link.{Link}
 use Rattle.atlas_store.specs.declared.search.table.ListHead.{ListHead}
 use Rattle.atlas_store.specs.Search.Bands.{list_of, strip_of, number_of}
 use Rattle.atlas_model.specs.Boxes.{Box, AreSameBoxes, same_box}
-use Rattle.guillotiere.specs.FreeBoxes.BoxShelves.{has_width, stored_item, free_item_boxes, idle_item, with_after, AreKept, IsInHand}
+use Rattle.guillotiere.specs.FreeBoxes.BoxShelves.{has_width, stored_item, free_item_boxes, free_count, idle_item, with_after, AreKept, AreKeptWith, IsInHand}
 use Rattle.atlas_model.specs.Choice.{Options, AreValid}
 use Rattle.atlas_store.specs.Search.Items.{Item, no_item, item_at, item_box, item_sides, IsPath}
 use Rattle.atlas_store.specs.Slots.Links.{IsSolid}
@@ -26,6 +26,7 @@ use Rattle.atlas_store.proofs.SearchLemmas.ItemPaths.{path-frame, path-next, pat
 use Rattle.atlas_store.proofs.ListLemmas.Occurrences.{same-self, same-ne}
 use Rattle.atlas_model.proofs.TreeLemmas.TreeBasics.{same_box-true, same_box-itself}
 use Rattle.atlas_store.proofs.SearchLemmas.Showing.{path-inside}
+use Rattle.guillotiere.proofs.SimpleLemmas.EntryCounts.{count-of_free, count-of_idle, kept-idle, spare-idle}
 
 -- ---- counts of free boxes
 
@@ -107,60 +108,113 @@ past-idle [] = refl
 past-idle (t ∷ es) = past-idle es
 
 -- A new entry at the end.
-pub taken-new : (o : Options) (heads : List ListHead) (es : List Item) (unused : Link) → length es < no_slot
-    → AreKept o (record { entries = es; heads = heads; unused = unused })
-    → IsInHand o (record { entries = es ++ no_item ∷ []; heads = heads; unused = unused }) (length es)
-taken-new o heads es unused short kept =
+pub taken-new : (o : Options) (heads : List ListHead) (es : List Item) (unused : Link) (used : ℕ) → length es < no_slot
+    → AreKept o (record { entries = es; heads = heads; unused = unused; used = used })
+    → IsInHand o (record { entries = es ++ no_item ∷ []; heads = heads; unused = unused; used = used + 1 }) (length es)
+taken-new o heads es unused used short kept =
     record {
-      kept = grind (arith, listed-same, item_at-more, length-more, path-frame);
+      kept = record {
+        listed = grind (arith, listed-same, item_at-more, length-more);
+        spare = kept.spare;
+        chain = path-frame es (es ++ no_item ∷ []) unused.number kept.spare no_slot (omega (arith, length-more es))
+            (λ i h. ap (λ (t : Item). t.after) (item_at-more es i)) kept.chain;
+        each = λ i l. each_by i l (cases_eq i (length es));
+        used = omega (arith, kept.used, length-more es);
+      };
       inside = omega (arith, length-more es);
-      idle = ap (λ (t : Item). t.is_free) (item_at-more es (length es)) ∙ past-idle es;
-      apart = grind (arith, path-inside);
     }
+  where
+    none : occurs (length es) kept.spare ≡ 0
+    none = grind (arith, path-inside)
 
-pub unused-inside : (o : Options) (heads : List ListHead) (es : List Item) (unused : Link) → unused.number ≢ no_slot
-    → AreKept o (record { entries = es; heads = heads; unused = unused }) → unused.number < length es
-unused-inside o heads es unused some kept = go kept.spare kept.chain
+    each_by : (i : ℕ) → i < length (es ++ no_item ∷ []) → (i ≡ length es) ⊎ (i ≢ length es)
+        → occurs i kept.spare + same i (length es) + free_count (item_at (es ++ no_item ∷ []) i) ≡ 1
+    each_by i l (inl e) =
+        omega (
+          arith,
+          none,
+          ap (λ n. occurs n kept.spare) e,
+          ap (λ n. same n (length es)) e,
+          same-self (length es),
+          count-of_idle (item_at (es ++ no_item ∷ []) i) (ap (λ (t : Item). t.is_free) (item_at-more es i) ∙ (ap (λ n. (item_at es n).is_free) e ∙ past-idle es)),
+        )
+    each_by i l (inr ne) =
+        omega (arith, same-ne i (length es) ne, kept.each i (omega (arith, l, length-more es)), ap free_count (item_at-more es i))
+
+pub unused-inside : (o : Options) (heads : List ListHead) (es : List Item) (unused : Link) (used : ℕ) → unused.number ≢ no_slot
+    → AreKept o (record { entries = es; heads = heads; unused = unused; used = used }) → unused.number < length es
+unused-inside o heads es unused used some kept = go kept.spare kept.chain
   where
     go : (xs : List ℕ) → IsPath es unused.number xs no_slot → unused.number < length es
     go [] p = absurd (some p)
     go (x ∷ xs) p = omega (arith, p.0, p.1)
 
 -- The first of the unused entries.
-pub taken-again : (o : Options) (heads : List ListHead) (es : List Item) (unused after : Link) → unused.number ≢ no_slot → after.number ≡ (item_at es unused.number).after
-    → AreKept o (record { entries = es; heads = heads; unused = unused })
-    → IsInHand o (record { entries = es; heads = heads; unused = after }) unused.number
-taken-again o heads es unused after some leads kept = go kept.spare kept.chain kept.idle kept.once
+pub taken-again : (o : Options) (heads : List ListHead) (es : List Item) (unused after : Link) (used : ℕ) → unused.number ≢ no_slot
+    → after.number ≡ (item_at es unused.number).after → AreKept o (record { entries = es; heads = heads; unused = unused; used = used })
+    → IsInHand o (record { entries = es; heads = heads; unused = after; used = used + 1 }) unused.number
+taken-again o heads es unused after used some leads kept = go kept.spare kept.chain kept.each kept.used
   where
-    go : (xs : List ℕ) → IsPath es unused.number xs no_slot → ((i : ℕ) → 0 < occurs i xs → (item_at es i).is_free ≡ false) → ((i : ℕ) → occurs i xs ≤ 1)
-        → IsInHand o (record { entries = es; heads = heads; unused = after }) unused.number
-    go [] p idle once = absurd (some p)
-    go (x ∷ xs) p idle once =
+    go : (xs : List ℕ) → IsPath es unused.number xs no_slot → ((i : ℕ) → i < length es → occurs i xs + 0 + free_count (item_at es i) ≡ 1)
+        → used + length xs ≡ length es → IsInHand o (record { entries = es; heads = heads; unused = after; used = used + 1 }) unused.number
+    go [] p each count = absurd (some p)
+    go (x ∷ xs) p each count =
         record {
-          kept = grind arith;
+          kept = record {
+            listed = kept.listed;
+            spare = xs;
+            chain = subst (λ n. IsPath es n xs no_slot) (ap (λ n. (item_at es n).after) (sym p.0) ∙ sym leads) p.2;
+            each = λ i l. omega (arith, each i l, ap (λ n. same i n) p.0);
+            used = omega (arith, count);
+          };
           inside = omega (arith, p.0, p.1);
-          idle = idle unused.number (omega (arith, same-self x, ap (λ n. same n x) p.0));
-          apart = omega (arith, once unused.number, same-self x, ap (λ n. same n x) p.0);
         }
 
 -- ---- a box is put into an entry
 
-pub put-kept : (o : Options) (heads heads' : List ListHead) (es : List Item) (unused : Link) (x k : ℕ) (e : Item)
-    → (hand : IsInHand o (record { entries = es; heads = heads; unused = unused }) x)
+pub put-kept : (o : Options) (heads heads' : List ListHead) (es : List Item) (unused : Link) (used : ℕ) (x k : ℕ) (e : Item)
+    → (hand : IsInHand o (record { entries = es; heads = heads; unused = unused; used = used }) x)
     → e.is_free ≡ true → e.after ≡ (head_of heads k).number → IsSolid e.area → list_of o (item_sides e) ≡ k → k < 2704
     → (head_of heads' k).number ≡ x → ((j : ℕ) → j ≢ k → head_of heads' j ≡ head_of heads j)
     → low_of heads' k ≤ strip_of (item_box e).min.y → (is_used_at heads k ≡ true → low_of heads' k ≤ low_of heads k)
     → ((j : ℕ) → j ≢ k → low_of heads' j ≡ low_of heads j)
-    → AreKept o (record { entries = slice_set es x e; heads = heads'; unused = unused })
-put-kept o heads heads' es unused x k e hand free after exact list few head other_heads low lower other_lows =
-    grind (
-      arith,
-      listed-with o heads heads' es (slice_set es x e) hand.kept.listed x k e hand.idle hand.inside (length-set es x e) (item_at-same es x e hand.inside),
-      length-set es x e,
-      item_at-same es x e hand.inside,
-      item_at-other es x,
-      path-frame es (slice_set es x e) unused.number hand.kept.spare no_slot (omega (arith, length-set es x e)),
-    )
+    → AreKept o (record { entries = slice_set es x e; heads = heads'; unused = unused; used = used })
+put-kept o heads heads' es unused used x k e hand free after exact list few head other_heads low lower other_lows =
+    record {
+      listed = grind (
+        arith,
+        listed-with o heads heads' es (slice_set es x e) hand.kept.listed x k e idle hand.inside (length-set es x e) (item_at-same es x e hand.inside),
+        item_at-other es x,
+      );
+      spare = hand.kept.spare;
+      chain = path-frame es (slice_set es x e) unused.number hand.kept.spare no_slot (omega (arith, length-set es x e))
+          (λ i h. ap (λ (t : Item). t.after) (item_at-other es x i e (not_spare i h))) hand.kept.chain;
+      each = λ i l. each_by i l (cases_eq i x);
+      used = omega (arith, hand.kept.used, length-set es x e);
+    }
+  where
+    here : occurs x hand.kept.spare + same x x + free_count (item_at es x) ≡ 1
+    here = hand.kept.each x hand.inside
+
+    idle : (item_at es x).is_free ≡ false
+    idle = kept-idle (λ i. same i x) o (record { entries = es; heads = heads; unused = unused; used = used }) hand.kept x hand.inside (omega (arith, same-self x))
+
+    not_spare : (i : ℕ) → 0 < occurs i hand.kept.spare → i ≢ x
+    not_spare i h is = omega (arith, h, here, same-self x, ap (λ n. occurs n hand.kept.spare) is)
+
+    each_by : (i : ℕ) → i < length (slice_set es x e) → (i ≡ x) ⊎ (i ≢ x) → occurs i hand.kept.spare + 0 + free_count (item_at (slice_set es x e) i) ≡ 1
+    each_by i l (inl is) =
+        omega (
+          arith,
+          here,
+          same-self x,
+          ap (λ n. occurs n hand.kept.spare) is,
+          ap (λ n. free_count (item_at (slice_set es x e) n)) is,
+          ap free_count (item_at-same es x e hand.inside),
+          count-of_free e free,
+        )
+    each_by i l (inr ne) =
+        omega (arith, hand.kept.each i (omega (arith, l, length-set es x e)), same-ne i x ne, ap free_count (item_at-other es x i e ne))
 
 -- What an index reads.
 pub read-item : (bs : List FreeBox) (i : ℕ) (b : FreeBox) → i < length bs → b ≡ get_or bs i b → stored_item b ≡ item_at (map stored_item bs) i
@@ -191,8 +245,8 @@ pub boxes-left : (es es1 : List Item) (x : ℕ) (e : Item) (area : Rectangle) �
 unfolding IsSameButLinks
 boxes-left es es1 x e area links free is idle = grind (arith, free-inside, boxes-without)
 
-module _ (o : Options) (heads heads' : List ListHead) (es es1 : List Item) (unused : Link) (found : Found)
-    (kept : AreKept o (record { entries = es; heads = heads; unused = unused })) (standing : IsStanding o heads es found)
+module _ (o : Options) (heads heads' : List ListHead) (es es1 : List Item) (unused : Link) (used used' : ℕ) (found : Found)
+    (kept : AreKept o (record { entries = es; heads = heads; unused = unused; used = used })) (less : used' + 1 ≡ used) (standing : IsStanding o heads es found)
     (heads_stay : (j : ℕ) → j ≢ number_of found.place → head_of heads' j ≡ head_of heads j)
     (low_is : low_of heads' (number_of found.place) ≡ found.low)
     (lows_stay : (j : ℕ) → j ≢ number_of found.place → low_of heads' j ≡ low_of heads j) where
@@ -212,7 +266,7 @@ module _ (o : Options) (heads heads' : List ListHead) (es es1 : List Item) (unus
   inside = free-inside es x standing.free
 
   not_spare : occurs x kept.spare ≡ 0
-  not_spare = grind (arith, both_ways)
+  not_spare = omega (arith, kept.each x inside, count-of_free (item_at es x) standing.free)
 
   in_list : 0 < occurs x (kept.listed.held k)
   in_list = subst (λ n. 0 < occurs x (kept.listed.held n)) standing.list (kept.listed.each x standing.free)
@@ -225,7 +279,7 @@ module _ (o : Options) (heads heads' : List ListHead) (es es1 : List Item) (unus
       → IsPath es' (head_of heads' k).number (without x (kept.listed.held k)) no_slot
       → ((j i : ℕ) → j ≢ k → j < 2704 → 0 < occurs i (kept.listed.held j) → (item_at es1 i).after ≡ (item_at es i).after)
       → ((i : ℕ) → 0 < occurs i kept.spare → (item_at es1 i).after ≡ (item_at es i).after)
-      → AreKept o (record { entries = es'; heads = heads'; unused = found.at })
+      → AreKept o (record { entries = es'; heads = heads'; unused = found.at; used = used' })
   finish long same_box here links spare_links =
       record {
         listed =
@@ -239,8 +293,8 @@ module _ (o : Options) (heads heads' : List ListHead) (es es1 : List Item) (unus
               (path-frame es es' unused.number kept.spare no_slot (omega (arith, length-set es1 x (idle_item unused.number), long))
               (λ i h. still i (not_x_spare i h) ∙ spare_links i h) kept.chain),
         );
-        idle = λ i h. idle_by i h (cases_eq i x);
-        once = λ i. once_by i (cases_eq i x);
+        each = λ i l. each_by i l (cases_eq i x);
+        used = omega (arith, kept.used, less, length-set es1 x (idle_item unused.number), long);
       }
     where
       this : item_at es' x ≡ idle_item unused.number
@@ -261,29 +315,39 @@ module _ (o : Options) (heads heads' : List ListHead) (es es1 : List Item) (unus
       not_x_spare : (i : ℕ) → 0 < occurs i kept.spare → i ≢ x
       not_x_spare i h e = omega (arith, h, not_spare, ap (λ n. occurs n kept.spare) e)
 
-      idle_by : (i : ℕ) → 0 < occurs i (x ∷ kept.spare) → (i ≡ x) ⊎ (i ≢ x) → (item_at es' i).is_free ≡ false
-      idle_by i h (inl e) = ap (λ n. (item_at es' n).is_free) e ∙ ap (λ (t : Item). t.is_free) this
-      idle_by i h (inr ne) = (same_kept i ne).1 ∙ kept.idle i (omega (arith, h, same-ne i x ne))
-
-      once_by : (i : ℕ) → (i ≡ x) ⊎ (i ≢ x) → occurs i (x ∷ kept.spare) ≤ 1
-      once_by i (inl e) = subst (λ n. occurs n (x ∷ kept.spare) ≤ 1) (sym e) (omega (arith, same-self x, not_spare))
-      once_by i (inr ne) = omega (arith, same-ne i x ne, kept.once i)
+      each_by : (i : ℕ) → i < length es' → (i ≡ x) ⊎ (i ≢ x) → occurs i (x ∷ kept.spare) + 0 + free_count (item_at es' i) ≡ 1
+      each_by i l (inl e) =
+          omega (
+            arith,
+            same-self x,
+            not_spare,
+            ap (λ n. occurs n (x ∷ kept.spare)) e,
+            ap (λ n. free_count (item_at es' n)) e,
+            count-of_idle (item_at es' x) (ap (λ (t : Item). t.is_free) this),
+          )
+      each_by i l (inr ne) =
+          omega (
+            arith,
+            same-ne i x ne,
+            kept.each i (omega (arith, l, length-set es1 x (idle_item unused.number), long)),
+            ap (λ t. cond {A = ℕ} t 1 0) (same_kept i ne).1,
+          )
 
   -- The first of its list.
   pub first-removed : (head_of heads' k).number ≡ (item_at es x).after → (head_of heads k).number ≡ x → es1 ≡ es
-      → AreKept o (record { entries = es'; heads = heads'; unused = found.at })
+      → AreKept o (record { entries = es'; heads = heads'; unused = found.at; used = used' })
   first-removed leads was_first is = grind (arith, path-begun, length-set, few, in_list, item_at-other, finish)
 
   -- Any other one, after b.
   pub next-removed : (b : ℕ) → (item_at es b).is_free ≡ true → list_at o es b ≡ k → (item_at es b).after ≡ x → head_of heads' k ≡ head_of heads k
-      → es1 ≡ with_after es b (item_at es x).after → AreKept o (record { entries = es'; heads = heads'; unused = found.at })
+      → es1 ≡ with_after es b (item_at es x).after → AreKept o (record { entries = es'; heads = heads'; unused = found.at; used = used' })
   next-removed b b_free b_list b_next heads_same is =
       finish long same_box
       (subst (λ h. IsPath es' h.number (without x (kept.listed.held k)) no_slot) (sym heads_same)
       (path-bypassed es es' x b (head_of heads k).number (kept.listed.held k) no_slot (omega (arith, length-set es1 x (idle_item unused.number), long)) (λ z. omega (arith, z, inside, kept.listed.short))
       (λ i. kept.listed.once k i few) b_in b_next skip others_after (kept.listed.path k few)))
       (λ j i ne l h. other_after i (λ e. ne (sym (kept.listed.own j i l h).1 ∙ ap (list_at o es) e ∙ b_list)))
-      (λ i h. other_after i (λ e. both_ways _ (kept.idle i h) (ap (λ n. (item_at es n).is_free) e ∙ b_free)))
+      (λ i h. other_after i (λ e. both_ways _ (spare-idle (λ i. 0) o (record { entries = es; heads = heads; unused = unused; used = used }) kept i h) (ap (λ n. (item_at es n).is_free) e ∙ b_free)))
     where
       leads_to : Item
       leads_to = record (item_at es b) { after = (item_at es x).after }
@@ -336,7 +400,7 @@ module _ (o : Options) (heads heads' : List ListHead) (es es1 : List Item) (unus
 -- ---- no box, and one box
 
 pub empty-kept : (o : Options) (heads : List ListHead) (unused : Link) → AreValid o → ((k : ℕ) → is_used_at heads k ≡ false) → unused.number ≡ no_slot
-    → AreKept o (record { entries = []; heads = heads; unused = unused })
+    → AreKept o (record { entries = []; heads = heads; unused = unused; used = 0 })
 empty-kept o heads unused valid none last =
     record {
       listed =
@@ -353,8 +417,8 @@ empty-kept o heads unused valid none last =
           };
       spare = [];
       chain = last;
-      idle = λ i h. absurd (omega (arith, h));
-      once = λ i. omega arith;
+      each = λ i l. absurd (omega (arith, l));
+      used = refl;
     }
 
 -- Boxes that are the same as one box.

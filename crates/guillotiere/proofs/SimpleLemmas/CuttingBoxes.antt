@@ -1,6 +1,7 @@
 -- A picked box of the simple allocator gives way to what is kept of it.
-use Rattle.std.proofs.Common.{◌≡◌, ℕ, ◌+◌, Bool, cond, List, ◌∷◌, ◌++◌, subst, arith}
+use Rattle.std.proofs.Common.{◌≡◌, ℕ, ◌+◌, Bool, cond, List, ◌∷◌, ◌++◌, length, length-append, subst, arith}
 use Rattle.std.specs.List.{count_by}
+use Rattle.std.specs.Prelude.{Result, Ok, Err, OnErr}
 use Rattle.std.proofs.lemmas.List.Elements.{filter-append}
 use Rattle.std.proofs.lemmas.List.Sums.{sum_by-cons, sum_by-append}
 use Rattle.atlas_store.specs.declared.search.best.Found.{Found}
@@ -17,6 +18,11 @@ use Rattle.atlas_model.specs.Pixels.{box_of}
 use Rattle.atlas_store.specs.Rectangles.{IsRestOf}
 use Rattle.atlas_model.specs.Simple.{kept_rest}
 
+-- What holds holds after an error.
+pub at_error : {T E P : Type 0} (r : Result T E) → P → OnErr r P
+at_error (Ok x) p = tt
+at_error (Err e) p = p
+
 -- The picked rectangle is exact.
 pub picked-exact : (o : Options) (heads : List ListHead) (es : List Item) (found : Found) → AreListed o heads es → IsStanding o heads es found → IsSolid found.rectangle
 picked-exact o heads es found listed standing = subst IsSolid standing.area (listed.exact found.at.number standing.free)
@@ -24,6 +30,10 @@ picked-exact o heads es found listed standing = subst IsSolid standing.area (lis
 pub count-kept : (p : Box → Bool) (o : Options) (f : Box) (r : Sides) (rest : Rest) → IsRestOf f r rest
     → count_by p (kept_rest o f r) ≡ count_by p (kept_of o (box_of rest.split)) + count_by p (kept_of o (box_of rest.leftover))
 count-kept p o f r rest is = grind (arith, filter-append, sum_by-append)
+
+pub length-kept : (o : Options) (f : Box) (r : Sides) (rest : Rest) → IsRestOf f r rest
+    → length (kept_rest o f r) ≡ length (kept_of o (box_of rest.split)) + length (kept_of o (box_of rest.leftover))
+length-kept o f r rest is = grind (arith, filter-append, length-append)
 
 pub cut-same : (o : Options) (x : Rectangle) (r : Sides) (rest : Rest) (old taken split cut : List Box) → IsRestOf (box_of x) r rest
     → AreSameBoxes (box_of x ∷ taken) old → AreSameBoxes split (kept_of o (box_of rest.split) ++ taken)

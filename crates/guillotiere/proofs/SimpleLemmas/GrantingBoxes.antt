@@ -6,7 +6,7 @@ use Rattle.atlas_model.specs.declared.options.AllocatorOptions.{AllocatorOptions
 use Rattle.atlas_model.specs.Boxes.{Sides, box_at, AreSameBoxes}
 use Rattle.guillotiere.specs.FreeBoxes.BoxShelves.{free_item_boxes}
 use Rattle.atlas_model.specs.Choice.{rounded, IsPick}
-use Rattle.guillotiere.specs.FreeBoxes.FreeLists.{simple_state_of}
+use Rattle.guillotiere.specs.FreeBoxes.FreeLists.{state_of_items}
 use Rattle.atlas_store.specs.Search.Items.{Item}
 use Rattle.atlas_model.specs.Pixels.{box_of, rectangle_of, sides_of, size_of, options_of}
 use Rattle.atlas_store.specs.Search.Requests.{CanBeRounded}
@@ -17,5 +17,5 @@ pub simply_grants : (old new : List Item) (whole : Sides) (options : AllocatorOp
     → IsPick (free_item_boxes old) (options_of options) (sides_of size) (box_of picked)
     → granted ≡ rectangle_of (box_at (box_of picked).min (sides_of size))
     → AreSameBoxes (box_of picked ∷ free_item_boxes new) (kept_rest (options_of options) (box_of picked) (sides_of size) ++ free_item_boxes old)
-    → SimplyGrants (simple_state_of old whole options) s (box_of granted) (simple_state_of new whole options)
+    → SimplyGrants (state_of_items old whole options) s (box_of granted) (state_of_items new whole options)
 simply_grants old new whole options s size picked granted h pick is boxes = grind arith

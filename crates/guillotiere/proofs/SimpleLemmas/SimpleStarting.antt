@@ -19,7 +19,7 @@ use Rattle.atlas_model.specs.Replies.{IsExact}
 use Rattle.atlas_model.specs.States.{State, free_in, IsSound}
 use Rattle.atlas_store.specs.Visits.{AreFreeAreas}
 use Rattle.atlas_model.specs.Simple.{SimpleState, IsSimple, simple_start, SimplyGrows, StartsFrom, is_kept, kept_rest}
-use Rattle.guillotiere.specs.FreeBoxes.FreeLists.{IsStoredState, simple_state_of}
+use Rattle.guillotiere.specs.FreeBoxes.FreeLists.{IsStoredState, state_of_items}
 use Rattle.guillotiere.specs.FreeBoxes.BoxShelves.{BoxShelf, free_item_boxes, AreKept}
 use Rattle.atlas_store.specs.Search.Items.{Item}
 use Rattle.guillotiere.proofs.SimpleLemmas.Storing.{whole_rectangle, whole-box}
@@ -31,7 +31,7 @@ use Rattle.atlas_model.proofs.SimpleLemmas.SimpleSteps.{grow-simple, starts-simp
 
 pub grows-stored : (old new : List Item) (size n : Size) (options : AllocatorOptions)
     → AreSameBoxes (free_item_boxes new) (kept_rest (options_of options) (whole_box (sides_of n)) (sides_of size) ++ free_item_boxes old)
-    → SimplyGrows (simple_state_of old (sides_of size) options) (sides_of n) (simple_state_of new (sides_of n) options)
+    → SimplyGrows (state_of_items old (sides_of size) options) (sides_of n) (state_of_items new (sides_of n) options)
 grows-stored old new size n options boxes = record { free = boxes; size = refl; options = refl }
 
 pub grown-stored : (old new : BoxShelf) (size n : Size) (options : AllocatorOptions)
@@ -40,7 +40,7 @@ pub grown-stored : (old new : BoxShelf) (size n : Size) (options : AllocatorOpti
     → IsStoredState new n options
 grown-stored old new size n options stored fits kept boxes = record {
   simple =
-      grow-simple (simple_state_of old.entries (sides_of size) options) (simple_state_of new.entries (sides_of n) options) (sides_of n) stored.simple fits
+      grow-simple (state_of_items old.entries (sides_of size) options) (state_of_items new.entries (sides_of n) options) (sides_of n) stored.simple fits
       (grows-stored old.entries new.entries size n options boxes);
   kept = kept;
 }
@@ -84,7 +84,7 @@ areas-filed s areas sound are =
 pub starts-from : (source : State) (areas : List Rectangle) (empty new : List Item) (size : Size) (options : AllocatorOptions)
     → IsSound source → AreFreeAreas source areas → empty ≡ []
     → AreSameBoxes (free_item_boxes new) (map box_of areas ++ free_item_boxes empty) → size ≡ size_of source.size → options_of options ≡ source.options
-    → StartsFrom source (simple_state_of new (sides_of size) options)
+    → StartsFrom source (state_of_items new (sides_of size) options)
 starts-from source areas empty new size options sound are none boxes same_size same_options =
     grind (arith, sum_by-append)
 
@@ -95,14 +95,14 @@ pub started-stored : (source : State) (areas : List Rectangle) (empty : List Ite
 started-stored source areas empty new size options sound are none boxes same_size same_options kept =
     grind (
       arith,
-      starts-simple source (simple_state_of new.entries (sides_of size) options),
+      starts-simple source (state_of_items new.entries (sides_of size) options),
       starts-from source areas empty new.entries size options sound are none boxes same_size same_options,
     )
 
 -- A reset.
 
 pub restart-state : (es : List Item) (size : Size) (options : AllocatorOptions) (r : Rectangle) → r ≡ whole_rectangle size → free_item_boxes es ≡ box_of r ∷ []
-    → simple_state_of es (sides_of size) options ≡ simple_start (sides_of size) (options_of options)
+    → state_of_items es (sides_of size) options ≡ simple_start (sides_of size) (options_of options)
 restart-state es size options r e alone = grind (arith, whole-box)
 
 pub restarted-stored : (v : BoxShelf) (size : Size) (options : AllocatorOptions) (r : Rectangle) → IsPositive (sides_of size) → AreValid (options_of options)

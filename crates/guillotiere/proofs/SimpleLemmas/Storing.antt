@@ -22,7 +22,7 @@ use Rattle.atlas_model.specs.Pixels.{natural, box_of, rectangle_of, sides_of, op
 use Rattle.atlas_store.specs.Rectangles.{IsUnsigned}
 use Rattle.atlas_model.specs.Simple.SimpleAtlasCall.{Allocate}
 use Rattle.atlas_model.specs.Simple.{SimpleStep, simple_answer}
-use Rattle.guillotiere.specs.FreeBoxes.FreeLists.{IsStoredState, simple_state_of}
+use Rattle.guillotiere.specs.FreeBoxes.FreeLists.{IsStoredState, state_of_items}
 use Rattle.atlas_model.proofs.SimpleLemmas.SimpleSteps.{step-simple}
 use Rattle.atlas_store.proofs.StoreLemmas.Sizes.{size_is}
 
@@ -30,12 +30,12 @@ use Rattle.atlas_store.proofs.StoreLemmas.Sizes.{size_is}
 
 pub stored-step : (old new : BoxShelf) (size : Size) (options : AllocatorOptions) (s : Sides) (result : Result (Option Rectangle) AtlasError)
     → IsStoredState old size options → AreKept (options_of options) new
-    → SimpleStep (simple_state_of old.entries (sides_of size) options) (Allocate s) (simple_answer result) (simple_state_of new.entries (sides_of size) options)
+    → SimpleStep (state_of_items old.entries (sides_of size) options) (Allocate s) (simple_answer result) (state_of_items new.entries (sides_of size) options)
     → IsStoredState new size options
 stored-step old new size options s result stored kept step =
     grind (
       arith,
-      step-simple (simple_state_of old.entries (sides_of size) options) (simple_state_of new.entries (sides_of size) options) (Allocate s) (simple_answer result) stored.simple step,
+      step-simple (state_of_items old.entries (sides_of size) options) (state_of_items new.entries (sides_of size) options) (Allocate s) (simple_answer result) stored.simple step,
     )
 
 -- The rectangle of a whole size.

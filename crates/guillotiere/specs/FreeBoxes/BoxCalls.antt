@@ -1,5 +1,5 @@
 -- What private calls do to the free boxes of the simple allocator, in one word. No public clause cites this module.
-use Rattle.std.specs.Prelude.{ℕ, ◌≡◌, ◌≢◌, ◌+◌, ◌≤◌, ◌++◌, List, vec_len, vec_capacity}
+use Rattle.std.specs.Prelude.{ℕ, ◌≡◌, ◌≢◌, ◌+◌, ◌≤◌, ◌++◌, List, max, vec_len, vec_capacity}
 use Rattle.guillotiere.specs.declared.simple.boxes.FreeBoxes.{FreeBoxes}
 use Rattle.atlas_store.specs.declared.search.bands.Place.{Place}
 use Rattle.atlas_store.specs.declared.search.best.Found.{Found}
@@ -13,19 +13,25 @@ use Rattle.atlas_store.specs.Search.Tables.{head_of, low_of}
 use Rattle.guillotiere.specs.FreeBoxes.BoxShelves.{AreKept, BoxShelf, box_shelf, free_item_boxes, with_after}
 use Rattle.atlas_store.specs.Slots.{no_slot}
 
--- There is room for n more entries, and each has a number.
+-- n more entries can be used without memory, and each has a number.
 pub record HasEntriesFor {A : Type 0} (n : ℕ) (b : FreeBoxes A) : Type 0 where
-  pub room : vec_len b.entries + n ≤ vec_capacity b.entries
-  pub short : vec_len b.entries + n ≤ no_slot
+  pub room : b.used + n ≤ vec_capacity b.entries
+  pub short : b.used + n ≤ no_slot
 
 -- These boxes are free beside those of before.
 pub record AreFiledBoxes {A : Type 0} (o : Options) (added : List Box) (old new : FreeBoxes A) : Type 0 where
   pub kept : AreKept o (box_shelf new)
   pub boxes : AreSameBoxes (free_item_boxes (box_shelf new).entries) (added ++ free_item_boxes (box_shelf old).entries)
 
--- At most n entries are new, in the room that there was.
+-- n more entries are used, in the room that there was; new ones only where none is unused.
 pub record HasTakenEntries {A : Type 0} (n : ℕ) (old new : FreeBoxes A) : Type 0 where
-  pub length : vec_len new.entries ≤ vec_len old.entries + n
+  pub used : new.used ≡ old.used + n
+  pub length : vec_len new.entries ≡ max (vec_len old.entries) new.used
+  pub capacity : vec_capacity new.entries ≡ vec_capacity old.entries
+
+-- There are as many entries, and room for as many.
+pub record KeepsEntries {A : Type 0} (old new : FreeBoxes A) : Type 0 where
+  pub length : vec_len new.entries ≡ vec_len old.entries
   pub capacity : vec_capacity new.entries ≡ vec_capacity old.entries
 
 -- A box that was found in its list fits a request.
@@ -44,3 +50,4 @@ pub record IsLed (s t : BoxShelf) (place : Place) (before after : Link) : Type 0
   pub heads : (j : ℕ) → j ≢ number_of place → head_of t.heads j ≡ head_of s.heads j
   pub lows : (j : ℕ) → low_of t.heads j ≡ low_of s.heads j
   pub unused : t.unused ≡ s.unused
+  pub used : t.used ≡ s.used

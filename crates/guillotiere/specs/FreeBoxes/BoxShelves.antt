@@ -1,6 +1,6 @@
 -- The free boxes that the simple allocator stores: entries in the lists of a table, and a chain of unused entries. No
 -- public clause cites this module.
-use Rattle.std.specs.Prelude.{ℕ, ◌≡◌, ◌<◌, ◌≤◌, Bool, false, List, [], ◌∷◌, map, length, slice_set, int_lt}
+use Rattle.std.specs.Prelude.{ℕ, ◌≡◌, ◌+◌, ◌<◌, Bool, List, [], ◌∷◌, map, max, length, slice_set, int_lt}
 use Rattle.std.specs.Prelude.{if◌then◌else◌}
 use Rattle.guillotiere.specs.declared.simple.boxes.FreeBox.{FreeBox}
 use Rattle.guillotiere.specs.declared.simple.boxes.FreeBoxes.{FreeBoxes}
@@ -11,6 +11,7 @@ use Rattle.atlas_model.specs.Boxes.{Box}
 use Rattle.atlas_model.specs.Choice.{Options}
 use Rattle.atlas_store.specs.Search.Items.{Item, no_item, item_at, item_box, IsPath}
 use Rattle.atlas_store.specs.Slots.Lists.{occurs}
+use Rattle.atlas_store.specs.Slots.Numbered.{same}
 use Rattle.atlas_store.specs.Search.Lookups.{AreListed}
 use Rattle.atlas_store.specs.Slots.{no_slot}
 
@@ -29,31 +30,44 @@ idle_item after = record no_item { after = after }
 abbrev pub with_after : List Item → (at after : ℕ) → List Item
 with_after es at after = slice_set es at (record (item_at es at) { after = after })
 
--- What is stored.
+-- What is stored; `used` counts the entries that aren't unused.
 pub record BoxShelf : Type 0 where
   pub entries : List Item
   pub heads : List ListHead
   pub unused : Link
+  pub used : ℕ
 
 abbrev pub box_shelf : {A : Type 0} → FreeBoxes A → BoxShelf
-box_shelf b = record { entries = map stored_item b.entries.items; heads = b.table; unused = b.unused }
+box_shelf b =
+    record { entries = map stored_item b.entries.items; heads = b.table; unused = b.unused; used = b.used }
 
 -- The boxes of the free entries.
 abbrev pub free_item_boxes : List Item → List Box
 free_item_boxes [] = []
 free_item_boxes (e ∷ es) = if e.is_free then item_box e ∷ free_item_boxes es else free_item_boxes es
 
--- The free entries stand in their lists, and `spare` are the unused ones, from `unused` on.
-pub record AreKept (o : Options) (v : BoxShelf) : Type 0 where
+-- 1 if an entry is a free box.
+abbrev pub free_count : Item → ℕ
+free_count e = if e.is_free then 1 else 0
+
+-- The free entries stand in their lists, and `spare` are the unused ones, from `unused` on. Each entry is a free one, an
+-- unused one or in hand, exactly one of these, and once; `hand i` counts an entry that is taken and not used yet.
+pub record AreKeptWith (hand : ℕ → ℕ) (o : Options) (v : BoxShelf) : Type 0 where
   pub listed : AreListed o v.heads v.entries
   pub spare : List ℕ
   pub chain : IsPath v.entries v.unused.number spare no_slot
-  pub idle : (i : ℕ) → 0 < occurs i spare → (item_at v.entries i).is_free ≡ false
-  pub once : (i : ℕ) → occurs i spare ≤ 1
+  pub each : (i : ℕ) → i < length v.entries → occurs i spare + hand i + free_count (item_at v.entries i) ≡ 1
+  pub used : v.used + length spare ≡ length v.entries
 
--- An entry is in hand: it isn't free, and not one of the unused ones.
+-- The same with nothing in hand.
+abbrev pub AreKept : Options → BoxShelf → Type 0
+AreKept o v = AreKeptWith (λ i. 0) o v
+
+-- An entry is in hand.
 pub record IsInHand (o : Options) (v : BoxShelf) (at : ℕ) : Type 0 where
-  pub kept : AreKept o v
+  pub kept : AreKeptWith (λ i. same i at) o v
   pub inside : at < length v.entries
-  pub idle : (item_at v.entries at).is_free ≡ false
-  pub apart : occurs at kept.spare ≡ 0
+
+-- There are more entries than before only if more are used than there were.
+abbrev pub AddsWhatIsUsed : BoxShelf → BoxShelf → Type 0
+AddsWhatIsUsed old new = length new.entries ≡ max (length old.entries) new.used

@@ -1,5 +1,5 @@
 -- The free slot that a request takes, and what is granted there. No public clause cites this module.
-use Rattle.std.specs.Prelude.{ℕ, ◌+◌, ◌<◌, ◌≤◌, ◌≡◌, ◌≢◌, List, []}
+use Rattle.std.specs.Prelude.{ℕ, ◌+◌, ◌<◌, ◌≤◌, ◌≡◌, ◌≢◌, List, [], vec_capacity}
 use Rattle.atlas_store.specs.declared.store.Store.{Store}
 use Rattle.guillotiere.specs.declared.tree.requests.Chosen.{Chosen}
 use Rattle.atlas_store.specs.declared.slots.NodeKind.TheVariants as kind
@@ -60,6 +60,7 @@ pub record IsRequestGranted {A : Type 0} (old new : Store A) (p : Chosen) (id : 
   pub granted : (r : Sides) (h : Holding) → IsGrantable old r p h
       → (to : ℕ) × (h' : Holding) × IsGrantMade (shelf_of new) p id to h h'
   pub options : new.options ≡ old.options
+  pub capacity : vec_capacity new.slots ≡ vec_capacity old.slots
   pub turns : new.turns ≡ old.turns
 
 -- Why slots were refused.
@@ -68,7 +69,8 @@ IsShortOf used limit needed kept Slots = limit < used + needed
 IsShortOf used limit needed kept Memory = (used + needed ≤ limit) × (kept < used + needed)
 IsShortOf used limit needed kept NotLive = ⊥
 
--- The same is stored, and no turn was taken.
+-- The same is stored, in as much memory or more, and no turn was taken.
 pub record KeepsShelf {A : Type 0} (old new : Store A) : Type 0 where
   pub shelf : shelf_of new ≡ shelf_of old
+  pub capacity : vec_capacity old.slots ≤ vec_capacity new.slots
   pub turns : new.turns ≡ old.turns

@@ -1,5 +1,5 @@
 -- How an atlas that isn't one free box grows. No public clause cites this module.
-use Rattle.std.specs.Prelude.{ℕ, ◌+◌, ◌-◌, ◌<◌, ◌≡◌, Bool, true, false, [], length}
+use Rattle.std.specs.Prelude.{ℕ, ◌+◌, ◌-◌, ◌<◌, ◌≡◌, Bool, true, false, [], length, vec_capacity}
 use Rattle.atlas_store.specs.declared.store.Store.{Store}
 use Rattle.guillotiere.specs.declared.tree.growth.Growth.{Growth}
 use Rattle.atlas_model.specs.Boxes.{Axis, Sides, Fits, other, side, sized}
@@ -98,6 +98,7 @@ pub record IsLonger {A : Type 0} (old new : Store A) (size : Sides) (last : ℕ)
   pub kept : (h : Holding) (d n : ℕ) → IsLengthenable old size last d n h
       → (h' : Holding) × IsLengthened new n d (strip_need (shelf_of old) last) h h'
   pub options : new.options ≡ old.options
+  pub capacity : vec_capacity new.slots ≡ vec_capacity old.slots
   pub turns : new.turns ≡ old.turns
 
 -- The top sequence begins at slot `first`, spans the size `inner`, and is to be the first of two that are d wider.
@@ -111,6 +112,7 @@ pub record IsWidenedTo {A : Type 0} (old new : Store A) (inner size : Sides) (fi
   pub kept : (h : Holding) (d : ℕ) → IsWidenable old inner size first d h
       → (h' : Holding) × IsWidened (shelf_of new) top d h h'
   pub options : new.options ≡ old.options
+  pub capacity : vec_capacity new.slots ≡ vec_capacity old.slots
   pub turns : new.turns ≡ old.turns
 
 -- The tree that begins at slot `first` can grow so.
@@ -122,6 +124,7 @@ pub record IsTreeGrown {A : Type 0} (old new : Store A) (first top : ℕ) (p : G
   pub grown : (h : Holding) (n : ℕ) → IsGrowable old (sides_of p.from) (sides_of p.to) first n p h
       → (h' : Holding) × IsGrownHolding (shelf_of new) (sides_of p.from) (sides_of p.to) top n h h'
   pub options : new.options ≡ old.options
+  pub capacity : vec_capacity new.slots ≡ vec_capacity old.slots
   pub turns : new.turns ≡ old.turns
 
 -- Slot `at` is the one free box of an atlas.

@@ -1,6 +1,6 @@
 -- Which slots a placing takes and what the tree becomes, by the lines of the cut table. No public clause cites this
 -- module.
-use Rattle.std.specs.Prelude.{ℕ, ◌≡◌, ◌-◌, ◌<◌, ◌∷◌, [], length}
+use Rattle.std.specs.Prelude.{ℕ, ◌≡◌, ◌-◌, ◌<◌, ◌∷◌, [], length, vec_capacity}
 use Rattle.atlas_store.specs.declared.store.Store.{Store}
 use Rattle.guillotiere.specs.declared.tree.Plan.{Plan}
 use Rattle.guillotiere.specs.declared.tree.Plan.TheVariants as plan
@@ -90,4 +90,5 @@ pub record IsPlanned (new : Shelf) (at to : ℕ) (p : Plan) (h h' : Holding) : T
 pub record IsPlaced {A : Type 0} (old new : Store A) (at to : ℕ) (p : Plan) : Type 0 where
   pub kept : (h : Holding) → IsPlaceableAt old at p h → (h' : Holding) × IsPlanned (shelf_of new) at to p h h'
   pub options : new.options ≡ old.options
+  pub capacity : vec_capacity new.slots ≡ vec_capacity old.slots
   pub turns : new.turns ≡ old.turns

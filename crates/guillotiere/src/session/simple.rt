@@ -1,11 +1,13 @@
 //! Lists of calls of a simple allocator, and their replies.
-ghost use Rattle.std.specs.Prelude.{◌≡◌, ◌↔◌, All, take, drop, vec_len, IsTrue, OnOk, OnErr, IsOkUnless};
+ghost use Rattle.std.specs.Prelude.{◌≡◌, ◌↔◌, ◌+◌, ◌<◌, All, take, drop, length, vec_capacity, vec_len, IsTrue};
+ghost use Rattle.std.specs.Prelude.{OnOk, OnErr, IsOkUnless};
 ghost use Rattle.atlas_model.specs.Boxes.{Fits};
 ghost use Rattle.atlas_model.specs.Pixels.{sides_of, options_of};
-ghost use Rattle.atlas_model.specs.Simple.{SimpleStep, simple_done};
+ghost use Rattle.atlas_model.specs.Simple.{simple_done};
 ghost use Rattle.atlas_model.specs.Simple.SimpleAtlasCall.{Allocate, Grow, Reset};
 ghost use Rattle.guillotiere.specs.SimpleSessions.{simple_call_of, simple_answer_of, GrantsExact};
-ghost use Rattle.guillotiere.specs.SimpleSessions.{IsSimpleSession};
+ghost use Rattle.guillotiere.specs.SimpleSessions.{IsSimpleSession, IsSimplyAnswered};
+ghost use Rattle.guillotiere.specs.SimpleStored.{simple_state_of};
 ghost use Rattle.atlas_store.specs.Stored.{state_of};
 
 use super::is_positive;
@@ -46,7 +48,7 @@ pub enum SimpleReply {
 
 // Whether neither side of the allocator is greater than that of a size.
 fn shrinks_no_side<A: Allocator + Copy>(simple: &SimpleAtlasAllocator<A>, new_size: Size) -> bool
-    ensures { IsTrue result ↔ Fits simple.now.size (sides_of new_size) }
+    ensures { IsTrue result ↔ Fits (simple_state_of simple.now).size (sides_of new_size) }
 {
     let size = simple.size();
     size.width <= new_size.width && size.height <= new_size.height
@@ -64,8 +66,7 @@ fn done(answer: Result<(), AtlasError>) -> SimpleReply
 }
 
 fn allocate<A: Allocator + Copy>(simple: &mut SimpleAtlasAllocator<A>, size: Size) -> SimpleReply
-    ensures step { SimpleStep simple.old (Allocate (sides_of size)) (simple_answer_of result) simple.new }
-    ensures exact { GrantsExact result }
+    ensures { IsSimplyAnswered simple.old (Allocate (sides_of size)) result simple.new }
 {
     match simple.allocate(size) {
         Ok(Some(rectangle)) => SimpleReply::Granted(rectangle),
@@ -75,8 +76,7 @@ fn allocate<A: Allocator + Copy>(simple: &mut SimpleAtlasAllocator<A>, size: Siz
 }
 
 fn grow<A: Allocator + Copy>(simple: &mut SimpleAtlasAllocator<A>, size: Size) -> SimpleReply
-    ensures step { SimpleStep simple.old (Grow (sides_of size)) (simple_answer_of result) simple.new }
-    ensures exact { GrantsExact result }
+    ensures { IsSimplyAnswered simple.old (Grow (sides_of size)) result simple.new }
 {
     if !shrinks_no_side(simple, size) {
         return SimpleReply::BadCall;
@@ -89,9 +89,7 @@ fn reset<A: Allocator + Copy>(
     size: Size,
     options: &AllocatorOptions,
 ) -> SimpleReply
-    ensures step { SimpleStep simple.old (Reset (sides_of size) (options_of options.now))
-        (simple_answer_of result) simple.new }
-    ensures exact { GrantsExact result }
+    ensures { IsSimplyAnswered simple.old (Reset (sides_of size) (options_of options.now)) result simple.new }
 {
     if !is_positive(size) || !options.is_valid() {
         return SimpleReply::BadCall;
@@ -99,15 +97,14 @@ fn reset<A: Allocator + Copy>(
     done(simple.reset(size, options))
 }
 
-// Makes a call of a simple allocator. Where the condition of the call doesn't hold it answers `BadCall`.
+// Makes a call of a simple allocator. Where the condition of the call doesn't hold it answers `BadCall`. Unless the reply
+// says that something was done, nothing changes.
 fn make<A: Allocator + Copy>(
     simple: &mut SimpleAtlasAllocator<A>,
     source: &AtlasAllocator<A>,
     call: &SimpleCall,
 ) -> SimpleReply
-    ensures step { SimpleStep simple.old (simple_call_of (state_of source.now) call.now)
-        (simple_answer_of result) simple.new }
-    ensures exact { GrantsExact result }
+    ensures { IsSimplyAnswered simple.old (simple_call_of (state_of source.now) call.now) result simple.new }
 {
     match call {
         SimpleCall::Allocate(size) => allocate(simple, *size),
@@ -119,8 +116,8 @@ fn make<A: Allocator + Copy>(
 }
 
 /// Makes calls of a simple allocator in turn, and appends a reply for each; `Start` takes over from `source`. Room for
-/// all replies comes first: `Memory` is the only error, and after it allocator and replies are as before. So the
-/// rectangles granted since the last start never overlap each other or what the source then held live
+/// all replies comes first: `Memory` is the only error, if `replies` has less, and after it allocator and replies are as
+/// before. So the rectangles granted since the last start never overlap each other or what the source then held live
 /// (docs/MODEL.md, "The simple allocator").
 pub fn run_simple<A: Allocator + Copy>(
     simple: &mut SimpleAtlasAllocator<A>,
@@ -136,6 +133,7 @@ pub fn run_simple<A: Allocator + Copy>(
     ensures kept { take (vec_len replies.old) replies.new.items ≡ replies.old.items }
     ensures refused { OnErr result (simple.new ≡ simple.old) }
     ensures no_reply { OnErr result (replies.new.items ≡ replies.old.items) }
+    ensures memory { OnErr result (vec_capacity replies.old < vec_len replies.old + length calls.now) }
 {
     replies.reserve(calls.len())?;
     // Its contract says what each simple allocator keeps.

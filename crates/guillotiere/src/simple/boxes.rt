@@ -1,7 +1,8 @@
 //! The free boxes of the simple allocator, in the lists of a table.
-ghost use Rattle.std.specs.Prelude.{◌≡◌, ◌≢◌, ◌<◌, ◌≤◌, ◌∷◌, IfOk, IsOkUnless, OnErr, OnOk, [], length};
+ghost use Rattle.std.specs.Prelude.{◌≡◌, ◌≢◌, ◌+◌, ◌<◌, ◌≤◌, ◌∷◌, IfOk, IsOkUnless, OnErr, OnOk, [], length, max};
 ghost use Rattle.std.specs.Prelude.{vec_capacity, vec_len};
 ghost use Rattle.guillotiere.specs.FreeBoxes.BoxCalls.{AreFiledBoxes, HasEntriesFor, HasTakenEntries, IsLed};
+ghost use Rattle.guillotiere.specs.FreeBoxes.BoxCalls.{KeepsEntries};
 ghost use Rattle.guillotiere.specs.FreeBoxes.BoxShelves.{AreKept, IsInHand, box_shelf, free_item_boxes, idle_item};
 ghost use Rattle.guillotiere.specs.FreeBoxes.BoxShelves.{stored_item};
 ghost use Rattle.atlas_store.specs.Search.Bands.{strip_of};
@@ -43,11 +44,12 @@ impl Entry for FreeBox {
     }
 }
 
-/// Free boxes, each in the list of its size, and entries that are unused.
+/// Free boxes, each in the list of its size, and entries that are unused; `used` counts the others.
 #[derive(Drop)]
 pub struct FreeBoxes<A: Allocator> {
     pub entries: Vec<FreeBox, A>,
     pub unused: Link,
+    pub used: u32,
     pub table: Table<A>,
 }
 
@@ -77,18 +79,22 @@ fn strip_in(area: Rectangle) -> u8
 }
 
 impl<A: Allocator> FreeBoxes<A> {
-    /// No box. The only error is `Memory`.
+    /// No box, and room for one. The only error is `Memory`.
     pub fn new(alloc: A) -> Result<FreeBoxes<A>, AtlasError>
     where
         A: Copy,
         ensures unless { IsOkUnless result AtlasError.Memory }
         ensures kept { IfOk result (λ it. (o : Options) → AreValid o → AreKept o (box_shelf it)) }
         ensures empty { IfOk result (λ it. (box_shelf it).entries ≡ []) }
+        ensures none { IfOk result (λ it. it.used ≡ 0) }
+        ensures room { IfOk result (λ it. 0 < vec_capacity it.entries) }
     {
+        let entries = Vec::with_capacity(alloc, 1)?;
         let table = Table::new(alloc)?;
         Ok(FreeBoxes {
-            entries: Vec::new(alloc),
+            entries,
             unused: Link::NONE,
+            used: 0,
             table,
         })
     }
@@ -103,6 +109,7 @@ impl<A: Allocator> FreeBoxes<A> {
         ensures entries { HasTakenEntries 1 self.old self.new }
     {
         let at = self.unused;
+        self.used += 1;
         if at.number == NO_SLOT {
             let number = self.entries.len() as u32;
             self.entries.push_reserved(unused_box(Link { number: 0 }));
@@ -120,7 +127,8 @@ impl<A: Allocator> FreeBoxes<A> {
         ensures kept { AreKept (options_of options.now) (box_shelf self.new) }
         ensures boxes { AreSameBoxes (free_item_boxes (box_shelf self.new).entries)
             (box_of area ∷ free_item_boxes (box_shelf self.old).entries) }
-        ensures entries { HasTakenEntries 0 self.old self.new }
+        ensures used { self.new.used ≡ self.old.used }
+        ensures entries { KeepsEntries self.old self.new }
     {
         let place = place_for(exact_size(area), options);
         let after = self.table.head(place);
@@ -128,17 +136,25 @@ impl<A: Allocator> FreeBoxes<A> {
         self.table.push(place, at, strip_in(area));
     }
 
-    /// Room for n more entries. The only error is `Memory`, and nothing changes but the room.
-    pub fn make_room(&mut self, n: usize) -> Result<(), AtlasError>
-        requires { n ≤ 2 }
+    /// Makes it sure that n more entries can be used. The only error is `Memory`, where that is more than there are, and
+    /// nothing changes but the room.
+    pub fn make_room(&mut self, n: u32) -> Result<(), AtlasError>
+        requires few { n ≤ 2 }
+        requires kept { (o : Options) × AreKept o (box_shelf self.old) }
         ensures unless { IsOkUnless result AtlasError.Memory }
         ensures same { box_shelf self.new ≡ box_shelf self.old }
         ensures room { OnOk result (HasEntriesFor n self.new) }
+        ensures needed { OnErr result (vec_len self.old.entries < self.old.used + n) }
+        ensures capacity { vec_capacity self.old.entries ≤ vec_capacity self.new.entries }
     {
-        if self.entries.len() > MOST_BOXES - n {
-            return Err(AtlasError::Memory);
+        let all = self.used as usize + n as usize;
+        let present = self.entries.len();
+        if all > present {
+            if all > MOST_BOXES {
+                return Err(AtlasError::Memory);
+            }
+            self.entries.reserve(all - present)?;
         }
-        self.entries.reserve(n)?;
         Ok(())
     }
 
@@ -154,23 +170,21 @@ impl<A: Allocator> FreeBoxes<A> {
         self.put(at, area, options);
     }
 
-    /// Leaves this box alone, in the room that there is. The only error is `Memory`, and after it all boxes stay.
-    pub fn restart(&mut self, area: Rectangle, options: &AllocatorOptions) -> Result<(), AtlasError>
+    /// Leaves this box alone, in the room that there is. Takes no memory.
+    pub fn restart(&mut self, area: Rectangle, options: &AllocatorOptions)
         requires exact { IsSolid area }
         requires valid { AreValid (options_of options.now) }
-        ensures unless { IsOkUnless result AtlasError.Memory }
-        ensures kept { OnOk result (AreKept (options_of options.now) (box_shelf self.new)) }
-        ensures alone { OnOk result (free_item_boxes (box_shelf self.new).entries ≡ box_of area ∷ []) }
-        ensures err { OnErr result (box_shelf self.new ≡ box_shelf self.old) }
+        requires room { 0 < vec_capacity self.old.entries }
+        ensures kept { AreKept (options_of options.now) (box_shelf self.new) }
+        ensures alone { free_item_boxes (box_shelf self.new).entries ≡ box_of area ∷ [] }
+        ensures one { vec_len self.new.entries ≡ 1 }
+        ensures capacity { vec_capacity self.new.entries ≡ vec_capacity self.old.entries }
     {
-        if self.entries.capacity() == 0 {
-            self.entries.reserve(1)?;
-        }
         self.entries.clear();
         self.unused = Link::NONE;
+        self.used = 0;
         self.table.clear();
         self.add(area, options);
-        Ok(())
     }
 
     // `after` comes after `before` in a list, or first where that is none.
@@ -179,8 +193,7 @@ impl<A: Allocator> FreeBoxes<A> {
         requires column { place.column < BANDS }
         requires inside { before.number ≢ no_slot → before.number < vec_len self.old.entries }
         ensures led { IsLed (box_shelf self.old) (box_shelf self.new) place before after }
-        ensures length { vec_len self.new.entries ≡ vec_len self.old.entries }
-        ensures capacity { vec_capacity self.new.entries ≡ vec_capacity self.old.entries }
+        ensures entries { KeepsEntries self.old self.new }
     {
         if before.number == NO_SLOT {
             self.table.set_head(place, after);
@@ -198,12 +211,14 @@ impl<A: Allocator> FreeBoxes<A> {
         ensures boxes { AreSameBoxes (box_of found.rectangle ∷ free_item_boxes (box_shelf self.new).entries)
             (free_item_boxes (box_shelf self.old).entries) }
         ensures unused { self.new.unused ≡ found.at }
-        ensures entries { HasTakenEntries 0 self.old self.new }
+        ensures used { self.new.used + 1 ≡ self.old.used }
+        ensures entries { KeepsEntries self.old self.new }
     {
         let after = self.entries[found.at.number as usize].after;
         self.lead(found.place, found.before, after);
         self.table.set_low(found.place, found.low);
         self.entries[found.at.number as usize] = unused_box(self.unused);
         self.unused = found.at;
+        self.used -= 1;
     }
 }

@@ -1,9 +1,10 @@
 //! A simple allocator that grows or begins anew.
-ghost use Rattle.std.specs.Prelude.{◌≡◌, ◌≢◌, ◌<◌, ◌++◌, [], List, All, map, Ok, OnOk, OnErr, IsOkUnless};
+ghost use Rattle.std.specs.Prelude.{◌≡◌, ◌+◌, ◌<◌, ◌≤◌, ◌++◌, ◌∷◌, [], List, All, map, Ok, OnOk, OnErr, IsOkUnless};
+ghost use Rattle.std.specs.Prelude.{length, vec_capacity};
 ghost use Rattle.atlas_model.specs.Boxes.{AreSameBoxes, Box, Fits, IsNonempty, IsPositive};
 ghost use Rattle.atlas_model.specs.Choice.{AreValid};
 ghost use Rattle.guillotiere.specs.FreeBoxes.BoxCalls.{AreFiledBoxes};
-ghost use Rattle.guillotiere.specs.FreeBoxes.BoxShelves.{AreKept, box_shelf, free_item_boxes};
+ghost use Rattle.guillotiere.specs.FreeBoxes.BoxShelves.{AddsWhatIsUsed, AreKept, box_shelf, free_item_boxes};
 ghost use Rattle.guillotiere.specs.FreeBoxes.FreeLists.{kept_beyond};
 ghost use Rattle.atlas_model.specs.Pixels.{box_of, options_of, sides_of};
 ghost use Rattle.atlas_store.specs.Rectangles.{IsUnsigned};
@@ -13,7 +14,7 @@ ghost use Rattle.atlas_store.specs.Slots.{nodes};
 ghost use Rattle.atlas_store.specs.Stored.{state_of};
 ghost use Rattle.atlas_store.specs.Visits.{free_areas};
 
-use super::{SimpleAtlasAllocator, is_kept, keep};
+use super::{SimpleAtlasAllocator, keep, kept_count};
 use crate::atlas::AtlasAllocator;
 use crate::simple::boxes::FreeBoxes;
 use atlas_model::{AllocatorOptions, AtlasError, Rectangle, Size};
@@ -22,18 +23,27 @@ use atlas_store::slots::{NodeKind, Slot};
 use std::alloc::Allocator;
 
 impl<A: Allocator + Copy> SimpleAtlasAllocator<A> {
+    ghost use Rattle.guillotiere.specs.SimpleStored.{MayAskMemory, UsesEachEntry, UsesOldEntries, simple_state_of};
+
     /// Makes the allocator larger: the new size is cut for the old one, and the split and the leftover are added, each
     /// dropped if it is narrower or lower than the alignment. Nothing is merged; at an equal size nothing changes. Asks
-    /// that neither side shrinks. The only error is `Memory`, and after it everything is as before.
+    /// that neither side shrinks. The only error is `Memory`, if more entries would be used than there are and memory
+    /// for them is refused; then nothing changes.
     pub fn grow(&mut self, new_size: Size) -> Result<(), AtlasError>
-        requires { Fits self.old.size (sides_of new_size) }
+        requires { Fits (simple_state_of self.old).size (sides_of new_size) }
         ensures unless { IsOkUnless result AtlasError.Memory }
-        ensures step { SimpleStep self.old (Grow (sides_of new_size)) (simple_done result) self.new }
-        ensures equal { sides_of new_size ≡ self.old.size → (result ≡ Ok tt) × (self.new ≡ self.old) }
+        ensures step { SimpleStep (simple_state_of self.old) (Grow (sides_of new_size)) (simple_done result)
+            (simple_state_of self.new) }
+        ensures equal { sides_of new_size ≡ (simple_state_of self.old).size
+            → (result ≡ Ok tt) × (self.new ≡ self.old) }
+        ensures refused { OnErr result (self.new ≡ self.old) }
+        ensures entries { UsesOldEntries self.old self.new }
+        ensures memory { OnErr result (MayAskMemory self.old (Grow (sides_of new_size))) }
 
         // Boxes that are held stay apart from each other and from the free boxes.
-        ensures guarded { (held : List Box) → IsGuarded self.old held → IsGuarded self.new held }
-        ensures simple { IsSimple self.new }
+        ensures guarded { (held : List Box) → IsGuarded (simple_state_of self.old) held
+            → IsGuarded (simple_state_of self.new) held }
+        ensures simple { IsSimple (simple_state_of self.new) }
     {
         if new_size == self.size {
             return Ok(());
@@ -43,30 +53,32 @@ impl<A: Allocator + Copy> SimpleAtlasAllocator<A> {
         Ok(())
     }
 
-    /// Begins anew with one free box of the allocator's size. Its lists keep their room. The only error is `Memory`,
-    /// and after it everything is as before.
+    /// Begins anew with one free box of the allocator's size. Always Ok. Keeps the room of the entries, and takes no
+    /// memory.
     pub fn clear(&mut self) -> Result<(), AtlasError>
-        ensures unless { IsOkUnless result AtlasError.Memory }
-        ensures step { SimpleStep self.old Clear (simple_done result) self.new }
-        ensures guarded { OnOk result (IsGuarded self.new []) }
-        ensures simple { IsSimple self.new }
+        ensures ok { result ≡ Ok tt }
+        ensures step { SimpleStep (simple_state_of self.old) Clear (simple_done result) (simple_state_of self.new) }
+        ensures entries { UsesEachEntry self.new }
+        ensures guarded { IsGuarded (simple_state_of self.new) [] }
+        ensures simple { IsSimple (simple_state_of self.new) }
     {
         let options = self.options;
         self.reset(self.size, &options)
     }
 
     /// Begins anew with one free box of this size and with these options. Asks a size that isn't empty and valid
-    /// options. The only error is `Memory`, and after it everything is as before.
+    /// options. Always Ok. Keeps the room of the entries, and takes no memory.
     pub fn reset(&mut self, size: Size, options: &AllocatorOptions) -> Result<(), AtlasError>
         requires nonempty { IsPositive (sides_of size) }
         requires valid { AreValid (options_of options.now) }
-        ensures unless { IsOkUnless result AtlasError.Memory }
-        ensures step { SimpleStep self.old (Reset (sides_of size) (options_of options.now))
-            (simple_done result) self.new }
-        ensures guarded { OnOk result (IsGuarded self.new []) }
-        ensures simple { IsSimple self.new }
+        ensures ok { result ≡ Ok tt }
+        ensures step { SimpleStep (simple_state_of self.old) (Reset (sides_of size) (options_of options.now))
+            (simple_done result) (simple_state_of self.new) }
+        ensures entries { UsesEachEntry self.new }
+        ensures guarded { IsGuarded (simple_state_of self.new) [] }
+        ensures simple { IsSimple (simple_state_of self.new) }
     {
-        self.boxes.restart(Rectangle::from(size), options)?;
+        self.boxes.restart(Rectangle::from(size), options);
         self.size = size;
         self.options = *options;
         Ok(())
@@ -76,9 +88,12 @@ impl<A: Allocator + Copy> SimpleAtlasAllocator<A> {
     /// the atlas are never granted. The only error is `Memory`, and after it everything is as before.
     pub fn init_from_allocator(&mut self, source: &AtlasAllocator<A>) -> Result<(), AtlasError>
         ensures unless { IsOkUnless result AtlasError.Memory }
-        ensures step { SimpleStep self.old (Start (state_of source.now)) (simple_done result) self.new }
-        ensures guarded { OnOk result (IsGuarded self.new (live_boxes (state_of source.now))) }
-        ensures simple { IsSimple self.new }
+        ensures step { SimpleStep (simple_state_of self.old) (Start (state_of source.now)) (simple_done result)
+            (simple_state_of self.new) }
+        ensures refused { OnErr result (self.new ≡ self.old) }
+        ensures entries { OnOk result (UsesEachEntry self.new) }
+        ensures guarded { OnOk result (IsGuarded (simple_state_of self.new) (live_boxes (state_of source.now))) }
+        ensures simple { IsSimple (simple_state_of self.new) }
     {
         let size = source.size();
         let store = source.store();
@@ -104,14 +119,36 @@ fn add_rest<A: Allocator>(
     ensures ok { OnOk result (AreFiledBoxes (options_of options.now) (kept_beyond options.now size new_size) boxes.old
         boxes.new) }
     ensures err { OnErr result (box_shelf boxes.new ≡ box_shelf boxes.old) }
-    ensures needed { OnErr result (kept_beyond options.now size new_size ≢ []) }
+    ensures entries { AddsWhatIsUsed (box_shelf boxes.old) (box_shelf boxes.new) }
+    ensures needed { OnErr result (length (box_shelf boxes.old).entries
+        < boxes.old.used + length (kept_beyond options.now size new_size)) }
+    ensures capacity { vec_capacity boxes.old.entries ≤ vec_capacity boxes.new.entries }
 {
     let rest = guillotine(Rectangle::from(new_size), size);
-    if is_kept(rest.split, options) || is_kept(rest.leftover, options) {
-        boxes.make_room(2)?;
-    }
+    boxes.make_room(kept_count(&rest, options))?;
     keep(boxes, rest.split, options);
     keep(boxes, rest.leftover, options);
+    Ok(())
+}
+
+// Adds a rectangle, and room for it.
+fn file_area<A: Allocator>(
+    boxes: &mut FreeBoxes<A>,
+    area: Rectangle,
+    options: &AllocatorOptions,
+) -> Result<(), AtlasError>
+    requires exact { IsUnsigned area × IsNonempty (box_of area) }
+    requires kept { AreKept (options_of options.now) (box_shelf boxes.old) }
+    requires used { boxes.old.used ≡ length (box_shelf boxes.old).entries }
+    ensures unless { IsOkUnless result AtlasError.Memory }
+    ensures kept { OnOk result (AreKept (options_of options.now) (box_shelf boxes.new)) }
+    ensures boxes { OnOk result (AreSameBoxes (free_item_boxes (box_shelf boxes.new).entries)
+        (box_of area ∷ free_item_boxes (box_shelf boxes.old).entries)) }
+    ensures used { OnOk result (boxes.new.used ≡ length (box_shelf boxes.new).entries) }
+    ensures capacity { vec_capacity boxes.old.entries ≤ vec_capacity boxes.new.entries }
+{
+    boxes.make_room(1)?;
+    boxes.add(area, options);
     Ok(())
 }
 
@@ -123,16 +160,18 @@ fn file_free<A: Allocator>(
 ) -> Result<(), AtlasError>
     requires areas { All (λ r. IsUnsigned r × IsNonempty (box_of r)) (free_areas (nodes slots.now)) }
     requires kept { AreKept (options_of options.now) (box_shelf boxes.old) }
+    requires used { boxes.old.used ≡ length (box_shelf boxes.old).entries }
     ensures unless { IsOkUnless result AtlasError.Memory }
     ensures kept { OnOk result (AreKept (options_of options.now) (box_shelf boxes.new)) }
     ensures boxes { OnOk result
         (AreSameBoxes (free_item_boxes (box_shelf boxes.new).entries)
         (map box_of (free_areas (nodes slots.now)) ++ free_item_boxes (box_shelf boxes.old).entries)) }
+    ensures used { OnOk result (boxes.new.used ≡ length (box_shelf boxes.new).entries) }
+    ensures capacity { vec_capacity boxes.old.entries ≤ vec_capacity boxes.new.entries }
 {
     for slot in slots {
         if slot.node.kind == NodeKind::Free {
-            boxes.make_room(1)?;
-            boxes.add(slot.node.area, options);
+            file_area(boxes, slot.node.area, options)?;
         }
     }
     Ok(())

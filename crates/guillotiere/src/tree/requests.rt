@@ -1,5 +1,5 @@
 //! Granting a request: the free slot that it takes, the slots that this needs, and the placing itself.
-ghost use Rattle.std.specs.Prelude.{◌≡◌, ◌+◌, ◌<◌, ◌≤◌, ◌⊎◌, List, None, IfSome, OnOk, IfErr, vec_capacity, length};
+ghost use Rattle.std.specs.Prelude.{◌≡◌, ◌+◌, ◌<◌, ◌≤◌, ◌⊎◌, List, None, IfSome, OnOk, OnErr, IfErr, Err, vec_capacity, length};
 ghost use Rattle.atlas_model.specs.Boxes.{Box, IsPositive};
 ghost use Rattle.atlas_model.specs.Choice.{IsFitting};
 ghost use Rattle.atlas_model.specs.Pixels.{sides_of};
@@ -50,7 +50,8 @@ pub fn choose<A: Allocator>(store: &Store<A>, size: Size) -> Option<Chosen>
 }
 
 /// Makes room for slots beside those that are used. `Slots` if there would be more than the limit; `Memory`, if they
-/// are more than were ever used and memory for them is refused. The slots and their lists stay as they are.
+/// are more than were ever used and more than there is room for, and memory for them is refused. The slots and their
+/// lists stay as they are.
 pub fn make_room<A: Allocator>(
     store: &mut Store<A>,
     used: u32,
@@ -62,6 +63,9 @@ pub fn make_room<A: Allocator>(
     ensures ok { OnOk result ((used + needed ≤ limit)
         × ((used + needed ≤ length store.new.slots.items) ⊎ (used + needed ≤ vec_capacity store.new.slots))) }
     ensures refused { IfErr result (IsShortOf used limit needed (length store.old.slots.items)) }
+    ensures ready { OnOk result (used + needed ≤ vec_capacity store.new.slots) }
+    ensures full { result ≡ Err AtlasError.Memory → vec_capacity store.old.slots < used + needed }
+    ensures err { OnErr result (vec_capacity store.new.slots ≡ vec_capacity store.old.slots) }
     ensures same { KeepsShelf store.old store.new }
 {
     if needed > limit - used {

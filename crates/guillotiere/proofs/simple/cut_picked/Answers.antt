@@ -1,8 +1,10 @@
-use Rattle.std.proofs.Common.{List, ◌∷◌, map, subst, ap}
+use Rattle.std.proofs.Common.{List, ◌∷◌, map, subst, ap, arith}
+use Rattle.std.proofs.lemmas.List.{length-map}
 use Rattle.atlas_model.specs.Boxes.{Box, AreSameBoxes}
-use Rattle.guillotiere.specs.FreeBoxes.BoxShelves.{BoxShelf, free_item_boxes, stored_item}
+use Rattle.guillotiere.specs.FreeBoxes.BoxShelves.{BoxShelf, box_shelf, free_item_boxes, stored_item}
 use Rattle.atlas_model.specs.Pixels.{box_of, options_of, sides_of}
-use Rattle.guillotiere.proofs.SimpleLemmas.CuttingBoxes.{picked-exact, cut-same}
+use Rattle.guillotiere.proofs.SimpleLemmas.CuttingBoxes.{at_error, picked-exact, cut-same, length-kept}
+use Rattle.guillotiere.proofs.SimpleLemmas.EntryCounts.{used-few}
 use Rattle.guillotiere.proofs.simple.cut_picked.Goals as goal
 
 pub returns-clause-ok : goal.returns-clause-ok
@@ -16,3 +18,21 @@ returns-clause-ok g c =
     cut-same o r (sides_of c.args.size) c.guillotine-rest.result (free_item_boxes es) (free_item_boxes (map stored_item c.remove.new.self.entries.items))
     (free_item_boxes (map stored_item c.keep.new.boxes.entries.items)) (free_item_boxes (map stored_item c.keep-2.new.boxes.entries.items))
     (c.guillotine-rest.ensures.boxes (box_of r) exact.unsigned) took c.keep.ensures.boxes.boxes c.keep-2.ensures.boxes.boxes
+
+pub returns-in_err-make_room-clause-needed : goal.returns-in_err-make_room-clause-needed
+returns-in_err-make_room-clause-needed g c =
+    let o = options_of c.args.options.now in
+    let bs = c.args.boxes.now.entries.items in
+    let exact = picked-exact o c.args.boxes.now.table (map stored_item bs) c.args.found c.requires.kept.listed c.requires.standing in
+    let kept = length-kept o (box_of c.args.found.rectangle) (sides_of c.args.size) c.guillotine-rest.result (c.guillotine-rest.ensures.boxes (box_of c.args.found.rectangle) exact.unsigned) in
+    at_error c.from_residual.result
+    (omega (
+      arith,
+      kept,
+      c.kept_count.ensures,
+      c.saturating_sub.ensures,
+      c.in_err-make_room.ensures.needed,
+      length-map bs stored_item,
+      c.args.boxes.now.entries.ok,
+      used-few (λ i. 0) o (box_shelf c.args.boxes.now) c.requires.kept,
+    ))

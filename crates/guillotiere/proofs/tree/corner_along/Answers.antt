@@ -31,6 +31,9 @@ returns g c = record {
   options =
       c.list-2.ensures.room.options ∙ c.list.ensures.room.options ∙ c.grant.ensures.room.options ∙ c.split-leftover.ensures.options
       ∙ c.wrap-granted.ensures.options ∙ c.split-split.ensures.options;
+  capacity =
+      c.list-2.ensures.room.capacity ∙ c.list.ensures.room.capacity ∙ c.grant.ensures.room.capacity ∙ c.split-leftover.ensures.capacity
+      ∙ c.wrap-granted.ensures.capacity ∙ c.split-split.ensures.capacity;
   turns =
       c.list-2.ensures.turns ∙ c.list.ensures.turns ∙ c.grant.ensures.turns ∙ c.split-leftover.ensures.turns
       ∙ c.wrap-granted.ensures.turns ∙ c.split-split.ensures.turns;

@@ -4,6 +4,7 @@ use Rattle.std.proofs.lemmas.List.Elements.{All-get_or}
 use Rattle.guillotiere.specs.Boxes.{Box}
 use Rattle.guillotiere.specs.Pixels.{box_of}
 use Rattle.guillotiere.specs.Simple.{IsGuarded}
+use Rattle.guillotiere.specs.SimpleStored.{simple_state_of}
 use Rattle.uses.proofs.Placing.{more, denied, all_placed, no_sprite}
 use Rattle.uses.proofs.sheet.place.Goals as goal
 
@@ -15,7 +16,7 @@ loop-sprite-preserved c =
     let places = c.loop-sprite.places.items in
     let step = rw c.in-Some.is at c.in_ok-allocate.ensures.step in
     let exact = rw c.in-Some.is at c.in_ok-allocate.ensures.exact in
-    let joins : (held : List Box) → IsGuarded c.loop-sprite.packer held → IsGuarded c.allocate.new.self (box_of c.in-Some.area ∷ held) =
+    let joins : (held : List Box) → IsGuarded (simple_state_of c.loop-sprite.packer) held → IsGuarded (simple_state_of c.allocate.new.self) (box_of c.in-Some.area ∷ held) =
     λ held is. rw c.in-Some.is at (c.in_ok-allocate.ensures.guarded held is) in
     let room = All-get_or (λ s. s.0 < length c.args.places.now.items) order k no_sprite c.loop-sprite-test.true c.requires.numbers in
     rw add-one

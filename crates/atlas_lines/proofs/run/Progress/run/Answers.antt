@@ -11,6 +11,7 @@ loop-left-init g c = record {
   waiting = c.new-waiting.ensures;
   top = omega arith;
   no_end = no_end_at_start c.args.self.now c.requires.start;
+  short = search (arith, c.requires.start);
   room = no_room_at_start c.args.self.now c.requires.start;
   run = run_starts _ _ c.args.self.now c.requires.start;
 }
@@ -18,7 +19,7 @@ loop-left-init g c = record {
 pub returns-in_default-clause-ends : goal.returns-in_default-clause-ends
 returns-in_default-clause-ends g c =
     read_ends _ (g.R.ToolInput.remaining c.loop-left.input) (g.R.ToolInput.remaining c.read.new.self) _ (g.W.ToolOutput.contents c.loop-left.output) c.loop-left.self _ c.loop-left.invariant.run
-    c.in_default.ensures.bytes c.loop-left.invariant.no_end
+    c.in_default.ensures.bytes c.loop-left.invariant.no_end c.loop-left.invariant.short
 
 pub returns-then-count-eq0-clause-ends : goal.returns-then-count-eq0-clause-ends
 returns-then-count-eq0-clause-ends g c =
@@ -65,6 +66,7 @@ loop-left-preserved g c =
       waiting = e.waiting refl;
       top = omega arith;
       no_end = e.line refl;
+      short = e.short refl;
       room = omega (arith, c.loop-left.invariant.room, c.loop-left.invariant.top);
       run = run_goes_on _ (g.R.ToolInput.remaining c.loop-left.input) _ _ (g.W.ToolOutput.contents c.loop-left.output) _ c.loop-left.self c.take_read.new.self
           (take c.in-Some.count c.read.new.buffer) _ _ c.loop-left.invariant.run c.in-Some.ensures.bytes.1 (subst P c.loop-left.invariant.waiting c.in_default-take_read.ensures.continues) (omega (arith, c.loop-left.invariant.top));

@@ -10,6 +10,7 @@ invariant-loop-left g l = record {
   waiting : l.waiting ≡ [];
   top : l.left ≤ 2 ^ 64 - 1;
   no_end : HasNoEnd l.self.line;
+  short : length l.self.line ≤ 120;
   room : l.self.number + length l.self.line ≤ 2 ^ 64 - 1 - l.left;
   run : HasRun (g.R.ToolInput.remaining l.fn.input) (g.R.ToolInput.remaining l.input) (g.W.ToolOutput.contents l.fn.output) (g.W.ToolOutput.contents l.output) l.self (2 ^ 64 - 1 - l.left);
 }

@@ -43,5 +43,6 @@ returns g c =
       );
       free = append.free;
       options = append.room.options ∙ take.options;
+      capacity = append.room.capacity ∙ take.capacity;
       turns = append.turns ∙ take.turns;
     }

@@ -113,5 +113,6 @@ returns g c =
           );
       free = append.free;
       options = append.room.options ∙ wrap.room.options ∙ container.options ∙ strip.options;
+      capacity = append.room.capacity ∙ wrap.room.capacity ∙ container.capacity ∙ strip.capacity;
       turns = append.turns ∙ wrap.turns ∙ container.turns ∙ strip.turns;
     }

@@ -57,5 +57,6 @@ returns g c =
       apart = λ e. apart (sym e);
       others = λ j ne nf. subst (λ n. KeepsUse n (node_in (shelf_of new) j)) (take.others j nf) (cut.others j ne nf);
       options = cut.room.options ∙ take.options;
+      capacity = cut.room.capacity ∙ take.capacity;
       turns = cut.turns ∙ take.turns;
     }

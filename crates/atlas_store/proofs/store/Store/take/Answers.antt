@@ -31,5 +31,6 @@ returns g c =
       longer = taken-longer old new k _ blank_slot (λ ne. (call.again ne).1) (λ e. (call.fresh e).1);
       others = call.others;
       options = refl;
+      capacity = c.take_slot.ensures.capacity;
       turns = refl;
     }

@@ -54,5 +54,6 @@ returns g c =
       apart = λ e. apart (sym e);
       others = λ j ne nf. subst (λ n. KeepsUse n (node_in (shelf_of new) j)) (take.others j nf) (wrap.others j ne nf);
       options = wrap.room.options ∙ take.options;
+      capacity = wrap.room.capacity ∙ take.capacity;
       turns = wrap.turns ∙ take.turns;
     }

@@ -120,5 +120,6 @@ returns g c =
       back_apart = (λ e. at_b (sym e), λ e. f_b (sym e));
       others = grind arith;
       options = cut.room.options ∙ wrap.room.options ∙ front.options ∙ back.options;
+      capacity = cut.room.capacity ∙ wrap.room.capacity ∙ front.capacity ∙ back.capacity;
       turns = cut.turns ∙ wrap.turns ∙ front.turns ∙ back.turns;
     }

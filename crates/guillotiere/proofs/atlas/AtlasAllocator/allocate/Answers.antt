@@ -1,15 +1,18 @@
-use Rattle.std.proofs.Common.{rules, ◌≡◌, refl, subst, arith}
+use Rattle.std.proofs.Common.{rules, ◌≡◌, refl, sym, ap, subst, ◌∙◌, arith}
 use Rattle.std.specs.Prelude.{Err}
 use Rattle.atlas_model.specs.Pixels.{box_of, sides_of}
 use Rattle.atlas_model.specs.Replies.{grant_of}
 use Rattle.atlas_model.specs.States.{IsSound}
 use Rattle.atlas_model.specs.Steps.AtlasReply.{Allocated}
+use Rattle.atlas_model.specs.declared.error.AtlasError.TheVariants.{Memory}
 use Rattle.atlas_store.specs.Stored.{state_of}
 use Rattle.atlas_store.proofs.WalkLemmas.Observing.{used-IsAtlas}
 use Rattle.atlas_store.proofs.StoreLemmas.Sizes.{natural-fits}
 use Rattle.guillotiere.proofs.SimpleLemmas.CuttingFromLists.{sides_of-size, unsigned-measurable, unsigned_of}
 use Rattle.guillotiere.proofs.AtlasLemmas.GrantedAtlas.{no_room-unrounded, no_room-none, area-unsigned, area-fits, refused-step, some-grantable, grant-done}
 use Rattle.atlas_model.proofs.StepLemmas.CallerSteps.{grant_adds, grant_guarded, request_keeps}
+use Rattle.guillotiere.proofs.AtlasLemmas.Reserving.{request-few, plan-few}
+use Rattle.atlas_model.proofs.StepLemmas.CallerGrants.{no_room_answer, refused_answer, request_granted}
 use Rattle.guillotiere.proofs.atlas.AtlasAllocator.allocate.Goals as goal
 
 pub returns-in_default-clause-step : goal.returns-in_default-clause-step
@@ -83,3 +86,45 @@ pub returns-clause-guarded : goal.returns-clause-guarded
 returns-clause-guarded g c =
     grant_guarded _ _ (subst (λ w. IsSound (state_of w)) c.self.view_is c.self.invariant.sound) (sides_of c.args.requested_size)
     (grant_of (record { id = c.grant-id.result; rectangle = c.granted-rectangle.result })) (returns-clause-step g c)
+
+pub returns-clause-slots : goal.returns-clause-slots
+returns-clause-slots g c = record {
+  used =
+      request-few _ _ (sides_of c.args.requested_size)
+      (Allocated (grant_of (record { id = c.grant-id.result; rectangle = c.granted-rectangle.result })))
+      (subst (λ w. IsSound (state_of w)) c.self.view_is c.self.invariant.sound) (returns-clause-step g c);
+  capacity =
+      omega (arith, ap (λ v. v.capacity) c.self.view_is, c.make_room.ensures.same.capacity, c.grant-id.ensures.capacity);
+}
+
+pub returns-in_err-make_room-clause-memory : goal.returns-in_err-make_room-clause-memory
+returns-in_err-make_room-clause-memory g c =
+    let same : c.from_residual.result ≡ Err c.in_err-make_room.field-0.0 = search rules in
+    rw (← c.self.view_is) (λ had e.
+    let is : c.in_err-make_room.field-0.0 ≡ Memory = cc in
+    absurd (omega (
+      arith,
+      had,
+      c.in_err-make_room.ensures.full (ap (λ x. Err x) is),
+      plan-few c.in-Some-choose.chosen.plan,
+      c.slots_needed-needed.ensures,
+      used-IsAtlas _ c.self.invariant,
+    )))
+
+pub returns-in_default-clause-answer : goal.returns-in_default-clause-answer
+returns-in_default-clause-answer g c = no_room_answer _ _ c.args.requested_size (returns-in_default-clause-step g c)
+
+pub returns-in_default-choose-clause-answer : goal.returns-in_default-choose-clause-answer
+returns-in_default-choose-clause-answer g c =
+    no_room_answer _ _ c.args.requested_size (returns-in_default-choose-clause-step g c)
+
+pub returns-in_err-make_room-clause-answer : goal.returns-in_err-make_room-clause-answer
+returns-in_err-make_room-clause-answer g c =
+    let same : c.from_residual.result ≡ Err c.in_err-make_room.field-0.0 = search rules in
+    refused_answer _ _ c.args.requested_size c.from_residual.result _ same (returns-in_err-make_room-clause-step g c)
+
+pub returns-clause-answer : goal.returns-clause-answer
+returns-clause-answer g c =
+    request_granted _ _ (subst (λ w. IsSound (state_of w)) c.self.view_is c.self.invariant.sound) c.args.requested_size
+    c.grant-id.result c.granted-rectangle.result (returns-clause-step g c) (returns-clause-exact g c)
+    (unsigned-measurable c.granted-rectangle.result (returns-clause-exact g c) (search rules) (search rules) (search rules) (search rules))

@@ -3,6 +3,7 @@ use Rattle.std.proofs.lemmas.Bool.{false≢true}
 use Rattle.atlas_model.specs.Steps.AtlasReply.{Done}
 use Rattle.atlas_store.specs.Stored.{state_of}
 use Rattle.atlas_model.proofs.StepLemmas.CallerSteps.{unlive_leaves, freeing_leaves, freeing_count}
+use Rattle.atlas_model.proofs.StepLemmas.CallerGrants.{freeing_frame, freeing_kept}
 use Rattle.guillotiere.proofs.atlas.AtlasAllocator.deallocate.Goals as goal
 
 pub returns-then-not-is_live-clause-leaves : goal.returns-then-not-is_live-clause-leaves
@@ -19,3 +20,10 @@ pub returns-clause-count : goal.returns-clause-count
 returns-clause-count g c =
     freeing_count (state_of c.args.self.now) (state_of c.free.new.self) c.is_live.ensures.sound c.args.id
     (c.is_live.ensures.live.0 c.if-not-is_live.false, c.free.ensures.state)
+
+pub returns-clause-frame : goal.returns-clause-frame
+returns-clause-frame g c = freeing_frame (state_of c.args.self.now) (state_of c.free.new.self) _ c.free.ensures.state
+
+pub returns-clause-kept : goal.returns-clause-kept
+returns-clause-kept g c =
+    freeing_kept (state_of c.args.self.now) (state_of c.free.new.self) _ c.is_live.ensures.sound c.free.ensures.state

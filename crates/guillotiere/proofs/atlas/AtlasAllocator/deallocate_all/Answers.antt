@@ -2,6 +2,8 @@ use Rattle.std.proofs.Common.{◌+◌, ap, sym, ◌∙◌, arith, drop}
 use Rattle.atlas_store.specs.Stored.{state_of}
 use Rattle.guillotiere.proofs.AtlasLemmas.FreedLists.{after_each, each-all, once-after, head-live, each-next, each-none}
 use Rattle.atlas_model.proofs.StepLemmas.CallerSteps.{batch_leaves}
+use Rattle.guillotiere.proofs.AtlasLemmas.Reserving.{freeing-few}
+use Rattle.atlas_model.proofs.StepLemmas.CallerGrants.{freeing_frame, freeing_kept}
 use Rattle.guillotiere.proofs.atlas.AtlasAllocator.deallocate_all.Goals as goal
 
 pub loop-id-init : goal.loop-id-init
@@ -22,6 +24,7 @@ loop-id-preserved g c =
       each = ap (λ v. after_each v (drop (c.loop-id.id-index + 1) c.args.ids.now)) is ∙ sym (each-next s c.args.ids.now c.loop-id.id-index c.id-item.result c.loop-id-test.true c.id-item.is) ∙ i.each;
       turns = omega (arith, i.turns, c.free.ensures.turns);
       none = λ z. absurd (omega arith);
+      capacity = omega (arith, i.capacity, c.free.ensures.slots.capacity);
     }
 
 pub returns-clause-freed : goal.returns-clause-freed
@@ -39,3 +42,18 @@ returns-clause-leaves g c =
 
 pub returns-clause-sound : goal.returns-clause-sound
 returns-clause-sound g c = (returns-clause-leaves g c).sound
+
+pub returns-clause-slots : goal.returns-clause-slots
+returns-clause-slots g c = record {
+  used = freeing-few _ _ _ (returns-clause-freed g c);
+  capacity = c.loop-id.invariant.capacity;
+}
+
+pub returns-clause-frame : goal.returns-clause-frame
+returns-clause-frame g c =
+    freeing_frame (state_of c.args.self.now) (state_of c.loop-id.self) _ (returns-clause-freed g c)
+
+pub returns-clause-kept : goal.returns-clause-kept
+returns-clause-kept g c =
+    freeing_kept (state_of c.args.self.now) (state_of c.loop-id.self) _ c.are_live_once.ensures.sound
+    (returns-clause-freed g c)

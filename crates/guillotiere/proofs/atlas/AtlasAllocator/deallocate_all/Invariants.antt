@@ -1,4 +1,4 @@
-use Rattle.std.proofs.Common.{◌≡◌, ◌+◌, drop}
+use Rattle.std.proofs.Common.{◌≡◌, ◌≤◌, ◌+◌, drop}
 use Rattle.atlas_store.specs.Batches.{AreLiveOnce}
 use Rattle.atlas_model.specs.States.{used_in}
 use Rattle.atlas_store.specs.Stored.{state_of}
@@ -12,4 +12,5 @@ invariant-loop-id g l =
       each : after_each (state_of l.self) (drop l.id-index l.ids) ≡ after_each (state_of l.fn.self) l.ids;
       turns : l.self.turns + used_in (state_of l.self) ≡ l.fn.self.turns + l.id-index + used_in (state_of l.fn.self);
       none : l.id-index ≡ 0 → l.self ≡ l.fn.self;
+      capacity : l.fn.self.capacity ≤ l.self.capacity;
     }

@@ -1,9 +1,10 @@
-use Rattle.std.proofs.Common.{◌-◌, ◌∙◌, subst, sym, ap}
+use Rattle.std.proofs.Common.{◌-◌, ◌∙◌, subst, sym, ap, arith}
 use Rattle.atlas_model.specs.Changes.{only}
 use Rattle.atlas_model.specs.States.{IsLive, after_freeing}
 use Rattle.atlas_store.specs.Store.Holdings.{shelf_of}
 use Rattle.atlas_store.specs.Stored.{state_of}
 use Rattle.atlas_store.proofs.WalkLemmas.FreedAtlas.{freeable, frees-box, turns-sum}
+use Rattle.guillotiere.proofs.AtlasLemmas.Reserving.{freeing-few}
 use Rattle.guillotiere.proofs.atlas.AtlasAllocator.free.Goals as goal
 
 pub free_leaf-given-requires : goal.free_leaf-given-requires
@@ -38,3 +39,9 @@ returns-clause-turns g c =
     rw (← c.self.view_is)
     (turns-sum call.new.store.turns.count c.self.inside.store.turns.count call.result _ _ call.ensures.turns
     (box.used (c.self.inside.used - call.result) call.new.store.turns.count c.self.inside.store.turns.count))
+
+pub returns-clause-slots : goal.returns-clause-slots
+returns-clause-slots g c = record {
+  used = freeing-few _ _ (only c.args.id) (returns-clause-state g c);
+  capacity = omega (arith, ap (λ v. v.capacity) c.self.view_is, c.free_leaf-given.ensures.room.capacity);
+}

@@ -3,6 +3,7 @@ use Rattle.atlas_model.specs.States.{IsSound}
 use Rattle.atlas_store.specs.Stored.{state_of}
 use Rattle.atlas_store.proofs.WalkLemmas.NamedSlots.{named-found, named-missed}
 use Rattle.atlas_model.proofs.StepLemmas.LyingApart.{shown_live, shown_within}
+use Rattle.atlas_model.proofs.StepLemmas.CallerGrants.{shown_lies}
 use Rattle.guillotiere.proofs.atlas.AtlasAllocator.get.Goals as goal
 
 pub returns-in_err-at-clause-rectangle : goal.returns-in_err-at-clause-rectangle
@@ -23,4 +24,9 @@ returns-in_err-at-clause-within g c = search (rules, shown_within, returns-in_er
 pub returns-clause-within : goal.returns-clause-within
 returns-clause-within g c =
     shown_within (state_of c.args.self.now) (subst (λ w. IsSound (state_of w)) c.self.view_is c.self.invariant.sound) c.args.id _
+    (returns-clause-rectangle g c)
+
+pub returns-clause-lies : goal.returns-clause-lies
+returns-clause-lies g c =
+    shown_lies (state_of c.args.self.now) (subst (λ w. IsSound (state_of w)) c.self.view_is c.self.invariant.sound) c.args.id _
     (returns-clause-rectangle g c)

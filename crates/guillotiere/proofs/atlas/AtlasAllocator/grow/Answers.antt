@@ -1,4 +1,4 @@
-use Rattle.std.proofs.Common.{rules, ◌≡◌, [], sym, subst, ◌∙◌, arith}
+use Rattle.std.proofs.Common.{rules, ◌≡◌, [], sym, ap, subst, ◌∙◌, arith}
 use Rattle.std.proofs.lemmas.Bool.{false≢true}
 use Rattle.std.specs.Prelude.{Err}
 use Rattle.atlas_model.specs.Boxes.{Fits}
@@ -9,6 +9,7 @@ use Rattle.atlas_store.specs.Stored.{state_of}
 use Rattle.atlas_store.proofs.WalkLemmas.Observing.{used-IsAtlas}
 use Rattle.guillotiere.proofs.AtlasLemmas.GrownAtlas.{tree-here, some-plan, fits-from, refused-step, some-growable, grow-done}
 use Rattle.atlas_model.proofs.StepLemmas.CallerSteps.{growth_keeps}
+use Rattle.guillotiere.proofs.AtlasLemmas.Reserving.{growth-few}
 use Rattle.guillotiere.proofs.atlas.AtlasAllocator.grow.Goals as goal
 
 pub growth_for-growth-requires-clause-tree : goal.growth_for-growth-requires-clause-tree
@@ -66,3 +67,26 @@ returns-clause-step g c =
 pub returns-clause-keeps : goal.returns-clause-keeps
 returns-clause-keeps g c =
     growth_keeps _ _ (subst (λ w. IsSound (state_of w)) c.self.view_is c.self.invariant.sound) (sides_of c.args.new_size) Done (returns-clause-step g c)
+
+pub returns-clause-slots : goal.returns-clause-slots
+returns-clause-slots g c = record {
+  used = growth-few (state_of c.args.self.now) _ (sides_of c.args.new_size) (returns-clause-step g c);
+  capacity =
+      omega (
+        arith,
+        ap (λ v. v.capacity) c.self.view_is,
+        c.make_room.ensures.same.capacity,
+        c.grow_tree-self-inside.ensures.capacity,
+      );
+}
+
+pub returns-in_err-make_room-clause-memory : goal.returns-in_err-make_room-clause-memory
+returns-in_err-make_room-clause-memory g c =
+    let same : c.from_residual.result ≡ Err c.in_err-make_room.field-0.0 = search rules in
+    rw (← c.self.view_is) (λ had e. absurd (omega (
+      arith,
+      had,
+      c.in_err-make_room.ensures.full (sym same ∙ e),
+      c.slots_for-added.ensures.few,
+      used-IsAtlas _ c.self.invariant,
+    )))

@@ -1,4 +1,4 @@
-use Rattle.std.proofs.Common.{◌≡◌, [], subst, sym}
+use Rattle.std.proofs.Common.{◌≡◌, [], ap, subst, sym, arith}
 use Rattle.atlas_model.specs.Boxes.{Fits}
 use Rattle.atlas_model.specs.Pixels.{sides_of}
 use Rattle.atlas_model.specs.States.{live_in, IsSound}
@@ -7,6 +7,7 @@ use Rattle.atlas_store.specs.Store.Holdings.{shelf_of}
 use Rattle.atlas_store.specs.Stored.{state_of}
 use Rattle.guillotiere.proofs.AtlasLemmas.GrownAtlas.{tree-here, lone-here, box-done}
 use Rattle.atlas_model.proofs.StepLemmas.CallerSteps.{growth_keeps}
+use Rattle.guillotiere.proofs.AtlasLemmas.Reserving.{growth-few}
 use Rattle.guillotiere.proofs.atlas.AtlasAllocator.grow_box.Goals as goal
 
 pub grow_whole-requires-clause-tree : goal.grow_whole-requires-clause-tree
@@ -29,3 +30,9 @@ returns-clause-step g c =
 pub returns-clause-keeps : goal.returns-clause-keeps
 returns-clause-keeps g c =
     growth_keeps _ _ (subst (λ w. IsSound (state_of w)) c.self.view_is c.self.invariant.sound) (sides_of c.args.size) Done (returns-clause-step g c)
+
+pub returns-clause-slots : goal.returns-clause-slots
+returns-clause-slots g c = record {
+  used = growth-few (state_of c.args.self.now) _ (sides_of c.args.size) (returns-clause-step g c);
+  capacity = omega (arith, ap (λ v. v.capacity) c.self.view_is, c.grow_whole.ensures.room.capacity);
+}

@@ -1,13 +1,11 @@
 use Rattle.std.proofs.Common.{[], ◌∷◌, length, length-append, map, take, drop, vec_len, sym, ap, subst, ◌+◌, ◌∙◌, arith}
 use Rattle.std.proofs.Common.{All}
-use Rattle.std.proofs.lemmas.List.{take_all, map-append}
+use Rattle.std.proofs.lemmas.List.{take_all}
 use Rattle.std.proofs.lemmas.List.Elements.{All-append, All-cons, All-nil}
-use Rattle.atlas_model.specs.Simple.SimpleRuns.{SimpleRun}
-use Rattle.guillotiere.specs.SimpleSessions.{simple_call_of, simple_answer_of, simple_calls_of}
-use Rattle.guillotiere.specs.SimpleSessions.{simple_answers_of, GrantsExact}
+use Rattle.guillotiere.specs.SimpleSessions.{AreSimplyAnswered, GrantsExact, simple_call_of, simple_calls_of}
 use Rattle.atlas_store.specs.Stored.{state_of}
 use Rattle.guillotiere.proofs.Playing.{drop-more, take-longer}
-use Rattle.guillotiere.proofs.SimpleLemmas.SimplePlaying.{run-taken, simple-session}
+use Rattle.guillotiere.proofs.SimpleLemmas.SimplePlaying.{answered-taken, simple-session}
 use Rattle.guillotiere.proofs.session.simple.run_simple.Goals as goal
 
 pub loop-call-preserved : goal.loop-call-preserved
@@ -25,10 +23,10 @@ loop-call-preserved g c =
       exact = subst (All GrantsExact) (sym more)
           (All-append GrantsExact (drop n items) (c.make.result ∷ []) i.exact
           (All-cons GrantsExact c.make.result [] c.make.ensures.exact (All-nil GrantsExact)));
-      run = subst (λ answers. SimpleRun c.args.simple.now (simple_calls_of source (take (c.loop-call.call-index + 1) c.args.calls.now)) answers c.make.new.simple)
-          (sym (ap (map simple_answer_of) more ∙ map-append simple_answer_of (drop n items) (c.make.result ∷ [])))
-          (run-taken (simple_call_of source) c.args.calls.now c.loop-call.call-index _ (simple_answers_of (drop n items))
-          c.args.simple.now c.loop-call.simple c.make.new.simple (simple_answer_of c.make.result) c.loop-call-test.true i.run c.make.ensures.step);
+      answered = subst (λ replies. AreSimplyAnswered c.args.simple.now (simple_calls_of source (take (c.loop-call.call-index + 1) c.args.calls.now)) replies c.make.new.simple)
+          (sym more)
+          (answered-taken (simple_call_of source) c.args.calls.now c.loop-call.call-index _ (drop n items)
+          c.args.simple.now c.loop-call.simple c.make.new.simple c.make.result c.loop-call-test.true i.answered c.make.ensures);
     }
 
 pub returns-clause-session : goal.returns-clause-session
@@ -37,5 +35,5 @@ returns-clause-session g c =
     let source = state_of c.args.source.now in
     let added = drop (vec_len c.args.replies.now) c.loop-call.replies.items in
     simple-session source c.args.simple.now c.loop-call.simple c.args.calls.now added i.simple
-    (subst (λ calls. SimpleRun c.args.simple.now (simple_calls_of source calls) (simple_answers_of added) c.loop-call.simple)
-    (take_all c.loop-call.call-index c.args.calls.now c.loop-call-test.false) i.run)
+    (subst (λ calls. AreSimplyAnswered c.args.simple.now (simple_calls_of source calls) added c.loop-call.simple)
+    (take_all c.loop-call.call-index c.args.calls.now c.loop-call-test.false) i.answered)

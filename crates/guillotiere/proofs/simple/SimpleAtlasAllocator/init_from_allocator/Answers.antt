@@ -1,11 +1,12 @@
-use Rattle.std.proofs.Common.{◌++◌, map, subst, arith}
+use Rattle.std.proofs.Common.{◌++◌, ◌∙◌, map, sym, subst, arith}
 use Rattle.atlas_model.specs.Boxes.{AreSameBoxes}
-use Rattle.atlas_model.specs.Pixels.{box_of}
+use Rattle.atlas_model.specs.Pixels.{box_of, options_of}
 use Rattle.atlas_store.specs.Slots.{nodes}
 use Rattle.atlas_store.specs.Stored as atlas
 use Rattle.atlas_store.specs.Visits.{free_areas}
 use Rattle.guillotiere.specs.FreeBoxes.BoxShelves.{box_shelf, free_item_boxes}
 use Rattle.atlas_model.proofs.SimpleLemmas.SimpleSteps.{starts-guarded}
+use Rattle.guillotiere.proofs.SimpleLemmas.EntryCounts.{used-free}
 use Rattle.guillotiere.proofs.SimpleLemmas.SimpleStarting.{areas-filed, starts-from, started-stored}
 use Rattle.guillotiere.proofs.simple.SimpleAtlasAllocator.init_from_allocator.Goals as goal
 
@@ -18,8 +19,11 @@ file_free-requires-clause-kept g c = grind arith
 pub invariant_of-self : goal.invariant_of-self
 invariant_of-self g c =
     let boxes = subst (λ slots. AreSameBoxes (free_item_boxes (box_shelf c.file_free.new.boxes).entries) (map box_of (free_areas (nodes slots)) ++ free_item_boxes (box_shelf c.in_ok-boxes.boxes).entries)) c.as_slice.ensures.value c.in_ok-file_free.ensures.boxes in
-    started-stored (atlas.state_of c.args.source.now) _ (box_shelf c.in_ok-boxes.boxes).entries (box_shelf c.file_free.new.boxes) c.size-size.result c.store-store.result.now.options
-    c.size-size.ensures.sound c.store-store.ensures.areas c.in_ok-boxes.ensures.empty boxes c.size-size.ensures.size c.store-store.ensures.options c.in_ok-file_free.ensures.kept
+    record {
+      state = started-stored (atlas.state_of c.args.source.now) _ (box_shelf c.in_ok-boxes.boxes).entries (box_shelf c.file_free.new.boxes) c.size-size.result c.store-store.result.now.options
+          c.size-size.ensures.sound c.store-store.ensures.areas c.in_ok-boxes.ensures.empty boxes c.size-size.ensures.size c.store-store.ensures.options c.in_ok-file_free.ensures.kept;
+      room = omega (arith, c.in_ok-boxes.ensures.room, c.in_ok-file_free.ensures.capacity);
+    }
 
 pub returns-clause-step : goal.returns-clause-step
 returns-clause-step g c =
@@ -39,3 +43,7 @@ returns-clause-simple g c =
     let boxes = subst (λ slots. AreSameBoxes (free_item_boxes (box_shelf c.file_free.new.boxes).entries) (map box_of (free_areas (nodes slots)) ++ free_item_boxes (box_shelf c.in_ok-boxes.boxes).entries)) c.as_slice.ensures.value c.in_ok-file_free.ensures.boxes in
     (started-stored (atlas.state_of c.args.source.now) _ (box_shelf c.in_ok-boxes.boxes).entries (box_shelf c.file_free.new.boxes) c.size-size.result c.store-store.result.now.options
     c.size-size.ensures.sound c.store-store.ensures.areas c.in_ok-boxes.ensures.empty boxes c.size-size.ensures.size c.store-store.ensures.options c.in_ok-file_free.ensures.kept).simple
+
+pub returns-clause-entries : goal.returns-clause-entries
+returns-clause-entries g c =
+    sym c.in_ok-file_free.ensures.used ∙ used-free (options_of c.store-store.result.now.options) (box_shelf c.file_free.new.boxes) c.in_ok-file_free.ensures.kept

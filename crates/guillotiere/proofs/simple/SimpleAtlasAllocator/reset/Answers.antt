@@ -3,8 +3,8 @@ use Rattle.atlas_model.proofs.SimpleLemmas.SimpleSteps.{none-guarded}
 use Rattle.guillotiere.proofs.SimpleLemmas.SimpleStarting.{restarted-stored}
 use Rattle.guillotiere.proofs.simple.SimpleAtlasAllocator.reset.Goals as goal
 
-pub invariant_of-self-2 : goal.invariant_of-self-2
-invariant_of-self-2 g c = grind (arith, restarted-stored)
+pub invariant_of-self : goal.invariant_of-self
+invariant_of-self g c = grind (arith, restarted-stored)
 
 pub returns-clause-simple : goal.returns-clause-simple
 returns-clause-simple g c = grind (arith, restarted-stored)

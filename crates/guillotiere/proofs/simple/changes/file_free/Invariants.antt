@@ -1,4 +1,4 @@
-use Rattle.std.proofs.Common.{◌++◌, map, drop}
+use Rattle.std.proofs.Common.{◌≡◌, ◌≤◌, ◌++◌, length, map, drop, vec_capacity}
 use Rattle.std.specs.List.{All}
 use Rattle.atlas_model.specs.Boxes.{AreSameBoxes, IsNonempty}
 use Rattle.guillotiere.specs.FreeBoxes.BoxShelves.{AreKept, box_shelf, free_item_boxes}
@@ -14,3 +14,5 @@ invariant-loop-slot g l =
     × All (λ r. IsUnsigned r × IsNonempty (box_of r)) (free_areas (nodes (drop l.slot-index l.slots)))
     × AreSameBoxes (map box_of (free_areas (nodes (drop l.slot-index l.slots))) ++ free_item_boxes (box_shelf l.boxes).entries)
     (map box_of (free_areas (nodes l.slots)) ++ free_item_boxes (box_shelf l.initial.boxes).entries)
+    × (l.boxes.used ≡ length (box_shelf l.boxes).entries)
+    × (vec_capacity l.initial.boxes.entries ≤ vec_capacity l.boxes.entries)

@@ -1,4 +1,4 @@
-use Rattle.std.proofs.Common.{ℕ, ◌-◌, ◌≡◌, ◌∙◌, sym, subst, arith}
+use Rattle.std.proofs.Common.{ℕ, ◌-◌, ◌≡◌, ◌∙◌, sym, subst, arith, vec_capacity}
 use Rattle.atlas_model.specs.Boxes.{other, side}
 use Rattle.atlas_model.specs.Pixels.{sides_of}
 use Rattle.atlas_store.specs.Stored.{Holding}
@@ -52,6 +52,7 @@ returns-then-eq g c =
           subst (λ s. IsMidwayIn s old new i n h) (sym b.store-is) (same-midway w same)
     ]) in
     let options : c.if-ne.store.options ≡ c.args.store.now.options = grind arith in
+    let capacity : vec_capacity c.if-ne.store.slots ≡ vec_capacity c.args.store.now.slots = grind arith in
     let turns : c.if-ne.store.turns ≡ c.args.store.now.turns = grind arith in
     record {
       grown = λ h n w.
@@ -59,6 +60,7 @@ returns-then-eq g c =
           let same = across-same old new h p w.growth (sym (equal-yes p.to p.middle c.eq.result c.eq.ensures c.if-eq.true)) in
           (m.0, midway-grown w m.1 same);
       options = options;
+      capacity = capacity;
       turns = turns;
     }
 
@@ -77,6 +79,7 @@ returns g c =
           subst (λ s. IsMidwayIn s old new i n h) (sym b.store-is) (same-midway w same)
     ]) in
     let options : c.if-ne.store.options ≡ c.args.store.now.options = grind arith in
+    let capacity : vec_capacity c.if-ne.store.slots ≡ vec_capacity c.args.store.now.slots = grind arith in
     let turns : c.if-ne.store.turns ≡ c.args.store.now.turns = grind arith in
     record {
       grown = λ h n w.
@@ -84,5 +87,6 @@ returns g c =
           let wider = across-longer old new h p w.growth w.fits (λ e. equal-no p.to p.middle c.eq.result c.eq.ensures c.if-eq.false (sym e)) in
           widened-grown w m.1 wider c.widen.ensures;
       options = c.widen.ensures.options ∙ options;
+      capacity = c.widen.ensures.capacity ∙ capacity;
       turns = c.widen.ensures.turns ∙ turns;
     }

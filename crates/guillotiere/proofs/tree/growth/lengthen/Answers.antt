@@ -30,6 +30,7 @@ pub returns-then-is_free : goal.returns-then-is_free
 returns-then-is_free g c = record {
   kept = λ h d n s. stretch-lengthened s (c.is_free.ensures.0 c.if-is_free.true) c.unlist.ensures c.stretch.ensures c.list.ensures;
   options = c.list.ensures.room.options ∙ c.stretch.ensures.room.options ∙ c.unlist.ensures.room.options;
+  capacity = c.list.ensures.room.capacity ∙ c.stretch.ensures.room.capacity ∙ c.unlist.ensures.room.capacity;
   turns = c.list.ensures.turns ∙ c.stretch.ensures.turns ∙ c.unlist.ensures.turns;
 }
 
@@ -39,5 +40,6 @@ returns-else-is_free g c =
     record {
       kept = λ h d n s. append-lengthened s busy c.append-strip.ensures c.list-else-is_free.ensures;
       options = c.list-else-is_free.ensures.room.options ∙ c.append-strip.ensures.options;
+      capacity = c.list-else-is_free.ensures.room.capacity ∙ c.append-strip.ensures.capacity;
       turns = c.list-else-is_free.ensures.turns ∙ c.append-strip.ensures.turns;
     }

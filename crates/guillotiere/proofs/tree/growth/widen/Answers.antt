@@ -12,5 +12,6 @@ pub returns : goal.returns
 returns g c = record {
   kept = λ h d s. nest-widened s c.nest.ensures c.list.ensures;
   options = c.list.ensures.room.options ∙ c.nest.ensures.options;
+  capacity = c.list.ensures.room.capacity ∙ c.nest.ensures.capacity;
   turns = c.list.ensures.turns ∙ c.nest.ensures.turns;
 }

@@ -1,4 +1,4 @@
-use Rattle.std.proofs.Common.{◌∙◌}
+use Rattle.std.proofs.Common.{◌∙◌, ap, vec_capacity}
 use Rattle.guillotiere.proofs.PlanLemmas.ChosenSlots.{listed-chosen, unlisted-sharpened, placeable-chosen, granted-inside, granted-short, grant-made}
 use Rattle.guillotiere.proofs.tree.requests.grant.Goals as goal
 
@@ -22,5 +22,7 @@ returns g c = record {
       grant-made w (unlisted-sharpened c.args.chosen w.chosen c.unlist_at.ensures c.sharpen.ensures) c.place-slot.ensures
       c.slot_id.result c.node-node.result c.node-node.ensures c.slot_id.ensures;
   options = c.place-slot.ensures.options ∙ c.sharpen.ensures.options ∙ c.unlist_at.ensures.room.options;
+  capacity =
+      c.place-slot.ensures.capacity ∙ ap (λ v. vec_capacity v) c.sharpen.ensures.slots ∙ c.unlist_at.ensures.room.capacity;
   turns = c.place-slot.ensures.turns ∙ c.sharpen.ensures.turns ∙ c.unlist_at.ensures.turns;
 }

@@ -18,7 +18,7 @@ use Rattle.guillotiere_recording.proofs.allocator.RecordingAllocator.rearrange.G
 
 -- The state of an atlas is what it stores.
 abbrev stands : Stored → State
-stands s = state_of (record { stored = s; turns = 0 })
+stands s = state_of (record { stored = s; turns = 0; capacity = 0 })
 
 pub returns-in_err-answer-clause-slots : goal.returns-in_err-answer-clause-slots
 returns-in_err-answer-clause-slots g c is =

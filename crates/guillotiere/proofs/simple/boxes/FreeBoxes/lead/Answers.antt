@@ -11,6 +11,7 @@ returns-then-before-eq-NO_SLOT-clause-led g c =
       heads = set.heads;
       lows = set.lows;
       unused = refl;
+      used = refl;
     }
 
 pub returns-else-before-eq-NO_SLOT-clause-led : goal.returns-else-before-eq-NO_SLOT-clause-led
@@ -26,4 +27,5 @@ returns-else-before-eq-NO_SLOT-clause-led g c =
       heads = λ j _. refl;
       lows = λ j. refl;
       unused = refl;
+      used = refl;
     }

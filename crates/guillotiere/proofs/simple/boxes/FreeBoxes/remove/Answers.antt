@@ -1,14 +1,15 @@
-use Rattle.std.proofs.Common.{ℕ, ◌≡◌, ◌≢◌, ◌<◌, ◌∷◌, ◌∙◌, List, map, length, slice_set, subst, sym, ap, inl, inr, refl, arith}
+use Rattle.std.proofs.Common.{ℕ, ◌≡◌, ◌≢◌, ◌+◌, ◌-◌, ◌<◌, ◌∷◌, ◌∙◌, List, map, length, slice_set, subst, sym, ap, inl, inr, refl, arith}
 use Rattle.std.proofs.lemmas.List.{map-set, length-map}
 use Rattle.guillotiere.specs.declared.simple.boxes.FreeBox.{FreeBox}
 use Rattle.atlas_store.specs.declared.slots.Link.{Link}
 use Rattle.atlas_store.specs.Search.Bands.{number_of}
 use Rattle.atlas_model.specs.Boxes.{AreSameBoxes}
-use Rattle.guillotiere.specs.FreeBoxes.BoxShelves.{AreKept, free_item_boxes, idle_item, stored_item, with_after}
+use Rattle.guillotiere.specs.FreeBoxes.BoxShelves.{AreKept, box_shelf, free_item_boxes, idle_item, stored_item, with_after}
 use Rattle.atlas_store.specs.Search.Items.{Item}
 use Rattle.atlas_model.specs.Pixels.{box_of, options_of}
 use Rattle.atlas_store.specs.Search.Tables.{head_of, low_of}
 use Rattle.guillotiere.proofs.SimpleLemmas.BoxStoring.{first-removed, next-removed, free-inside, read-item, IsSameButLinks, same-links, linked-after, boxes-left}
+use Rattle.guillotiere.proofs.SimpleLemmas.EntryCounts.{used-some}
 use Rattle.guillotiere.proofs.simple.boxes.FreeBoxes.remove.Goals as goal
 
 -- The entries once the one that was found is unused.
@@ -16,6 +17,22 @@ entries-are : (bs : List FreeBox) (x : ℕ) (b : FreeBox) (link unused : Link) �
     → map stored_item (slice_set bs x b) ≡ slice_set (map stored_item bs) x (idle_item unused.number)
 entries-are bs x b link unused e f =
     map-set stored_item bs x b ∙ ap (λ (t : Item). slice_set (map stored_item bs) x t) (e ∙ ap (λ (l : Link). idle_item l.number) f)
+
+pub overflow_sub-self : goal.overflow_sub-self
+overflow_sub-self g c =
+    omega (
+      arith,
+      c.lead.ensures.led.used,
+      used-some (options_of c.args.options.now) (box_shelf c.args.self.now) c.args.found.at.number c.requires.kept c.requires.standing.free,
+    )
+
+pub returns-clause-used : goal.returns-clause-used
+returns-clause-used g c =
+    omega (
+      arith,
+      c.lead.ensures.led.used,
+      used-some (options_of c.args.options.now) (box_shelf c.args.self.now) c.args.found.at.number c.requires.kept c.requires.standing.free,
+    )
 
 pub returns-clause-kept : goal.returns-clause-kept
 returns-clause-kept g c =
@@ -28,22 +45,24 @@ returns-clause-kept g c =
     let x = c.args.found.at.number in
     let k = number_of c.args.found.place in
     let standing = c.requires.standing in
+    let some = used-some o (box_shelf c.args.self.now) x c.requires.kept standing.free in
+    let less : (c.lead.new.self.used - 1) + 1 ≡ c.args.self.now.used = omega (arith, some, c.lead.ensures.led.used) in
     let inside : x < length bs = omega (arith, free-inside es x standing.free, length-map bs stored_item) in
     let read = ap (λ (t : Item). t.after) (read-item bs x c.index.result.now inside c.index.ensures) in
     let heads_stay : (j : ℕ) → j ≢ k → head_of heads' j ≡ head_of heads j = λ j ne. c.set_low.ensures.heads j ∙ c.lead.ensures.led.heads j ne in
     let lows_stay : (j : ℕ) → j ≢ k → low_of heads' j ≡ low_of heads j = λ j ne. c.set_low.ensures.lows j ne ∙ c.lead.ensures.led.lows j in
-    subst (λ (ts : List Item). AreKept o (record { entries = ts; heads = heads'; unused = c.args.found.at }))
+    subst (λ (ts : List Item). AreKept o (record { entries = ts; heads = heads'; unused = c.args.found.at; used = c.lead.new.self.used - 1 }))
     (sym (entries-are c.lead.new.self.entries.items x c.unused_box.result c.lead.new.self.unused c.args.self.now.unused c.unused_box.ensures c.lead.ensures.led.unused))
     (elim standing.before [
       | inl first ↦
           let led = c.lead.ensures.led.first first.0 in
-          first-removed o heads heads' es es1 c.args.self.now.unused c.args.found c.requires.kept standing heads_stay c.set_low.ensures.low lows_stay
+          first-removed o heads heads' es es1 c.args.self.now.unused c.args.self.now.used (c.lead.new.self.used - 1) c.args.found c.requires.kept less standing heads_stay c.set_low.ensures.low lows_stay
           (ap (λ (l : Link). l.number) (c.set_low.ensures.heads k ∙ led.0) ∙ read) first.1 led.1
       | inr next ↦
           let b = c.args.found.before.number in
           let some : b ≢ 4294967295 = λ z. absurd (omega (arith, z, free-inside es b next.0, c.requires.kept.listed.short)) in
           let led = c.lead.ensures.led.next some in
-          next-removed o heads heads' es es1 c.args.self.now.unused c.args.found c.requires.kept standing heads_stay c.set_low.ensures.low lows_stay
+          next-removed o heads heads' es es1 c.args.self.now.unused c.args.self.now.used (c.lead.new.self.used - 1) c.args.found c.requires.kept less standing heads_stay c.set_low.ensures.low lows_stay
           b next.0 next.1 next.2 (c.set_low.ensures.heads k ∙ ap (λ hs. head_of hs k) led.0) (led.1 ∙ ap (with_after es b) read)
     ])
 

@@ -1,0 +1,77 @@
+//! Size, options and limit stay, but where a call sets them.
+ghost use Rattle.std.specs.Prelude.{◌≡◌, IfOk, OnOk};
+ghost use Rattle.guillotiere.specs.Boxes.{Fits, IsPositive};
+ghost use Rattle.guillotiere.specs.Choice.{AreValid};
+ghost use Rattle.guillotiere.specs.Pixels.{sides_of, options_of};
+ghost use Rattle.guillotiere.specs.Stored.{state_of};
+
+use guillotiere::{AllocId, AllocatorOptions, AtlasAllocator, AtlasError, Size};
+use std::alloc::Allocator;
+
+/// No request and no freeing changes the size.
+pub fn same_size<A: Allocator + Copy>(atlas: &mut AtlasAllocator<A>, size: Size, id: AllocId) {
+    let before = atlas.size();
+    let _granted = atlas.allocate(size);
+    let _freed = atlas.deallocate(id);
+    let after = atlas.size();
+    prove!(after == before);
+}
+
+/// Nor the limit, and a freeing keeps the slots.
+pub fn same_limit<A: Allocator + Copy>(atlas: &mut AtlasAllocator<A>, size: Size, ids: &[AllocId]) {
+    let limit = atlas.slots().limit;
+    let _granted = atlas.allocate(size);
+    let kept = atlas.slots().kept;
+    let _freed = atlas.deallocate_all(ids);
+    let after = atlas.slots();
+    prove!(after.limit == limit && after.kept == kept);
+}
+
+/// A growth sets the size, and the rest of the frame stays.
+pub fn grown<A: Allocator + Copy>(
+    atlas: &mut AtlasAllocator<A>,
+    size: Size,
+) -> Result<(), AtlasError>
+    requires { Fits (state_of atlas.old).size (sides_of size) }
+    ensures size { OnOk result ((state_of atlas.new).size ≡ sides_of size) }
+    ensures options { (state_of atlas.new).options ≡ (state_of atlas.old).options }
+    ensures limit { (state_of atlas.new).limit ≡ (state_of atlas.old).limit }
+{
+    atlas.grow(size)
+}
+
+/// A rearranging keeps the frame.
+pub fn repacked<A: Allocator + Copy>(
+    atlas: &mut AtlasAllocator<A>,
+    size: Size,
+) -> Result<usize, AtlasError>
+    requires { IsPositive (sides_of size) }
+    ensures size { OnOk result ((state_of atlas.new).size ≡ sides_of size) }
+    ensures options { (state_of atlas.new).options ≡ (state_of atlas.old).options }
+    ensures limit { (state_of atlas.new).limit ≡ (state_of atlas.old).limit }
+{
+    let list = atlas.rearrange()?;
+    let lost = list.failures.len();
+    drop(list);
+    let list = atlas.resize_and_rearrange(size)?;
+    Ok(lost.max(list.failures.len()))
+}
+
+/// A clearing keeps the frame, and a reset sets the size and the options.
+pub fn started_again<A: Allocator + Copy>(
+    atlas: &mut AtlasAllocator<A>,
+    size: Size,
+    options: &AllocatorOptions,
+) -> Result<(), AtlasError>
+    requires size { IsPositive (sides_of size) }
+    requires options { AreValid (options_of options.now) }
+    ensures size { OnOk result ((state_of atlas.new).size ≡ sides_of size) }
+    ensures options { OnOk result ((state_of atlas.new).options ≡ options_of options.now) }
+    ensures limit { (state_of atlas.new).limit ≡ (state_of atlas.old).limit }
+{
+    let before = atlas.size();
+    atlas.clear()?;
+    let after = atlas.size();
+    prove!(after == before);
+    atlas.reset(size, options)
+}

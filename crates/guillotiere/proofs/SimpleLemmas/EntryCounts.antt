@@ -1,0 +1,130 @@
+-- Each entry of the simple allocator is a free box or unused: how many there are of both.
+use Rattle.std.proofs.Common.{◌≡◌, ℕ, zero, suc, ◌+◌, ◌<◌, ◌≤◌, max, inl, inr, true, false, List, [], ◌∷◌, length, refl, sym, ap, subst, arith}
+use Rattle.std.proofs.Math.Nat.{max-eq_left}
+use Rattle.std.specs.List.{Contains}
+use Rattle.std.proofs.lemmas.Bool.{cases_eq, cases_Bool, cond-true, cond-false}
+use Rattle.atlas_model.specs.Choice.{Options}
+use Rattle.atlas_store.specs.Search.Items.{Item, item_at, item_box, IsPath}
+use Rattle.atlas_store.specs.Slots.{no_slot}
+use Rattle.atlas_store.specs.Slots.Lists.{occurs}
+use Rattle.atlas_store.specs.Slots.Numbered.{same}
+use Rattle.guillotiere.specs.FreeBoxes.BoxShelves.{BoxShelf, AddsWhatIsUsed, AreKept, AreKeptWith, free_count, free_item_boxes}
+use Rattle.atlas_store.proofs.ListLemmas.Occurrences.{same-self, same-ne}
+use Rattle.atlas_store.proofs.SearchLemmas.Showing.{path-inside}
+use Rattle.guillotiere.proofs.SimpleLemmas.FreeItems.{are-free}
+
+-- ---- one entry
+
+pub count-of_free : (t : Item) → t.is_free ≡ true → free_count t ≡ 1
+count-of_free t f = cond-true t.is_free 1 0 f
+
+pub count-of_idle : (t : Item) → t.is_free ≡ false → free_count t ≡ 0
+count-of_idle t f = cond-false t.is_free 1 0 f
+
+pub idle-of_count : (t : Item) → free_count t ≡ 0 → t.is_free ≡ false
+idle-of_count t none = elim (cases_Bool t.is_free) [ inl f ↦ absurd (omega (arith, count-of_free t f)) | inr f ↦ f ]
+
+-- An entry that counts elsewhere isn't free.
+pub kept-idle : (hand : ℕ → ℕ) (o : Options) (v : BoxShelf) (kept : AreKeptWith hand o v) (i : ℕ) → i < length v.entries → 0 < occurs i kept.spare + hand i
+    → (item_at v.entries i).is_free ≡ false
+kept-idle hand o v kept i inside some = idle-of_count (item_at v.entries i) (omega (arith, kept.each i inside))
+
+pub spare-idle : (hand : ℕ → ℕ) (o : Options) (v : BoxShelf) (kept : AreKeptWith hand o v) (i : ℕ) → 0 < occurs i kept.spare → (item_at v.entries i).is_free ≡ false
+spare-idle hand o v kept i some =
+    kept-idle hand o v kept i (path-inside v.entries v.unused.number kept.spare no_slot kept.chain i some) (omega arith)
+
+-- ---- all entries
+
+-- What a count of the entries below m adds up to.
+sums : (ℕ → ℕ) → ℕ → ℕ
+sums f zero = 0
+sums f (suc m) = f m + sums f m
+
+sums-front : (f : ℕ → ℕ) (m : ℕ) → sums f (suc m) ≡ f 0 + sums (λ i. f (suc i)) m
+unfolding sums
+sums-front f zero = refl
+sums-front f (suc m) = omega (arith, sums-front f m)
+
+sums-add : (f g : ℕ → ℕ) (m : ℕ) → sums (λ i. f i + g i) m ≡ sums f m + sums g m
+unfolding sums
+sums-add f g zero = refl
+sums-add f g (suc m) = omega (arith, sums-add f g m)
+
+sums-all : (f : ℕ → ℕ) (m : ℕ) → ((i : ℕ) → i < m → f i ≡ 1) → sums f m ≡ m
+unfolding sums
+sums-all f zero one = refl
+sums-all f (suc m) one = omega (arith, one m (omega arith), sums-all f m (λ i l. one i (omega arith)))
+
+sums-none : (f : ℕ → ℕ) (m : ℕ) → ((i : ℕ) → i < m → f i ≡ 0) → sums f m ≡ 0
+unfolding sums
+sums-none f zero none = refl
+sums-none f (suc m) none = omega (arith, none m (omega arith), sums-none f m (λ i l. none i (omega arith)))
+
+sums-same : (j m : ℕ) → j < m → sums (λ i. same i j) m ≡ 1
+unfolding sums
+sums-same j zero l = absurd (omega arith)
+sums-same j (suc m) l =
+    elim (cases_eq m j) [
+      | inl e ↦ omega (arith, same-self j, ap (λ v. same v j) e, sums-none (λ i. same i j) m (λ i b. same-ne i j (λ q. absurd (omega arith))))
+      | inr ne ↦ omega (arith, same-ne m j ne, sums-same j m (omega arith))
+    ]
+
+sums-occurs : (es : List Item) (from m : ℕ) (xs : List ℕ) (to : ℕ) → length es ≤ m → IsPath es from xs to → sums (λ i. occurs i xs) m ≡ length xs
+sums-occurs es from m [] to l path = sums-none (λ i. 0) m (λ i b. refl)
+sums-occurs es from m (x ∷ xs) to l path =
+    omega (arith, sums-add (λ i. same i x) (λ i. occurs i xs) m, sums-same x m (omega (arith, path.1)), sums-occurs es (item_at es x).after m xs to l path.2)
+
+count-first : (t : Item) (es : List Item) → length (free_item_boxes (t ∷ es)) ≡ free_count t + length (free_item_boxes es)
+count-first t es =
+    elim (cases_Bool t.is_free) [
+      | inl f ↦ omega (arith, count-of_free t f, ap length (cond-true t.is_free (item_box t ∷ free_item_boxes es) (free_item_boxes es) f))
+      | inr f ↦ omega (arith, count-of_idle t f, ap length (cond-false t.is_free (item_box t ∷ free_item_boxes es) (free_item_boxes es) f))
+    ]
+
+sums-free : (es : List Item) → sums (λ i. free_count (item_at es i)) (length es) ≡ length (free_item_boxes es)
+unfolding sums
+sums-free [] = refl
+sums-free (t ∷ es) = omega (arith, sums-front (λ i. free_count (item_at (t ∷ es) i)) (length es), sums-free es, count-first t es)
+
+-- The entries that aren't unused are as many as the free boxes.
+pub used-free : (o : Options) (v : BoxShelf) → AreKept o v → v.used ≡ length (free_item_boxes v.entries)
+used-free o v kept =
+    let m : ℕ = length v.entries in
+    let f : ℕ → ℕ = λ i. occurs i kept.spare in
+    let g : ℕ → ℕ = λ i. free_count (item_at v.entries i) in
+    let all : sums (λ i. f i + g i) m ≡ m = sums-all (λ i. f i + g i) m (λ i l. omega (arith, kept.each i l)) in
+    let spare : sums f m ≡ length kept.spare = sums-occurs v.entries v.unused.number m kept.spare no_slot (omega arith) kept.chain in
+    omega (arith, all, sums-add f g m, spare, sums-free v.entries, kept.used)
+
+-- A free box is used.
+pub used-some : (o : Options) (v : BoxShelf) (i : ℕ) → AreKept o v → (item_at v.entries i).is_free ≡ true → 0 < v.used
+used-some o v i kept f = omega (arith, used-free o v kept, ((are-free v.entries).of_box i f).1)
+
+-- There are no more entries in use than entries.
+pub used-few : (hand : ℕ → ℕ) (o : Options) (v : BoxShelf) → AreKeptWith hand o v → v.used ≤ length v.entries
+used-few hand o v kept = omega (arith, kept.used)
+
+-- Where none is unused, all are used.
+pub used-all : (o : Options) (v : BoxShelf) → AreKept o v → v.unused.number ≡ no_slot → v.used ≡ length v.entries
+used-all o v kept none = go kept.spare kept.chain kept.used
+  where
+    go : (xs : List ℕ) → IsPath v.entries v.unused.number xs no_slot → v.used + length xs ≡ length v.entries → v.used ≡ length v.entries
+    go [] path count = omega arith
+    go (x ∷ xs) path count = absurd (omega (arith, none, path.0, path.1, kept.listed.short))
+
+-- Where one is unused, not all are used.
+pub used-less : (o : Options) (v : BoxShelf) → AreKept o v → (v.unused.number ≡ no_slot → ⊥) → v.used < length v.entries
+used-less o v kept some = go kept.spare kept.chain kept.used
+  where
+    go : (xs : List ℕ) → IsPath v.entries v.unused.number xs no_slot → v.used + length xs ≡ length v.entries → v.used < length v.entries
+    go [] path count = absurd (some path)
+    go (x ∷ xs) path count = omega arith
+
+-- Entries are added as free boxes are.
+pub uses-old : (o : Options) (old new : BoxShelf) → AreKept o new → AddsWhatIsUsed old new
+    → length new.entries ≡ max (length old.entries) (length (free_item_boxes new.entries))
+uses-old o old new kept adds = subst (λ n. length new.entries ≡ max (length old.entries) n) (used-free o new kept) adds
+
+-- Nothing is added where nothing changes.
+pub uses-same : (o : Options) (v : BoxShelf) → AreKept o v → length v.entries ≡ max (length v.entries) (length (free_item_boxes v.entries))
+uses-same o v kept = sym (max-eq_left (omega (arith, used-free o v kept, used-few (λ i. 0) o v kept)))

@@ -1,0 +1,54 @@
+//! The texts of what is refused and of what a replay meets.
+
+use guillotiere_recording::{RecordingError, ReplayFault};
+use std::alloc::Global;
+use std::process::Abort;
+use std::test::Fail;
+
+fn assert_text(
+    rt: &impl Abort,
+    alloc: Global,
+    error: RecordingError,
+    want: &str,
+) -> Result<(), Fail> {
+    let text = format!(in alloc; "{error}")?;
+    assert!(rt; text.as_str() == want, "{want}");
+    Ok(())
+}
+
+fn assert_fault(
+    rt: &impl Abort,
+    alloc: Global,
+    fault: ReplayFault,
+    want: &str,
+) -> Result<(), Fail> {
+    let text = format!(in alloc; "{fault}")?;
+    assert!(rt; text.as_str() == want, "{want}");
+    Ok(())
+}
+
+#[test]
+fn texts_of_errors(rt: HostRuntime) -> Result<(), Fail> {
+    for (error, want) in [
+        (RecordingError::Memory, "no memory"),
+        (RecordingError::Slots, "no slot left"),
+        (RecordingError::NotLive, "id is not live"),
+        (RecordingError::Names, "no name left"),
+    ] {
+        assert_text(&rt, rt.alloc(), error, want)?;
+    }
+    Ok(())
+}
+
+#[test]
+fn texts_of_faults(rt: HostRuntime) -> Result<(), Fail> {
+    for (fault, want) in [
+        (ReplayFault::Memory, "no memory"),
+        (ReplayFault::Slots, "no slot left"),
+        (ReplayFault::Differs(0), "event 0 differs"),
+        (ReplayFault::BadEvent(12), "event 12 is bad"),
+    ] {
+        assert_fault(&rt, rt.alloc(), fault, want)?;
+    }
+    Ok(())
+}

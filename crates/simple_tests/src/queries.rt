@@ -1,0 +1,36 @@
+//! What may be asked of a simple allocator before a call.
+
+use guillotiere::{AllocatorOptions, AtlasError, SimpleAtlasAllocator, size2};
+use std::alloc::Global;
+use std::test::Fail;
+use test_tables::{ALIGNED_TO_8, Sides, size};
+
+fn aligned_to_8(alloc: Global) -> Result<SimpleAtlasAllocator, AtlasError> {
+    SimpleAtlasAllocator::with_options(alloc, size2(100, 50), &ALIGNED_TO_8)
+}
+
+fn may_grow(simple: &SimpleAtlasAllocator, sides: Sides) -> bool {
+    simple.can_grow_to(size(sides))
+}
+
+fn told_options(simple: &SimpleAtlasAllocator) -> AllocatorOptions {
+    simple.options()
+}
+
+#[test]
+fn options_are_told(rt: HostRuntime) -> Result<(), Fail> {
+    assert!(rt; told_options(&aligned_to_8(rt.alloc())?) == ALIGNED_TO_8);
+    Ok(())
+}
+
+#[test]
+fn no_side_may_shrink(rt: HostRuntime) -> Result<(), Fail> {
+    let simple = aligned_to_8(rt.alloc())?;
+    for sides in [(100, 50), (100, 51), (2147483647, 50)] {
+        assert!(rt; may_grow(&simple, sides));
+    }
+    for sides in [(99, 200), (200, 49), (0, 0), (200, -2147483648)] {
+        assert!(rt; !may_grow(&simple, sides));
+    }
+    Ok(())
+}
