@@ -5,6 +5,8 @@
 #[cfg(test)]
 mod beside;
 #[cfg(test)]
+mod entries;
+#[cfg(test)]
 mod lists;
 #[cfg(test)]
 mod queries;
