@@ -1,6 +1,4 @@
 pub mod SimpleLemmas
-pub mod AtlasLemmas
-pub mod PlanLemmas
 pub mod Playing
 pub mod Callers
 pub use Rattle.atlas_model.proofs.TreeLemmas

@@ -3,7 +3,6 @@ pub mod FreeItems
 pub mod EntryCounts
 pub mod CuttingBoxes
 pub mod BoxStoring
-pub mod CuttingFromLists
 pub mod Storing
 pub mod SimplePlaying
 pub mod SimpleLists

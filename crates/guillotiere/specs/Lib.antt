@@ -2,7 +2,6 @@ pub mod Sessions
 pub mod SimpleSessions
 pub mod SimpleStored
 pub mod FreeBoxes
-pub mod Plans
 pub mod Pages
 pub use Rattle.atlas_store.specs.Stored
 pub use Rattle.atlas_store.specs.Rectangles

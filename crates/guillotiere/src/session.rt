@@ -13,7 +13,7 @@ ghost use Rattle.guillotiere.specs.Sessions.{call_of, reply_of, IsExactReply, Ta
 
 mod simple;
 
-use crate::atlas::AtlasAllocator;
+use atlas_allocator::AtlasAllocator;
 use atlas_model::{AllocId, Allocation, AllocatorOptions, AtlasError, ChangeList, Size};
 pub use simple::{SimpleCall, SimpleReply, run_simple};
 use std::alloc::{Allocator, Global};

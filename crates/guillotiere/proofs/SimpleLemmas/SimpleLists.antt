@@ -21,7 +21,7 @@ use Rattle.atlas_store.specs.Visits.{free_areas}
 use Rattle.atlas_model.specs.Simple.{kept_rest}
 use Rattle.guillotiere.specs.FreeBoxes.FreeLists.{kept_of}
 use Rattle.guillotiere.proofs.SimpleLemmas.CuttingBoxes.{count-kept}
-use Rattle.guillotiere.proofs.SimpleLemmas.CuttingFromLists.{unsigned-fits}
+use Rattle.atlas_allocator.proofs.AtlasLemmas.CuttingFromLists.{unsigned-fits}
 use Rattle.atlas_store.proofs.WalkLemmas.WalkSteps.{not_free}
 use Rattle.guillotiere.proofs.SimpleLemmas.Storing.{whole_rectangle, whole-box, whole-unsigned}
 use Rattle.atlas_model.proofs.SimpleLemmas.SimpleSteps.{whole-fits, whole-positive}

@@ -15,7 +15,7 @@ ghost use Rattle.atlas_store.specs.Stored.{state_of};
 ghost use Rattle.atlas_store.specs.Visits.{free_areas};
 
 use super::{SimpleAtlasAllocator, keep, kept_count};
-use crate::atlas::AtlasAllocator;
+use atlas_allocator::{AtlasAllocator, store_of};
 use crate::simple::boxes::FreeBoxes;
 use atlas_model::{AllocatorOptions, AtlasError, Rectangle, Size};
 use atlas_store::cut::guillotine;
@@ -96,7 +96,7 @@ impl<A: Allocator + Copy> SimpleAtlasAllocator<A> {
         ensures simple { IsSimple (simple_state_of self.new) }
     {
         let size = source.size();
-        let store = source.store();
+        let store = store_of(source);
         let mut boxes = FreeBoxes::new(*self.boxes.entries.allocator())?;
         file_free(&mut boxes, store.slots.as_slice(), &store.options)?;
         self.boxes = boxes;

@@ -7,7 +7,7 @@ use Rattle.atlas_store.specs.Search.Lookups.{AreFreeItems, IsStanding}
 use Rattle.atlas_model.specs.Pixels.{box_of, options_of, sides_of}
 use Rattle.atlas_model.specs.Simple.{kept_rest}
 use Rattle.guillotiere.proofs.SimpleLemmas.CuttingBoxes.{at_error, picked-exact}
-use Rattle.guillotiere.proofs.SimpleLemmas.CuttingFromLists.{sides_of-size, unsigned-measurable, unsigned-fits, unsigned_of, size-positive}
+use Rattle.atlas_allocator.proofs.AtlasLemmas.CuttingFromLists.{sides_of-size, unsigned-measurable, unsigned-fits, unsigned_of, size-positive}
 use Rattle.guillotiere.proofs.SimpleLemmas.EntryCounts.{used-free}
 use Rattle.guillotiere.proofs.SimpleLemmas.FreeItems.{are-free}
 use Rattle.guillotiere.proofs.SimpleLemmas.GrantingBoxes.{simply_grants}

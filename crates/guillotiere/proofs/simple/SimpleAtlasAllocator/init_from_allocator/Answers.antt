@@ -20,30 +20,30 @@ pub invariant_of-self : goal.invariant_of-self
 invariant_of-self g c =
     let boxes = subst (λ slots. AreSameBoxes (free_item_boxes (box_shelf c.file_free.new.boxes).entries) (map box_of (free_areas (nodes slots)) ++ free_item_boxes (box_shelf c.in_ok-boxes.boxes).entries)) c.as_slice.ensures.value c.in_ok-file_free.ensures.boxes in
     record {
-      state = started-stored (atlas.state_of c.args.source.now) _ (box_shelf c.in_ok-boxes.boxes).entries (box_shelf c.file_free.new.boxes) c.size-size.result c.store-store.result.now.options
-          c.size-size.ensures.sound c.store-store.ensures.areas c.in_ok-boxes.ensures.empty boxes c.size-size.ensures.size c.store-store.ensures.options c.in_ok-file_free.ensures.kept;
+      state = started-stored (atlas.state_of c.args.source.now) _ (box_shelf c.in_ok-boxes.boxes).entries (box_shelf c.file_free.new.boxes) c.size-size.result c.store_of-store.result.now.options
+          c.size-size.ensures.sound c.store_of-store.ensures.areas c.in_ok-boxes.ensures.empty boxes c.size-size.ensures.size c.store_of-store.ensures.options c.in_ok-file_free.ensures.kept;
       room = omega (arith, c.in_ok-boxes.ensures.room, c.in_ok-file_free.ensures.capacity);
     }
 
 pub returns-clause-step : goal.returns-clause-step
 returns-clause-step g c =
     let boxes = subst (λ slots. AreSameBoxes (free_item_boxes (box_shelf c.file_free.new.boxes).entries) (map box_of (free_areas (nodes slots)) ++ free_item_boxes (box_shelf c.in_ok-boxes.boxes).entries)) c.as_slice.ensures.value c.in_ok-file_free.ensures.boxes in
-    starts-from (atlas.state_of c.args.source.now) _ (box_shelf c.in_ok-boxes.boxes).entries (box_shelf c.file_free.new.boxes).entries c.size-size.result c.store-store.result.now.options
-    c.size-size.ensures.sound c.store-store.ensures.areas c.in_ok-boxes.ensures.empty boxes c.size-size.ensures.size c.store-store.ensures.options
+    starts-from (atlas.state_of c.args.source.now) _ (box_shelf c.in_ok-boxes.boxes).entries (box_shelf c.file_free.new.boxes).entries c.size-size.result c.store_of-store.result.now.options
+    c.size-size.ensures.sound c.store_of-store.ensures.areas c.in_ok-boxes.ensures.empty boxes c.size-size.ensures.size c.store_of-store.ensures.options
 
 pub returns-clause-guarded : goal.returns-clause-guarded
 returns-clause-guarded g c =
     let boxes = subst (λ slots. AreSameBoxes (free_item_boxes (box_shelf c.file_free.new.boxes).entries) (map box_of (free_areas (nodes slots)) ++ free_item_boxes (box_shelf c.in_ok-boxes.boxes).entries)) c.as_slice.ensures.value c.in_ok-file_free.ensures.boxes in
     starts-guarded (atlas.state_of c.args.source.now) _
-    (starts-from (atlas.state_of c.args.source.now) _ (box_shelf c.in_ok-boxes.boxes).entries (box_shelf c.file_free.new.boxes).entries c.size-size.result c.store-store.result.now.options
-    c.size-size.ensures.sound c.store-store.ensures.areas c.in_ok-boxes.ensures.empty boxes c.size-size.ensures.size c.store-store.ensures.options)
+    (starts-from (atlas.state_of c.args.source.now) _ (box_shelf c.in_ok-boxes.boxes).entries (box_shelf c.file_free.new.boxes).entries c.size-size.result c.store_of-store.result.now.options
+    c.size-size.ensures.sound c.store_of-store.ensures.areas c.in_ok-boxes.ensures.empty boxes c.size-size.ensures.size c.store_of-store.ensures.options)
 
 pub returns-clause-simple : goal.returns-clause-simple
 returns-clause-simple g c =
     let boxes = subst (λ slots. AreSameBoxes (free_item_boxes (box_shelf c.file_free.new.boxes).entries) (map box_of (free_areas (nodes slots)) ++ free_item_boxes (box_shelf c.in_ok-boxes.boxes).entries)) c.as_slice.ensures.value c.in_ok-file_free.ensures.boxes in
-    (started-stored (atlas.state_of c.args.source.now) _ (box_shelf c.in_ok-boxes.boxes).entries (box_shelf c.file_free.new.boxes) c.size-size.result c.store-store.result.now.options
-    c.size-size.ensures.sound c.store-store.ensures.areas c.in_ok-boxes.ensures.empty boxes c.size-size.ensures.size c.store-store.ensures.options c.in_ok-file_free.ensures.kept).simple
+    (started-stored (atlas.state_of c.args.source.now) _ (box_shelf c.in_ok-boxes.boxes).entries (box_shelf c.file_free.new.boxes) c.size-size.result c.store_of-store.result.now.options
+    c.size-size.ensures.sound c.store_of-store.ensures.areas c.in_ok-boxes.ensures.empty boxes c.size-size.ensures.size c.store_of-store.ensures.options c.in_ok-file_free.ensures.kept).simple
 
 pub returns-clause-entries : goal.returns-clause-entries
 returns-clause-entries g c =
-    sym c.in_ok-file_free.ensures.used ∙ used-free (options_of c.store-store.result.now.options) (box_shelf c.file_free.new.boxes) c.in_ok-file_free.ensures.kept
+    sym c.in_ok-file_free.ensures.used ∙ used-free (options_of c.store_of-store.result.now.options) (box_shelf c.file_free.new.boxes) c.in_ok-file_free.ensures.kept

@@ -1,0 +1,13 @@
+-- Lemmas of an atlas as it is stored.
+pub mod CuttingFromLists
+pub mod ShownLists
+pub mod FreedLists
+pub mod GrantedAtlas
+pub mod GrownAtlas
+pub mod RefitRanks
+pub mod RefitSizes
+pub mod RefitParts
+pub mod RefitLoops
+pub mod RearrangedAtlas
+pub mod Measuring
+pub mod Reserving

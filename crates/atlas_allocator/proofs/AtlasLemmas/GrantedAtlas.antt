@@ -1,0 +1,221 @@
+-- Granting a request in an atlas.
+use Rattle.std.proofs.Common.{rules, ℕ, ◌+◌, ◌%◌, ◌^◌, ◌<◌, ◌≤◌, ◌≡◌, max, List, length, refl, sym, ap, subst, ◌∙◌, ◌⊎◌}
+use Rattle.std.proofs.Common.{inl, inr, arith, vec_capacity}
+use Rattle.std.proofs.lemmas.Bool.{false≢true}
+use Rattle.std.specs.Prelude.{Err, None, Some, IfSome, IsTrue, is_some, ◌↔◌}
+use Rattle.atlas_model.specs.Boxes.{Sides, Box, box_at, box_sides, Fits, IsPositive}
+use Rattle.atlas_model.specs.Changes.{place}
+use Rattle.atlas_model.specs.Choice.{rounded, IsFitting, HasRoom, HasNoRoom}
+use Rattle.atlas_model.specs.Pixels.{box_of, rectangle_of, sides_of, size_of, options_of}
+use Rattle.atlas_store.specs.Rectangles.{FitsInto, IsUnsigned}
+use Rattle.atlas_model.specs.Replies.{allocate_reply}
+use Rattle.atlas_store.specs.Search.Picks.{AreFreeBoxes}
+use Rattle.atlas_store.specs.Search.Requests.{CanBeRounded}
+use Rattle.atlas_store.specs.Slots.{nodes}
+use Rattle.atlas_store.specs.Slots.Numbered.{numbers}
+use Rattle.atlas_store.specs.Slots.Reading.{tree_of}
+use Rattle.atlas_model.specs.States.{State, free_in, after_placing}
+use Rattle.atlas_model.specs.Steps.{Step, Takes, Grants, nodes_with}
+use Rattle.atlas_model.specs.Steps.AtlasCall.{Allocate}
+use Rattle.atlas_model.specs.Steps.AtlasReply.{Refused}
+use Rattle.atlas_tree.specs.Plans.Chosen.{CanGrant, IsAtRest, IsChosen, IsGrantable, IsGrantMade, IsRequestGranted}
+use Rattle.atlas_tree.specs.Plans.Chosen.{IsShortOf}
+use Rattle.atlas_store.specs.Store.Holdings.{shelf_of, node_in}
+use Rattle.atlas_tree.specs.Plans.Planning.{slots_of}
+use Rattle.atlas_store.specs.Stored.{Stored, Shelf, Holding, IsAtlas, state_of}
+use Rattle.atlas_model.specs.Trees.{ids, slot_count}
+use Rattle.atlas_model.specs.declared.allocation.Allocation.{Allocation}
+use Rattle.atlas_model.specs.declared.error.AtlasError.{AtlasError}
+use Rattle.atlas_model.specs.declared.error.AtlasError.TheVariants.{Memory, Slots, NotLive}
+use Rattle.atlas_model.specs.declared.geometry.Rectangle.{Rectangle}
+use Rattle.atlas_model.specs.declared.geometry.Size.{Size}
+use Rattle.atlas_store.specs.declared.store.Store.{Store}
+use Rattle.atlas_tree.specs.declared.requests.Chosen.{Chosen}
+use Rattle.std.specs.Prelude.{Option, Result}
+use Rattle.atlas_model.specs.Trees as tree
+use Rattle.atlas_store.proofs.SearchLemmas.Picking.{no_room_unrounded}
+use Rattle.atlas_model.proofs.ChoiceLemmas.Rounding.{rounded_positive}
+use Rattle.atlas_model.proofs.TreeLemmas.BoxLists.{free_in_place}
+use Rattle.atlas_store.proofs.SlotLemmas.JoiningWrites.{used-inside}
+use Rattle.atlas_store.proofs.SlotLemmas.SlotIds.{slot_count-none, id_of-slot}
+use Rattle.atlas_model.proofs.TreeLemmas.TreeCounts.{place_nodes}
+use Rattle.atlas_model.proofs.StepLemmas.StepKeeping.{placing_sound}
+use Rattle.atlas_store.proofs.StoreLemmas.SpareCounts.{spare-count}
+use Rattle.atlas_tree.proofs.PlanLemmas.PlannedTrees.{IsPlacing, planned-tree, planned-used, need-read}
+use Rattle.atlas_tree.proofs.PlanLemmas.PlannedSlots.{planned-first, planned-unused}
+use Rattle.atlas_allocator.proofs.AtlasLemmas.CuttingFromLists.{unsigned-fits, sides_of-size, size-positive}
+use Rattle.atlas_store.proofs.SlotLemmas.FreeSlots.{exact-free}
+use Rattle.atlas_tree.proofs.PlanLemmas.ChosenSlots.{rest-free}
+use Rattle.atlas_store.proofs.WalkLemmas.Observing.{nodes-short, members-IsAtlas, tree_of-IsAtlas, used-IsAtlas}
+
+-- The state after a placing, of its parts.
+state-placed : (new old : State) (f : Box) (r : Sides) (id : ℕ) → new.tree ≡ place old.size f r id old.tree → new.size ≡ old.size → new.options ≡ old.options → new.limit ≡ old.limit
+    → new.kept ≡ max old.kept (tree.node_count (place old.size f r id old.tree).members) → new ≡ after_placing old f r id
+state-placed new old f r id et es eo el ek = rw (← ek, ← et, ← es, ← eo, ← el) refl
+
+module _ (v : Stored) (a : IsAtlas v) (request : Sides) where
+  abbrev pub now : State
+  now = state_of (record { stored = v; turns = 0; capacity = 0 })
+
+  pub at-rest : IsAtRest v.shelf a.holding
+  at-rest = record { holds = a.holds; listed = a.at_rest; start = a.start }
+
+  abbrev pub wanted : Sides
+  wanted = rounded (options_of v.shelf.options) request
+
+  free_here : AreFreeBoxes (nodes v.shelf.slots) (free_in (state_of (record { stored = v; turns = 0; capacity = 0 })))
+  free_here = grind (arith, tree_of-IsAtlas, rest-free, at-rest)
+
+  -- Nothing is granted.
+
+  pub no_room-unrounded : (CanBeRounded (options_of v.shelf.options) request → ⊥) → (sides_of v.size).width ≤ 2147483647 → (sides_of v.size).height ≤ 2147483647 → HasNoRoom (free_in now) (options_of v.shelf.options) request
+  no_room-unrounded misfit wide high =
+      no_room_unrounded (free_in now) (options_of v.shelf.options) request (sides_of v.size) misfit (free_in_place (sides_of v.size) (tree_of (nodes v.shelf.slots)) a.sound.well_formed) wide high
+
+  pub no_room-none : (size : Sides) → size ≡ wanted → ((free : List Box) → AreFreeBoxes (nodes v.shelf.slots) free → (b : Box) → IsFitting free size b → ⊥) → HasNoRoom (free_in now) (options_of v.shelf.options) request
+  no_room-none size e none room = none (free_in now) free_here room.box (subst (λ r. IsFitting (free_in now) r room.box) (sym e) room.fitting)
+
+  -- The slot that is taken.
+  module _ (p : Chosen) (chosen : IsChosen v.shelf (rounded (options_of v.shelf.options) request) p) (positive : IsPositive request) where
+    pub takes : Takes now request (box_of p.area)
+    takes = record { positive = positive; pick = chosen.pick (free_in now) free_here }
+
+    placing : IsPlacing (sides_of v.size) v.shelf a.holding p.at.number wanted
+    placing = grind (arith, rounded_positive, takes)
+
+    pub need : nodes_with now request (box_of p.area) ≡ v.used + slots_of p.plan
+    need = grind (arith, need-read, placing, used-IsAtlas)
+
+    -- Slots were refused.
+    pub step-refused : (error : AtlasError) → IsShortOf v.used v.limit (slots_of p.plan) (length v.shelf.slots) error → Step now (Allocate request) (Refused error) now
+    step-refused Slots short = (box_of p.area, takes, omega (arith, need), refl)
+    step-refused Memory short = (box_of p.area, takes, omega (arith, need, short.0), omega (arith, need, short.1), refl)
+    step-refused NotLive short = absurd short
+
+    -- There are slots for the plan.
+    pub grantable : {A : Type 0} (made : Store A) → shelf_of made ≡ v.shelf → v.used + slots_of p.plan ≤ v.limit
+        → (v.used + slots_of p.plan ≤ length v.shelf.slots) ⊎ (v.used + slots_of p.plan ≤ vec_capacity made.slots)
+        → IsGrantable made wanted p a.holding
+    grantable made same few room = grind (arith, spare-count, at-rest)
+
+    -- The request is placed and granted.
+    module _ (u : Shelf) (id to : ℕ) (h : Holding) (w : IsGrantMade u p id to a.holding h) (same_options : u.options ≡ v.shelf.options) (few : v.used + slots_of p.plan ≤ v.limit) (box : Box)
+        (there : box ≡ box_at (box_of p.area).min (rounded (options_of v.shelf.options) request)) where
+      abbrev pub after : (used turns : ℕ) → State
+      after used turns = state_of (record { stored = record { shelf = u; first = v.first; used = used; size = v.size; limit = v.limit }; turns = turns; capacity = 0 })
+
+      tree-placed : tree_of (nodes u.slots) ≡ place (sides_of v.size) (box_of p.area) wanted id (tree_of (nodes v.shelf.slots))
+      tree-placed = grind (arith, planned-tree, placing)
+
+      more : numbers h.tree ≡ numbers a.holding.tree + slots_of p.plan
+      more = planned-used (sides_of v.size) v.shelf a.holding p.at.number wanted placing u to p.plan h chosen.line w.planned
+
+      kept-placed : length u.slots ≡ max (length v.shelf.slots) (tree.node_count (place (sides_of v.size) (box_of p.area) wanted id (tree_of (nodes v.shelf.slots))).members)
+      kept-placed = search (rules, spare-count, more, need, place_nodes)
+
+      pub state-placing : (used turns : ℕ) → after used turns ≡ after_placing now (box_of p.area) wanted id
+      state-placing used turns = state-placed (after used turns) now (box_of p.area) wanted id tree-placed refl (ap options_of same_options) refl kept-placed
+
+      unused : slot_count id (ids (tree_of (nodes v.shelf.slots)).members) ≡ 0
+      unused =
+          let inside : to < length (nodes u.slots) = used-inside (nodes u.slots) to (rw w.planned.granted (omega arith)) in
+          let short : to < 2 ^ 24 = omega (arith, inside, nodes-short u.slots w.planned.holds.short) in
+          let is : id % 2 ^ 24 ≡ to = ap (λ i. i % 2 ^ 24) w.names ∙ id_of-slot to (node_in u to).generation short in
+          ap (λ m. slot_count id (ids m)) (members-IsAtlas v a)
+          ∙ slot_count-none (nodes v.shelf.slots) a.holding.sequence a.holding.tree id a.holds.stands (nodes-short v.shelf.slots a.holds.short)
+          (λ q. planned-unused v.shelf u p.at.number to p.plan a.holding h a.holds chosen.free w.planned (ap (λ k. (node_in v.shelf k).kind) (sym is) ∙ q))
+
+      pub grants : (used turns : ℕ) → Grants now request (box_of p.area) (record { id = id; box = box }) (after used turns)
+      grants used turns = search (rules, takes, need, unused, state-placing)
+
+      pub atlas-placed : IsAtlas (record { shelf = u; first = v.first; used = v.used + slots_of p.plan; size = v.size; limit = v.limit })
+      atlas-placed = record {
+        holding = h;
+        holds = w.planned.holds;
+        at_rest = w.planned.listed;
+        start = ap (λ s. s.start) w.planned.sequence ∙ a.start;
+        across = rw w.planned.sequence a.across;
+        first = a.first ∙ sym (planned-first p.plan p.at.number a.holding.sequence.width to (node_in u to).generation a.holding.tree h.tree w.planned.tree);
+        used = omega (arith, more, a.used);
+        sound = placing_sound now (box_of p.area) request (record { id = id; box = box }) (after (v.used + slots_of p.plan) 0) a.sound (grants (v.used + slots_of p.plan) 0);
+        exact = a.exact;
+        limited = a.limited;
+      }
+
+-- What a grant leaves: the request is granted under this id and in this box.
+pub record IsDone (v : Stored) (request : Sides) (u : Shelf) (needed id : ℕ) (box : Box) : Type 0 where
+  pub atlas : IsAtlas (record { shelf = u; first = v.first; used = v.used + needed; size = v.size; limit = v.limit })
+  pub granted : (turns before : ℕ) → (f : Box) × Grants (state_of (record { stored = v; turns = before; capacity = 0 })) request f (record { id = id; box = box })
+      (state_of (record { stored = record { shelf = u; first = v.first; used = v.used + needed; size = v.size; limit = v.limit }; turns = turns; capacity = 0 }))
+
+-- A request that was rounded, and the slot that it takes.
+module _ (v : Stored) (a : IsAtlas v) (request : Sides) (size : Size) (sized : CanBeRounded (options_of v.shelf.options) request × (size ≡ size_of (rounded (options_of v.shelf.options) request)))
+    (p : Chosen) (chosen : IsChosen v.shelf (sides_of size) p) where
+  same_sides : sides_of size ≡ rounded (options_of v.shelf.options) request
+  same_sides = sides_of-size size (rounded (options_of v.shelf.options) request) sized.1
+
+  chosen_here : IsChosen v.shelf (rounded (options_of v.shelf.options) request) p
+  chosen_here = subst (λ r. IsChosen v.shelf r p) same_sides chosen
+
+  pub area-unsigned : IsUnsigned p.area
+  area-unsigned = grind (arith, exact-free)
+
+  pub area-fits : FitsInto size p.area
+  area-fits =
+      let fits : Fits (rounded (options_of v.shelf.options) request) (box_sides (box_of p.area)) = (takes v a request p chosen_here sized.0.positive).pick.best.candidate.fitting.fits in
+      unsigned-fits size p.area area-unsigned (size-positive (options_of v.shelf.options) request size a.holds.valid sized)
+      (subst (λ r. Fits r (box_sides (box_of p.area))) (sym same_sides) fits)
+
+  -- In the words of the calls: `made` are the slots once there is room.
+  module _ {A : Type 0} (made : Store A) (same : shelf_of made ≡ v.shelf) (needed : ℕ) (is_needed : needed ≡ slots_of p.plan) where
+    pub refused-step : (result : Result (Option Allocation) AtlasError) (error : AtlasError) → result ≡ Err error → IsShortOf v.used v.limit needed (length v.shelf.slots) error → (turns before : ℕ)
+        → Step (state_of (record { stored = v; turns = before; capacity = 0 })) (Allocate request) (allocate_reply result)
+        (state_of (record { stored = record { shelf = shelf_of made; first = v.first; used = v.used; size = v.size; limit = v.limit }; turns = turns; capacity = 0 }))
+    refused-step result error is short turns before = grind (arith, step-refused, chosen_here)
+
+    module _ (ok : (v.used + needed ≤ v.limit) × ((v.used + needed ≤ length made.slots.items) ⊎ (v.used + needed ≤ vec_capacity made.slots))) where
+      grantable_here : IsGrantable made (rounded (options_of v.shelf.options) request) p a.holding
+      grantable_here =
+          let long : length made.slots.items ≡ length v.shelf.slots = ap (λ s. length s.slots) same in
+          grantable v a request p chosen_here sized.0.positive made same (omega (arith, ok.0, is_needed)) (elim ok.1 [
+            | inl s ↦ inl (omega (arith, is_needed, long))
+            | inr s ↦ inr (omega (arith, is_needed))
+          ])
+
+      pub some-grantable : CanGrant made p
+      some-grantable = (rounded (options_of v.shelf.options) request, a.holding, grantable_here)
+
+      pub grant-done : (new : Store A) (id : ℕ) (rectangle : Rectangle) → IsRequestGranted made new p id
+          → ((f : Box) → p.area ≡ rectangle_of f → rectangle ≡ rectangle_of (box_at f.min (sides_of size)))
+          → IsDone v request (shelf_of new) needed id (box_of rectangle)
+      grant-done new id rectangle told boxes =
+          let u : Shelf = shelf_of new in
+          let got = told.granted (rounded (options_of v.shelf.options) request) a.holding grantable_here in
+          let same_options : u.options ≡ v.shelf.options = told.options ∙ ap (λ s. s.options) same in
+          let few : v.used + slots_of p.plan ≤ v.limit = omega (arith, ok.0, is_needed) in
+          let there : box_of rectangle ≡ box_at (box_of p.area).min (rounded (options_of v.shelf.options) request) =
+          ap box_of (boxes (box_of p.area) area-unsigned) ∙ ap (λ r. box_at (box_of p.area).min r) same_sides in
+          subst (λ n. IsDone v request u n id (box_of rectangle)) (sym is_needed) (record {
+            atlas = atlas-placed v a request p chosen_here sized.0.positive u id got.0 got.1 got.2 same_options few (box_of rectangle) there;
+            granted = (λ turns before. (box_of p.area, grants v a request p chosen_here sized.0.positive u id got.0 got.1 got.2 same_options few (box_of rectangle) there (v.used + slots_of p.plan) turns));
+          })
+
+-- A request has room if a slot was found for it.
+pub found-room : (v : Stored) (a : IsAtlas v) (request : Sides) (size : Size)
+    → CanBeRounded (options_of v.shelf.options) request × (size ≡ size_of (rounded (options_of v.shelf.options) request))
+    → (found : Option Chosen)
+    → (found ≡ None → (free : List Box) → AreFreeBoxes (nodes v.shelf.slots) free → (b : Box) → IsFitting free (sides_of size) b → ⊥)
+    → IfSome found (IsChosen v.shelf (sides_of size))
+    → IsTrue (is_some found) ↔ HasRoom (free_in (now v a request)) (options_of v.shelf.options) request
+found-room v a request size sized None none some = (
+  (λ yes. absurd (false≢true yes)),
+  (λ room. absurd (no_room-none v a request (sides_of size) (sides_of-size size _ sized.1) (none refl) room)),
+)
+found-room v a request size sized (Some p) none some = (
+  (λ yes. record {
+    positive = sized.0.positive;
+    box = box_of p.area;
+    fitting = (takes v a request p (chosen_here v a request size sized p some) sized.0.positive).pick.best.candidate.fitting;
+  }),
+  (λ room. refl),
+)

@@ -1,0 +1,19 @@
+use Rattle.std.proofs.Common.{◌≤◌, subst}
+use Rattle.atlas_model.specs.States.{IsSound}
+use Rattle.atlas_store.specs.Stored.{state_of}
+use Rattle.atlas_store.specs.Visits.{AreFreeAreas}
+use Rattle.atlas_allocator.proofs.AtlasLemmas.ShownLists.{free_areas-IsAtlas, listed}
+use Rattle.atlas_allocator.proofs.AtlasLemmas.Measuring.{sides_fit, measurable_areas}
+use Rattle.atlas_allocator.proofs.atlas.AtlasAllocator.free_rectangles.Goals as goal
+
+pub returns-clause-list : goal.returns-clause-list
+returns-clause-list g c =
+    rw (← c.self.view_is)
+    (listed (λ found. found.items) (AreFreeAreas _) _ c.gather_free.result c.gather_free.ensures.list (free_areas-IsAtlas _ c.self.invariant 0 _ c.deref.ensures.value))
+
+pub returns-clause-measurable : goal.returns-clause-measurable
+returns-clause-measurable g c =
+    measurable_areas (state_of c.args.self.now) (subst (λ w. IsSound (state_of w)) c.self.view_is c.self.invariant.sound)
+    (subst (λ w. (state_of w).size.width ≤ 2147483647) c.self.view_is (sides_fit _ c.self.invariant).0)
+    (subst (λ w. (state_of w).size.height ≤ 2147483647) c.self.view_is (sides_fit _ c.self.invariant).1)
+    (λ found. found.items) _ (returns-clause-list g c)

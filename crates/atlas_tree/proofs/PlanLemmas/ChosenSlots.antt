@@ -1,0 +1,118 @@
+-- The free slot that a request takes, and how it is granted.
+use Rattle.std.proofs.Common.{ℕ, ◌<◌, ◌≤◌, ◌≡◌, ◌≢◌, List, length, true, refl, sym, ap, subst, ◌∙◌, arith}
+use Rattle.std.proofs.lemmas.List.{length-map}
+use Rattle.atlas_store.specs.declared.store.Store.{Store}
+use Rattle.atlas_store.specs.declared.slots.Slot.{Slot}
+use Rattle.atlas_store.specs.declared.slots.Node.{Node}
+use Rattle.atlas_store.specs.declared.slots.NodeKind.TheVariants as kind
+use Rattle.atlas_store.specs.declared.search.best.Found.{Found}
+use Rattle.atlas_tree.specs.declared.requests.Chosen.{Chosen}
+use Rattle.atlas_tree.specs.declared.plans.Plan.{Plan}
+use Rattle.atlas_model.specs.Boxes.{Sides, Box, origin, box_sides, Fits}
+use Rattle.atlas_model.specs.Pixels.{box_of, rectangle_of, options_of}
+use Rattle.atlas_model.specs.Choice.{IsPick}
+use Rattle.atlas_model.specs.Trees.{ungranted, leaves}
+use Rattle.atlas_store.specs.Slots.{nodes, node_at}
+use Rattle.atlas_store.specs.Slots.Numbered.{erase, id_of}
+use Rattle.atlas_store.specs.Slots.Reading.{extent_of}
+use Rattle.atlas_store.specs.Search.Picks.{AreFreeBoxes, IsFreeSlot, IsSearchable}
+use Rattle.atlas_store.specs.Stored.{Shelf, Holding, Holds, places_of}
+use Rattle.atlas_store.specs.Store.Holdings.{shelf_of, node_in, across_of, with_loose, with_held, IsLow}
+use Rattle.atlas_store.specs.Search.Bands.{list_of, number_of}
+use Rattle.atlas_store.specs.Slots.Lists.{node_sides, node_strip}
+use Rattle.atlas_tree.specs.Plans.Planning.{IsPlanFor, IsFeasible, IsPlaceable, IsPlaceableAt, IsPlaced, IsPlanned}
+use Rattle.atlas_store.specs.Store.StoreCalls.{IsListedAt, IsSharpened, IsUnlisted}
+use Rattle.atlas_tree.specs.Plans.Chosen.{IsAtRest, IsChosen, IsGrantable, IsGrantMade}
+use Rattle.atlas_store.proofs.StoreLemmas.Filing.{with_mark-same}
+use Rattle.atlas_store.proofs.SlotLemmas.JoiningWrites.{used-inside}
+use Rattle.atlas_store.proofs.SlotLemmas.FreeSlots.{AreFreeBoxes-stands, exact-free, searchable}
+use Rattle.atlas_store.proofs.StoreLemmas.PlacingSteps.{only-more}
+use Rattle.atlas_store.proofs.StoreLemmas.StoreTakes.{slots-kept}
+
+module _ (v : Shelf) (h : Holding) (rest : IsAtRest v h) where
+  pub rest-searchable : (slots : List Slot) → slots ≡ v.slots → IsSearchable (options_of v.options) slots v.heads
+  rest-searchable slots e =
+      let P : List Slot → Type 0 = λ s. IsSearchable (options_of v.options) s v.heads in
+      subst P (sym e) (searchable (options_of v.options) v.slots v.heads v.unused (places_of (λ i. 0) h) h.sequence h.tree rest.holds.filed (λ i. rest.listed i refl) rest.holds.stands rest.holds.wide rest.holds.cut rest.holds.short rest.holds.valid)
+
+  pub rest-free : AreFreeBoxes (nodes v.slots) (ungranted (leaves h.sequence.axis origin h.sequence.width (erase h.tree)))
+  rest-free = AreFreeBoxes-stands (nodes v.slots) h.sequence h.tree rest.holds.stands rest.start
+
+  -- The slot that was found, in the words of the store.
+  module _ (slots : List Slot) (e : slots ≡ v.slots) (r : Sides) (found : Found) (leaf : Node) (le : leaf ≡ node_in v found.at.number)
+      (free : IsFreeSlot (nodes slots) found.at.number) (area : (node_at (nodes slots) found.at.number).area ≡ found.rectangle)
+      (picked : (free : List Box) → AreFreeBoxes (nodes slots) free → IsPick free (options_of v.options) r (box_of found.rectangle)) where
+    free_here : (node_in v found.at.number).kind ≡ kind.Free
+    free_here = subst (λ s. IsFreeSlot (nodes s) found.at.number) e free
+
+    area_here : (node_in v found.at.number).area ≡ found.rectangle
+    area_here = subst (λ s. (node_at (nodes s) found.at.number).area ≡ found.rectangle) e area
+
+    picked_here : (free : List Box) → AreFreeBoxes (nodes v.slots) free → IsPick free (options_of v.options) r (box_of found.rectangle)
+    picked_here = subst (λ s. (free : List Box) → AreFreeBoxes (nodes s) free → IsPick free (options_of v.options) r (box_of found.rectangle)) e picked
+
+    pub found-exact : leaf.area ≡ rectangle_of (box_of leaf.area)
+    found-exact = grind (arith, exact-free, free_here)
+
+    pub found-fits : Fits r (box_sides (box_of leaf.area))
+    found-fits = grind (arith, area_here, picked_here, rest-free)
+
+    pub found-chosen : (plan : Plan) → IsPlanFor leaf r plan → IsFeasible plan (extent_of leaf) (across_of leaf)
+        → (found.place.row < 52) × (found.place.column < 52) × (number_of found.place ≡ list_of (options_of v.options) (node_sides (node_at (nodes slots) found.at.number)))
+        → ((i : ℕ) → IsFreeSlot (nodes slots) i → i ≢ found.at.number → list_of (options_of v.options) (node_sides (node_at (nodes slots) i)) ≡ number_of found.place
+        → found.low ≤ node_strip (node_at (nodes slots) i))
+        → IsChosen v r (record { at = found.at; area = found.rectangle; place = found.place; low = found.low; plan = plan })
+    found-chosen plan line feasible place low = grind (arith, free_here, area_here, picked_here)
+
+-- It stands in the list at its place.
+pub listed-chosen : {A : Type 0} {v : Store A} {r : Sides} {p : Chosen} {h : Holding} → IsGrantable v r p h
+    → IsListedAt v p.at.number p.place
+listed-chosen {A} {v} {r} {p} {h} w = grind arith
+
+-- Once the slot is loose, no other slot of its list lies above the strip that the search saw.
+chosen-low : (v u : Shelf) (r : Sides) (p : Chosen) → IsChosen v r p → nodes u.slots ≡ nodes v.slots → u.options ≡ v.options
+    → (h : Holding) → h.loose p.at.number ≡ true → IsLow u h (number_of p.place) p.low
+chosen-low v u r p w same options h is_loose i free kept list = grind arith
+
+-- The slot leaves its list, for which another strip is kept then.
+pub unlisted-sharpened : {A : Type 0} {v u v' : Store A} {r : Sides} (p : Chosen) → IsChosen (shelf_of v) r p → IsUnlisted v u p.at.number
+    → IsSharpened u v' (number_of p.place) p.low → IsUnlisted v v' p.at.number
+unlisted-sharpened {A} {v} {u} {v'} {r} p w one two = record {
+  kept = λ h holds listed.
+      let left = one.kept h holds listed in
+      let now : Holding = with_loose p.at.number true (with_held left.0 h) in (
+        left.0,
+        two.kept now left.1
+            (chosen-low (shelf_of v) (shelf_of u) r p w one.nodes one.room.options now (with_mark-same h.loose p.at.number true)),
+      );
+  nodes = ap (λ s. nodes s.items) two.slots ∙ one.nodes;
+  room = grind arith;
+  turns = two.turns ∙ one.turns;
+}
+
+module _ {A : Type 0} {v v' : Store A} {r : Sides} {p : Chosen} {h : Holding} (w : IsGrantable v r p h) (u : IsUnlisted v v' p.at.number) where
+  left : (held : ℕ → List ℕ) × Holds (shelf_of v') (with_loose p.at.number true (with_held held h))
+  left = u.kept h w.rest.holds (w.rest.listed p.at.number refl)
+
+  abbrev unlisted : Holding
+  unlisted = with_loose p.at.number true (with_held left.0 h)
+
+  is_placeable : IsPlaceableAt v' p.at.number p.plan unlisted
+  is_placeable = grind (arith, left, with_mark-same, only-more, slots-kept)
+
+  pub placeable-chosen : IsPlaceable v' p.at.number p.plan
+  placeable-chosen = (unlisted, is_placeable)
+
+  module _ {new : Store A} {to : ℕ} (placed : IsPlaced v' new p.at.number to p.plan) where
+    placed_there : (h' : Holding) × IsPlanned (shelf_of new) p.at.number to p.plan unlisted h'
+    placed_there = placed.kept unlisted is_placeable
+
+    pub granted-inside : to < length new.slots.items
+    granted-inside = grind (arith, used-inside, placed_there, length-map)
+
+    pub granted-short : to < 16777216
+    granted-short = omega (arith, granted-inside, placed_there.1.holds.short)
+
+    pub grant-made : (id : ℕ) (node : Node) → node ≡ node_in (shelf_of new) to → id ≡ id_of to node.generation
+        → (to : ℕ) × (h' : Holding) × IsGrantMade (shelf_of new) p id to h h'
+    grant-made id node same is = grind (arith, placed_there)

@@ -1,0 +1,76 @@
+-- The free slot that a request takes, and what is granted there. No public clause cites this module.
+use Rattle.std.specs.Prelude.{ℕ, ◌+◌, ◌<◌, ◌≤◌, ◌≡◌, ◌≢◌, List, [], vec_capacity}
+use Rattle.atlas_store.specs.declared.store.Store.{Store}
+use Rattle.atlas_tree.specs.declared.requests.Chosen.{Chosen}
+use Rattle.atlas_store.specs.declared.slots.NodeKind.TheVariants as kind
+use Rattle.atlas_model.specs.declared.error.AtlasError.{AtlasError}
+use Rattle.atlas_model.specs.declared.error.AtlasError.TheVariants.{Memory, Slots, NotLive}
+use Rattle.atlas_model.specs.Boxes.{Sides, Box}
+use Rattle.atlas_model.specs.Choice.{IsPick}
+use Rattle.atlas_model.specs.Pixels.{box_of, options_of}
+use Rattle.atlas_store.specs.Slots.{nodes}
+use Rattle.atlas_store.specs.Slots.Numbered.{id_of}
+use Rattle.atlas_store.specs.Slots.Reading.{extent_of}
+use Rattle.atlas_store.specs.Search.Bands.{list_of, number_of}
+use Rattle.atlas_store.specs.Slots.Lists.{node_sides, node_strip}
+use Rattle.atlas_store.specs.Search.Picks.{AreFreeBoxes, IsFreeSlot}
+use Rattle.atlas_store.specs.Stored.{Shelf, Holding, Holds, IsLooseOnly}
+use Rattle.atlas_store.specs.Store.Holdings.{shelf_of, node_in, across_of, HasSlotsFor}
+use Rattle.atlas_tree.specs.Plans.Planning.{IsPlanFor, IsFeasible, IsPlanned, slots_of}
+
+-- The slots stand for a tree that begins at 0, and each free slot stands in its list.
+pub record IsAtRest (v : Shelf) (h : Holding) : Type 0 where
+  pub holds : Holds v h
+  pub listed : IsLooseOnly [] h
+  pub start : h.sequence.start ≡ 0
+
+-- The free slot that a request takes, the list where it stands, a strip that no other slot of that list lies above, and
+-- how the slot gives way.
+pub record IsChosen (v : Shelf) (r : Sides) (p : Chosen) : Type 0 where
+  pub free : (node_in v p.at.number).kind ≡ kind.Free
+  pub area : (node_in v p.at.number).area ≡ p.area
+  pub pick : (free : List Box) → AreFreeBoxes (nodes v.slots) free
+      → IsPick free (options_of v.options) r (box_of p.area)
+  pub row : p.place.row < 52
+  pub column : p.place.column < 52
+  pub place : number_of p.place ≡ list_of (options_of v.options) (node_sides (node_in v p.at.number))
+  pub low : (i : ℕ) → IsFreeSlot (nodes v.slots) i → i ≢ p.at.number
+      → list_of (options_of v.options) (node_sides (node_in v i)) ≡ number_of p.place
+      → p.low ≤ node_strip (node_in v i)
+  pub line : IsPlanFor (node_in v p.at.number) r p.plan
+  pub feasible : IsFeasible p.plan (extent_of (node_in v p.at.number)) (across_of (node_in v p.at.number))
+
+-- There are slots for the plan.
+pub record IsGrantable {A : Type 0} (s : Store A) (r : Sides) (p : Chosen) (h : Holding) : Type 0 where
+  pub rest : IsAtRest (shelf_of s) h
+  pub chosen : IsChosen (shelf_of s) r p
+  pub slots : HasSlotsFor (slots_of p.plan) s h
+
+-- The plan is carried out, and slot `to` is granted under this id.
+pub record IsGrantMade (new : Shelf) (p : Chosen) (id to : ℕ) (h h' : Holding) : Type 0 where
+  pub planned : IsPlanned new p.at.number to p.plan h h'
+  pub names : id ≡ id_of to (node_in new to).generation
+
+-- A chosen slot can be granted.
+abbrev pub CanGrant : {A : Type 0} → Store A → Chosen → Type 0
+CanGrant s p = (r : Sides) × (h : Holding) × IsGrantable s r p h
+
+-- It is granted under this id.
+pub record IsRequestGranted {A : Type 0} (old new : Store A) (p : Chosen) (id : ℕ) : Type 0 where
+  pub granted : (r : Sides) (h : Holding) → IsGrantable old r p h
+      → (to : ℕ) × (h' : Holding) × IsGrantMade (shelf_of new) p id to h h'
+  pub options : new.options ≡ old.options
+  pub capacity : vec_capacity new.slots ≡ vec_capacity old.slots
+  pub turns : new.turns ≡ old.turns
+
+-- Why slots were refused.
+abbrev pub IsShortOf : (used limit needed kept : ℕ) → AtlasError → Type 0
+IsShortOf used limit needed kept Slots = limit < used + needed
+IsShortOf used limit needed kept Memory = (used + needed ≤ limit) × (kept < used + needed)
+IsShortOf used limit needed kept NotLive = ⊥
+
+-- The same is stored, in as much memory or more, and no turn was taken.
+pub record KeepsShelf {A : Type 0} (old new : Store A) : Type 0 where
+  pub shelf : shelf_of new ≡ shelf_of old
+  pub capacity : vec_capacity old.slots ≤ vec_capacity new.slots
+  pub turns : new.turns ≡ old.turns

@@ -1,0 +1,8 @@
+//! The tree of an atlas, for `guillotiere` alone: the slot that a request is granted, how its leaf is cut, how a freed
+//! leaf joins and rises, and how an atlas grows (docs/SLOTS.md). Each is a short list of calls of `atlas_store`.
+#![tactic(auto)]
+
+pub mod freeing;
+pub mod growth;
+pub mod plans;
+pub mod requests;

@@ -1,0 +1,198 @@
+//! Plans: how a leaf gives way to a request that fits it, and how that is carried out by the calls of `store`.
+ghost use Rattle.std.specs.Prelude.{◌≡◌, ◌≤◌, true, false};
+ghost use Rattle.atlas_store.specs.declared.slots.Node.{Node};
+ghost use Rattle.atlas_model.specs.Boxes.{IsPositive, Fits, box_sides, side, other};
+ghost use Rattle.atlas_model.specs.Cuts.{cut, cut_axis};
+ghost use Rattle.atlas_model.specs.Cuts.Cut.{Whole, Strip, Corner};
+ghost use Rattle.atlas_store.specs.Slots.{axis_of};
+ghost use Rattle.atlas_model.specs.Pixels.{box_of, rectangle_of, sides_of};
+ghost use Rattle.atlas_store.specs.Slots.Reading.{extent_of};
+ghost use Rattle.atlas_store.specs.Store.Holdings.{across_of};
+ghost use Rattle.atlas_tree.specs.Plans.Planning.{slots_of, IsPlanFor, IsFeasible, IsPlaceable, IsPlaced};
+
+use atlas_model::Size;
+use atlas_store::cut::{Orientation, orientation_of};
+use atlas_store::slots::lists::exact_size;
+use atlas_store::slots::{Link, Node};
+use atlas_store::store::Store;
+use std::alloc::Allocator;
+
+/// How a free leaf gives way to a request that fits it, with the request's pixels along the leaf's sequence and across
+/// it (docs/MODEL.md, "Changes of a tree").
+#[derive(Clone, Copy, Debug, PartialEq, Eq)]
+pub enum Plan {
+    /// The leaf is granted whole.
+    Whole,
+    /// The leaf is cut along its sequence.
+    StripAlong(u32),
+    /// It is cut along its sequence, and its first part across.
+    CornerAlong(u32, u32),
+    /// It becomes a container, and is cut across.
+    StripAcross(u32),
+    /// It becomes a container, is cut across, and its first part along.
+    CornerAcross(u32, u32),
+}
+
+/// How many slots a plan takes.
+pub fn slots_needed(plan: Plan) -> u32
+    ensures { result ≡ slots_of plan }
+{
+    match plan {
+        Plan::Whole => 0,
+        Plan::StripAlong(_) => 1,
+        Plan::CornerAlong(_, _) => 3,
+        Plan::StripAcross(_) => 2,
+        Plan::CornerAcross(_, _) => 4,
+    }
+}
+
+// How many sides of a size are those of the whole: two, one or none.
+fn equal_sides(whole: Size, size: Size) -> u32
+    requires whole { IsPositive (sides_of whole) }
+    requires positive { IsPositive (sides_of size) }
+    ensures most { result ≤ 2 }
+    ensures two { result ≡ 2 → cut (sides_of whole) (sides_of size) ≡ Whole }
+    ensures one { result ≡ 1
+        → cut (sides_of whole) (sides_of size) ≡ Strip (cut_axis (sides_of whole) (sides_of size)) }
+    ensures none { result ≡ 0
+        → cut (sides_of whole) (sides_of size) ≡ Corner (cut_axis (sides_of whole) (sides_of size)) }
+{
+    if whole.width == size.width {
+        if whole.height == size.height { 2 } else { 1 }
+    } else if whole.height == size.height {
+        1
+    } else {
+        0
+    }
+}
+
+// The axis on which the greater part remains. Where a side is equal, nothing remains on its axis.
+fn remaining_axis(whole: Size, size: Size) -> Orientation
+    requires whole { IsPositive (sides_of whole) }
+    requires positive { IsPositive (sides_of size) }
+    requires fits { Fits (sides_of size) (sides_of whole) }
+    ensures { axis_of result ≡ cut_axis (sides_of whole) (sides_of size) }
+{
+    if whole.width == size.width {
+        Orientation::Vertical
+    } else if whole.height == size.height {
+        Orientation::Horizontal
+    } else {
+        orientation_of(whole, size)
+    }
+}
+
+// Whether the greater part remains along this axis.
+fn remains_along(whole: Size, size: Size, axis: Orientation) -> bool
+    requires whole { IsPositive (sides_of whole) }
+    requires positive { IsPositive (sides_of size) }
+    requires fits { Fits (sides_of size) (sides_of whole) }
+    ensures along { result ≡ true → cut_axis (sides_of whole) (sides_of size) ≡ axis_of axis }
+    ensures across { result ≡ false → cut_axis (sides_of whole) (sides_of size) ≡ other (axis_of axis) }
+{
+    remaining_axis(whole, size) == axis
+}
+
+// The pixels of a size along an axis, and those across it.
+fn along_and_across(size: Size, axis: Orientation) -> (u32, u32)
+    requires { IsPositive (sides_of size) }
+    ensures along { result.0 ≡ side (axis_of axis) (sides_of size) }
+    ensures across { result.1 ≡ side (other (axis_of axis)) (sides_of size) }
+{
+    let width = size.width as u32;
+    let height = size.height as u32;
+    match axis {
+        Orientation::Horizontal => (width, height),
+        Orientation::Vertical => (height, width),
+    }
+}
+
+/// The plan for a request that fits a leaf.
+pub fn plan_for(leaf: &Node, size: Size) -> Plan
+    requires exact { leaf.now.area ≡ rectangle_of (box_of leaf.now.area) }
+    requires positive { IsPositive (sides_of size) }
+    requires fits { Fits (sides_of size) (box_sides (box_of leaf.now.area)) }
+    ensures line { IsPlanFor leaf.now (sides_of size) result }
+    ensures feasible { IsFeasible result (extent_of leaf.now) (across_of leaf.now) }
+{
+    let whole = exact_size(leaf.area);
+    let is_along = remains_along(whole, size, leaf.axis);
+    let (along, across) = along_and_across(size, leaf.axis);
+    let equal = equal_sides(whole, size);
+    if equal == 2 {
+        Plan::Whole
+    } else if equal == 1 {
+        if is_along {
+            Plan::StripAlong(along)
+        } else {
+            Plan::StripAcross(across)
+        }
+    } else if is_along {
+        Plan::CornerAlong(along, across)
+    } else {
+        Plan::CornerAcross(along, across)
+    }
+}
+
+/// Carries out a plan in the loose leaf of a slot, for which there are slots. The answer is the slot that is granted.
+pub fn place<A: Allocator>(store: &mut Store<A>, at: Link, plan: Plan) -> Link
+    requires { IsPlaceable store.old at.number plan }
+    ensures { IsPlaced store.old store.new at.number result.number plan }
+{
+    match plan {
+        Plan::Whole => {
+            store.grant(at);
+            at
+        }
+        Plan::StripAlong(along) => strip_along(store, at, along),
+        Plan::CornerAlong(along, across) => corner_along(store, at, along, across),
+        Plan::StripAcross(across) => strip_across(store, at, across),
+        Plan::CornerAcross(along, across) => corner_across(store, at, along, across),
+    }
+}
+
+fn strip_along<A: Allocator>(store: &mut Store<A>, at: Link, along: u32) -> Link
+    requires { IsPlaceable store.old at.number (Plan.StripAlong along) }
+    ensures { IsPlaced store.old store.new at.number result.number (Plan.StripAlong along) }
+{
+    let split = store.split(at, along);
+    store.grant(at);
+    store.list(split);
+    at
+}
+
+fn corner_along<A: Allocator>(store: &mut Store<A>, at: Link, along: u32, across: u32) -> Link
+    requires { IsPlaceable store.old at.number (Plan.CornerAlong along across) }
+    ensures { IsPlaced store.old store.new at.number result.number (Plan.CornerAlong along across) }
+{
+    let split = store.split(at, along);
+    let granted = store.wrap(at);
+    let leftover = store.split(granted, across);
+    store.grant(granted);
+    store.list(split);
+    store.list(leftover);
+    granted
+}
+
+fn strip_across<A: Allocator>(store: &mut Store<A>, at: Link, across: u32) -> Link
+    requires { IsPlaceable store.old at.number (Plan.StripAcross across) }
+    ensures { IsPlaced store.old store.new at.number result.number (Plan.StripAcross across) }
+{
+    let (granted, split) = store.wrap_two(at, across);
+    store.grant(granted);
+    store.list(split);
+    granted
+}
+
+fn corner_across<A: Allocator>(store: &mut Store<A>, at: Link, along: u32, across: u32) -> Link
+    requires { IsPlaceable store.old at.number (Plan.CornerAcross along across) }
+    ensures { IsPlaced store.old store.new at.number result.number (Plan.CornerAcross along across) }
+{
+    let (container, split) = store.wrap_two(at, across);
+    let granted = store.wrap(container);
+    let leftover = store.split(granted, along);
+    store.grant(granted);
+    store.list(split);
+    store.list(leftover);
+    granted
+}

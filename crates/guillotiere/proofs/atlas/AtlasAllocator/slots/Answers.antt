@@ -1,5 +1,0 @@
-use Rattle.atlas_store.proofs.WalkLemmas.Observing.{used-IsAtlas}
-use Rattle.guillotiere.proofs.atlas.AtlasAllocator.slots.Goals as goal
-
-pub returns-clause-used : goal.returns-clause-used
-returns-clause-used g c = rw (← c.self.view_is) (used-IsAtlas _ c.self.invariant)

@@ -1,9 +1,0 @@
-use Rattle.std.proofs.Common.{rules, arith}
-use Rattle.atlas_store.proofs.StoreLemmas.Starting.{whole_atlas, whole_state}
-use Rattle.guillotiere.proofs.atlas.AtlasAllocator.with_slot_limit.Goals as goal
-
-pub invariant_of-result : goal.invariant_of-result
-invariant_of-result g c = grind (arith, whole_atlas)
-
-pub returns-clause-state : goal.returns-clause-state
-returns-clause-state g c = search (rules, whole_state)

@@ -1,5 +1,0 @@
-use Rattle.guillotiere.proofs.AtlasLemmas.RefitSizes.{measured-box}
-use Rattle.guillotiere.proofs.atlas.rearranging.size_of_box.Goals as goal
-
-pub returns : goal.returns
-returns c = measured-box c.args.rectangle c.size.result c.requires c.size.ensures

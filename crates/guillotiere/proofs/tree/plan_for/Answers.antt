@@ -1,5 +1,0 @@
-use Rattle.guillotiere.proofs.PlanLemmas.PlanLines.{exact-leaf}
-use Rattle.guillotiere.proofs.tree.plan_for.Goals as goal
-
-pub exact_size-whole-requires : goal.exact_size-whole-requires
-exact_size-whole-requires c = exact-leaf c.args.leaf.now.area _ c.requires.exact c.requires.positive c.requires.fits
