@@ -160,8 +160,8 @@ pub extern "C" fn guillotiere_atlas_can_grow_to(
     can_grow
 }
 
-/// Whether a request of this size has room: then `guillotiere_atlas_allocate` grants it, slots and memory aside; else it
-/// answers `NO_ROOM`. False of a handle that holds nothing.
+/// Whether a request of this size has room: then `guillotiere_atlas_allocate` grants it, slots and memory aside; else
+/// it answers `NO_ROOM`. False of a handle that holds nothing.
 #[unsafe(no_mangle)]
 pub extern "C" fn guillotiere_atlas_can_fit(
     alloc: Global,
