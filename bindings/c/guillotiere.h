@@ -10,7 +10,7 @@
  *     ...
  *     guillotiere_atlas_free(&atlas);
  *
- * A handle that is all zero holds nothing, and every call of such a handle answers GUILLOTIERE_EMPTY. After
+ * A handle that is all zero holds nothing: each call of it that has a status answers GUILLOTIERE_EMPTY. After
  * guillotiere_atlas_free it holds nothing again, so freeing twice does nothing. An allocator's memory is from malloc,
  * and guillotiere_atlas_free gives all of it back.
  *
@@ -99,7 +99,8 @@ typedef struct guillotiere_options {
 } guillotiere_options;
 
 /* How many slots are used, the most that were used at once since the last start, and how many may be used. Each live and
- * each free box takes a slot, and so does each container of the tree of cuts. */
+ * each free box takes a slot, and so does each container of the tree of cuts. Of a simple allocator: its entries, one for
+ * each free box; how many there are, used and unused; and 4294967295. */
 typedef struct guillotiere_slots {
     uint32_t used;
     uint32_t kept;
@@ -156,10 +157,23 @@ uint32_t guillotiere_atlas_deallocate_all(guillotiere_atlas *atlas, const uint32
 /* The rectangle of a live id. DONE: it is in `found`. NOT_LIVE; EMPTY. */
 uint32_t guillotiere_atlas_get(guillotiere_atlas *atlas, uint32_t id, guillotiere_rectangle *found);
 
+/* Whether a request of this size has room, in pixels: then guillotiere_atlas_allocate grants it, slots and memory aside; else
+ * it answers NO_ROOM. Takes one search and no memory. False of a handle that holds nothing. */
+bool guillotiere_atlas_can_fit(guillotiere_atlas *atlas, int32_t width, int32_t height);
+
+/* Takes memory for so many slots beside those that are used; nothing else changes. While there is memory for 4 more slots no
+ * request is answered MEMORY, and for 3 no growth; a request uses at most 4, a growth at most 3, a freeing none. The memory
+ * stays until the atlas is rearranged or freed, and a copy has none of it.
+ * DONE; SLOTS if more slots would be used than the limit allows; MEMORY; EMPTY. */
+uint32_t guillotiere_atlas_reserve(guillotiere_atlas *atlas, uint32_t additional);
+
 /* --- An atlas: its size ------------------------------------------------------------------------------------------- */
 
 /* Makes the atlas larger; every live id keeps its rectangle. DONE; BAD_CALL if a side shrinks; SLOTS; MEMORY; EMPTY. */
 uint32_t guillotiere_atlas_grow(guillotiere_atlas *atlas, int32_t width, int32_t height);
+
+/* Whether the atlas may be grown to this size, in pixels: no side shrinks. False of a handle that holds nothing. */
+bool guillotiere_atlas_can_grow_to(guillotiere_atlas *atlas, int32_t width, int32_t height);
 
 /* Starts again at the present size, options and limit: one free box, no id live. Takes no memory. DONE; EMPTY. */
 uint32_t guillotiere_atlas_clear(guillotiere_atlas *atlas);
@@ -187,6 +201,9 @@ uint32_t guillotiere_atlas_resize_and_rearrange(guillotiere_atlas *atlas, int32_
 
 /* The size of the atlas. DONE; EMPTY. */
 uint32_t guillotiere_atlas_size(guillotiere_atlas *atlas, guillotiere_size *size);
+
+/* The options of the atlas. DONE; EMPTY. */
+uint32_t guillotiere_atlas_options(guillotiere_atlas *atlas, guillotiere_options *options);
 
 /* Whether no id is live; also true of a handle that holds nothing. */
 bool guillotiere_atlas_is_empty(guillotiere_atlas *atlas);
@@ -227,11 +244,14 @@ uint32_t guillotiere_simple_allocate(guillotiere_simple *simple, int32_t width, 
 /* Makes the allocator larger. DONE; BAD_CALL if a side shrinks; MEMORY; EMPTY. */
 uint32_t guillotiere_simple_grow(guillotiere_simple *simple, int32_t width, int32_t height);
 
-/* Starts again with one free box of the allocator's size. DONE; MEMORY; EMPTY. */
+/* Whether the allocator may be grown to this size, in pixels: no side shrinks. False of a handle that holds nothing. */
+bool guillotiere_simple_can_grow_to(guillotiere_simple *simple, int32_t width, int32_t height);
+
+/* Starts again with one free box of the allocator's size. Takes no memory. DONE; EMPTY. */
 uint32_t guillotiere_simple_clear(guillotiere_simple *simple);
 
-/* Starts again at this size and with these options.
- * DONE; BAD_CALL if a side isn't above 0 or the options aren't valid; MEMORY; EMPTY. */
+/* Starts again at this size and with these options. Takes no memory.
+ * DONE; BAD_CALL if a side isn't above 0 or the options aren't valid; EMPTY. */
 uint32_t guillotiere_simple_reset(guillotiere_simple *simple, int32_t width, int32_t height,
                                   const guillotiere_options *options);
 
@@ -241,6 +261,12 @@ uint32_t guillotiere_simple_init_from_allocator(guillotiere_simple *simple, guil
 
 /* The size of the allocator. DONE; EMPTY. */
 uint32_t guillotiere_simple_size(guillotiere_simple *simple, guillotiere_size *size);
+
+/* The options of the allocator. DONE; EMPTY. */
+uint32_t guillotiere_simple_options(guillotiere_simple *simple, guillotiere_options *options);
+
+/* The counts of entries, one of which each free box takes. DONE; EMPTY. */
+uint32_t guillotiere_simple_slots(guillotiere_simple *simple, guillotiere_slots *slots);
 
 /* Whether one free box has the allocator's size; also true of a handle that holds nothing. */
 bool guillotiere_simple_is_empty(guillotiere_simple *simple);

@@ -121,7 +121,16 @@ public:
         return found;
     }
 
+    // Whether a request has room: then `allocate` grants it, slots and memory aside.
+    bool can_fit(size requested) const { return guillotiere_atlas_can_fit(&handle_, requested.width, requested.height); }
+    // Takes memory for so many slots beside those that are used: 4 for a request, 3 for a growth.
+    [[nodiscard]] status reserve(std::uint32_t additional) {
+        return static_cast<status>(guillotiere_atlas_reserve(&handle_, additional));
+    }
+
     [[nodiscard]] status grow(size to) { return static_cast<status>(guillotiere_atlas_grow(&handle_, to.width, to.height)); }
+    // Whether no side shrinks.
+    bool can_grow_to(size to) const { return guillotiere_atlas_can_grow_to(&handle_, to.width, to.height); }
     [[nodiscard]] status clear() { return static_cast<status>(guillotiere_atlas_clear(&handle_)); }
     [[nodiscard]] status reset(size of, const options &with = default_options) {
         return static_cast<status>(guillotiere_atlas_reset(&handle_, of.width, of.height, &with));
@@ -141,6 +150,12 @@ public:
     size extent() const {
         size found{};
         guillotiere_atlas_size(&handle_, &found);
+        return found;
+    }
+    // Of an atlas that was moved from: all zero.
+    options settings() const {
+        options found{};
+        guillotiere_atlas_options(&handle_, &found);
         return found;
     }
     bool is_empty() const { return guillotiere_atlas_is_empty(&handle_); }
@@ -238,6 +253,8 @@ public:
     }
 
     [[nodiscard]] status grow(size to) { return static_cast<status>(guillotiere_simple_grow(&handle_, to.width, to.height)); }
+    // Whether no side shrinks.
+    bool can_grow_to(size to) const { return guillotiere_simple_can_grow_to(&handle_, to.width, to.height); }
     [[nodiscard]] status clear() { return static_cast<status>(guillotiere_simple_clear(&handle_)); }
     [[nodiscard]] status reset(size of, const options &with = default_options) {
         return static_cast<status>(guillotiere_simple_reset(&handle_, of.width, of.height, &with));
@@ -250,6 +267,18 @@ public:
     size extent() const {
         size found{};
         guillotiere_simple_size(&handle_, &found);
+        return found;
+    }
+    // Of an allocator that was moved from: all zero.
+    options settings() const {
+        options found{};
+        guillotiere_simple_options(&handle_, &found);
+        return found;
+    }
+    // The entries, one of which each free box takes.
+    slot_count slots() const {
+        slot_count found{};
+        guillotiere_simple_slots(&handle_, &found);
         return found;
     }
     bool is_empty() const { return guillotiere_simple_is_empty(&handle_); }

@@ -16,18 +16,21 @@ static void zero_handles(void) {
     guillotiere_size size = {6, 7};
     guillotiere_slots slots;
     guillotiere_areas areas;
+    guillotiere_options options = {4, 5, 6, 7};
     uint32_t id = 0;
     size_t count = 3;
     CHECK(guillotiere_atlas_allocate(&none, 1, 1, &granted) == GUILLOTIERE_EMPTY && granted.id == 5);
     CHECK(guillotiere_atlas_deallocate(&none, 0) == GUILLOTIERE_EMPTY);
     CHECK(guillotiere_atlas_deallocate_all(&none, &id, 1) == GUILLOTIERE_EMPTY);
     CHECK(guillotiere_atlas_get(&none, 0, &found) == GUILLOTIERE_EMPTY && found.max_y == 4);
-    CHECK(guillotiere_atlas_grow(&none, 5, 5) == GUILLOTIERE_EMPTY);
+    CHECK(!guillotiere_atlas_can_fit(&none, 1, 1) && guillotiere_atlas_reserve(&none, 0) == GUILLOTIERE_EMPTY);
+    CHECK(guillotiere_atlas_grow(&none, 5, 5) == GUILLOTIERE_EMPTY && !guillotiere_atlas_can_grow_to(&none, 5, 5));
     CHECK(guillotiere_atlas_clear(&none) == GUILLOTIERE_EMPTY);
     CHECK(guillotiere_atlas_reset(&none, 5, 5, &defaults) == GUILLOTIERE_EMPTY);
     CHECK(guillotiere_atlas_rearrange(&none, &change, 1, &granted, 1, &moved) == GUILLOTIERE_EMPTY && moved.failures == 9);
     CHECK(guillotiere_atlas_resize_and_rearrange(&none, 5, 5, &change, 1, &granted, 1, &moved) == GUILLOTIERE_EMPTY);
     CHECK(guillotiere_atlas_size(&none, &size) == GUILLOTIERE_EMPTY && size.width == 6);
+    CHECK(guillotiere_atlas_options(&none, &options) == GUILLOTIERE_EMPTY && options.large_size_threshold == 7);
     CHECK(guillotiere_atlas_slots(&none, &slots) == GUILLOTIERE_EMPTY);
     CHECK(guillotiere_atlas_areas(&none, &areas) == GUILLOTIERE_EMPTY);
     CHECK(guillotiere_atlas_live(&none, &granted, 1, &count) == GUILLOTIERE_EMPTY && count == 3);
@@ -36,11 +39,13 @@ static void zero_handles(void) {
     CHECK(guillotiere_atlas_is_empty(&none));
     guillotiere_atlas_free(&none);
     CHECK(guillotiere_simple_allocate(&simple, 1, 1, &found) == GUILLOTIERE_EMPTY);
-    CHECK(guillotiere_simple_grow(&simple, 5, 5) == GUILLOTIERE_EMPTY);
+    CHECK(guillotiere_simple_grow(&simple, 5, 5) == GUILLOTIERE_EMPTY && !guillotiere_simple_can_grow_to(&simple, 5, 5));
     CHECK(guillotiere_simple_clear(&simple) == GUILLOTIERE_EMPTY);
     CHECK(guillotiere_simple_reset(&simple, 5, 5, &defaults) == GUILLOTIERE_EMPTY);
     CHECK(guillotiere_simple_init_from_allocator(&simple, &none) == GUILLOTIERE_EMPTY);
     CHECK(guillotiere_simple_size(&simple, &size) == GUILLOTIERE_EMPTY && size.width == 6);
+    CHECK(guillotiere_simple_options(&simple, &options) == GUILLOTIERE_EMPTY && options.alignment_width == 4);
+    CHECK(guillotiere_simple_slots(&simple, &slots) == GUILLOTIERE_EMPTY);
     CHECK(guillotiere_simple_is_empty(&simple));
     guillotiere_simple_free(&simple);
 }
@@ -95,6 +100,7 @@ static void sides(void) {
             CHECK(guillotiere_atlas_new(100, 100, &atlas) == GUILLOTIERE_DONE);
             CHECK(guillotiere_simple_new(100, 100, &simple) == GUILLOTIERE_DONE);
             const bool fits = is_size && width <= 100 && height <= 100;
+            CHECK(guillotiere_atlas_can_fit(&atlas, width, height) == fits);
             status = guillotiere_atlas_allocate(&atlas, width, height, &granted);
             CHECK(status == (fits ? GUILLOTIERE_DONE : GUILLOTIERE_NO_ROOM));
             CHECK(guillotiere_simple_allocate(&simple, width, height, &taken) == status);
@@ -102,6 +108,8 @@ static void sides(void) {
             CHECK(status == (is_size ? GUILLOTIERE_DONE : GUILLOTIERE_BAD_CALL));
             CHECK(guillotiere_atlas_reset(&atlas, 100, 100, &defaults) == GUILLOTIERE_DONE);
             const bool grows = width >= 100 && height >= 100;
+            CHECK(guillotiere_atlas_can_grow_to(&atlas, width, height) == grows);
+            CHECK(guillotiere_simple_can_grow_to(&simple, width, height) == grows);
             CHECK(guillotiere_atlas_grow(&atlas, width, height) == (grows ? GUILLOTIERE_DONE : GUILLOTIERE_BAD_CALL));
             CHECK(guillotiere_simple_grow(&simple, width, height) == (grows ? GUILLOTIERE_DONE : GUILLOTIERE_BAD_CALL));
             status = guillotiere_atlas_reset(&atlas, width, height, &defaults);
@@ -110,6 +118,23 @@ static void sides(void) {
             guillotiere_atlas_free(&atlas);
             guillotiere_simple_free(&simple);
         }
+}
+
+/* Both allocators tell the options that they were made with, and after a reset those of the reset. */
+static void told_options(const guillotiere_options *wanted) {
+    guillotiere_atlas atlas = GUILLOTIERE_NONE;
+    guillotiere_simple simple = GUILLOTIERE_NONE;
+    guillotiere_options told;
+    CHECK(guillotiere_atlas_with_options(64, 64, wanted, &atlas) == GUILLOTIERE_DONE);
+    CHECK(guillotiere_atlas_options(&atlas, &told) == GUILLOTIERE_DONE && memcmp(&told, wanted, sizeof told) == 0);
+    CHECK(guillotiere_atlas_reset(&atlas, 64, 64, &defaults) == GUILLOTIERE_DONE);
+    CHECK(guillotiere_atlas_options(&atlas, &told) == GUILLOTIERE_DONE && memcmp(&told, &defaults, sizeof told) == 0);
+    CHECK(guillotiere_simple_with_options(64, 64, wanted, &simple) == GUILLOTIERE_DONE);
+    CHECK(guillotiere_simple_options(&simple, &told) == GUILLOTIERE_DONE && memcmp(&told, wanted, sizeof told) == 0);
+    CHECK(guillotiere_simple_init_from_allocator(&simple, &atlas) == GUILLOTIERE_DONE);
+    CHECK(guillotiere_simple_options(&simple, &told) == GUILLOTIERE_DONE && memcmp(&told, &defaults, sizeof told) == 0);
+    guillotiere_atlas_free(&atlas);
+    guillotiere_simple_free(&simple);
 }
 
 /* Options and limits, good and bad. */
@@ -124,13 +149,17 @@ static void options(void) {
             uint32_t status = guillotiere_atlas_with_options(64, 64, &aligned, &atlas);
             CHECK(status == (are_positive ? GUILLOTIERE_DONE : GUILLOTIERE_BAD_CALL));
             if (status == GUILLOTIERE_DONE) {
+                told_options(&aligned);
                 const bool fits = numbers[i] <= 64 && numbers[k] <= 64;
                 CHECK(guillotiere_atlas_allocate(&atlas, 1, 1, &granted) == (fits ? GUILLOTIERE_DONE : GUILLOTIERE_NO_ROOM));
             }
             guillotiere_atlas_free(&atlas);
             status = guillotiere_atlas_with_options(64, 64, &tested, &atlas);
             CHECK(status == (are_ordered ? GUILLOTIERE_DONE : GUILLOTIERE_BAD_CALL));
-            if (status == GUILLOTIERE_DONE) CHECK(guillotiere_atlas_allocate(&atlas, 9, 9, &granted) == GUILLOTIERE_DONE);
+            if (status == GUILLOTIERE_DONE) {
+                told_options(&tested);
+                CHECK(guillotiere_atlas_allocate(&atlas, 9, 9, &granted) == GUILLOTIERE_DONE);
+            }
             guillotiere_atlas_free(&atlas);
         }
     const uint32_t limits[] = {0, 1, 16777216, 16777217, UINT32_MAX};
@@ -141,6 +170,22 @@ static void options(void) {
         CHECK(status == (is_limit ? GUILLOTIERE_DONE : GUILLOTIERE_BAD_CALL));
         guillotiere_atlas_free(&atlas);
     }
+}
+
+/* Slots in reserve, up to the limit and beyond it. Of 100 slots a new atlas uses one. */
+static void reserves(void) {
+    guillotiere_atlas atlas = GUILLOTIERE_NONE;
+    guillotiere_slots before, after;
+    CHECK(guillotiere_atlas_with_slot_limit(64, 64, &defaults, 100, &atlas) == GUILLOTIERE_DONE);
+    CHECK(guillotiere_atlas_slots(&atlas, &before) == GUILLOTIERE_DONE && before.used == 1);
+    CHECK(guillotiere_atlas_reserve(&atlas, 0) == GUILLOTIERE_DONE);
+    CHECK(guillotiere_atlas_reserve(&atlas, 99) == GUILLOTIERE_DONE);
+    CHECK(guillotiere_atlas_reserve(&atlas, 99) == GUILLOTIERE_DONE);
+    CHECK(guillotiere_atlas_reserve(&atlas, 100) == GUILLOTIERE_SLOTS);
+    CHECK(guillotiere_atlas_reserve(&atlas, UINT32_MAX) == GUILLOTIERE_SLOTS);
+    CHECK(guillotiere_atlas_slots(&atlas, &after) == GUILLOTIERE_DONE && memcmp(&before, &after, sizeof after) == 0);
+    CHECK(guillotiere_atlas_is_empty(&atlas));
+    guillotiere_atlas_free(&atlas);
 }
 
 /* A limit on slots, ids that are forged or freed, and arrays that are too short. */
@@ -203,6 +248,7 @@ int main(void) {
     filled_handles();
     sides();
     options();
+    reserves();
     slots_ids_and_arrays();
     aliases();
     return 0;

@@ -81,6 +81,8 @@ static void use(guillotiere_atlas *atlas, guillotiere_atlas *copy, guillotiere_s
     uint32_t ids[12];
     size_t count = 77;
     if (guillotiere_atlas_new(512, 512, atlas) != GUILLOTIERE_DONE) return;
+    const view empty = view_of(atlas);
+    if (!is_done(guillotiere_atlas_reserve(atlas, 11), &empty, atlas)) return;
     for (int32_t i = 0; i < 12; i++) {
         const view before = view_of(atlas);
         granted.id = 99;
@@ -123,7 +125,31 @@ static void use(guillotiere_atlas *atlas, guillotiere_atlas *copy, guillotiere_s
     CHECK(guillotiere_atlas_is_empty(copy));
 }
 
+/* With 4 slots in reserve for each no request is refused memory, and with 3 no growth. */
+static void reserve(void) {
+    guillotiere_atlas atlas = GUILLOTIERE_NONE;
+    guillotiere_allocation granted;
+    CHECK(guillotiere_atlas_new(512, 512, &atlas) == GUILLOTIERE_DONE);
+    const view before = view_of(&atlas);
+    left = 0;
+    CHECK(!is_done(guillotiere_atlas_reserve(&atlas, 12 * 4 + 3), &before, &atlas));
+    left = -1;
+    CHECK(guillotiere_atlas_reserve(&atlas, 12 * 4 + 3) == GUILLOTIERE_DONE);
+    const view after = view_of(&atlas);
+    CHECK(memcmp(&before, &after, sizeof after) == 0);
+    left = 0;
+    const long refused = refusals;
+    for (int32_t i = 0; i < 12; i++)
+        CHECK(guillotiere_atlas_allocate(&atlas, 20 + i, 30 + 2 * i, &granted) == GUILLOTIERE_DONE);
+    CHECK(guillotiere_atlas_grow(&atlas, 600, 700) == GUILLOTIERE_DONE);
+    CHECK(guillotiere_atlas_deallocate(&atlas, granted.id) == GUILLOTIERE_DONE);
+    CHECK(refusals == refused);
+    left = -1;
+    guillotiere_atlas_free(&atlas);
+}
+
 int main(void) {
+    reserve();
     for (long nth = 0;; nth++) {
         guillotiere_atlas atlas = GUILLOTIERE_NONE, copy = GUILLOTIERE_NONE;
         guillotiere_simple simple = GUILLOTIERE_NONE;

@@ -32,6 +32,7 @@ static void makes() {
     auto whole = made({100, 50});
     CHECK(whole.extent().width == 100 && whole.extent().height == 50 && whole.is_empty());
     CHECK(whole.slots().limit == most_slots && whole.covered().free == 5000);
+    CHECK(whole.settings().alignment_width == 1 && whole.settings().large_size_threshold == 256);
 }
 
 static void moves() {
@@ -39,6 +40,8 @@ static void moves() {
     const auto box = granted(one, {10, 20});
     atlas other = std::move(one);
     CHECK(one.allocate({1, 1}).error() == status::empty && one.deallocate(box.id) == status::empty);
+    CHECK(!one.can_fit({1, 1}) && !one.can_grow_to({64, 64}) && one.reserve(0) == status::empty);
+    CHECK(one.settings().alignment_width == 0);
     CHECK(one.is_empty() && one.extent().width == 0 && !one.get(box.id) && one.live().error() == status::empty);
     CHECK(other.get(box.id) && other.get(box.id)->max_y == 20);
     one = std::move(other);
@@ -50,7 +53,8 @@ static void moves() {
 
 static void calls() {
     auto whole = made({64, 64});
-    CHECK(*whole.allocate({65, 1}) == std::nullopt);
+    CHECK(!whole.can_fit({65, 1}) && *whole.allocate({65, 1}) == std::nullopt);
+    CHECK(whole.can_fit({64, 64}) && whole.reserve(4) == status::done && whole.reserve(most_slots) == status::slots);
     const auto box = granted(whole, {10, 20}), next = granted(whole, {30, 5});
     auto copy = whole.clone();
     CHECK(copy && copy->get(next.id));
@@ -61,6 +65,7 @@ static void calls() {
     CHECK(live && live->size() == 1 && (*live)[0].id == next.id);
     const auto free = whole.free_boxes();
     CHECK(free && !free->empty());
+    CHECK(!whole.can_grow_to({63, 64}) && whole.can_grow_to({128, 64}));
     CHECK(whole.grow({63, 64}) == status::bad_call && whole.grow({128, 64}) == status::done);
     auto list = whole.rearrange();
     CHECK(list && list->changes.size() == 1 && list->failures.empty() && list->changes[0].before.id == next.id);
@@ -79,6 +84,8 @@ static void simple_calls() {
     auto taken = simple.allocate({20, 20});
     CHECK(taken && *taken && are_apart(&**taken, &box.rectangle));
     CHECK(*simple.allocate({64, 64}) == std::nullopt);
+    CHECK(simple.settings().small_size_threshold == 32 && simple.slots().used <= simple.slots().kept);
+    CHECK(!simple.can_grow_to({80, 63}) && simple.can_grow_to({80, 64}));
     CHECK(simple.grow({1, 1}) == status::bad_call && simple.grow({80, 64}) == status::done);
     CHECK(simple.extent().width == 80 && simple.clear() == status::done && simple.is_empty());
     CHECK(simple.reset({0, 1}) == status::bad_call && simple.reset({5, 6}) == status::done && simple.extent().height == 6);

@@ -15,8 +15,9 @@ static uint32_t below(uint32_t bound) {
 static void allocate(guillotiere_atlas *atlas) {
     const int32_t width = 1 + (int32_t)below(90), height = 1 + (int32_t)below(90);
     guillotiere_allocation granted;
+    const bool fits = guillotiere_atlas_can_fit(atlas, width, height);
     const uint32_t status = guillotiere_atlas_allocate(atlas, width, height, &granted);
-    CHECK(status == GUILLOTIERE_DONE || status == GUILLOTIERE_NO_ROOM);
+    CHECK(status == (fits ? GUILLOTIERE_DONE : GUILLOTIERE_NO_ROOM));
     if (status == GUILLOTIERE_NO_ROOM) return;
     CHECK(granted.rectangle.max_x - granted.rectangle.min_x == width);
     CHECK(granted.rectangle.max_y - granted.rectangle.min_y == height);
@@ -79,12 +80,17 @@ static void rearrange(guillotiere_atlas *atlas) {
     free(failures);
 }
 
-/* A simple allocator that starts from the atlas grants nothing that is live there. */
+/* A simple allocator that starts from the atlas has an entry for each free box, and grants nothing that is live there. */
 static void grant_beside(guillotiere_atlas *atlas) {
     guillotiere_simple simple = GUILLOTIERE_NONE;
     guillotiere_rectangle granted;
+    guillotiere_slots slots;
+    size_t free_count = 0;
     CHECK(guillotiere_simple_new(10, 10, &simple) == GUILLOTIERE_DONE);
     CHECK(guillotiere_simple_init_from_allocator(&simple, atlas) == GUILLOTIERE_DONE);
+    CHECK(guillotiere_atlas_free_boxes(atlas, &granted, 0, &free_count) == GUILLOTIERE_DONE);
+    CHECK(guillotiere_simple_slots(&simple, &slots) == GUILLOTIERE_DONE && slots.limit == UINT32_MAX);
+    CHECK(slots.used == free_count && slots.kept == free_count);
     while (guillotiere_simple_allocate(&simple, 40, 30, &granted) == GUILLOTIERE_DONE)
         for (size_t i = 0; i < held_count; i++) CHECK(are_apart(&granted, &held[i].rectangle));
     guillotiere_simple_free(&simple);

@@ -54,14 +54,18 @@ impl AtlasAllocator {
         plain::size(self.atlas.size())
     }
 
+    /// The options of the atlas.
+    pub fn options(&self) -> AllocatorOptions {
+        plain::allocator_options(&self.atlas.options())
+    }
+
     /// Whether no id is live.
     pub fn is_empty(&self) -> bool {
         self.atlas.is_empty()
     }
 
     pub fn slots(&self) -> SlotCount {
-        let slots = self.atlas.slots();
-        SlotCount { used: slots.used, kept: slots.kept, limit: slots.limit }
+        plain::slots(self.atlas.slots())
     }
 
     pub fn areas(&self) -> Areas {
@@ -87,6 +91,19 @@ impl AtlasAllocator {
             Err(ffi::NO_ROOM) => Ok(None),
             Err(status) => Err(AtlasError::of(status)),
         }
+    }
+
+    /// Whether a request of this size has room: then `allocate` grants it, slots and memory aside; else it answers None.
+    /// Takes one search, and no memory.
+    pub fn can_fit(&self, requested_size: Size) -> bool {
+        self.atlas.can_fit(requested_size.width, requested_size.height)
+    }
+
+    /// Takes memory for so many slots beside those that are used; nothing else changes. While there is memory for 4 more
+    /// slots no request is refused memory, and for 3 no growth; a request uses at most 4, a growth at most 3, a freeing
+    /// none. The memory stays until the atlas is rearranged or dropped, and a copy has none of it.
+    pub fn try_reserve(&mut self, additional: u32) -> Result<(), AtlasError> {
+        self.atlas.reserve(additional).map_err(AtlasError::of)
     }
 
     /// Frees the rectangle of a live id. Panics if the id isn't live.
@@ -129,6 +146,11 @@ impl AtlasAllocator {
 
     pub fn try_grow(&mut self, new_size: Size) -> Result<(), AtlasError> {
         self.atlas.grow(new_size.width, new_size.height).map_err(AtlasError::of)
+    }
+
+    /// Whether `grow` may be called with this size: no side shrinks.
+    pub fn can_grow_to(&self, new_size: Size) -> bool {
+        self.atlas.can_grow_to(new_size.width, new_size.height)
     }
 
     /// `resize_and_rearrange` at the present size.

@@ -64,7 +64,7 @@ pub struct PlainChange {
 }
 
 #[repr(C)]
-#[derive(Clone, Copy)]
+#[derive(Clone, Copy, Default)]
 pub struct PlainOptions {
     pub alignment_width: i32,
     pub alignment_height: i32,
@@ -120,7 +120,10 @@ extern "C" {
     fn guillotiere_atlas_deallocate(atlas: *mut AtlasHandle, id: u32) -> u32;
     fn guillotiere_atlas_deallocate_all(atlas: *mut AtlasHandle, ids: *const u32, ids_len: usize) -> u32;
     fn guillotiere_atlas_get(atlas: *mut AtlasHandle, id: u32, found: *mut PlainRectangle) -> u32;
+    fn guillotiere_atlas_can_fit(atlas: *mut AtlasHandle, width: i32, height: i32) -> bool;
+    fn guillotiere_atlas_reserve(atlas: *mut AtlasHandle, additional: u32) -> u32;
     fn guillotiere_atlas_grow(atlas: *mut AtlasHandle, width: i32, height: i32) -> u32;
+    fn guillotiere_atlas_can_grow_to(atlas: *mut AtlasHandle, width: i32, height: i32) -> bool;
     fn guillotiere_atlas_clear(atlas: *mut AtlasHandle) -> u32;
     fn guillotiere_atlas_reset(
         atlas: *mut AtlasHandle,
@@ -147,6 +150,7 @@ extern "C" {
         count: *mut PlainChangeCount,
     ) -> u32;
     fn guillotiere_atlas_size(atlas: *mut AtlasHandle, size: *mut PlainSize) -> u32;
+    fn guillotiere_atlas_options(atlas: *mut AtlasHandle, options: *mut PlainOptions) -> u32;
     fn guillotiere_atlas_is_empty(atlas: *mut AtlasHandle) -> bool;
     fn guillotiere_atlas_slots(atlas: *mut AtlasHandle, slots: *mut PlainSlots) -> u32;
     fn guillotiere_atlas_areas(atlas: *mut AtlasHandle, areas: *mut PlainAreas) -> u32;
@@ -177,6 +181,7 @@ extern "C" {
         granted: *mut PlainRectangle,
     ) -> u32;
     fn guillotiere_simple_grow(simple: *mut SimpleHandle, width: i32, height: i32) -> u32;
+    fn guillotiere_simple_can_grow_to(simple: *mut SimpleHandle, width: i32, height: i32) -> bool;
     fn guillotiere_simple_clear(simple: *mut SimpleHandle) -> u32;
     fn guillotiere_simple_reset(
         simple: *mut SimpleHandle,
@@ -186,6 +191,8 @@ extern "C" {
     ) -> u32;
     fn guillotiere_simple_init_from_allocator(simple: *mut SimpleHandle, atlas: *mut AtlasHandle) -> u32;
     fn guillotiere_simple_size(simple: *mut SimpleHandle, size: *mut PlainSize) -> u32;
+    fn guillotiere_simple_options(simple: *mut SimpleHandle, options: *mut PlainOptions) -> u32;
+    fn guillotiere_simple_slots(simple: *mut SimpleHandle, slots: *mut PlainSlots) -> u32;
     fn guillotiere_simple_is_empty(simple: *mut SimpleHandle) -> bool;
 }
 
@@ -261,6 +268,21 @@ impl Atlas {
         of_status(unsafe { guillotiere_atlas_grow(self.handle.get(), width, height) })
     }
 
+    pub fn can_grow_to(&self, width: i32, height: i32) -> bool {
+        // SAFETY: this handle.
+        unsafe { guillotiere_atlas_can_grow_to(self.handle.get(), width, height) }
+    }
+
+    pub fn can_fit(&self, width: i32, height: i32) -> bool {
+        // SAFETY: this handle.
+        unsafe { guillotiere_atlas_can_fit(self.handle.get(), width, height) }
+    }
+
+    pub fn reserve(&mut self, additional: u32) -> Result<(), u32> {
+        // SAFETY: this handle.
+        of_status(unsafe { guillotiere_atlas_reserve(self.handle.get(), additional) })
+    }
+
     pub fn clear(&mut self) -> Result<(), u32> {
         // SAFETY: this handle.
         of_status(unsafe { guillotiere_atlas_clear(self.handle.get()) })
@@ -316,6 +338,13 @@ impl Atlas {
         // SAFETY: this handle, and a place of our own.
         unsafe { guillotiere_atlas_size(self.handle.get(), &mut size) };
         size
+    }
+
+    pub fn options(&self) -> PlainOptions {
+        let mut options = PlainOptions::default();
+        // SAFETY: this handle, and a place of our own.
+        unsafe { guillotiere_atlas_options(self.handle.get(), &mut options) };
+        options
     }
 
     pub fn is_empty(&self) -> bool {
@@ -400,6 +429,11 @@ impl Simple {
         of_status(unsafe { guillotiere_simple_grow(self.handle.get(), width, height) })
     }
 
+    pub fn can_grow_to(&self, width: i32, height: i32) -> bool {
+        // SAFETY: this handle.
+        unsafe { guillotiere_simple_can_grow_to(self.handle.get(), width, height) }
+    }
+
     pub fn clear(&mut self) -> Result<(), u32> {
         // SAFETY: this handle.
         of_status(unsafe { guillotiere_simple_clear(self.handle.get()) })
@@ -420,6 +454,20 @@ impl Simple {
         // SAFETY: this handle, and a place of our own.
         unsafe { guillotiere_simple_size(self.handle.get(), &mut size) };
         size
+    }
+
+    pub fn options(&self) -> PlainOptions {
+        let mut options = PlainOptions::default();
+        // SAFETY: this handle, and a place of our own.
+        unsafe { guillotiere_simple_options(self.handle.get(), &mut options) };
+        options
+    }
+
+    pub fn slots(&self) -> PlainSlots {
+        let mut slots = PlainSlots::default();
+        // SAFETY: this handle, and a place of our own.
+        unsafe { guillotiere_simple_slots(self.handle.get(), &mut slots) };
+        slots
     }
 
     pub fn is_empty(&self) -> bool {

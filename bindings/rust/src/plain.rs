@@ -1,6 +1,6 @@
 //! The crate's values from those of the library, and back.
-use crate::ffi::{PlainAllocation, PlainChange, PlainOptions, PlainRectangle, PlainSize};
-use crate::{point2, size2, AllocId, Allocation, AllocatorOptions, Change, Rectangle, Size};
+use crate::ffi::{PlainAllocation, PlainChange, PlainOptions, PlainRectangle, PlainSize, PlainSlots};
+use crate::{point2, size2, AllocId, Allocation, AllocatorOptions, Change, Rectangle, Size, SlotCount};
 
 pub fn size(plain: PlainSize) -> Size {
     size2(plain.width, plain.height)
@@ -16,6 +16,18 @@ pub fn allocation(plain: &PlainAllocation) -> Allocation {
 
 pub fn change(plain: &PlainChange) -> Change {
     Change { old: allocation(&plain.before), new: allocation(&plain.after) }
+}
+
+pub fn slots(plain: PlainSlots) -> SlotCount {
+    SlotCount { used: plain.used, kept: plain.kept, limit: plain.limit }
+}
+
+pub fn allocator_options(plain: &PlainOptions) -> AllocatorOptions {
+    AllocatorOptions {
+        alignment: size2(plain.alignment_width, plain.alignment_height),
+        small_size_threshold: plain.small_size_threshold,
+        large_size_threshold: plain.large_size_threshold,
+    }
 }
 
 pub fn options(options: &AllocatorOptions) -> PlainOptions {

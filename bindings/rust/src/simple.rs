@@ -1,6 +1,6 @@
 use crate::error::expected;
 use crate::ffi::{self, Simple};
-use crate::{plain, AllocatorOptions, AtlasAllocator, AtlasError, Rectangle, Size};
+use crate::{plain, AllocatorOptions, AtlasAllocator, AtlasError, Rectangle, Size, SlotCount};
 
 /// A simpler allocator, which hands out rectangles and takes none back.
 ///
@@ -36,6 +36,16 @@ impl SimpleAtlasAllocator {
     /// The size of the allocator, in pixels.
     pub fn size(&self) -> Size {
         plain::size(self.simple.size())
+    }
+
+    /// The options of the allocator.
+    pub fn options(&self) -> AllocatorOptions {
+        plain::allocator_options(&self.simple.options())
+    }
+
+    /// How many entries are used, one for each free rectangle, how many there are, and how many there may be.
+    pub fn slots(&self) -> SlotCount {
+        plain::slots(self.simple.slots())
     }
 
     /// Whether one free rectangle has the allocator's size.
@@ -86,6 +96,11 @@ impl SimpleAtlasAllocator {
 
     pub fn try_grow(&mut self, new_size: Size) -> Result<(), AtlasError> {
         self.simple.grow(new_size.width, new_size.height).map_err(AtlasError::of)
+    }
+
+    /// Whether `grow` may be called with this size: no side shrinks.
+    pub fn can_grow_to(&self, new_size: Size) -> bool {
+        self.simple.can_grow_to(new_size.width, new_size.height)
     }
 
     /// Takes over an atlas's size, options and free rectangles, so that it never grants what is live there.

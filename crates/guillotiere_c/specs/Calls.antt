@@ -1,6 +1,7 @@
 -- What a call does with the atlas that a handle holds.
-use Rattle.std.specs.Prelude.{◌≡◌, ℕ, List, Option, Some, None}
+use Rattle.std.specs.Prelude.{◌≡◌, ◌≤◌, ℕ, List, Option, Some, None}
 use Rattle.guillotiere.specs.Laws.TreeLaws.{is_among}
+use Rattle.guillotiere.specs.Reserves.{HasReserve}
 use Rattle.guillotiere.specs.States.{State, after_freeing}
 use Rattle.guillotiere.specs.Steps.{AtlasCall, AtlasReply, Step}
 use Rattle.guillotiere.specs.Stored.{AtlasValue, state_of}
@@ -27,3 +28,15 @@ abbrev pub FreesAll : (old : Option AtlasValue) → List ℕ → (new : Option A
 FreesAll (Some old) ids (Some new) = state_of new ≡ after_freeing (state_of old) (is_among ids)
 FreesAll (Some old) ids None = ⊥
 FreesAll None ids new = ⊥
+
+-- The atlas that is held has memory for so many slots beside those that are used.
+abbrev pub HoldsReserve : ℕ → Option AtlasValue → Type 0
+HoldsReserve n None = ⊥
+HoldsReserve n (Some v) = HasReserve n v
+
+-- The atlas that is held stays as it is, but that it may have memory for more slots.
+abbrev pub GainsMemory : (old new : Option AtlasValue) → Type 0
+GainsMemory (Some old) (Some new) =
+    (new.stored ≡ old.stored) × (new.turns ≡ old.turns) × (old.capacity ≤ new.capacity)
+GainsMemory (Some old) None = ⊥
+GainsMemory None new = ⊥

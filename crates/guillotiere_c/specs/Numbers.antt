@@ -9,6 +9,7 @@ use Rattle.guillotiere.specs.declared.Size.{Size}
 use Rattle.guillotiere.specs.declared.Rectangle.{Rectangle}
 use Rattle.guillotiere.specs.declared.Allocation.{Allocation}
 use Rattle.guillotiere.specs.declared.Change.{Change}
+use Rattle.guillotiere.specs.declared.AllocatorOptions.{AllocatorOptions}
 use Rattle.guillotiere.specs.Boxes.{Sides}
 use Rattle.guillotiere.specs.Choice.{Options}
 use Rattle.guillotiere.specs.Pixels.{natural}
@@ -35,4 +36,12 @@ options_in o =
       alignment = sides_in o.alignment_width o.alignment_height;
       small_threshold = o.small_size_threshold;
       large_threshold = o.large_size_threshold;
+    }
+
+abbrev pub allocator_options_in : PlainOptions → AllocatorOptions
+allocator_options_in o =
+    record {
+      alignment = record { width = o.alignment_width; height = o.alignment_height };
+      small_size_threshold = o.small_size_threshold;
+      large_size_threshold = o.large_size_threshold;
     }

@@ -1,20 +1,21 @@
 //! The exports of an atlas, but for those that take or write lists.
-ghost use Rattle.std.specs.Prelude.{◌≡◌, ◌≢◌, ◌↔◌, [], option_map, IsTrue, IsSome, IsNone, Some, None, sum_by};
-ghost use Rattle.guillotiere.specs.Boxes.{area, IsPositive};
-ghost use Rattle.guillotiere.specs.Choice.{AreValid};
-ghost use Rattle.guillotiere.specs.Pixels.{rectangle_of, size_of, options_of};
+ghost use Rattle.std.specs.Prelude.{◌≡◌, ◌≢◌, ◌↔◌, ℕ, ◌+◌, ◌<◌, [], option_map, IsFalse, IsTrue, IsSome, IsNone};
+ghost use Rattle.std.specs.Prelude.{Some, None, sum_by};
+ghost use Rattle.guillotiere.specs.Boxes.{area, Fits};
+ghost use Rattle.guillotiere.specs.Choice.{HasRoom};
+ghost use Rattle.guillotiere.specs.Pixels.{allocator_options_of, rectangle_of, size_of};
 ghost use Rattle.guillotiere.specs.Replies.{live_box, IsExact};
-ghost use Rattle.guillotiere.specs.States.{live_in, free_in, used_in, started, IsLive, IsSound};
+ghost use Rattle.guillotiere.specs.States.{live_in, free_in, used_in, IsLive, IsSound};
 ghost use Rattle.guillotiere.specs.Steps.AtlasCall.{Allocate, Deallocate, Grow, Clear, Reset};
-ghost use Rattle.guillotiere_c.specs.Calls.{Holds, IsHeldStep};
-ghost use Rattle.guillotiere_c.specs.Numbers.{options_in, rectangle_in, sides_in, size_in};
+ghost use Rattle.guillotiere_c.specs.Calls.{GainsMemory, Holds, HoldsReserve, IsHeldStep};
+ghost use Rattle.guillotiere_c.specs.Numbers.{allocator_options_in, options_in, rectangle_in, sides_in, size_in};
 ghost use Rattle.guillotiere_c.specs.Statuses.{plain_reply, request_reply};
 
 use crate::atlas_handle::AtlasHandle;
 use crate::plain::{
     BAD_CALL, DONE, EMPTY, MEMORY, NO_ROOM, NOT_LIVE, PlainAllocation, PlainAreas, PlainOptions,
-    PlainRectangle, PlainSize, PlainSlots, options_for, plain_allocation, plain_rectangle,
-    plain_size, plain_slots, status_of, status_of_done,
+    PlainRectangle, PlainSize, PlainSlots, SLOTS, options_for, plain_allocation, plain_options,
+    plain_rectangle, plain_size, plain_slots, status_of, status_of_done,
 };
 use guillotiere::{AllocId, AtlasAllocator, size2};
 use std::alloc::Global;
@@ -32,6 +33,8 @@ pub extern "C" fn guillotiere_atlas_allocate(
         (request_reply result granted.new) atlas.new.kept }
     ensures sound { IsSome atlas.old.kept → Holds atlas.new.kept IsSound }
     ensures exact { result ≡ DONE → IsExact (rectangle_in granted.new.rectangle) }
+    ensures reserve { (n : ℕ) → HoldsReserve (n + 4) atlas.old.kept
+        → (result ≢ MEMORY) × HoldsReserve n atlas.new.kept }
     ensures refused { result ≢ DONE → (atlas.new.kept ≡ atlas.old.kept) × (granted.new ≡ granted.old) }
     ensures empty { IsNone atlas.old.kept → result ≡ EMPTY }
 {
@@ -61,6 +64,7 @@ pub extern "C" fn guillotiere_atlas_deallocate(
     ensures step { IsSome atlas.old.kept → IsHeldStep atlas.old.kept (Deallocate id) (plain_reply result)
         atlas.new.kept }
     ensures sound { IsSome atlas.old.kept → Holds atlas.new.kept IsSound }
+    ensures reserve { (n : ℕ) → HoldsReserve n atlas.old.kept → HoldsReserve n atlas.new.kept }
     ensures refused { result ≢ DONE → atlas.new.kept ≡ atlas.old.kept }
     ensures empty { IsNone atlas.old.kept → result ≡ EMPTY }
 {
@@ -115,6 +119,8 @@ pub extern "C" fn guillotiere_atlas_grow(
     ensures step { IsSome atlas.old.kept → IsHeldStep atlas.old.kept (Grow (sides_in width height))
         (plain_reply result) atlas.new.kept }
     ensures sound { IsSome atlas.old.kept → Holds atlas.new.kept IsSound }
+    ensures reserve { (n : ℕ) → HoldsReserve (n + 3) atlas.old.kept
+        → (result ≢ MEMORY) × HoldsReserve n atlas.new.kept }
     ensures refused { result ≢ DONE → atlas.new.kept ≡ atlas.old.kept }
     ensures empty { IsNone atlas.old.kept → result ≡ EMPTY }
 {
@@ -132,11 +138,85 @@ pub extern "C" fn guillotiere_atlas_grow(
     status_of_done(answer)
 }
 
+/// Whether the atlas may be grown to this size: no side shrinks. False of a handle that holds nothing.
+#[unsafe(no_mangle)]
+pub extern "C" fn guillotiere_atlas_can_grow_to(
+    alloc: Global,
+    atlas: &mut AtlasHandle,
+    width: i32,
+    height: i32,
+) -> bool
+    ensures fits { IsSome atlas.old.kept → Holds atlas.old.kept
+        (λ s. IsTrue result ↔ Fits s.size (sides_in width height)) }
+    ensures same { atlas.new.kept ≡ atlas.old.kept }
+    ensures empty { IsNone atlas.old.kept → IsFalse result }
+{
+    if !atlas.holds() {
+        return false;
+    }
+    let held = atlas.take(alloc);
+    let can_grow = held.can_grow_to(size2(width, height));
+    atlas.put(held);
+    can_grow
+}
+
+/// Whether a request of this size has room: then `guillotiere_atlas_allocate` grants it, slots and memory aside; else
+/// it answers `NO_ROOM`. False of a handle that holds nothing.
+#[unsafe(no_mangle)]
+pub extern "C" fn guillotiere_atlas_can_fit(
+    alloc: Global,
+    atlas: &mut AtlasHandle,
+    width: i32,
+    height: i32,
+) -> bool
+    ensures room { IsSome atlas.old.kept → Holds atlas.old.kept
+        (λ s. IsTrue result ↔ HasRoom (free_in s) s.options (sides_in width height)) }
+    ensures same { atlas.new.kept ≡ atlas.old.kept }
+    ensures empty { IsNone atlas.old.kept → IsFalse result }
+{
+    if !atlas.holds() {
+        return false;
+    }
+    let held = atlas.take(alloc);
+    let can_fit = held.can_fit(size2(width, height));
+    atlas.put(held);
+    can_fit
+}
+
+/// Takes memory for so many slots beside those that are used; nothing else changes. `DONE`; `SLOTS` if more slots would
+/// be used than the limit allows; `MEMORY`. A grant uses at most 4 more slots, a growth at most 3, a freeing none, and
+/// while there is memory for them the answer isn't `MEMORY`. The memory stays until the atlas is rearranged or freed.
+#[unsafe(no_mangle)]
+pub extern "C" fn guillotiere_atlas_reserve(
+    alloc: Global,
+    atlas: &mut AtlasHandle,
+    additional: u32,
+) -> u32
+    ensures ready { result ≡ DONE → HoldsReserve additional atlas.new.kept }
+    ensures same { IsSome atlas.old.kept → GainsMemory atlas.old.kept atlas.new.kept }
+    ensures slots { IsSome atlas.old.kept → Holds atlas.old.kept
+        (λ s. (result ≡ SLOTS) ↔ (s.limit < used_in s + additional)) }
+    ensures memory { IsSome atlas.old.kept → result ≢ DONE → result ≢ SLOTS → result ≡ MEMORY }
+    ensures had { HoldsReserve additional atlas.old.kept → result ≢ MEMORY }
+    ensures sound { IsSome atlas.old.kept → Holds atlas.new.kept IsSound }
+    ensures refused { result ≢ DONE → atlas.new.kept ≡ atlas.old.kept }
+    ensures empty { IsNone atlas.old.kept → result ≡ EMPTY }
+{
+    if !atlas.holds() {
+        return EMPTY;
+    }
+    let mut held = atlas.take(alloc);
+    let answer = held.reserve(additional);
+    atlas.put(held);
+    status_of_done(answer)
+}
+
 /// Starts again at the present size, options and limit: one free rectangle, no id live. Always `DONE`.
 #[unsafe(no_mangle)]
 pub extern "C" fn guillotiere_atlas_clear(alloc: Global, atlas: &mut AtlasHandle) -> u32
     ensures step { IsSome atlas.old.kept → IsHeldStep atlas.old.kept Clear (plain_reply result) atlas.new.kept }
     ensures sound { IsSome atlas.old.kept → Holds atlas.new.kept IsSound }
+    ensures reserve { (n : ℕ) → HoldsReserve n atlas.old.kept → HoldsReserve n atlas.new.kept }
     ensures done { IsSome atlas.old.kept → result ≡ DONE }
     ensures empty { IsNone atlas.old.kept → (result ≡ EMPTY) × (atlas.new.kept ≡ None) }
 {
@@ -162,6 +242,8 @@ pub extern "C" fn guillotiere_atlas_reset(
     ensures step { IsSome atlas.old.kept → IsHeldStep atlas.old.kept
         (Reset (sides_in width height) (options_in options.now)) (plain_reply result) atlas.new.kept }
     ensures sound { IsSome atlas.old.kept → Holds atlas.new.kept IsSound }
+    ensures reserve { (n : ℕ) → HoldsReserve n atlas.old.kept → HoldsReserve n atlas.new.kept }
+    ensures unless { IsSome atlas.old.kept → result ≢ DONE → result ≡ BAD_CALL }
     ensures refused { result ≢ DONE → atlas.new.kept ≡ atlas.old.kept }
     ensures empty { IsNone atlas.old.kept → result ≡ EMPTY }
 {
@@ -196,6 +278,28 @@ pub extern "C" fn guillotiere_atlas_size(
     }
     let held = atlas.take(alloc);
     *size = plain_size(held.size());
+    atlas.put(held);
+    DONE
+}
+
+/// The options of the atlas. `DONE`.
+#[unsafe(no_mangle)]
+pub extern "C" fn guillotiere_atlas_options(
+    alloc: Global,
+    atlas: &mut AtlasHandle,
+    options: &mut PlainOptions,
+) -> u32
+    ensures options { IsSome atlas.old.kept → Holds atlas.old.kept
+        (λ s. allocator_options_in options.new ≡ allocator_options_of s.options) }
+    ensures done { IsSome atlas.old.kept → result ≡ DONE }
+    ensures same { atlas.new.kept ≡ atlas.old.kept }
+    ensures empty { IsNone atlas.old.kept → (result ≡ EMPTY) × (options.new ≡ options.old) }
+{
+    if !atlas.holds() {
+        return EMPTY;
+    }
+    let held = atlas.take(alloc);
+    *options = plain_options(held.options());
     atlas.put(held);
     DONE
 }

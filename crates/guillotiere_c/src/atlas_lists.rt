@@ -1,5 +1,5 @@
 //! The exports of an atlas that take or write lists.
-ghost use Rattle.std.specs.Prelude.{◌≡◌, ◌≢◌, ◌≤◌, List, length, IfOk, IsSome, IsNone};
+ghost use Rattle.std.specs.Prelude.{◌≡◌, ◌≢◌, ◌≤◌, ℕ, List, length, IfOk, IsSome, IsNone};
 ghost use Rattle.guillotiere.specs.Batches.{AreLiveOnce};
 ghost use Rattle.guillotiere.specs.Laws.StepLaws.{IsRearrangingStep};
 ghost use Rattle.guillotiere.specs.Rearranging.{rearrangement_of};
@@ -10,7 +10,7 @@ ghost use Rattle.guillotiere.specs.Steps.AtlasReply.{Changed};
 ghost use Rattle.guillotiere.specs.Visits.{AreFreeAreas, AreGrants};
 ghost use Rattle.guillotiere.specs.declared.Allocation.{Allocation as Granted};
 ghost use Rattle.guillotiere.specs.declared.Rectangle.{Rectangle as Area};
-ghost use Rattle.guillotiere_c.specs.Calls.{FreesAll, Holds, IsHeldStep};
+ghost use Rattle.guillotiere_c.specs.Calls.{FreesAll, Holds, HoldsReserve, IsHeldStep};
 ghost use Rattle.guillotiere_c.specs.Numbers.{allocation_in, change_in, rectangle_in, sides_in};
 ghost use Rattle.guillotiere_c.specs.Rearrangings.{IsListed};
 ghost use Rattle.guillotiere_c.specs.Statuses.{plain_reply};
@@ -234,6 +234,7 @@ pub extern "C" fn guillotiere_atlas_deallocate_all(
     ensures freed { result ≡ DONE → FreesAll atlas.old.kept ids.now atlas.new.kept }
     ensures live { result ≡ DONE → Holds atlas.old.kept (λ s. AreLiveOnce s ids.now) }
     ensures not_live { result ≡ NOT_LIVE → Holds atlas.old.kept (λ s. AreLiveOnce s ids.now → ⊥) }
+    ensures reserve { (n : ℕ) → HoldsReserve n atlas.old.kept → HoldsReserve n atlas.new.kept }
     ensures unless { IsSome atlas.old.kept → result ≢ DONE → result ≢ NOT_LIVE → result ≡ MEMORY }
     ensures refused { result ≢ DONE → atlas.new.kept ≡ atlas.old.kept }
     ensures sound { IsSome atlas.old.kept → Holds atlas.new.kept IsSound }

@@ -1,6 +1,7 @@
 //! What crosses to C: statuses, numbers, and structs of numbers. All lengths are in pixels, all areas in unit squares.
 ghost use Rattle.std.specs.Prelude.{◌≡◌, ◌↔◌, IsOk};
-ghost use Rattle.guillotiere_c.specs.Numbers.{allocation_in, change_in, options_in, rectangle_in, size_in};
+ghost use Rattle.guillotiere_c.specs.Numbers.{allocation_in, allocator_options_in, change_in, options_in};
+ghost use Rattle.guillotiere_c.specs.Numbers.{rectangle_in, size_in};
 ghost use Rattle.guillotiere_c.specs.Statuses.{plain_reply, request_reply};
 ghost use Rattle.guillotiere_c.specs.SimpleStatuses.{plain_answer, request_answer};
 ghost use Rattle.guillotiere_c.specs.declared.plain.PlainAllocation.{PlainAllocation as Numbers};
@@ -165,6 +166,18 @@ pub fn plain_slots(slots: SlotCount) -> PlainSlots
         used: slots.used,
         kept: slots.kept,
         limit: slots.limit,
+    }
+}
+
+/// The same for C.
+pub fn plain_options(options: AllocatorOptions) -> PlainOptions
+    ensures { allocator_options_in result ≡ options }
+{
+    PlainOptions {
+        alignment_width: options.alignment.width,
+        alignment_height: options.alignment.height,
+        small_size_threshold: options.small_size_threshold,
+        large_size_threshold: options.large_size_threshold,
     }
 }
 

@@ -1,21 +1,24 @@
 //! The exports of a simple allocator.
-ghost use Rattle.std.specs.Prelude.{◌≡◌, ◌≢◌, ◌↔◌, Any, IsTrue, IsSome, IsNone, None, Ok, IfOk, IfSome, OnErr};
-ghost use Rattle.guillotiere.specs.Boxes.{box_sides, IsPositive};
+ghost use Rattle.std.specs.Prelude.{◌≡◌, ◌≢◌, ◌↔◌, Any, IsFalse, IsTrue, IsSome, IsNone, None, Ok};
+ghost use Rattle.std.specs.Prelude.{IfOk, IfSome, OnErr};
+ghost use Rattle.guillotiere.specs.Boxes.{box_sides, Fits, IsPositive};
 ghost use Rattle.guillotiere.specs.Choice.{AreValid};
-ghost use Rattle.guillotiere.specs.Pixels.{options_of, sides_of, size_of};
+ghost use Rattle.guillotiere.specs.Pixels.{allocator_options_of, options_of, sides_of, size_of};
 ghost use Rattle.guillotiere.specs.Replies.{IsExact};
 ghost use Rattle.guillotiere.specs.Simple.{IsSimple, SimpleStep, simple_answer, simple_start};
 ghost use Rattle.guillotiere.specs.Simple.SimpleAtlasCall.{Allocate, Clear, Grow, Reset};
+ghost use Rattle.guillotiere.specs.SimpleStored.{kept_entries, used_entries};
 ghost use Rattle.guillotiere.specs.TheConstants.{DEFAULT_OPTIONS};
-ghost use Rattle.guillotiere_c.specs.Numbers.{options_in, rectangle_in, sides_in, size_in};
+ghost use Rattle.guillotiere_c.specs.Numbers.{allocator_options_in, options_in, rectangle_in, sides_in, size_in};
 ghost use Rattle.guillotiere_c.specs.SimpleCalls.{HoldsSimple, IsHeldSimpleStep, IsHeldStart};
 ghost use Rattle.guillotiere_c.specs.SimpleStatuses.{plain_answer, request_answer};
 ghost use Rattle.guillotiere_c.specs.SimpleValues.{simple_state};
 
 use crate::atlas_handle::AtlasHandle;
 use crate::plain::{
-    BAD_CALL, DONE, EMPTY, MEMORY, NO_ROOM, PlainOptions, PlainRectangle, PlainSize, options_for,
-    plain_rectangle, plain_size, status_of, status_of_done,
+    BAD_CALL, DONE, EMPTY, MEMORY, NO_ROOM, PlainOptions, PlainRectangle, PlainSize, PlainSlots,
+    options_for, plain_options, plain_rectangle, plain_size, plain_slots, status_of,
+    status_of_done,
 };
 use crate::simple_handle::SimpleHandle;
 use guillotiere::{
@@ -179,14 +182,36 @@ pub extern "C" fn guillotiere_simple_grow(
     status_of_done(answer)
 }
 
-/// Starts again with one free box of the allocator's size. `DONE` or `MEMORY`.
+/// Whether the allocator may be grown to this size: no side shrinks. False of a handle that holds nothing.
+#[unsafe(no_mangle)]
+pub extern "C" fn guillotiere_simple_can_grow_to(
+    alloc: Global,
+    simple: &mut SimpleHandle,
+    width: i32,
+    height: i32,
+) -> bool
+    ensures fits { IsSome simple.old.kept → HoldsSimple simple.old.kept
+        (λ s. IsTrue result ↔ Fits s.size (sides_in width height)) }
+    ensures same { simple.new.kept ≡ simple.old.kept }
+    ensures empty { IsNone simple.old.kept → IsFalse result }
+{
+    if !simple.holds() {
+        return false;
+    }
+    let held = simple.take(alloc);
+    let can_grow = held.can_grow_to(size2(width, height));
+    simple.put(held);
+    can_grow
+}
+
+/// Starts again with one free box of the allocator's size. Always `DONE`.
 #[unsafe(no_mangle)]
 pub extern "C" fn guillotiere_simple_clear(alloc: Global, simple: &mut SimpleHandle) -> u32
     ensures step { IsSome simple.old.kept → IsHeldSimpleStep simple.old.kept Clear (plain_answer result)
         simple.new.kept }
     ensures kept { IsSome simple.old.kept → HoldsSimple simple.new.kept IsSimple }
-    ensures refused { result ≢ DONE → simple.new.kept ≡ simple.old.kept }
-    ensures empty { IsNone simple.old.kept → result ≡ EMPTY }
+    ensures done { IsSome simple.old.kept → result ≡ DONE }
+    ensures empty { IsNone simple.old.kept → (result ≡ EMPTY) × (simple.new.kept ≡ None) }
 {
     if !simple.holds() {
         return EMPTY;
@@ -198,7 +223,7 @@ pub extern "C" fn guillotiere_simple_clear(alloc: Global, simple: &mut SimpleHan
 }
 
 /// Starts again at this size and with these options. `DONE`; `BAD_CALL` if the size is empty or the options aren't
-/// valid; `MEMORY`.
+/// valid.
 #[unsafe(no_mangle)]
 pub extern "C" fn guillotiere_simple_reset(
     alloc: Global,
@@ -210,6 +235,7 @@ pub extern "C" fn guillotiere_simple_reset(
     ensures step { IsSome simple.old.kept → IsHeldSimpleStep simple.old.kept
         (Reset (sides_in width height) (options_in options.now)) (plain_answer result) simple.new.kept }
     ensures kept { IsSome simple.old.kept → HoldsSimple simple.new.kept IsSimple }
+    ensures unless { IsSome simple.old.kept → result ≢ DONE → result ≡ BAD_CALL }
     ensures refused { result ≢ DONE → simple.new.kept ≡ simple.old.kept }
     ensures empty { IsNone simple.old.kept → result ≡ EMPTY }
 {
@@ -275,6 +301,52 @@ pub extern "C" fn guillotiere_simple_size(
     }
     let held = simple.take(alloc);
     *size = plain_size(held.size());
+    simple.put(held);
+    DONE
+}
+
+/// The options of the allocator. `DONE`.
+#[unsafe(no_mangle)]
+pub extern "C" fn guillotiere_simple_options(
+    alloc: Global,
+    simple: &mut SimpleHandle,
+    options: &mut PlainOptions,
+) -> u32
+    ensures options { IsSome simple.old.kept → HoldsSimple simple.old.kept
+        (λ s. allocator_options_in options.new ≡ allocator_options_of s.options) }
+    ensures done { IsSome simple.old.kept → result ≡ DONE }
+    ensures same { simple.new.kept ≡ simple.old.kept }
+    ensures empty { IsNone simple.old.kept → (result ≡ EMPTY) × (options.new ≡ options.old) }
+{
+    if !simple.holds() {
+        return EMPTY;
+    }
+    let held = simple.take(alloc);
+    *options = plain_options(held.options());
+    simple.put(held);
+    DONE
+}
+
+/// How many entries are used, one for each free box, how many there are, and how many there may be: 4,294,967,295.
+/// `DONE`.
+#[unsafe(no_mangle)]
+pub extern "C" fn guillotiere_simple_slots(
+    alloc: Global,
+    simple: &mut SimpleHandle,
+    slots: &mut PlainSlots,
+) -> u32
+    ensures used { IfSome simple.old.kept (λ v. slots.new.used ≡ used_entries v) }
+    ensures kept { IfSome simple.old.kept (λ v. slots.new.kept ≡ kept_entries v) }
+    ensures limit { IsSome simple.old.kept → slots.new.limit ≡ 4294967295 }
+    ensures done { IsSome simple.old.kept → result ≡ DONE }
+    ensures same { simple.new.kept ≡ simple.old.kept }
+    ensures empty { IsNone simple.old.kept → (result ≡ EMPTY) × (slots.new ≡ slots.old) }
+{
+    if !simple.holds() {
+        return EMPTY;
+    }
+    let held = simple.take(alloc);
+    *slots = plain_slots(held.slots());
     simple.put(held);
     DONE
 }
