@@ -6,10 +6,12 @@ pub fn size(plain: PlainSize) -> Size {
     size2(plain.width, plain.height)
 }
 
+#[inline]
 pub fn rectangle(plain: &PlainRectangle) -> Rectangle {
     Rectangle { min: point2(plain.min_x, plain.min_y), max: point2(plain.max_x, plain.max_y) }
 }
 
+#[inline]
 pub fn allocation(plain: &PlainAllocation) -> Allocation {
     Allocation { id: AllocId(plain.id), rectangle: rectangle(&plain.rectangle) }
 }

@@ -46,10 +46,12 @@ impl SimpleAtlasAllocator {
     /// Asks for a rectangle of this size. None if the size is empty or fits no free rectangle. Panics where memory is
     /// wanting.
     #[track_caller]
+    #[inline]
     pub fn allocate(&mut self, requested_size: Size) -> Option<Rectangle> {
         expected(self.try_allocate(requested_size))
     }
 
+    #[inline]
     pub fn try_allocate(&mut self, requested_size: Size) -> Result<Option<Rectangle>, AtlasError> {
         match self.simple.allocate(requested_size.width, requested_size.height) {
             Ok(granted) => Ok(Some(plain::rectangle(&granted))),
