@@ -7,28 +7,17 @@ import sys
 import tempfile
 import time
 
-ROOT = os.path.dirname(os.path.dirname(os.path.abspath(__file__)))
+from measure import ROOT, Failure, absent, call
+
 LINES = 1000000
 ROUNDS = 5
 
 
-class Failure(Exception):
-    """Something that is needed is missing, or didn't work."""
-
-
-def call(command, what, **more):
-    done = subprocess.run(command, stdout=subprocess.PIPE, stderr=subprocess.STDOUT, text=True, **more)
-    if done.returncode != 0:
-        raise Failure('%s failed:\n%s' % (what, done.stdout[-2000:]))
-
-
 def look_for(oracle, allocator):
-    for path in (os.path.join(oracle, 'euclid_shim.rs'), os.path.join(oracle, 'patch.py'), allocator):
-        if not os.path.isfile(path):
-            raise Failure('there is no file ' + path)
-    for command in ('rt', 'rustc'):
-        if shutil.which(command) is None:
-            raise Failure('there is no command ' + command)
+    files = [os.path.join(oracle, 'euclid_shim.rs'), os.path.join(oracle, 'patch.py'), allocator]
+    lacking = absent(('rt', 'rustc'), files)
+    if lacking:
+        raise Failure(lacking)
 
 
 def build_tool():

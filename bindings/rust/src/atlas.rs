@@ -74,6 +74,7 @@ impl AtlasAllocator {
     }
 
     /// The rectangle of a live id; None for every other id.
+    #[inline]
     pub fn get(&self, id: AllocId) -> Option<Rectangle> {
         self.atlas.get(id.0).as_ref().map(plain::rectangle)
     }
@@ -81,10 +82,12 @@ impl AtlasAllocator {
     /// Asks for a rectangle of this size. None if the size is empty or fits no free rectangle. Panics where memory or
     /// slots are wanting.
     #[track_caller]
+    #[inline]
     pub fn allocate(&mut self, requested_size: Size) -> Option<Allocation> {
         expected(self.try_allocate(requested_size))
     }
 
+    #[inline]
     pub fn try_allocate(&mut self, requested_size: Size) -> Result<Option<Allocation>, AtlasError> {
         match self.atlas.allocate(requested_size.width, requested_size.height) {
             Ok(granted) => Ok(Some(plain::allocation(&granted))),
@@ -108,10 +111,12 @@ impl AtlasAllocator {
 
     /// Frees the rectangle of a live id. Panics if the id isn't live.
     #[track_caller]
+    #[inline]
     pub fn deallocate(&mut self, node_id: AllocId) {
         expected(self.try_deallocate(node_id));
     }
 
+    #[inline]
     pub fn try_deallocate(&mut self, node_id: AllocId) -> Result<(), AtlasError> {
         self.atlas.deallocate(node_id.0).map_err(AtlasError::of)
     }

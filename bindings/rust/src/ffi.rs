@@ -239,6 +239,7 @@ impl Atlas {
         of_status(status).map(|()| copy)
     }
 
+    #[inline]
     pub fn allocate(&mut self, width: i32, height: i32) -> Result<PlainAllocation, u32> {
         let mut granted = PlainAllocation::default();
         // SAFETY: this handle, and a place of our own.
@@ -246,6 +247,7 @@ impl Atlas {
         of_status(status).map(|()| granted)
     }
 
+    #[inline]
     pub fn deallocate(&mut self, id: u32) -> Result<(), u32> {
         // SAFETY: this handle.
         of_status(unsafe { guillotiere_atlas_deallocate(self.handle.get(), id) })
@@ -256,6 +258,7 @@ impl Atlas {
         of_status(unsafe { guillotiere_atlas_deallocate_all(self.handle.get(), ids.as_ptr(), ids.len()) })
     }
 
+    #[inline]
     pub fn get(&self, id: u32) -> Option<PlainRectangle> {
         let mut found = PlainRectangle::default();
         // SAFETY: this handle, and a place of our own.
@@ -417,6 +420,7 @@ impl Simple {
         of_status(status).map(|()| simple)
     }
 
+    #[inline]
     pub fn allocate(&mut self, width: i32, height: i32) -> Result<PlainRectangle, u32> {
         let mut granted = PlainRectangle::default();
         // SAFETY: this handle, and a place of our own.
@@ -486,6 +490,7 @@ impl Drop for Simple {
 /// How many changes and failures were written, or a status.
 pub type Listed = Result<PlainChangeCount, u32>;
 
+#[inline]
 fn of_status(status: u32) -> Result<(), u32> {
     match status {
         DONE => Ok(()),
