@@ -1,5 +1,5 @@
-//! How an atlas is stored, for `guillotiere` and its crates alone: how a request is rounded and a box is cut, the table of lists of
-//! free boxes and the search through it, slots that stand for a tree of cuts, and the store that changes both
+//! How an atlas is stored, for the library's crates alone: how a request is rounded and a box is cut, the table of
+//! lists of free boxes and the search through it, slots that stand for a tree of cuts, and the store that changes both
 //! together (docs/SLOTS.md). A caller depends on `guillotiere`, which gives none of these functions on.
 #![tactic(auto)]
 
