@@ -1,8 +1,8 @@
 //! Plans: how a leaf gives way to a request that fits it, and how that is carried out by the calls of `store`.
-ghost use Rattle.std.specs.Prelude.{◌≡◌, ◌≤◌, true, false};
+ghost use Rattle.std.specs.Prelude.{◌≡◌, ◌<◌};
 ghost use Rattle.atlas_store.specs.declared.slots.Node.{Node};
-ghost use Rattle.atlas_model.specs.Boxes.{IsPositive, Fits, box_sides, side, other};
-ghost use Rattle.atlas_model.specs.Cuts.{cut, cut_axis};
+ghost use Rattle.atlas_model.specs.Boxes.{IsPositive, Fits, Sides, box_sides, side, other};
+ghost use Rattle.atlas_model.specs.Cuts.{cut};
 ghost use Rattle.atlas_model.specs.Cuts.Cut.{Whole, Strip, Corner};
 ghost use Rattle.atlas_store.specs.Slots.{axis_of};
 ghost use Rattle.atlas_model.specs.Pixels.{box_of, rectangle_of, sides_of};
@@ -46,53 +46,6 @@ pub fn slots_needed(plan: Plan) -> u32
     }
 }
 
-// How many sides of a size are those of the whole: two, one or none.
-fn equal_sides(whole: Size, size: Size) -> u32
-    requires whole { IsPositive (sides_of whole) }
-    requires positive { IsPositive (sides_of size) }
-    ensures most { result ≤ 2 }
-    ensures two { result ≡ 2 → cut (sides_of whole) (sides_of size) ≡ Whole }
-    ensures one { result ≡ 1
-        → cut (sides_of whole) (sides_of size) ≡ Strip (cut_axis (sides_of whole) (sides_of size)) }
-    ensures none { result ≡ 0
-        → cut (sides_of whole) (sides_of size) ≡ Corner (cut_axis (sides_of whole) (sides_of size)) }
-{
-    if whole.width == size.width {
-        if whole.height == size.height { 2 } else { 1 }
-    } else if whole.height == size.height {
-        1
-    } else {
-        0
-    }
-}
-
-// The axis on which the greater part remains. Where a side is equal, nothing remains on its axis.
-fn remaining_axis(whole: Size, size: Size) -> Orientation
-    requires whole { IsPositive (sides_of whole) }
-    requires positive { IsPositive (sides_of size) }
-    requires fits { Fits (sides_of size) (sides_of whole) }
-    ensures { axis_of result ≡ cut_axis (sides_of whole) (sides_of size) }
-{
-    if whole.width == size.width {
-        Orientation::Vertical
-    } else if whole.height == size.height {
-        Orientation::Horizontal
-    } else {
-        orientation_of(whole, size)
-    }
-}
-
-// Whether the greater part remains along this axis.
-fn remains_along(whole: Size, size: Size, axis: Orientation) -> bool
-    requires whole { IsPositive (sides_of whole) }
-    requires positive { IsPositive (sides_of size) }
-    requires fits { Fits (sides_of size) (sides_of whole) }
-    ensures along { result ≡ true → cut_axis (sides_of whole) (sides_of size) ≡ axis_of axis }
-    ensures across { result ≡ false → cut_axis (sides_of whole) (sides_of size) ≡ other (axis_of axis) }
-{
-    remaining_axis(whole, size) == axis
-}
-
 // The pixels of a size along an axis, and those across it.
 fn along_and_across(size: Size, axis: Orientation) -> (u32, u32)
     requires { IsPositive (sides_of size) }
@@ -107,6 +60,37 @@ fn along_and_across(size: Size, axis: Orientation) -> (u32, u32)
     }
 }
 
+// The plan for a request that has all pixels of a leaf but on one axis.
+fn strip(leaf: &Node, axis: Orientation, pixels: u32) -> Plan
+    ensures line { (r : Sides) → cut (box_sides (box_of leaf.now.area)) r ≡ Strip (axis_of axis)
+        → pixels ≡ side (axis_of axis) r → IsPlanFor leaf.now r result }
+    ensures feasible { 0 < pixels → pixels < side (axis_of axis) (box_sides (box_of leaf.now.area))
+        → IsFeasible result (extent_of leaf.now) (across_of leaf.now) }
+{
+    if axis == leaf.axis {
+        Plan::StripAlong(pixels)
+    } else {
+        Plan::StripAcross(pixels)
+    }
+}
+
+// The plan for a request that is smaller than a leaf on both axes.
+fn corner(leaf: &Node, whole: Size, size: Size) -> Plan
+    requires whole { sides_of whole ≡ box_sides (box_of leaf.now.area) }
+    requires positive { IsPositive (sides_of size) }
+    requires narrower { (sides_of size).width < (sides_of whole).width }
+    requires lower { (sides_of size).height < (sides_of whole).height }
+    ensures line { IsPlanFor leaf.now (sides_of size) result }
+    ensures feasible { IsFeasible result (extent_of leaf.now) (across_of leaf.now) }
+{
+    let (along, across) = along_and_across(size, leaf.axis);
+    if orientation_of(whole, size) == leaf.axis {
+        Plan::CornerAlong(along, across)
+    } else {
+        Plan::CornerAcross(along, across)
+    }
+}
+
 /// The plan for a request that fits a leaf.
 pub fn plan_for(leaf: &Node, size: Size) -> Plan
     requires exact { leaf.now.area ≡ rectangle_of (box_of leaf.now.area) }
@@ -116,21 +100,16 @@ pub fn plan_for(leaf: &Node, size: Size) -> Plan
     ensures feasible { IsFeasible result (extent_of leaf.now) (across_of leaf.now) }
 {
     let whole = exact_size(leaf.area);
-    let is_along = remains_along(whole, size, leaf.axis);
-    let (along, across) = along_and_across(size, leaf.axis);
-    let equal = equal_sides(whole, size);
-    if equal == 2 {
-        Plan::Whole
-    } else if equal == 1 {
-        if is_along {
-            Plan::StripAlong(along)
+    if whole.width == size.width {
+        if whole.height == size.height {
+            Plan::Whole
         } else {
-            Plan::StripAcross(across)
+            strip(leaf, Orientation::Vertical, size.height as u32)
         }
-    } else if is_along {
-        Plan::CornerAlong(along, across)
+    } else if whole.height == size.height {
+        strip(leaf, Orientation::Horizontal, size.width as u32)
     } else {
-        Plan::CornerAcross(along, across)
+        corner(leaf, whole, size)
     }
 }
 

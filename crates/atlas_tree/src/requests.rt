@@ -72,9 +72,8 @@ pub fn make_room<A: Allocator>(
         return Err(AtlasError::Slots);
     }
     let all = (used + needed) as usize;
-    let kept = store.slots.len();
-    if all > kept {
-        store.slots.reserve(all - kept)?;
+    if all > store.slots.capacity() {
+        store.slots.reserve(all - store.slots.len())?;
     }
     Ok(())
 }
