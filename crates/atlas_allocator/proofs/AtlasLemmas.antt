@@ -11,3 +11,4 @@ pub mod RefitLoops
 pub mod RearrangedAtlas
 pub mod Measuring
 pub mod Reserving
+pub mod Requests

@@ -20,6 +20,7 @@ ghost use Rattle.atlas_model.specs.Steps.AtlasReply.{Done};
 
 pub mod queries;
 pub mod rearranging;
+pub mod requesting;
 pub mod reserving;
 pub mod walks;
 
@@ -28,8 +29,6 @@ use atlas_model::{
     AllocId, Allocation, AllocatorOptions, AtlasError, ChangeList, DEFAULT_OPTIONS, MOST_SLOTS,
     Rectangle, Size, SlotCount,
 };
-use atlas_store::choice::rounded;
-use atlas_store::cut::granted;
 use atlas_store::search::table::Table;
 use atlas_store::slots::batch::are_named_once;
 use atlas_store::slots::walks::{named_slot, slot_number};
@@ -38,8 +37,7 @@ use atlas_store::store::Store;
 use atlas_store::store::turns::Turns;
 use atlas_tree::freeing::free_leaf;
 use atlas_tree::growth::{grow_tree, grow_whole, growth_for, slots_for};
-use atlas_tree::plans::slots_needed;
-use atlas_tree::requests::{choose, grant, make_room};
+use atlas_tree::requests::make_room;
 use std::alloc::{Allocator, Global};
 use std::marker::Model;
 use std::ops::Index;
@@ -233,18 +231,7 @@ impl<A: Allocator + Copy> AtlasAllocator<A> {
         ensures answer { IsAnswer (state_of self.old) requested_size result }
         ensures frame { KeepsFrame (state_of self.old) (state_of self.new) }
     {
-        let Some(size) = rounded(requested_size, &self.store.options) else {
-            return Ok(None);
-        };
-        let Some(chosen) = choose(&self.store, size) else {
-            return Ok(None);
-        };
-        let needed = slots_needed(chosen.plan);
-        make_room(&mut self.store, self.used, self.limit, needed)?;
-        let rectangle = granted(chosen.area, size);
-        let id = grant(&mut self.store, chosen);
-        self.used += needed;
-        Ok(Some(Allocation { id, rectangle }))
+        self.request(requested_size)
     }
 
     /// Frees the box of an id: it joins the free space beside it. `NotLive` if the id isn't live, and then nothing
@@ -329,13 +316,14 @@ impl<A: Allocator + Copy> AtlasAllocator<A> {
         Ok(())
     }
 
-    /// `resize_and_rearrange` at the present size.
+    /// `resize_and_rearrange` at the present size. Each slot is then in its first generation.
     pub fn rearrange(&mut self) -> Result<ChangeList<A>, AtlasError>
         ensures step { Step (state_of self.old) Rearrange (change_reply result) (state_of self.new) }
         ensures exact { IfOk result AreExactChanges }
         ensures sides { IfOk result (λ list. All KeepsSides list.changes.items) }
         ensures moves { IfOk result (λ list. IsRearrangingStep (state_of self.old) (rearrangement_of list)
             (state_of self.new)) }
+        ensures anew { IfOk result (λ _. AreFirstGenerations self.new) }
         ensures refused { OnErr result (self.new ≡ self.old) }
         ensures turns { self.new.turns ≡ self.old.turns }
         ensures sound { IsSound (state_of self.new) }
@@ -348,9 +336,9 @@ impl<A: Allocator + Copy> AtlasAllocator<A> {
     /// Places what is allocated anew in an empty atlas of this size, the largest first; the options and the limit stay.
     /// Asks a size that isn't empty. The rectangles are taken in order of descending area, where areas count up to
     /// 2147483647, and of descending slot, the low 24 bits of the id, where areas are equal; each is placed where it
-    /// then fits, or else listed as a failure, whose id is live no more. All former ids are void. `Slots` if on the way
-    /// more slots would be used than the limit allows; `Memory` if memory is refused; then nothing changes. Takes no
-    /// turns.
+    /// then fits, or else listed as a failure, whose id is live no more. All former ids are void, and each slot is in its
+    /// first generation. `Slots` if on the way more slots would be used than the limit allows; `Memory` if memory is
+    /// refused; then nothing changes. Takes no turns.
     pub fn resize_and_rearrange(&mut self, new_size: Size) -> Result<ChangeList<A>, AtlasError>
         requires { IsPositive (sides_of new_size) }
         ensures step { Step (state_of self.old) (ResizeAndRearrange (sides_of new_size)) (change_reply result)
@@ -359,6 +347,7 @@ impl<A: Allocator + Copy> AtlasAllocator<A> {
         ensures sides { IfOk result (λ list. All KeepsSides list.changes.items) }
         ensures moves { IfOk result (λ list. IsRearrangingStep (state_of self.old) (rearrangement_of list)
             (state_of self.new)) }
+        ensures anew { IfOk result (λ _. AreFirstGenerations self.new) }
         ensures refused { OnErr result (self.new ≡ self.old) }
         ensures turns { self.new.turns ≡ self.old.turns }
         ensures sound { IsSound (state_of self.new) }

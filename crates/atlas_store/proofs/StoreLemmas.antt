@@ -12,3 +12,4 @@ pub mod Sizes
 pub mod ExtendedTrees
 pub mod ExtendingSteps
 pub mod StoreFacts
+pub mod TakenOnce

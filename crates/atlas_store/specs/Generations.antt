@@ -1,8 +1,9 @@
 -- Generations: how often a slot was taken anew since the last start.
 use Rattle.std.specs.Prelude.{◌≡◌, All}
-use Rattle.atlas_store.specs.Slots.{nodes}
+use Rattle.atlas_store.specs.Slots.{nodes, no_slot}
 use Rattle.atlas_store.specs.Stored.{AtlasValue}
 
--- Each slot is in its first generation.
-abbrev pub AreFirstGenerations : AtlasValue → Type 0
-AreFirstGenerations v = All (λ n. n.generation ≡ 0) (nodes v.stored.shelf.slots)
+-- Each slot is in its first generation, and none is unused.
+pub record AreFirstGenerations (v : AtlasValue) : Type 0 where
+  pub first : All (λ n. n.generation ≡ 0) (nodes v.stored.shelf.slots)
+  pub used : v.stored.shelf.unused.number ≡ no_slot

@@ -11,6 +11,7 @@ pub mod Growing
 pub mod SlotCalls
 use Rattle.std.specs.Prelude.{ℕ, ◌≡◌, List, map, pos, slice_index_or}
 use Rattle.atlas_store.specs.declared.slots.Slot.{Slot}
+use Rattle.atlas_store.specs.declared.slots.Link.{Link}
 use Rattle.atlas_store.specs.declared.slots.Node.{Node}
 use Rattle.atlas_store.specs.declared.slots.Ring.{Ring}
 use Rattle.atlas_store.specs.declared.slots.NodeKind.{NodeKind}
@@ -67,3 +68,8 @@ pub record KeepsUse (old new : Node) : Type 0 where
   pub kind : new.kind ≡ old.kind
   pub area : new.area ≡ old.area
   pub generation : new.generation ≡ old.generation
+
+-- Each slot was taken once: none is unused, and each is in its first generation.
+pub record AreTakenOnce (ns : List Node) (unused : Link) : Type 0 where
+  pub none : unused.number ≡ no_slot
+  pub generations : (i : ℕ) → (node_at ns i).generation ≡ 0

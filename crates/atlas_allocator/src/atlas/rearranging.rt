@@ -7,6 +7,7 @@ ghost use Rattle.atlas_model.specs.Refits.{IsRanked};
 ghost use Rattle.atlas_model.specs.Replies.{AreRising, IsExact, grant_of};
 ghost use Rattle.atlas_model.specs.Rearranging.{AreExactChanges, rearrangement_of};
 ghost use Rattle.atlas_model.specs.Refits.Refitted.{HasExactRectangle, IsRefitOf, IsRefitRefusal};
+ghost use Rattle.atlas_store.specs.Generations.{AreFirstGenerations};
 ghost use Rattle.atlas_store.specs.Stored.{state_of};
 ghost use Rattle.atlas_model.specs.Trees.{slot_of};
 
@@ -53,7 +54,8 @@ fn size_of_box(rectangle: Rectangle) -> Size
 }
 
 /// Places boxes in an atlas, in this order, and lists which were granted and which found no room. After a refusal the
-/// boxes up to the refused one are placed. The failures are kept in the room of the boxes.
+/// boxes up to the refused one are placed. The failures are kept in the room of the boxes. Slots in their first
+/// generations stay so.
 pub fn refit<A: Allocator + Copy>(
     atlas: &mut AtlasAllocator<A>,
     order: Vec<Allocation, A>,
@@ -63,13 +65,14 @@ pub fn refit<A: Allocator + Copy>(
         (rearrangement_of list) (state_of atlas.new)) }
     ensures exact { IfOk result AreExactChanges }
     ensures refused { IfErr result (IsRefitRefusal (state_of atlas.old) (map grant_of order.items)) }
+    ensures first { IfOk result (λ _. AreFirstGenerations atlas.old → AreFirstGenerations atlas.new) }
 {
     let mut failures = order;
     let mut changes = Vec::new(*failures.allocator());
     let mut failed = 0;
     for at in 0..failures.len() {
         let old = failures[at];
-        match atlas.allocate(size_of_box(old.rectangle))? {
+        match atlas.request(size_of_box(old.rectangle))? {
             Some(new) => changes.push(Change { old, new })?,
             None => {
                 failures[failed] = old;

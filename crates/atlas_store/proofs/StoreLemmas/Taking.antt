@@ -133,11 +133,16 @@ takes-fresh old new slot unused at short none ea en es =
     let last : new ≡ old ++ blank_slot ∷ [] = en ∙ ap (λ s. old ++ s ∷ []) es in
     let ns : nodes new ≡ nodes old ++ blank_node ∷ [] =
     ap nodes last ∙ map-append (λ (s : Slot). s.node) old (blank_slot ∷ []) in
+    let same : (k : ℕ) → node_at (nodes new) k ≡ node_at (nodes old) k = λ k. rw ns (node_at-grown (nodes old) k) in
     record {
       taken = λ o heads. taken-fresh o old new slot heads unused at.number short none ea en es;
-      others = λ k _. rw ns (node_at-grown (nodes old) k);
+      others = λ k _. same k;
       again = λ some. absurd (some none);
       fresh = λ _. (ea, last);
+      once = λ f. record {
+        none = f.none;
+        generations = λ k. ap (λ (n : Node). n.generation) (same k) ∙ f.generations k;
+      };
     }
 
 pub takes-again : (old items ys new : List Slot) (unused : Link) (ring : Ring) → items ≡ old → new ≡ ys
@@ -153,6 +158,7 @@ takes-again old items ys new unused ring ei ey some eg em er =
       others = λ k ne. rw en (get_or-set_other (nodes old) at k now blank_node ne);
       again = λ _. (refl, en);
       fresh = λ none. absurd (some none);
+      once = λ f. absurd (some f.none);
     }
 
 pub given-by : (o : Options) (old new : List Slot) (heads : List ListHead) (unused at : Link) (ring : Ring) → at.number < length old → rings new ≡ set (rings old) at.number ring → nodes new ≡ nodes old → ring.next ≡ unused → (p : Places) → AreFiled o (nodes old) (rings old) heads unused p → 0 < p.hand at.number → AreFiled o (nodes new) (rings new) heads at (given_back p at.number)

@@ -13,7 +13,7 @@ use Rattle.atlas_model.specs.Boxes.{IsNonempty}
 use Rattle.atlas_model.specs.Pixels.{box_of}
 use Rattle.atlas_store.specs.Rectangles.{IsUnsigned}
 use Rattle.atlas_model.specs.Choice.{Options}
-use Rattle.atlas_store.specs.Slots.{nodes, rings, node_at, ring_at, blank_slot, no_slot}
+use Rattle.atlas_store.specs.Slots.{nodes, rings, node_at, ring_at, blank_slot, no_slot, AreTakenOnce}
 use Rattle.atlas_store.specs.Search.Bands.{list_of}
 use Rattle.atlas_store.specs.Slots.Lists.{IsList, AreFiled, Line, Places, front, node_sides, occurs, without}
 
@@ -131,3 +131,4 @@ pub record TakesFirst (old new : List Slot) (unused unused' at : Link) : Type 0 
   pub again : unused.number ≢ no_slot
       → (at ≡ unused) × (nodes new ≡ slice_set (nodes old) at.number (renewed (node_at (nodes old) at.number)))
   pub fresh : unused.number ≡ no_slot → (at.number ≡ length old) × (new ≡ old ++ blank_slot ∷ [])
+  pub once : AreTakenOnce (nodes old) unused → AreTakenOnce (nodes new) unused'

@@ -8,7 +8,7 @@ use Rattle.atlas_model.specs.Pixels.{box_of, options_of}
 use Rattle.atlas_store.specs.Search.Bands.{list_of}
 use Rattle.atlas_model.specs.Trees.{most_slots}
 use Rattle.atlas_store.specs.Slots.Lists.{node_sides, node_strip}
-use Rattle.atlas_store.specs.Slots.{nodes, node_at, axis_of}
+use Rattle.atlas_store.specs.Slots.{nodes, node_at, axis_of, AreTakenOnce}
 use Rattle.atlas_store.specs.Slots.Links.{with_mark, tail_of}
 use Rattle.atlas_store.specs.Slots.Numbered.{Numbered, marked, joined, lifted, granted_at, split_at, wrapped_at}
 use Rattle.atlas_store.specs.Stored.{Shelf, Holding, Holds, HoldsWith}
@@ -63,6 +63,14 @@ pub record KeepsRoom {A : Type 0} (old new : Store A) : Type 0 where
   pub slots : length new.slots.items ≡ length old.slots.items
   pub capacity : vec_capacity new.slots ≡ vec_capacity old.slots
   pub options : new.options ≡ old.options
+
+-- Each slot was taken once.
+abbrev pub IsTakenOnce : {A : Type 0} → Store A → Type 0
+IsTakenOnce s = AreTakenOnce (nodes s.slots.items) s.unused
+
+-- Slots may be taken, and none is given back or taken again.
+abbrev pub KeepsTakenOnce : {A : Type 0} → (old new : Store A) → Type 0
+KeepsTakenOnce old new = IsTakenOnce old → IsTakenOnce new
 
 -- Slot i is a loose leaf, and slot k is in hand.
 pub record IsReadyWith (hand : ℕ → ℕ) (v : Shelf) (i k : ℕ) (h : Holding) : Type 0 where

@@ -13,7 +13,7 @@ use Rattle.atlas_store.specs.Slots.{nodes, no_slot}
 use Rattle.atlas_store.specs.Slots.Numbered.{End, Free}
 use Rattle.atlas_store.specs.Slots.Links.{with_mark}
 use Rattle.atlas_store.specs.Stored.{Holding, Holds}
-use Rattle.atlas_store.specs.Store.Holdings.{shelf_of}
+use Rattle.atlas_store.specs.Store.Holdings.{shelf_of, IsTakenOnce}
 
 -- The one slot of an atlas of this size in which nothing is granted.
 abbrev pub one_free_slot : Size → Slot
@@ -58,6 +58,7 @@ pub record IsStarted {A : Type 0} (old new : Store A) (size : Size) (given : All
   pub holds : (held : ℕ → List ℕ) × Holds (shelf_of new) (start_holding held (sides_of size))
   pub slots : nodes new.slots.items ≡ nodes (one_free_slot size ∷ [])
   pub one : length new.slots.items ≡ 1
+  pub once : IsTakenOnce new
   pub options : new.options ≡ given
   pub capacity : vec_capacity new.slots ≡ vec_capacity old.slots
   pub turns : new.turns ≡ old.turns

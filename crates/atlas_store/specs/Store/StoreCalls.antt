@@ -22,6 +22,7 @@ use Rattle.atlas_store.specs.Store.Holdings.{
   IsLow,
   IsReadyWith,
   KeepsRoom,
+  KeepsTakenOnce,
   with_loose,
   with_held,
   with_spare,
@@ -66,6 +67,7 @@ pub record IsUnlisted {A : Type 0} (old new : Store A) (i : ℕ) : Type 0 where
       → (held : ℕ → List ℕ) × Holds (shelf_of new) (with_loose i true (with_held held h))
   pub nodes : nodes new.slots.items ≡ nodes old.slots.items
   pub room : KeepsRoom old new
+  pub once : KeepsTakenOnce old new
   pub turns : new.turns ≡ old.turns
 
 -- No slot of list k lies above this strip.
@@ -73,6 +75,7 @@ pub record IsSharpened {A : Type 0} (old new : Store A) (k low : ℕ) : Type 0 w
   pub kept : (h : Holding) → Holds (shelf_of old) h → IsLow (shelf_of old) h k low → Holds (shelf_of new) h
   pub slots : new.slots ≡ old.slots
   pub options : new.options ≡ old.options
+  pub once : KeepsTakenOnce old new
   pub turns : new.turns ≡ old.turns
 
 -- The loose leaf of slot i stands in its list.
@@ -81,6 +84,7 @@ pub record IsListed {A : Type 0} (old new : Store A) (i : ℕ) : Type 0 where
       → (held : ℕ → List ℕ) × Holds (shelf_of new) (with_loose i false (with_held held h))
   pub nodes : nodes new.slots.items ≡ nodes old.slots.items
   pub room : KeepsRoom old new
+  pub once : KeepsTakenOnce old new
   pub turns : new.turns ≡ old.turns
 
 -- The loose leaf of slot i is granted.
@@ -90,6 +94,7 @@ pub record IsGranted {A : Type 0} (old new : Store A) (i : ℕ) : Type 0 where
   pub granted : node_in (shelf_of new) i ≡ record (node_in (shelf_of old) i) { kind = kind.Alloc }
   pub others : (j : ℕ) → j ≢ i → KeepsUse (node_in (shelf_of old) j) (node_in (shelf_of new) j)
   pub room : KeepsRoom old new
+  pub once : KeepsTakenOnce old new
   pub turns : new.turns ≡ old.turns
 
 -- Slot k was unused, and is in hand.
@@ -106,6 +111,7 @@ pub record IsSlotTaken {A : Type 0} (old new : Store A) (k : ℕ) : Type 0 where
   pub others : (j : ℕ) → j ≢ k → node_in (shelf_of new) j ≡ node_in (shelf_of old) j
   pub options : new.options ≡ old.options
   pub capacity : vec_capacity new.slots ≡ vec_capacity old.slots
+  pub once : KeepsTakenOnce old new
   pub turns : new.turns ≡ old.turns
 
 -- The loose leaf of slot `at` keeps p of its extent, and slot `fresh`, which was in hand, takes the rest.
@@ -118,6 +124,7 @@ pub record IsSplitWith {A : Type 0} (old new : Store A) (at fresh : Link) (p : �
   pub others : (j : ℕ) → j ≢ at.number → j ≢ fresh.number
       → KeepsUse (node_in (shelf_of old) j) (node_in (shelf_of new) j)
   pub room : KeepsRoom old new
+  pub once : KeepsTakenOnce old new
   pub turns : new.turns ≡ old.turns
 
 -- The loose leaf of slot `at` is a container, and slot `fresh`, which was in hand, its lone child.
@@ -130,6 +137,7 @@ pub record IsWrappedWith {A : Type 0} (old new : Store A) (at fresh : Link) : Ty
   pub others : (j : ℕ) → j ≢ at.number → j ≢ fresh.number
       → KeepsUse (node_in (shelf_of old) j) (node_in (shelf_of new) j)
   pub room : KeepsRoom old new
+  pub once : KeepsTakenOnce old new
   pub turns : new.turns ≡ old.turns
 
 -- What is held once slots were taken as `after` tells: m slots of those for which there was room.
@@ -150,6 +158,7 @@ pub record IsSplit {A : Type 0} (old new : Store A) (at k p : ℕ) : Type 0 wher
   pub others : (j : ℕ) → j ≢ at → j ≢ k → KeepsUse (node_in (shelf_of old) j) (node_in (shelf_of new) j)
   pub options : new.options ≡ old.options
   pub capacity : vec_capacity new.slots ≡ vec_capacity old.slots
+  pub once : KeepsTakenOnce old new
   pub turns : new.turns ≡ old.turns
 
 -- The loose leaf of slot `at` is a container, and slot k its lone child, which is loose.
@@ -162,6 +171,7 @@ pub record IsWrapped {A : Type 0} (old new : Store A) (at k : ℕ) : Type 0 wher
   pub others : (j : ℕ) → j ≢ at → j ≢ k → KeepsUse (node_in (shelf_of old) j) (node_in (shelf_of new) j)
   pub options : new.options ≡ old.options
   pub capacity : vec_capacity new.slots ≡ vec_capacity old.slots
+  pub once : KeepsTakenOnce old new
   pub turns : new.turns ≡ old.turns
 
 -- The loose leaf of slot `at` is a container of slot k, which keeps p of it, and slot l, which has the rest; both are
@@ -176,6 +186,7 @@ pub record IsWrappedTwo {A : Type 0} (old new : Store A) (at k l p : ℕ) : Type
   pub others : (j : ℕ) → j ≢ at → j ≢ k → j ≢ l → KeepsUse (node_in (shelf_of old) j) (node_in (shelf_of new) j)
   pub options : new.options ≡ old.options
   pub capacity : vec_capacity new.slots ≡ vec_capacity old.slots
+  pub once : KeepsTakenOnce old new
   pub turns : new.turns ≡ old.turns
 
 -- The granted leaf of slot i is free, and loose; a turn was taken.

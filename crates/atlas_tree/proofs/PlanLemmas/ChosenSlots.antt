@@ -87,6 +87,7 @@ unlisted-sharpened {A} {v} {u} {v'} {r} p w one two = record {
       );
   nodes = ap (λ s. nodes s.items) two.slots ∙ one.nodes;
   room = grind arith;
+  once = λ f. two.once (one.once f);
   turns = two.turns ∙ one.turns;
 }
 
@@ -115,4 +116,19 @@ module _ {A : Type 0} {v v' : Store A} {r : Sides} {p : Chosen} {h : Holding} (w
 
     pub grant-made : (id : ℕ) (node : Node) → node ≡ node_in (shelf_of new) to → id ≡ id_of to node.generation
         → (to : ℕ) × (h' : Holding) × IsGrantMade (shelf_of new) p id to h h'
-    grant-made id node same is = grind (arith, placed_there)
+    grant-made id node same is =
+        let made = placed_there.1 in (
+          to,
+          placed_there.0,
+          record {
+            planned = record {
+              holds = made.holds;
+              listed = made.listed;
+              tree = made.tree;
+              sequence = made.sequence;
+              granted = made.granted;
+              spare = made.spare;
+            };
+            names = is ∙ ap (λ (n : Node). id_of to n.generation) same;
+          },
+        )

@@ -15,7 +15,7 @@ use Rattle.atlas_store.specs.Search.Bands.{list_of, number_of}
 use Rattle.atlas_store.specs.Slots.Lists.{node_sides, node_strip}
 use Rattle.atlas_store.specs.Search.Picks.{AreFreeBoxes, IsFreeSlot}
 use Rattle.atlas_store.specs.Stored.{Shelf, Holding, Holds, IsLooseOnly}
-use Rattle.atlas_store.specs.Store.Holdings.{shelf_of, node_in, across_of, HasSlotsFor}
+use Rattle.atlas_store.specs.Store.Holdings.{shelf_of, node_in, across_of, HasSlotsFor, KeepsTakenOnce}
 use Rattle.atlas_tree.specs.Plans.Planning.{IsPlanFor, IsFeasible, IsPlanned, slots_of}
 
 -- The slots stand for a tree that begins at 0, and each free slot stands in its list.
@@ -59,6 +59,7 @@ CanGrant s p = (r : Sides) × (h : Holding) × IsGrantable s r p h
 pub record IsRequestGranted {A : Type 0} (old new : Store A) (p : Chosen) (id : ℕ) : Type 0 where
   pub granted : (r : Sides) (h : Holding) → IsGrantable old r p h
       → (to : ℕ) × (h' : Holding) × IsGrantMade (shelf_of new) p id to h h'
+  pub once : KeepsTakenOnce old new
   pub options : new.options ≡ old.options
   pub capacity : vec_capacity new.slots ≡ vec_capacity old.slots
   pub turns : new.turns ≡ old.turns

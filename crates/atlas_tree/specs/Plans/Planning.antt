@@ -13,7 +13,7 @@ use Rattle.atlas_store.specs.declared.slots.NodeKind.TheVariants as kind
 use Rattle.atlas_store.specs.Slots.{axis_of}
 use Rattle.atlas_store.specs.Slots.Reading.{extent_of}
 use Rattle.atlas_store.specs.Stored.{Shelf, Holding, Holds, IsLooseOnly}
-use Rattle.atlas_store.specs.Store.Holdings.{shelf_of, IsLooseLeaf, HasSlotsFor, node_in, across_of}
+use Rattle.atlas_store.specs.Store.Holdings.{shelf_of, IsLooseLeaf, HasSlotsFor, KeepsTakenOnce, node_in, across_of}
 use Rattle.atlas_store.specs.Slots.Numbered.{Numbered, granted_at, split_at, wrapped_at}
 
 -- How many slots a plan takes.
@@ -89,6 +89,7 @@ pub record IsPlanned (new : Shelf) (at to : ℕ) (p : Plan) (h h' : Holding) : T
 -- A plan was carried out in the loose leaf of slot `at`, and slot `to` is granted.
 pub record IsPlaced {A : Type 0} (old new : Store A) (at to : ℕ) (p : Plan) : Type 0 where
   pub kept : (h : Holding) → IsPlaceableAt old at p h → (h' : Holding) × IsPlanned (shelf_of new) at to p h h'
+  pub once : KeepsTakenOnce old new
   pub options : new.options ≡ old.options
   pub capacity : vec_capacity new.slots ≡ vec_capacity old.slots
   pub turns : new.turns ≡ old.turns

@@ -28,6 +28,8 @@ returns g c = record {
   kept = λ h s.
       corner_across-planned c.wrap_two.ensures s c.wrap-granted.ensures
       c.split-leftover.ensures c.grant.ensures c.list.ensures c.list-2.ensures;
+  once = λ f.
+      c.list-2.ensures.once (c.list.ensures.once (c.grant.ensures.once (c.split-leftover.ensures.once (c.wrap-granted.ensures.once (c.wrap_two.ensures.once f)))));
   options =
       c.list-2.ensures.room.options ∙ c.list.ensures.room.options ∙ c.grant.ensures.room.options ∙ c.split-leftover.ensures.options
       ∙ c.wrap-granted.ensures.options ∙ c.wrap_two.ensures.options;

@@ -28,6 +28,8 @@ returns g c = record {
   kept = λ h s.
       corner_along-planned c.split-split.ensures s c.wrap-granted.ensures
       c.split-leftover.ensures c.grant.ensures c.list.ensures c.list-2.ensures;
+  once = λ f.
+      c.list-2.ensures.once (c.list.ensures.once (c.grant.ensures.once (c.split-leftover.ensures.once (c.wrap-granted.ensures.once (c.split-split.ensures.once f)))));
   options =
       c.list-2.ensures.room.options ∙ c.list.ensures.room.options ∙ c.grant.ensures.room.options ∙ c.split-leftover.ensures.options
       ∙ c.wrap-granted.ensures.options ∙ c.split-split.ensures.options;

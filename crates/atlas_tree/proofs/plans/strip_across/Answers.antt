@@ -12,6 +12,7 @@ pub returns : goal.returns
 returns g c = record {
   kept = λ h s.
       strip_across-planned c.wrap_two.ensures s c.grant.ensures c.list.ensures;
+  once = λ f. c.list.ensures.once (c.grant.ensures.once (c.wrap_two.ensures.once f));
   options = c.list.ensures.room.options ∙ c.grant.ensures.room.options ∙ c.wrap_two.ensures.options;
   capacity = c.list.ensures.room.capacity ∙ c.grant.ensures.room.capacity ∙ c.wrap_two.ensures.capacity;
   turns = c.list.ensures.turns ∙ c.grant.ensures.turns ∙ c.wrap_two.ensures.turns;

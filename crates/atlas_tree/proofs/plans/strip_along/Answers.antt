@@ -12,6 +12,7 @@ pub returns : goal.returns
 returns g c = record {
   kept = λ h s.
       strip_along-planned c.split-split.ensures s c.grant.ensures c.list.ensures;
+  once = λ f. c.list.ensures.once (c.grant.ensures.once (c.split-split.ensures.once f));
   options = c.list.ensures.room.options ∙ c.grant.ensures.room.options ∙ c.split-split.ensures.options;
   capacity = c.list.ensures.room.capacity ∙ c.grant.ensures.room.capacity ∙ c.split-split.ensures.capacity;
   turns = c.list.ensures.turns ∙ c.grant.ensures.turns ∙ c.split-split.ensures.turns;

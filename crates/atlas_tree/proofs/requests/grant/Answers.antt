@@ -21,6 +21,7 @@ returns g c = record {
   granted = λ r h w.
       grant-made w (unlisted-sharpened c.args.chosen w.chosen c.unlist_at.ensures c.sharpen.ensures) c.place-slot.ensures
       c.slot_id.result c.node-node.result c.node-node.ensures c.slot_id.ensures;
+  once = λ f. c.place-slot.ensures.once (c.sharpen.ensures.once (c.unlist_at.ensures.once f));
   options = c.place-slot.ensures.options ∙ c.sharpen.ensures.options ∙ c.unlist_at.ensures.room.options;
   capacity =
       c.place-slot.ensures.capacity ∙ ap (λ v. vec_capacity v) c.sharpen.ensures.slots ∙ c.unlist_at.ensures.room.capacity;

@@ -3,6 +3,7 @@ use Rattle.atlas_model.specs.Pixels.{options_of, sides_of}
 use Rattle.atlas_model.specs.States.{IsSound}
 use Rattle.atlas_store.specs.Stored.{state_of}
 use Rattle.atlas_allocator.proofs.AtlasLemmas.Reserving.{start-few}
+use Rattle.atlas_store.proofs.StoreLemmas.TakenOnce.{once-first}
 use Rattle.atlas_allocator.proofs.atlas.AtlasAllocator.restart.Goals as goal
 
 pub returns-clause-state : goal.returns-clause-state
@@ -15,3 +16,6 @@ returns-clause-slots g c = record {
       (subst (λ w. IsSound (state_of w)) c.self.view_is c.self.invariant.sound) (returns-clause-state g c);
   capacity = omega (arith, ap (λ v. v.capacity) c.self.view_is, c.start.ensures.capacity);
 }
+
+pub returns-clause-anew : goal.returns-clause-anew
+returns-clause-anew g c = once-first _ c.start.ensures.once

@@ -1,8 +1,10 @@
-use Rattle.std.proofs.Common.{refl}
+use Rattle.std.proofs.Common.{ap, refl}
+use Rattle.atlas_store.specs.declared.slots.Node.{Node}
 use Rattle.atlas_store.specs.Slots.SlotCalls.{IsLeafGranted}
 use Rattle.atlas_store.specs.Store.Holdings.{shelf_of}
 use Rattle.atlas_store.proofs.StoreLemmas.StoreFacts.{are-slots, slots-room}
 use Rattle.atlas_store.proofs.StoreLemmas.StoreSteps.{granted-holds, over-shelf, long-over}
+use Rattle.atlas_store.proofs.StoreLemmas.TakenOnce.{once-one}
 use Rattle.atlas_store.proofs.store.Store.grant.Goals as goal
 
 pub returns : goal.returns
@@ -15,5 +17,6 @@ returns g c =
       granted = granted.leaf;
       others = granted.others;
       room = slots-room c.args.self.now _ slots refl refl;
+      once = once-one at (ap (λ (n : Node). n.generation) granted.leaf) granted.others;
       turns = refl;
     }

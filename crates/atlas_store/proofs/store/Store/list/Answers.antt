@@ -8,6 +8,7 @@ use Rattle.atlas_store.specs.Stored.{places_of}
 use Rattle.atlas_store.specs.Store.Holdings.{shelf_of}
 use Rattle.atlas_store.proofs.StoreLemmas.StoreFacts.{are-slots, across-call, slots-room}
 use Rattle.atlas_store.proofs.StoreLemmas.StoreSteps.{listed-holds, leaf-exact}
+use Rattle.atlas_store.proofs.StoreLemmas.TakenOnce.{once-same}
 use Rattle.atlas_store.proofs.store.Store.list.Goals as goal
 
 pub enlist-requires-clause-exact : goal.enlist-requires-clause-exact
@@ -30,5 +31,6 @@ returns g c =
           );
       nodes = across-call (λ a b. nodes b ≡ nodes a) slots c.enlist.ensures.same_nodes;
       room = slots-room c.args.self.now _ slots refl refl;
+      once = once-same (across-call (λ a b. nodes b ≡ nodes a) slots c.enlist.ensures.same_nodes);
       turns = refl;
     }

@@ -58,5 +58,6 @@ returns g c =
       others = λ j ne nf. subst (λ n. KeepsUse n (node_in (shelf_of new) j)) (take.others j nf) (cut.others j ne nf);
       options = cut.room.options ∙ take.options;
       capacity = cut.room.capacity ∙ take.capacity;
+      once = λ f. cut.once (take.once f);
       turns = cut.turns ∙ take.turns;
     }

@@ -1,8 +1,10 @@
-use Rattle.std.proofs.Common.{refl, ℕ}
+use Rattle.std.proofs.Common.{ap, refl, ℕ}
+use Rattle.atlas_store.specs.declared.slots.Node.{Node}
 use Rattle.atlas_store.specs.Slots.SlotCalls.{IsLeafSplit}
 use Rattle.atlas_store.specs.Store.Holdings.{shelf_of}
 use Rattle.atlas_store.proofs.StoreLemmas.StoreFacts.{are-slots, slots-room}
 use Rattle.atlas_store.proofs.StoreLemmas.StoreSteps.{split-holds, over-shelf, long-over}
+use Rattle.atlas_store.proofs.StoreLemmas.TakenOnce.{once-two}
 use Rattle.atlas_store.proofs.store.Store.split_with.Goals as goal
 
 pub returns : goal.returns
@@ -23,5 +25,8 @@ returns g c =
       back = split.back;
       others = split.others;
       room = slots-room c.args.self.now _ slots refl refl;
+      once =
+          once-two c.args.at.number c.args.fresh.number (ap (λ (n : Node). n.generation) split.front)
+          (ap (λ (n : Node). n.generation) split.back) split.others;
       turns = refl;
     }

@@ -2,6 +2,7 @@ use Rattle.std.proofs.Common.{◌<◌, ◌^◌, ◌∙◌, refl, rules}
 use Rattle.atlas_model.specs.Pixels.{natural, sides_of}
 use Rattle.atlas_store.specs.Store.Starts.{loose_holding}
 use Rattle.atlas_store.proofs.StoreLemmas.Starting.{whole_leaf}
+use Rattle.atlas_store.proofs.StoreLemmas.TakenOnce.{once-whole}
 use Rattle.atlas_store.proofs.store.Store.start.Goals as goal
 
 pub list-requires : goal.list-requires
@@ -22,6 +23,7 @@ returns g c =
           (whole_leaf _ c.args.size (record { slots = search rules; lists = c.clear-2.ensures; unused = refl; valid = c.requires.options }) c.requires.size wide high);
       slots = c.list.ensures.nodes ∙ search rules;
       one = c.list.ensures.room.slots ∙ search rules;
+      once = c.list.ensures.once (once-whole c.args.size (search rules) refl);
       options = c.list.ensures.room.options;
       capacity = c.list.ensures.room.capacity ∙ search rules;
       turns = c.list.ensures.turns;

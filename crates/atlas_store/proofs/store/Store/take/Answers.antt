@@ -32,5 +32,6 @@ returns g c =
       others = call.others;
       options = refl;
       capacity = c.take_slot.ensures.capacity;
+      once = call.once;
       turns = refl;
     }

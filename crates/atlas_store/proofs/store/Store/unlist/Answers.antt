@@ -5,6 +5,7 @@ use Rattle.atlas_store.specs.Stored.{places_of}
 use Rattle.atlas_store.specs.Store.Holdings.{shelf_of}
 use Rattle.atlas_store.proofs.StoreLemmas.StoreFacts.{are-slots, across-call, slots-room}
 use Rattle.atlas_store.proofs.StoreLemmas.StoreSteps.{listed-holds, leaf-exact}
+use Rattle.atlas_store.proofs.StoreLemmas.TakenOnce.{once-same}
 use Rattle.atlas_store.proofs.store.Store.unlist.Goals as goal
 
 pub unlist-requires-clause-exact : goal.unlist-requires-clause-exact
@@ -24,5 +25,6 @@ returns g c =
       );
       nodes = across-call (λ a b. nodes b ≡ nodes a) slots c.unlist.ensures.same_nodes;
       room = slots-room c.args.self.now _ slots refl refl;
+      once = once-same (across-call (λ a b. nodes b ≡ nodes a) slots c.unlist.ensures.same_nodes);
       turns = refl;
     }

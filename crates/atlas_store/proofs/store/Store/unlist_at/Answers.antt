@@ -9,6 +9,7 @@ use Rattle.atlas_store.specs.Stored.{places_of}
 use Rattle.atlas_store.specs.Store.Holdings.{shelf_of}
 use Rattle.atlas_store.proofs.StoreLemmas.StoreFacts.{are-slots, across-call, slots-room}
 use Rattle.atlas_store.proofs.StoreLemmas.StoreSteps.{belongs-before, listed-holds, is-held-listed}
+use Rattle.atlas_store.proofs.StoreLemmas.TakenOnce.{once-same}
 use Rattle.atlas_store.proofs.store.Store.unlist_at.Goals as goal
 
 pub unlist_at-requires-clause-listed : goal.unlist_at-requires-clause-listed
@@ -37,5 +38,6 @@ returns g c =
           );
       nodes = across-call (λ a b. nodes b ≡ nodes a) slots call.same_nodes;
       room = slots-room own _ slots refl refl;
+      once = once-same (across-call (λ a b. nodes b ≡ nodes a) slots call.same_nodes);
       turns = refl;
     }

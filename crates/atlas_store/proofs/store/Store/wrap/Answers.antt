@@ -55,5 +55,6 @@ returns g c =
       others = λ j ne nf. subst (λ n. KeepsUse n (node_in (shelf_of new) j)) (take.others j nf) (wrap.others j ne nf);
       options = wrap.room.options ∙ take.options;
       capacity = wrap.room.capacity ∙ take.capacity;
+      once = λ f. wrap.once (take.once f);
       turns = wrap.turns ∙ take.turns;
     }

@@ -121,5 +121,6 @@ returns g c =
       others = grind arith;
       options = cut.room.options ∙ wrap.room.options ∙ front.options ∙ back.options;
       capacity = cut.room.capacity ∙ wrap.room.capacity ∙ front.capacity ∙ back.capacity;
+      once = λ f. cut.once (wrap.once (front.once (back.once f)));
       turns = cut.turns ∙ wrap.turns ∙ front.turns ∙ back.turns;
     }

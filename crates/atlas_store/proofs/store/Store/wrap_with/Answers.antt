@@ -1,8 +1,10 @@
-use Rattle.std.proofs.Common.{refl}
+use Rattle.std.proofs.Common.{ap, refl}
+use Rattle.atlas_store.specs.declared.slots.Node.{Node}
 use Rattle.atlas_store.specs.Slots.SlotCalls.{IsLeafWrapped}
 use Rattle.atlas_store.specs.Store.Holdings.{shelf_of}
 use Rattle.atlas_store.proofs.StoreLemmas.StoreFacts.{are-slots, slots-room}
 use Rattle.atlas_store.proofs.StoreLemmas.StoreSteps.{wrapped-holds, over-shelf, long-over}
+use Rattle.atlas_store.proofs.StoreLemmas.TakenOnce.{once-two}
 use Rattle.atlas_store.proofs.store.Store.wrap_with.Goals as goal
 
 pub returns : goal.returns
@@ -17,5 +19,8 @@ returns g c =
       inner = wrapped.inner;
       others = wrapped.others;
       room = slots-room c.args.self.now _ slots refl refl;
+      once =
+          once-two c.args.at.number c.args.fresh.number (ap (λ (n : Node). n.generation) wrapped.outer)
+          (ap (λ (n : Node). n.generation) wrapped.inner) wrapped.others;
       turns = refl;
     }

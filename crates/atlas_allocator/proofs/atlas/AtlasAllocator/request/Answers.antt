@@ -1,0 +1,124 @@
+use Rattle.std.proofs.Common.{rules, ◌≡◌, refl, ap, subst, arith}
+use Rattle.std.specs.Prelude.{Err}
+use Rattle.atlas_model.specs.Pixels.{box_of, sides_of}
+use Rattle.atlas_model.specs.Replies.{grant_of}
+use Rattle.atlas_model.specs.States.{IsSound}
+use Rattle.atlas_model.specs.Steps.AtlasReply.{Allocated}
+use Rattle.atlas_model.specs.declared.error.AtlasError.TheVariants.{Memory}
+use Rattle.atlas_store.specs.Stored.{state_of}
+use Rattle.atlas_store.proofs.WalkLemmas.Observing.{used-IsAtlas}
+use Rattle.atlas_store.proofs.StoreLemmas.Sizes.{natural-fits}
+use Rattle.guillotiere.proofs.SimpleLemmas.CuttingFromLists.{sides_of-size, unsigned-measurable, unsigned_of}
+use Rattle.atlas_allocator.proofs.AtlasLemmas.GrantedAtlas.{no_room-unrounded, no_room-none, area-unsigned, area-fits, refused-step, some-grantable, grant-done}
+use Rattle.atlas_store.proofs.StoreLemmas.TakenOnce.{first-once, once-first, once-shelf}
+use Rattle.atlas_allocator.proofs.AtlasLemmas.Reserving.{request-few, plan-few}
+use Rattle.atlas_model.proofs.StepLemmas.CallerGrants.{no_room_answer, refused_answer, request_granted}
+use Rattle.atlas_allocator.proofs.atlas.AtlasAllocator.request.Goals as goal
+
+pub returns-in_default-clause-step : goal.returns-in_default-clause-step
+returns-in_default-clause-step g c =
+    rw (← c.self.view_is) (
+      no_room-unrounded _ c.self.invariant (sides_of c.args.requested_size) c.in_default.ensures (natural-fits c.self.inside.size.width (search rules)) (natural-fits c.self.inside.size.height (search rules)),
+      refl,
+    )
+
+pub returns-in_default-choose-clause-step : goal.returns-in_default-choose-clause-step
+returns-in_default-choose-clause-step g c =
+    rw (← c.self.view_is) (
+      no_room-none _ c.self.invariant (sides_of c.args.requested_size) (sides_of c.in-Some.size) (sides_of-size c.in-Some.size _ c.in-Some.ensures.1) (c.choose.ensures.none c.in_default-choose.is),
+      refl,
+    )
+
+pub make_room-requires-clause-used : goal.make_room-requires-clause-used
+make_room-requires-clause-used g c = omega (arith, used-IsAtlas _ c.self.invariant, c.self.invariant.sound.counted, c.self.invariant.sound.limited)
+
+pub returns-in_err-make_room-clause-step : goal.returns-in_err-make_room-clause-step
+returns-in_err-make_room-clause-step g c =
+    let same : c.from_residual.result ≡ Err c.in_err-make_room.field-0.0 = search rules in
+    rw (← c.self.view_is)
+    (refused-step _ c.self.invariant (sides_of c.args.requested_size) c.in-Some.size c.in-Some.ensures c.in-Some-choose.chosen c.in-Some-choose.ensures.some
+    c.make_room.new.store c.make_room.ensures.same.shelf c.slots_needed-needed.result c.slots_needed-needed.ensures c.from_residual.result c.in_err-make_room.field-0.0 same c.in_err-make_room.ensures.refused c.make_room.new.store.turns.count c.self.inside.store.turns.count)
+
+pub granted-rectangle-requires-clause-measurable : goal.granted-rectangle-requires-clause-measurable
+granted-rectangle-requires-clause-measurable g c =
+    unsigned-measurable c.in-Some-choose.chosen.area
+    (area-unsigned _ c.self.invariant (sides_of c.args.requested_size) c.in-Some.size c.in-Some.ensures c.in-Some-choose.chosen c.in-Some-choose.ensures.some)
+    (search rules) (search rules) (search rules) (search rules)
+
+pub granted-rectangle-requires-clause-fits : goal.granted-rectangle-requires-clause-fits
+granted-rectangle-requires-clause-fits g c =
+    area-fits _ c.self.invariant (sides_of c.args.requested_size) c.in-Some.size c.in-Some.ensures c.in-Some-choose.chosen c.in-Some-choose.ensures.some
+
+pub grant-id-requires : goal.grant-id-requires
+grant-id-requires g c =
+    some-grantable _ c.self.invariant (sides_of c.args.requested_size) c.in-Some.size c.in-Some.ensures c.in-Some-choose.chosen c.in-Some-choose.ensures.some
+    c.make_room.new.store c.make_room.ensures.same.shelf c.slots_needed-needed.result c.slots_needed-needed.ensures c.in_ok-make_room.ensures.ok
+
+pub invariant_of-self-2 : goal.invariant_of-self-2
+invariant_of-self-2 g c =
+    (grant-done _ c.self.invariant (sides_of c.args.requested_size) c.in-Some.size c.in-Some.ensures c.in-Some-choose.chosen c.in-Some-choose.ensures.some
+    c.make_room.new.store c.make_room.ensures.same.shelf c.slots_needed-needed.result c.slots_needed-needed.ensures c.in_ok-make_room.ensures.ok
+    c.grant-id.new.store c.grant-id.result c.granted-rectangle.result c.grant-id.ensures c.granted-rectangle.ensures.boxes).atlas
+
+pub returns-clause-step : goal.returns-clause-step
+returns-clause-step g c =
+    let done = grant-done _ c.self.invariant (sides_of c.args.requested_size) c.in-Some.size c.in-Some.ensures c.in-Some-choose.chosen c.in-Some-choose.ensures.some
+    c.make_room.new.store c.make_room.ensures.same.shelf c.slots_needed-needed.result c.slots_needed-needed.ensures c.in_ok-make_room.ensures.ok
+    c.grant-id.new.store c.grant-id.result c.granted-rectangle.result c.grant-id.ensures c.granted-rectangle.ensures.boxes in
+    rw (← c.self.view_is) (done.granted c.grant-id.new.store.turns.count c.self.inside.store.turns.count)
+
+pub returns-clause-exact : goal.returns-clause-exact
+returns-clause-exact g c =
+    unsigned_of c.granted-rectangle.result _ (c.granted-rectangle.ensures.boxes (box_of c.in-Some-choose.chosen.area)
+    (area-unsigned _ c.self.invariant (sides_of c.args.requested_size) c.in-Some.size c.in-Some.ensures c.in-Some-choose.chosen c.in-Some-choose.ensures.some))
+
+pub returns-clause-slots : goal.returns-clause-slots
+returns-clause-slots g c = record {
+  used =
+      request-few _ _ (sides_of c.args.requested_size)
+      (Allocated (grant_of (record { id = c.grant-id.result; rectangle = c.granted-rectangle.result })))
+      (subst (λ w. IsSound (state_of w)) c.self.view_is c.self.invariant.sound) (returns-clause-step g c);
+  capacity =
+      omega (arith, ap (λ v. v.capacity) c.self.view_is, c.make_room.ensures.same.capacity, c.grant-id.ensures.capacity);
+}
+
+pub returns-in_err-make_room-clause-memory : goal.returns-in_err-make_room-clause-memory
+returns-in_err-make_room-clause-memory g c =
+    let same : c.from_residual.result ≡ Err c.in_err-make_room.field-0.0 = search rules in
+    rw (← c.self.view_is) (λ had e.
+    let is : c.in_err-make_room.field-0.0 ≡ Memory = cc in
+    absurd (omega (
+      arith,
+      had,
+      c.in_err-make_room.ensures.full (ap (λ x. Err x) is),
+      plan-few c.in-Some-choose.chosen.plan,
+      c.slots_needed-needed.ensures,
+      used-IsAtlas _ c.self.invariant,
+    )))
+
+pub returns-in_default-clause-answer : goal.returns-in_default-clause-answer
+returns-in_default-clause-answer g c = no_room_answer _ _ c.args.requested_size (returns-in_default-clause-step g c)
+
+pub returns-in_default-choose-clause-answer : goal.returns-in_default-choose-clause-answer
+returns-in_default-choose-clause-answer g c =
+    no_room_answer _ _ c.args.requested_size (returns-in_default-choose-clause-step g c)
+
+pub returns-in_err-make_room-clause-answer : goal.returns-in_err-make_room-clause-answer
+returns-in_err-make_room-clause-answer g c =
+    let same : c.from_residual.result ≡ Err c.in_err-make_room.field-0.0 = search rules in
+    refused_answer _ _ c.args.requested_size c.from_residual.result _ same (returns-in_err-make_room-clause-step g c)
+
+pub returns-clause-answer : goal.returns-clause-answer
+returns-clause-answer g c =
+    request_granted _ _ (subst (λ w. IsSound (state_of w)) c.self.view_is c.self.invariant.sound) c.args.requested_size
+    c.grant-id.result c.granted-rectangle.result (returns-clause-step g c) (returns-clause-exact g c)
+    (unsigned-measurable c.granted-rectangle.result (returns-clause-exact g c) (search rules) (search rules) (search rules) (search rules))
+
+pub returns-clause-first : goal.returns-clause-first
+returns-clause-first g c =
+    rw (← c.self.view_is) (λ f.
+    once-first _ (c.grant-id.ensures.once (once-shelf _ _ c.make_room.ensures.same.shelf (first-once _ f))))
+
+pub returns-in_err-make_room-clause-first : goal.returns-in_err-make_room-clause-first
+returns-in_err-make_room-clause-first g c =
+    rw (← c.self.view_is) (λ f. once-first _ (once-shelf _ _ c.make_room.ensures.same.shelf (first-once _ f)))

@@ -1,0 +1,75 @@
+-- Slots that were taken once, where the calls of the store change other parts of them.
+use Rattle.std.proofs.Common.{ℕ, zero, suc, ◌≡◌, ◌≢◌, List, [], ◌∷◌, length, ap, ◌∙◌, inl, inr, refl, subst, sym}
+use Rattle.std.proofs.lemmas.Bool.{cases_eq, cases_lt}
+use Rattle.std.proofs.lemmas.List.{get_or_past}
+use Rattle.std.proofs.lemmas.List.Elements.{All-from_get_or, All-get_or}
+use Rattle.atlas_store.specs.declared.slots.Link.{Link}
+use Rattle.atlas_store.specs.declared.slots.Node.{Node}
+use Rattle.atlas_store.specs.declared.slots.Slot.{Slot}
+use Rattle.atlas_model.specs.declared.geometry.Size.{Size}
+use Rattle.atlas_store.specs.Generations.{AreFirstGenerations}
+use Rattle.atlas_store.specs.Slots.{nodes, node_at, no_slot, blank_node, AreTakenOnce, KeepsUse}
+use Rattle.atlas_store.specs.Store.Starts.{one_free_slot}
+use Rattle.atlas_store.specs.Stored.{AtlasValue, Shelf}
+
+-- Each slot keeps its generation.
+pub once-kept : {ns ms : List Node} {u : Link} → ((k : ℕ) → (node_at ms k).generation ≡ (node_at ns k).generation)
+    → AreTakenOnce ns u → AreTakenOnce ms u
+once-kept {ns} {ms} {u} same f = record { none = f.none; generations = λ k. same k ∙ f.generations k }
+
+pub once-same : {ns ms : List Node} {u : Link} → ms ≡ ns → AreTakenOnce ns u → AreTakenOnce ms u
+once-same {ns} {ms} {u} same = once-kept (λ k. ap (λ (xs : List Node). (node_at xs k).generation) same)
+
+pub once-shelf : (v w : Shelf) → w ≡ v → AreTakenOnce (nodes v.slots) v.unused → AreTakenOnce (nodes w.slots) w.unused
+once-shelf v w same = subst (λ (s : Shelf). AreTakenOnce (nodes s.slots) s.unused) (sym same)
+
+-- One slot changes, and keeps its generation.
+pub once-one : {ns ms : List Node} {u : Link} (i : ℕ) → (node_at ms i).generation ≡ (node_at ns i).generation
+    → ((k : ℕ) → k ≢ i → KeepsUse (node_at ns k) (node_at ms k)) → AreTakenOnce ns u → AreTakenOnce ms u
+once-one {ns} {ms} {u} i here others =
+    let P : ℕ → Type 0 = λ k. (node_at ms k).generation ≡ (node_at ns k).generation in
+    once-kept (λ k. elim (cases_eq k i) [ inl e ↦ subst P (sym e) here | inr ne ↦ (others k ne).generation ])
+
+-- Two slots do.
+pub once-two : {ns ms : List Node} {u : Link} (i j : ℕ) → (node_at ms i).generation ≡ (node_at ns i).generation
+    → (node_at ms j).generation ≡ (node_at ns j).generation
+    → ((k : ℕ) → k ≢ i → k ≢ j → KeepsUse (node_at ns k) (node_at ms k)) → AreTakenOnce ns u → AreTakenOnce ms u
+once-two {ns} {ms} {u} i j first second others =
+    let P : ℕ → Type 0 = λ k. (node_at ms k).generation ≡ (node_at ns k).generation in
+    once-kept (λ k. elim (cases_eq k i) [
+      | inl e ↦ subst P (sym e) first
+      | inr ni ↦ elim (cases_eq k j) [ inl e ↦ subst P (sym e) second | inr nj ↦ (others k ni nj).generation ]
+    ])
+
+-- An atlas of one free slot.
+whole-first : (size : Size) (k : ℕ) → (node_at (nodes (one_free_slot size ∷ [])) k).generation ≡ 0
+whole-first size zero = refl
+whole-first size (suc k) = refl
+
+pub once-whole : {slots : List Slot} {u : Link} (size : Size) → slots ≡ one_free_slot size ∷ [] → u.number ≡ no_slot
+    → AreTakenOnce (nodes slots) u
+once-whole {slots} {u} size whole none = record {
+  none = none;
+  generations = λ k. ap (λ (xs : List Slot). (node_at (nodes xs) k).generation) whole ∙ whole-first size k;
+}
+
+-- What an atlas stores was taken once where its slots are in their first generations.
+pub once-first : (v : AtlasValue) → AreTakenOnce (nodes v.stored.shelf.slots) v.stored.shelf.unused → AreFirstGenerations v
+once-first v f =
+    let P : Node → Type 0 = λ n. n.generation ≡ 0 in
+    record {
+      first = All-from_get_or P (nodes v.stored.shelf.slots) blank_node (λ i _. f.generations i);
+      used = f.none;
+    }
+
+pub first-once : (v : AtlasValue) → AreFirstGenerations v → AreTakenOnce (nodes v.stored.shelf.slots) v.stored.shelf.unused
+first-once v f =
+    let ns = nodes v.stored.shelf.slots in
+    let P : Node → Type 0 = λ n. n.generation ≡ 0 in
+    record {
+      none = f.used;
+      generations = λ i. elim (cases_lt i (length ns)) [
+        | inl l ↦ All-get_or P ns i blank_node l f.first
+        | inr m ↦ ap (λ (n : Node). n.generation) (get_or_past ns i blank_node m)
+      ];
+    }
