@@ -5,6 +5,7 @@
 #![tactic(auto)]
 
 mod atlas;
+pub mod pages;
 pub mod session;
 mod simple;
 mod tree;
