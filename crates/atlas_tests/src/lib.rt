@@ -11,6 +11,8 @@ mod geometry;
 #[cfg(test)]
 mod memory;
 #[cfg(test)]
+mod pages;
+#[cfg(test)]
 mod queries;
 #[cfg(test)]
 mod reserving;

@@ -4,6 +4,7 @@
 //! across containers. And grids of equal cells are served better by other packers.
 #![tactic(auto)]
 
+pub mod pages;
 pub mod session;
 mod simple;
 
