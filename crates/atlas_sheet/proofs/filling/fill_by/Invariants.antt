@@ -1,0 +1,7 @@
+use Rattle.guillotiere.specs.Pixels.{sides_of}
+use Rattle.atlas_sheet.proofs.BestWays.{IsGoing}
+use Rattle.atlas_sheet.proofs.filling.fill_by.Given as goal
+
+abbrev pub invariant-loop-way : goal.invariant-loop-way
+invariant-loop-way g l =
+    IsGoing (sides_of l.size) l.padding l.sprites l.ways l.way-index l.places.items l.most

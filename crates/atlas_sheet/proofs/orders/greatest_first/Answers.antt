@@ -1,0 +1,9 @@
+use Rattle.std.proofs.Common.{rules}
+use Rattle.std.proofs.lemmas.Fn.{always_returns_same}
+use Rattle.atlas_sheet.proofs.Ordering.{greatest_first, reversed_key}
+use Rattle.atlas_sheet.proofs.orders.greatest_first.Goals as goal
+
+pub returns-clause-greatest : goal.returns-clause-greatest
+returns-clause-greatest g c =
+    greatest_first c.args.key _
+    (c.in_ok-sort_by_key.ensures.sorted (reversed_key c.args.key) (always_returns_same _ _ _ (λ a r h called. (search rules, search rules))))

@@ -1,0 +1,3 @@
+pub mod Fillings
+pub mod Orders
+pub mod Sheets

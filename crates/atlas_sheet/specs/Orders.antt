@@ -1,0 +1,31 @@
+-- The orders in which sprites are placed, and how they choose among free boxes.
+use Rattle.std.specs.Prelude.{ℕ, ◌*◌, ◌≤◌, pos, min, max, List, length}
+use Rattle.std.specs.List.{AllAdjacentBelow}
+use Rattle.guillotiere.specs.declared.Size.{Size}
+use Rattle.guillotiere.specs.Boxes.{Sides}
+use Rattle.guillotiere.specs.Choice.{Options}
+use Rattle.guillotiere.specs.Pixels.{sides_of}
+use Rattle.atlas_sheet.specs.declared.orders.Key.{Key}
+use Rattle.atlas_sheet.specs.declared.orders.Key.TheVariants as key
+use Rattle.atlas_sheet.specs.declared.ways.Choice.{Choice}
+use Rattle.atlas_sheet.specs.declared.ways.Choice.TheVariants as choice
+
+-- What a sprite counts by a key.
+abbrev pub key_of : Key → Sides → ℕ
+key_of key.Height s = s.height
+key_of key.Area s = s.width * s.height
+key_of key.LesserSide s = min s.width s.height
+key_of key.GreaterSide s = max s.width s.height
+key_of key.HeightTimesGreaterSide s = s.height * max s.width s.height
+
+-- No numbered sprite counts less than one after it.
+abbrev pub AreGreatestFirst : Key → List (ℕ × Size) → Type 0
+AreGreatestFirst key order =
+    AllAdjacentBelow (λ s t. key_of key (sides_of t.1) ≤ key_of key (sides_of s.1)) order (length order)
+
+-- The options of an allocator that chooses so: alignment 1, and the thresholds in pixels.
+abbrev pub choice_options : Choice → Options
+choice_options choice.Usual =
+    record { alignment = record { width = 1; height = 1 }; small_threshold = pos 32; large_threshold = pos 256 }
+choice_options choice.Roomiest =
+    record { alignment = record { width = 1; height = 1 }; small_threshold = pos 0; large_threshold = pos 0 }

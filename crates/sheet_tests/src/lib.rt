@@ -1,0 +1,5 @@
+//! Tests of sheets: places worked by hand, and random sprites whose places plain code goes over.
+#![tactic(auto)]
+
+#[cfg(test)]
+mod filling;
