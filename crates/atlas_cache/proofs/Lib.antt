@@ -1,0 +1,4 @@
+pub mod RingLemmas
+pub mod RingCalls
+pub mod SpareLemmas
+pub mod Moves

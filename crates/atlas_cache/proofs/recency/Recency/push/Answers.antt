@@ -1,0 +1,60 @@
+use Rattle.std.proofs.Common.{◌∙◌, ◌+◌, ap, sym, subst, length, ◌∷◌, arith}
+use Rattle.std.proofs.lemmas.List.{with_items_is}
+use Rattle.atlas_cache.specs.Orders.{IsNew, joined}
+use Rattle.atlas_cache.specs.Rings.{HasSpare, IsRecency, IsRing, run}
+use Rattle.atlas_cache.proofs.SpareLemmas.{unused-inside, new-free}
+use Rattle.atlas_cache.proofs.Moves.{IsJoined, IsRecency-joined, joined-is, joined-new, stored, count-fits}
+use Rattle.atlas_cache.proofs.recency.Recency.push.Goals as goal
+
+pub take_number-requires-clause-unused : goal.take_number-requires-clause-unused
+take_number-requires-clause-unused g c =
+    let r = c.self.inside in
+    unused-inside r.links.items r.ends r.unused (run r.links.items r.ends r.count) c.self.invariant.rest
+
+pub push_front-requires-clause-unlisted : goal.push_front-requires-clause-unlisted
+push_front-requires-clause-unlisted g c =
+    let r = c.self.inside in
+    let xs = run r.links.items r.ends r.count in
+    let mid = c.take_number.new.links.items in (
+      xs,
+      subst (λ l. IsRing l r.ends xs) (sym c.deref_mut.ensures.value) (c.in_ok-number.ensures.ring r.ends xs c.self.invariant.ring),
+      new-free mid r.ends c.take_number.new.unused c.in_ok-number.number xs (c.in_ok-number.ensures.rest r.ends xs c.self.invariant.rest),
+    )
+
+pub overflow_add-self : goal.overflow_add-self
+overflow_add-self g c =
+    let r = c.self.inside in
+    omega (arith, count-fits r.links.items r.ends r.unused r.count c.self.invariant)
+
+pub invariant_of-self-2 : goal.invariant_of-self-2
+invariant_of-self-2 g c =
+    let r = c.self.inside in
+    let mid = c.take_number.new.links in
+    let new = c.push_front.new.links in
+    let last = c.push_front.new.ends in
+    let i = c.in_ok-number.number in
+    let w : IsJoined r.links.items mid.items r.ends new last r.unused c.take_number.new.unused i = subst (λ l. IsJoined r.links.items l r.ends new last r.unused c.take_number.new.unused i) c.deref_mut.ensures.value (record { ring = λ xs h. subst (λ l. IsRing l r.ends xs) (sym c.deref_mut.ensures.value) (c.in_ok-number.ensures.ring r.ends xs h); rest = λ xs h. subst (λ l. HasSpare l r.ends c.take_number.new.unused (i ∷ xs)) (sym c.deref_mut.ensures.value) (c.in_ok-number.ensures.rest r.ends xs h); made = ap length c.deref_mut.ensures.value ∙ c.in_ok-number.ensures.made; short = rw c.deref_mut.ensures.value c.in_ok-number.ensures.short; pushed = c.push_front.ensures.ring; others = c.push_front.ensures.others; size = c.push_front.ensures.size }) in
+    let e = with_items_is mid new (w.size ∙ sym mid.ok.0) in
+    subst (λ l. IsRecency l last c.take_number.new.unused (r.count + 1)) (sym e) (IsRecency-joined r.links.items mid.items new r.ends last r.unused c.take_number.new.unused r.count i c.self.invariant w)
+
+pub returns-clause-new : goal.returns-clause-new
+returns-clause-new g c =
+    let r = c.self.inside in
+    let mid = c.take_number.new.links in
+    let new = c.push_front.new.links in
+    let last = c.push_front.new.ends in
+    let i = c.in_ok-number.number in
+    let w : IsJoined r.links.items mid.items r.ends new last r.unused c.take_number.new.unused i = subst (λ l. IsJoined r.links.items l r.ends new last r.unused c.take_number.new.unused i) c.deref_mut.ensures.value (record { ring = λ xs h. subst (λ l. IsRing l r.ends xs) (sym c.deref_mut.ensures.value) (c.in_ok-number.ensures.ring r.ends xs h); rest = λ xs h. subst (λ l. HasSpare l r.ends c.take_number.new.unused (i ∷ xs)) (sym c.deref_mut.ensures.value) (c.in_ok-number.ensures.rest r.ends xs h); made = ap length c.deref_mut.ensures.value ∙ c.in_ok-number.ensures.made; short = rw c.deref_mut.ensures.value c.in_ok-number.ensures.short; pushed = c.push_front.ensures.ring; others = c.push_front.ensures.others; size = c.push_front.ensures.size }) in
+    let e = with_items_is mid new (w.size ∙ sym mid.ok.0) in
+    subst (IsNew i) c.self.view_is (joined-new r.links.items mid.items new r.ends last r.unused c.take_number.new.unused r.count i c.self.invariant w c.in_ok-number.ensures.next)
+
+pub returns-clause-joined : goal.returns-clause-joined
+returns-clause-joined g c =
+    let r = c.self.inside in
+    let mid = c.take_number.new.links in
+    let new = c.push_front.new.links in
+    let last = c.push_front.new.ends in
+    let i = c.in_ok-number.number in
+    let w : IsJoined r.links.items mid.items r.ends new last r.unused c.take_number.new.unused i = subst (λ l. IsJoined r.links.items l r.ends new last r.unused c.take_number.new.unused i) c.deref_mut.ensures.value (record { ring = λ xs h. subst (λ l. IsRing l r.ends xs) (sym c.deref_mut.ensures.value) (c.in_ok-number.ensures.ring r.ends xs h); rest = λ xs h. subst (λ l. HasSpare l r.ends c.take_number.new.unused (i ∷ xs)) (sym c.deref_mut.ensures.value) (c.in_ok-number.ensures.rest r.ends xs h); made = ap length c.deref_mut.ensures.value ∙ c.in_ok-number.ensures.made; short = rw c.deref_mut.ensures.value c.in_ok-number.ensures.short; pushed = c.push_front.ensures.ring; others = c.push_front.ensures.others; size = c.push_front.ensures.size }) in
+    let e = with_items_is mid new (w.size ∙ sym mid.ok.0) in
+    ap (λ l. stored l last (r.count + 1)) e ∙ joined-is r.links.items mid.items new r.ends last r.unused c.take_number.new.unused r.count i c.self.invariant w ∙ ap (joined i) c.self.view_is

@@ -1,0 +1,91 @@
+//! A ring of links through entries, and the calls that change it.
+ghost use Rattle.std.specs.Prelude.{◌≡◌, ◌≢◌, ◌⊎◌, ◌<◌, ◌≤◌, ℕ, List, ◌∷◌, length};
+ghost use Rattle.atlas_cache.specs.Orders.{occurs, without};
+ghost use Rattle.atlas_cache.specs.Rings.{IsListed, IsRing, IsUnlisted, at_once, next_at, no_entry, previous_at};
+
+/// The entries before and after an entry, by their numbers.
+#[derive(Clone, Copy, Debug, PartialEq, Eq)]
+pub struct Link {
+    pub previous: u32,
+    pub next: u32,
+}
+
+/// The number that stands for no entry.
+pub const NO_ENTRY: u32 = 4294967295;
+
+/// The link of an entry, or the ends of the order at `NO_ENTRY`.
+pub fn read_link(links: &[Link], ends: Link, at: u32) -> Link
+    requires { (at ≡ no_entry) ⊎ (at < length links.now) }
+    ensures next { result.next ≡ next_at links.now ends at }
+    ensures previous { result.previous ≡ previous_at links.now ends at }
+{
+    if at == NO_ENTRY {
+        ends
+    } else {
+        links[at as usize]
+    }
+}
+
+/// `next` comes after `at`.
+pub fn set_next(links: &mut [Link], ends: &mut Link, at: u32, next: u32)
+    requires { (at ≡ no_entry) ⊎ (at < length links.old) }
+    ensures next { (k : ℕ) → next_at links.new ends.new k ≡ at_once at next (next_at links.old ends.old) k }
+    ensures previous { (k : ℕ) → previous_at links.new ends.new k ≡ previous_at links.old ends.old k }
+    ensures size { length links.new ≡ length links.old }
+{
+    if at == NO_ENTRY {
+        ends.next = next;
+    } else {
+        let link = &mut links[at as usize];
+        link.next = next;
+    }
+}
+
+/// `previous` comes before `at`.
+fn set_previous(links: &mut [Link], ends: &mut Link, at: u32, previous: u32)
+    requires { (at ≡ no_entry) ⊎ (at < length links.old) }
+    ensures next { (k : ℕ) → next_at links.new ends.new k ≡ next_at links.old ends.old k }
+    ensures previous { (k : ℕ) →
+        previous_at links.new ends.new k ≡ at_once at previous (previous_at links.old ends.old) k }
+    ensures size { length links.new ≡ length links.old }
+{
+    if at == NO_ENTRY {
+        ends.previous = previous;
+    } else {
+        let link = &mut links[at as usize];
+        link.previous = previous;
+    }
+}
+
+/// The neighbours of an entry let it go.
+pub fn unlink(links: &mut [Link], ends: &mut Link, at: u32)
+    requires listed { IsListed links.old ends.old at }
+    requires short { length links.old ≤ no_entry }
+    ensures ring { (xs : List ℕ) → IsRing links.old ends.old xs → 0 < occurs at xs
+        → IsRing links.new ends.new (without at xs) }
+    ensures others { (xs : List ℕ) (k : ℕ) → IsRing links.old ends.old xs → 0 < occurs at xs → k ≢ no_entry
+        → occurs k xs ≡ 0 → next_at links.new ends.new k ≡ next_at links.old ends.old k }
+    ensures size { length links.new ≡ length links.old }
+{
+    let own = read_link(links, *ends, at);
+    set_next(links, ends, own.previous, own.next);
+    set_previous(links, ends, own.next, own.previous);
+}
+
+/// An entry comes in front of all.
+pub fn push_front(links: &mut [Link], ends: &mut Link, at: u32)
+    requires inside { at < length links.old }
+    requires unlisted { IsUnlisted links.old ends.old at }
+    requires short { length links.old ≤ no_entry }
+    ensures ring { (xs : List ℕ) → IsRing links.old ends.old xs → occurs at xs ≡ 0
+        → IsRing links.new ends.new (at ∷ xs) }
+    ensures others { (k : ℕ) → k ≢ no_entry → k ≢ at
+        → next_at links.new ends.new k ≡ next_at links.old ends.old k }
+    ensures size { length links.new ≡ length links.old }
+{
+    let first = ends.next;
+    set_next(links, ends, at, first);
+    set_previous(links, ends, at, NO_ENTRY);
+    set_next(links, ends, NO_ENTRY, at);
+    set_previous(links, ends, first, at);
+}

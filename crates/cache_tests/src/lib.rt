@@ -1,0 +1,5 @@
+//! Tests of the cache's parts. Expected values are worked by hand, or come from a plain list that the test keeps.
+#![tactic(auto)]
+
+#[cfg(test)]
+mod recency;
