@@ -32,7 +32,7 @@ use Rattle.uses.proofs.Keyed.{once_more, uncounted as keys_uncounted}
 use Rattle.uses.specs.declared.repack.Held.{Held}
 use Rattle.uses.specs.declared.repack.Move.{Move}
 use Rattle.uses.specs.declared.repack.Picture.{Picture}
-use Rattle.uses.specs.Pictures.{Pictures, AreKeyedOnce, IsRepacked, IsTaken, picture_area, HoldsGrants, picture_of, before_move, after_move, move_by, kept_by, loss, loss_by}
+use Rattle.uses.specs.Pictures.{Pictures, AreKeyedOnce, IsRepacked, IsRemoved, picture_area, HoldsGrants, picture_of, before_move, after_move, move_by, kept_by, loss, loss_by}
 
 abbrev pub granted : Held → Grant
 granted h = grant_of h.grant
@@ -364,7 +364,7 @@ module _ (old : State) (hs : List Held) (at : ℕ) (h : Held) (holds : HoldsGran
   }
 
   module _ (key : ℕ) (named : (get_or hs at h).key ≡ key) where
-    pub taken : IsTaken (map picture_of hs) key (map picture_of rest)
+    pub taken : IsRemoved (map picture_of hs) key (map picture_of rest)
     taken = record {
       before = map picture_of (take at hs);
       picture = picture_of h;

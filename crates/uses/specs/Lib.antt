@@ -3,4 +3,3 @@ pub mod Glyphs
 pub mod Pictures
 pub mod Replaying
 pub mod Sheets
-pub mod Shortages

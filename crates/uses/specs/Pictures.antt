@@ -46,7 +46,7 @@ pub record IsRepacked (size : Sides) (old : Pictures) (moves : List Move) (lost 
   pub apart : AreDisjoint (map (λ m. box_of m.to) moves)
 
 -- A picture is taken out, and the others keep their order.
-pub record IsTaken (old : List Picture) (key : ℕ) (new : List Picture) : Type 0 where
+pub record IsRemoved (old : List Picture) (key : ℕ) (new : List Picture) : Type 0 where
   pub before : List Picture
   pub picture : Picture
   pub after : List Picture

@@ -11,7 +11,7 @@ ghost use Rattle.guillotiere.specs.States.{free_in, live_in};
 ghost use Rattle.uses.specs.declared.glyph_cache.Glyph.{Glyph as Entry};
 ghost use Rattle.uses.specs.Glyphs.{Cache, area_in, has_number, inset, square, padded, AddsLast, HasBorder, HasPlace};
 ghost use Rattle.uses.specs.Glyphs.{IsEvicted, IsKept, IsLast, IsGlyphPlaced, NeverOverlap};
-ghost use Rattle.uses.specs.Shortages.{IsShortage};
+ghost use Rattle.guillotiere.specs.Callers.{IsShortage};
 
 use guillotiere::{AllocId, AtlasAllocator, AtlasError, Rectangle, Size, point2, size2};
 use std::alloc::{Allocator, Global};

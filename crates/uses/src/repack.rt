@@ -9,8 +9,8 @@ ghost use Rattle.guillotiere.specs.States.{free_in};
 ghost use Rattle.guillotiere.specs.Stored.{state_of};
 ghost use Rattle.guillotiere.specs.declared.AtlasError.TheVariants as error;
 ghost use Rattle.uses.specs.declared.repack.Held.{Held as Kept};
-ghost use Rattle.uses.specs.Pictures.{IsRepacked, IsTaken, picture_area, kept_by, loss_by, move_by};
-ghost use Rattle.uses.specs.Shortages.{IsShortage};
+ghost use Rattle.uses.specs.Pictures.{IsRepacked, IsRemoved, picture_area, kept_by, loss_by, move_by};
+ghost use Rattle.guillotiere.specs.Callers.{IsShortage};
 
 use guillotiere::{AllocId, Allocation, AtlasAllocator, AtlasError, Change, Rectangle, Size};
 use std::alloc::Global;
@@ -115,7 +115,7 @@ impl PictureCache {
     /// Takes a picture out and frees its rectangle; the others keep their order. Whether the cache held it; if not,
     /// nothing changes. Takes no memory.
     pub fn remove(&mut self, key: u32) -> bool
-        ensures taken { IsTrue result → IsTaken self.old.held key self.new.held }
+        ensures taken { IsTrue result → IsRemoved self.old.held key self.new.held }
         ensures none { result ≡ false → self.new ≡ self.old }
         ensures gone { picture_area self.new.held key ≡ None }
     {
