@@ -15,7 +15,7 @@ use Rattle.guillotiere.specs.declared.Allocation.{Allocation}
 use Rattle.guillotiere.specs.declared.Change.{Change}
 use Rattle.guillotiere_c.specs.declared.plain.PlainChangeCount.{PlainChangeCount}
 use Rattle.guillotiere_c.specs.Numbers.{allocation_in, change_in}
-use Rattle.guillotiere_c.specs.Rearrangings.{Arrays, IsListed}
+use Rattle.guillotiere_c.specs.Rearrangings.{Arrays, AreBothWritten}
 use Rattle.guillotiere_c.specs.Writing.{IsWritten}
 
 granted_count : (axis : Axis) (o : Position) (across : ℕ) (ms : Members) → length (granted (leaves axis o across ms)) ≤ node_count ms
@@ -48,7 +48,7 @@ pub listed :
     → used_in old ≤ length before.changes → used_in old ≤ length before.failures
     → IsWritten change_in moves before.changes after.changes → IsWritten allocation_in lost before.failures after.failures
     → count.changes ≡ length moves → count.failures ≡ length lost
-    → IsListed (record { changes = map transfer_of moves; failures = map grant_of lost }) before after count
+    → AreBothWritten (record { changes = map transfer_of moves; failures = map grant_of lost }) before after count
 listed old new moves lost before after count step changes_room failures_room changes failures changes_count failures_count =
     let all = listed_count old new _ step in
     let many = length-map moves transfer_of in

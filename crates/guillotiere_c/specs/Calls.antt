@@ -7,9 +7,9 @@ use Rattle.guillotiere.specs.Steps.{AtlasCall, AtlasReply, Step}
 use Rattle.guillotiere.specs.Stored.{AtlasValue, state_of}
 
 -- A fact of the atlas that is held: the handle holds one, and it is so.
-abbrev pub Holds : Option AtlasValue → (State → Type 0) → Type 0
-Holds None P = ⊥
-Holds (Some v) P = P (state_of v)
+abbrev pub HoldsAtlas : Option AtlasValue → (State → Type 0) → Type 0
+HoldsAtlas None P = ⊥
+HoldsAtlas (Some v) P = P (state_of v)
 
 -- The atlas that is held makes a step of the model, and the handle holds it still.
 abbrev pub IsHeldStep : Option AtlasValue → AtlasCall → AtlasReply → Option AtlasValue → Type 0

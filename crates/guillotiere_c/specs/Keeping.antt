@@ -10,7 +10,7 @@ use Rattle.std.specs.contracts.impls.GlobalAllocator.TheImpl
 use Rattle.guillotiere.specs.contracts.atlas.AtlasAllocator
 use Rattle.guillotiere.specs.contracts.simple.SimpleAtlasAllocator
 use Rattle.guillotiere.specs.Stored.{AtlasValue}
-use Rattle.guillotiere_c.specs.SimpleValues.{SimpleValue}
+use Rattle.guillotiere.specs.SimpleStored.{SimpleValue}
 
 -- The right to free a block of the heap; all handles of the heap are alike.
 abbrev pub token : Ty → Ptr → Fml

@@ -4,6 +4,5 @@ pub mod Numbers
 pub mod Rearrangings
 pub mod SimpleCalls
 pub mod SimpleStatuses
-pub mod SimpleValues
 pub mod Statuses
 pub mod Writing

@@ -20,12 +20,12 @@ sides_in width height = record { width = natural width; height = natural height 
 abbrev pub size_in : PlainSize → Size
 size_in s = record { width = s.width; height = s.height }
 
-abbrev pub rectangle_in : PlainRectangle → Rectangle
-rectangle_in r =
+abbrev pub corners_in : PlainRectangle → Rectangle
+corners_in r =
     record { min = record { x = r.min_x; y = r.min_y }; max = record { x = r.max_x; y = r.max_y } }
 
 abbrev pub allocation_in : PlainAllocation → Allocation
-allocation_in a = record { id = a.id; rectangle = rectangle_in a.rectangle }
+allocation_in a = record { id = a.id; rectangle = corners_in a.rectangle }
 
 abbrev pub change_in : PlainChange → Change
 change_in c = record { old = allocation_in c.before; new = allocation_in c.after }

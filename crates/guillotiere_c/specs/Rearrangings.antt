@@ -17,7 +17,7 @@ pub record Arrays : Type 0 where
   pub failures : List PlainAllocation
 
 -- Both lists of a rearrangement stand at the start of their arrays, which have room for them, and are counted.
-pub record IsListed (list : Rearrangement) (old new : Arrays) (count : PlainChangeCount) : Type 0 where
+pub record AreBothWritten (list : Rearrangement) (old new : Arrays) (count : PlainChangeCount) : Type 0 where
   pub changes : List Change
   pub failures : List Allocation
   pub moved : map transfer_of changes ≡ list.changes

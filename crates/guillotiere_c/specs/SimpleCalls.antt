@@ -3,16 +3,16 @@ use Rattle.std.specs.Prelude.{Option, Some, None}
 use Rattle.guillotiere.specs.Simple.{SimpleState, SimpleAtlasCall, SimpleAnswer, SimpleStep}
 use Rattle.guillotiere.specs.Simple.SimpleAtlasCall.{Start}
 use Rattle.guillotiere.specs.Stored.{AtlasValue, state_of}
-use Rattle.guillotiere_c.specs.SimpleValues.{SimpleValue, simple_state}
+use Rattle.guillotiere.specs.SimpleStored.{SimpleValue, simple_state_of}
 
 -- A fact of the allocator that is held: the handle holds one, and it is so.
 abbrev pub HoldsSimple : Option SimpleValue → (SimpleState → Type 0) → Type 0
 HoldsSimple None P = ⊥
-HoldsSimple (Some v) P = P (simple_state v)
+HoldsSimple (Some v) P = P (simple_state_of v)
 
 -- The allocator that is held makes a step of the model, and the handle holds it still.
 abbrev pub IsHeldSimpleStep : Option SimpleValue → SimpleAtlasCall → SimpleAnswer → Option SimpleValue → Type 0
-IsHeldSimpleStep (Some old) call answer (Some new) = SimpleStep (simple_state old) call answer (simple_state new)
+IsHeldSimpleStep (Some old) call answer (Some new) = SimpleStep (simple_state_of old) call answer (simple_state_of new)
 IsHeldSimpleStep (Some old) call answer None = ⊥
 IsHeldSimpleStep None call answer new = ⊥
 

@@ -2,7 +2,7 @@
 use Rattle.std.specs.Prelude.{ℕ, ◌==◌, if◌then◌else◌}
 use Rattle.guillotiere_c.specs.declared.plain.TheConstants.{DONE, NO_ROOM, BAD_CALL, NOT_LIVE, SLOTS, MEMORY}
 use Rattle.guillotiere_c.specs.declared.plain.PlainRectangle.{PlainRectangle}
-use Rattle.guillotiere_c.specs.Numbers.{rectangle_in}
+use Rattle.guillotiere_c.specs.Numbers.{corners_in}
 use Rattle.guillotiere.specs.declared.AtlasError.TheVariants.{Memory, Slots, NotLive}
 use Rattle.guillotiere.specs.Pixels.{box_of}
 use Rattle.guillotiere.specs.Simple.{SimpleAnswer}
@@ -20,7 +20,7 @@ plain_answer status =
 -- Of a request that wrote this. A status that it doesn't have stands for `Done`, which is no answer to it.
 abbrev pub request_answer : ℕ → PlainRectangle → SimpleAnswer
 request_answer status written =
-    if status == DONE then Granted (box_of (rectangle_in written))
+    if status == DONE then Granted (box_of (corners_in written))
     else (if status == NO_ROOM then NoRoom
     else (if status == NOT_LIVE then Refused NotLive
     else (if status == SLOTS then Refused Slots

@@ -7,8 +7,8 @@ ghost use Rattle.guillotiere.specs.Pixels.{allocator_options_of, rectangle_of, s
 ghost use Rattle.guillotiere.specs.Replies.{live_box, IsExact};
 ghost use Rattle.guillotiere.specs.States.{live_in, free_in, used_in, IsLive, IsSound};
 ghost use Rattle.guillotiere.specs.Steps.AtlasCall.{Allocate, Deallocate, Grow, Clear, Reset};
-ghost use Rattle.guillotiere_c.specs.Calls.{GainsMemory, Holds, HoldsReserve, IsHeldStep};
-ghost use Rattle.guillotiere_c.specs.Numbers.{allocator_options_in, options_in, rectangle_in, sides_in, size_in};
+ghost use Rattle.guillotiere_c.specs.Calls.{GainsMemory, HoldsAtlas, HoldsReserve, IsHeldStep};
+ghost use Rattle.guillotiere_c.specs.Numbers.{allocator_options_in, options_in, corners_in, sides_in, size_in};
 ghost use Rattle.guillotiere_c.specs.Statuses.{plain_reply, request_reply};
 
 use crate::atlas_handle::AtlasHandle;
@@ -31,8 +31,8 @@ pub extern "C" fn guillotiere_atlas_allocate(
 ) -> u32
     ensures step { IsSome atlas.old.kept → IsHeldStep atlas.old.kept (Allocate (sides_in width height))
         (request_reply result granted.new) atlas.new.kept }
-    ensures sound { IsSome atlas.old.kept → Holds atlas.new.kept IsSound }
-    ensures exact { result ≡ DONE → IsExact (rectangle_in granted.new.rectangle) }
+    ensures sound { IsSome atlas.old.kept → HoldsAtlas atlas.new.kept IsSound }
+    ensures exact { result ≡ DONE → IsExact (corners_in granted.new.rectangle) }
     ensures reserve { (n : ℕ) → HoldsReserve (n + 4) atlas.old.kept
         → (result ≢ MEMORY) × HoldsReserve n atlas.new.kept }
     ensures refused { result ≢ DONE → (atlas.new.kept ≡ atlas.old.kept) × (granted.new ≡ granted.old) }
@@ -63,7 +63,7 @@ pub extern "C" fn guillotiere_atlas_deallocate(
 ) -> u32
     ensures step { IsSome atlas.old.kept → IsHeldStep atlas.old.kept (Deallocate id) (plain_reply result)
         atlas.new.kept }
-    ensures sound { IsSome atlas.old.kept → Holds atlas.new.kept IsSound }
+    ensures sound { IsSome atlas.old.kept → HoldsAtlas atlas.new.kept IsSound }
     ensures reserve { (n : ℕ) → HoldsReserve n atlas.old.kept → HoldsReserve n atlas.new.kept }
     ensures refused { result ≢ DONE → atlas.new.kept ≡ atlas.old.kept }
     ensures empty { IsNone atlas.old.kept → result ≡ EMPTY }
@@ -85,9 +85,9 @@ pub extern "C" fn guillotiere_atlas_get(
     id: u32,
     found: &mut PlainRectangle,
 ) -> u32
-    ensures live { IsSome atlas.old.kept → Holds atlas.old.kept (λ s. (result ≡ DONE) ↔ IsLive s id) }
-    ensures rectangle { IsSome atlas.old.kept → result ≡ DONE → Holds atlas.old.kept
-        (λ s. Some (rectangle_in found.new) ≡ option_map rectangle_of (live_box s id)) }
+    ensures live { IsSome atlas.old.kept → HoldsAtlas atlas.old.kept (λ s. (result ≡ DONE) ↔ IsLive s id) }
+    ensures rectangle { IsSome atlas.old.kept → result ≡ DONE → HoldsAtlas atlas.old.kept
+        (λ s. Some (corners_in found.new) ≡ option_map rectangle_of (live_box s id)) }
     ensures refused { result ≢ DONE → found.new ≡ found.old }
     ensures same { atlas.new.kept ≡ atlas.old.kept }
     ensures empty { IsNone atlas.old.kept → result ≡ EMPTY }
@@ -118,7 +118,7 @@ pub extern "C" fn guillotiere_atlas_grow(
 ) -> u32
     ensures step { IsSome atlas.old.kept → IsHeldStep atlas.old.kept (Grow (sides_in width height))
         (plain_reply result) atlas.new.kept }
-    ensures sound { IsSome atlas.old.kept → Holds atlas.new.kept IsSound }
+    ensures sound { IsSome atlas.old.kept → HoldsAtlas atlas.new.kept IsSound }
     ensures reserve { (n : ℕ) → HoldsReserve (n + 3) atlas.old.kept
         → (result ≢ MEMORY) × HoldsReserve n atlas.new.kept }
     ensures refused { result ≢ DONE → atlas.new.kept ≡ atlas.old.kept }
@@ -146,7 +146,7 @@ pub extern "C" fn guillotiere_atlas_can_grow_to(
     width: i32,
     height: i32,
 ) -> bool
-    ensures fits { IsSome atlas.old.kept → Holds atlas.old.kept
+    ensures fits { IsSome atlas.old.kept → HoldsAtlas atlas.old.kept
         (λ s. IsTrue result ↔ Fits s.size (sides_in width height)) }
     ensures same { atlas.new.kept ≡ atlas.old.kept }
     ensures empty { IsNone atlas.old.kept → IsFalse result }
@@ -169,7 +169,7 @@ pub extern "C" fn guillotiere_atlas_can_fit(
     width: i32,
     height: i32,
 ) -> bool
-    ensures room { IsSome atlas.old.kept → Holds atlas.old.kept
+    ensures room { IsSome atlas.old.kept → HoldsAtlas atlas.old.kept
         (λ s. IsTrue result ↔ HasRoom (free_in s) s.options (sides_in width height)) }
     ensures same { atlas.new.kept ≡ atlas.old.kept }
     ensures empty { IsNone atlas.old.kept → IsFalse result }
@@ -194,11 +194,11 @@ pub extern "C" fn guillotiere_atlas_reserve(
 ) -> u32
     ensures ready { result ≡ DONE → HoldsReserve additional atlas.new.kept }
     ensures same { IsSome atlas.old.kept → GainsMemory atlas.old.kept atlas.new.kept }
-    ensures slots { IsSome atlas.old.kept → Holds atlas.old.kept
+    ensures slots { IsSome atlas.old.kept → HoldsAtlas atlas.old.kept
         (λ s. (result ≡ SLOTS) ↔ (s.limit < used_in s + additional)) }
     ensures memory { IsSome atlas.old.kept → result ≢ DONE → result ≢ SLOTS → result ≡ MEMORY }
     ensures had { HoldsReserve additional atlas.old.kept → result ≢ MEMORY }
-    ensures sound { IsSome atlas.old.kept → Holds atlas.new.kept IsSound }
+    ensures sound { IsSome atlas.old.kept → HoldsAtlas atlas.new.kept IsSound }
     ensures refused { result ≢ DONE → atlas.new.kept ≡ atlas.old.kept }
     ensures empty { IsNone atlas.old.kept → result ≡ EMPTY }
 {
@@ -215,7 +215,7 @@ pub extern "C" fn guillotiere_atlas_reserve(
 #[unsafe(no_mangle)]
 pub extern "C" fn guillotiere_atlas_clear(alloc: Global, atlas: &mut AtlasHandle) -> u32
     ensures step { IsSome atlas.old.kept → IsHeldStep atlas.old.kept Clear (plain_reply result) atlas.new.kept }
-    ensures sound { IsSome atlas.old.kept → Holds atlas.new.kept IsSound }
+    ensures sound { IsSome atlas.old.kept → HoldsAtlas atlas.new.kept IsSound }
     ensures reserve { (n : ℕ) → HoldsReserve n atlas.old.kept → HoldsReserve n atlas.new.kept }
     ensures done { IsSome atlas.old.kept → result ≡ DONE }
     ensures empty { IsNone atlas.old.kept → (result ≡ EMPTY) × (atlas.new.kept ≡ None) }
@@ -241,7 +241,7 @@ pub extern "C" fn guillotiere_atlas_reset(
 ) -> u32
     ensures step { IsSome atlas.old.kept → IsHeldStep atlas.old.kept
         (Reset (sides_in width height) (options_in options.now)) (plain_reply result) atlas.new.kept }
-    ensures sound { IsSome atlas.old.kept → Holds atlas.new.kept IsSound }
+    ensures sound { IsSome atlas.old.kept → HoldsAtlas atlas.new.kept IsSound }
     ensures reserve { (n : ℕ) → HoldsReserve n atlas.old.kept → HoldsReserve n atlas.new.kept }
     ensures unless { IsSome atlas.old.kept → result ≢ DONE → result ≡ BAD_CALL }
     ensures refused { result ≢ DONE → atlas.new.kept ≡ atlas.old.kept }
@@ -268,7 +268,7 @@ pub extern "C" fn guillotiere_atlas_size(
     atlas: &mut AtlasHandle,
     size: &mut PlainSize,
 ) -> u32
-    ensures size { IsSome atlas.old.kept → Holds atlas.old.kept (λ s. size_in size.new ≡ size_of s.size) }
+    ensures size { IsSome atlas.old.kept → HoldsAtlas atlas.old.kept (λ s. size_in size.new ≡ size_of s.size) }
     ensures done { IsSome atlas.old.kept → result ≡ DONE }
     ensures same { atlas.new.kept ≡ atlas.old.kept }
     ensures empty { IsNone atlas.old.kept → (result ≡ EMPTY) × (size.new ≡ size.old) }
@@ -289,7 +289,7 @@ pub extern "C" fn guillotiere_atlas_options(
     atlas: &mut AtlasHandle,
     options: &mut PlainOptions,
 ) -> u32
-    ensures options { IsSome atlas.old.kept → Holds atlas.old.kept
+    ensures options { IsSome atlas.old.kept → HoldsAtlas atlas.old.kept
         (λ s. allocator_options_in options.new ≡ allocator_options_of s.options) }
     ensures done { IsSome atlas.old.kept → result ≡ DONE }
     ensures same { atlas.new.kept ≡ atlas.old.kept }
@@ -311,9 +311,9 @@ pub extern "C" fn guillotiere_atlas_slots(
     atlas: &mut AtlasHandle,
     slots: &mut PlainSlots,
 ) -> u32
-    ensures used { IsSome atlas.old.kept → Holds atlas.old.kept (λ s. slots.new.used ≡ used_in s) }
-    ensures kept { IsSome atlas.old.kept → Holds atlas.old.kept (λ s. slots.new.kept ≡ s.kept) }
-    ensures limit { IsSome atlas.old.kept → Holds atlas.old.kept (λ s. slots.new.limit ≡ s.limit) }
+    ensures used { IsSome atlas.old.kept → HoldsAtlas atlas.old.kept (λ s. slots.new.used ≡ used_in s) }
+    ensures kept { IsSome atlas.old.kept → HoldsAtlas atlas.old.kept (λ s. slots.new.kept ≡ s.kept) }
+    ensures limit { IsSome atlas.old.kept → HoldsAtlas atlas.old.kept (λ s. slots.new.limit ≡ s.limit) }
     ensures done { IsSome atlas.old.kept → result ≡ DONE }
     ensures same { atlas.new.kept ≡ atlas.old.kept }
     ensures empty { IsNone atlas.old.kept → (result ≡ EMPTY) × (slots.new ≡ slots.old) }
@@ -334,9 +334,9 @@ pub extern "C" fn guillotiere_atlas_areas(
     atlas: &mut AtlasHandle,
     areas: &mut PlainAreas,
 ) -> u32
-    ensures allocated { IsSome atlas.old.kept → Holds atlas.old.kept
+    ensures allocated { IsSome atlas.old.kept → HoldsAtlas atlas.old.kept
         (λ s. areas.new.allocated ≡ sum_by (λ g. area g.box) (live_in s)) }
-    ensures free { IsSome atlas.old.kept → Holds atlas.old.kept
+    ensures free { IsSome atlas.old.kept → HoldsAtlas atlas.old.kept
         (λ s. areas.new.free ≡ sum_by area (free_in s)) }
     ensures done { IsSome atlas.old.kept → result ≡ DONE }
     ensures same { atlas.new.kept ≡ atlas.old.kept }
@@ -357,7 +357,7 @@ pub extern "C" fn guillotiere_atlas_areas(
 /// Whether no id is live; also true of a handle that holds nothing.
 #[unsafe(no_mangle)]
 pub extern "C" fn guillotiere_atlas_is_empty(alloc: Global, atlas: &mut AtlasHandle) -> bool
-    ensures live { IsSome atlas.old.kept → Holds atlas.old.kept (λ s. IsTrue result ↔ (live_in s ≡ [])) }
+    ensures live { IsSome atlas.old.kept → HoldsAtlas atlas.old.kept (λ s. IsTrue result ↔ (live_in s ≡ [])) }
     ensures same { atlas.new.kept ≡ atlas.old.kept }
     ensures empty { IsNone atlas.old.kept → IsTrue result }
 {

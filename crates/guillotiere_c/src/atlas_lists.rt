@@ -10,8 +10,8 @@ ghost use Rattle.guillotiere.specs.Steps.AtlasReply.{Changed};
 ghost use Rattle.guillotiere.specs.Visits.{AreFreeAreas, AreGrants};
 ghost use Rattle.guillotiere.specs.declared.Allocation.{Allocation as Granted};
 ghost use Rattle.guillotiere.specs.declared.Rectangle.{Rectangle as Area};
-ghost use Rattle.guillotiere_c.specs.Calls.{FreesAll, Holds, HoldsReserve, IsHeldStep};
-ghost use Rattle.guillotiere_c.specs.Numbers.{allocation_in, change_in, rectangle_in, sides_in};
+ghost use Rattle.guillotiere_c.specs.Calls.{FreesAll, HoldsAtlas, HoldsReserve, IsHeldStep};
+ghost use Rattle.guillotiere_c.specs.Numbers.{allocation_in, change_in, corners_in, sides_in};
 ghost use Rattle.guillotiere_c.specs.Rearrangings.{IsListed};
 ghost use Rattle.guillotiere_c.specs.Statuses.{plain_reply};
 ghost use Rattle.guillotiere_c.specs.Writing.{IsWritten};
@@ -34,7 +34,7 @@ pub extern "C" fn guillotiere_atlas_live(
     found: &mut [PlainAllocation],
     count: &mut usize,
 ) -> u32
-    ensures list { result ≡ DONE → Holds atlas.old.kept (λ s. (list : List Granted) × AreGrants s list
+    ensures list { result ≡ DONE → HoldsAtlas atlas.old.kept (λ s. (list : List Granted) × AreGrants s list
         × (count.new ≡ length list) × IsWritten allocation_in list found.old found.new) }
     ensures same { atlas.new.kept ≡ atlas.old.kept }
     ensures refused { result ≢ DONE → (found.new ≡ found.old) × (count.new ≡ count.old) }
@@ -64,8 +64,8 @@ pub extern "C" fn guillotiere_atlas_free_boxes(
     found: &mut [PlainRectangle],
     count: &mut usize,
 ) -> u32
-    ensures list { result ≡ DONE → Holds atlas.old.kept (λ s. (list : List Area) × AreFreeAreas s list
-        × (count.new ≡ length list) × IsWritten rectangle_in list found.old found.new) }
+    ensures list { result ≡ DONE → HoldsAtlas atlas.old.kept (λ s. (list : List Area) × AreFreeAreas s list
+        × (count.new ≡ length list) × IsWritten corners_in list found.old found.new) }
     ensures same { atlas.new.kept ≡ atlas.old.kept }
     ensures refused { result ≢ DONE → (found.new ≡ found.old) × (count.new ≡ count.old) }
     ensures memory { result ≢ DONE → IsSome atlas.old.kept → result ≡ MEMORY }
@@ -112,7 +112,7 @@ fn write_whole_list(
 ) -> PlainChangeCount
     ensures { (old new : State) → IsRearrangingStep old (rearrangement_of list.now) new
         → used_in old ≤ length changes.old → used_in old ≤ length failures.old
-        → IsListed (rearrangement_of list.now) (record { changes = changes.old; failures = failures.old })
+        → AreBothWritten (rearrangement_of list.now) (record { changes = changes.old; failures = failures.old })
         (record { changes = changes.new; failures = failures.new }) result }
 {
     write_list(list, changes, failures)
@@ -129,13 +129,13 @@ pub extern "C" fn guillotiere_atlas_rearrange(
 ) -> u32
     ensures done { result ≡ DONE → (list : Rearrangement)
         × IsHeldStep atlas.old.kept Rearrange (Changed list) atlas.new.kept
-        × IsListed list (record { changes = changes.old; failures = failures.old })
+        × AreBothWritten list (record { changes = changes.old; failures = failures.old })
         (record { changes = changes.new; failures = failures.new }) count.new }
     ensures step { IsSome atlas.old.kept → result ≢ DONE → result ≢ SHORT
         → IsHeldStep atlas.old.kept Rearrange (plain_reply result) atlas.new.kept }
-    ensures short { result ≡ SHORT → Holds atlas.old.kept
+    ensures short { result ≡ SHORT → HoldsAtlas atlas.old.kept
         (λ s. (used_in s ≤ length changes.old) × (used_in s ≤ length failures.old) → ⊥) }
-    ensures sound { IsSome atlas.old.kept → Holds atlas.new.kept IsSound }
+    ensures sound { IsSome atlas.old.kept → HoldsAtlas atlas.new.kept IsSound }
     ensures refused { result ≢ DONE → atlas.new.kept ≡ atlas.old.kept }
     ensures unwritten { result ≢ DONE
         → (changes.new ≡ changes.old) × (failures.new ≡ failures.old) × (count.new ≡ count.old) }
@@ -176,13 +176,13 @@ pub extern "C" fn guillotiere_atlas_resize_and_rearrange(
 ) -> u32
     ensures done { result ≡ DONE → (list : Rearrangement)
         × IsHeldStep atlas.old.kept (ResizeAndRearrange (sides_in width height)) (Changed list) atlas.new.kept
-        × IsListed list (record { changes = changes.old; failures = failures.old })
+        × AreBothWritten list (record { changes = changes.old; failures = failures.old })
         (record { changes = changes.new; failures = failures.new }) count.new }
     ensures step { IsSome atlas.old.kept → result ≢ DONE → result ≢ SHORT → IsHeldStep atlas.old.kept
         (ResizeAndRearrange (sides_in width height)) (plain_reply result) atlas.new.kept }
-    ensures short { result ≡ SHORT → Holds atlas.old.kept
+    ensures short { result ≡ SHORT → HoldsAtlas atlas.old.kept
         (λ s. (used_in s ≤ length changes.old) × (used_in s ≤ length failures.old) → ⊥) }
-    ensures sound { IsSome atlas.old.kept → Holds atlas.new.kept IsSound }
+    ensures sound { IsSome atlas.old.kept → HoldsAtlas atlas.new.kept IsSound }
     ensures refused { result ≢ DONE → atlas.new.kept ≡ atlas.old.kept }
     ensures unwritten { result ≢ DONE
         → (changes.new ≡ changes.old) × (failures.new ≡ failures.old) × (count.new ≡ count.old) }
@@ -232,12 +232,12 @@ pub extern "C" fn guillotiere_atlas_deallocate_all(
     ids: &[u32],
 ) -> u32
     ensures freed { result ≡ DONE → FreesAll atlas.old.kept ids.now atlas.new.kept }
-    ensures live { result ≡ DONE → Holds atlas.old.kept (λ s. AreLiveOnce s ids.now) }
-    ensures not_live { result ≡ NOT_LIVE → Holds atlas.old.kept (λ s. AreLiveOnce s ids.now → ⊥) }
+    ensures live { result ≡ DONE → HoldsAtlas atlas.old.kept (λ s. AreLiveOnce s ids.now) }
+    ensures not_live { result ≡ NOT_LIVE → HoldsAtlas atlas.old.kept (λ s. AreLiveOnce s ids.now → ⊥) }
     ensures reserve { (n : ℕ) → HoldsReserve n atlas.old.kept → HoldsReserve n atlas.new.kept }
     ensures unless { IsSome atlas.old.kept → result ≢ DONE → result ≢ NOT_LIVE → result ≡ MEMORY }
     ensures refused { result ≢ DONE → atlas.new.kept ≡ atlas.old.kept }
-    ensures sound { IsSome atlas.old.kept → Holds atlas.new.kept IsSound }
+    ensures sound { IsSome atlas.old.kept → HoldsAtlas atlas.new.kept IsSound }
     ensures empty { IsNone atlas.old.kept → result ≡ EMPTY }
 {
     if !atlas.holds() {

@@ -5,7 +5,7 @@ ghost use Rattle.guillotiere.specs.Choice.{AreValid};
 ghost use Rattle.guillotiere.specs.Pixels.{options_of};
 ghost use Rattle.guillotiere.specs.TheConstants.{DEFAULT_OPTIONS};
 ghost use Rattle.guillotiere.specs.States.{started};
-ghost use Rattle.guillotiere_c.specs.Calls.{Holds, StoreEqual};
+ghost use Rattle.guillotiere_c.specs.Calls.{HoldsAtlas, StoreEqual};
 ghost use Rattle.guillotiere_c.specs.Numbers.{options_in, sides_in};
 
 use crate::atlas_handle::AtlasHandle;
@@ -22,7 +22,7 @@ fn start(
     limit: u32,
     atlas: &mut AtlasHandle,
 ) -> u32
-    ensures state { result ≡ DONE → Holds atlas.new.kept
+    ensures state { result ≡ DONE → HoldsAtlas atlas.new.kept
         (λ s. s ≡ started (sides_in width height) (options_of options.now) limit) }
     ensures bad { result ≡ BAD_CALL
         → IsPositive (sides_in width height) × AreValid (options_of options.now) × (1 ≤ limit) × (limit ≤ MOST_SLOTS)
@@ -60,7 +60,7 @@ pub extern "C" fn guillotiere_atlas_new(
     height: i32,
     atlas: &mut AtlasHandle,
 ) -> u32
-    ensures state { result ≡ DONE → Holds atlas.new.kept
+    ensures state { result ≡ DONE → HoldsAtlas atlas.new.kept
         (λ s. s ≡ started (sides_in width height) (options_of DEFAULT_OPTIONS) MOST_SLOTS) }
     ensures refused { result ≢ DONE → atlas.new.kept ≡ atlas.old.kept }
     ensures bad { result ≡ BAD_CALL → IsPositive (sides_in width height) → ⊥ }
@@ -79,7 +79,7 @@ pub extern "C" fn guillotiere_atlas_with_options(
     options: &PlainOptions,
     atlas: &mut AtlasHandle,
 ) -> u32
-    ensures state { result ≡ DONE → Holds atlas.new.kept
+    ensures state { result ≡ DONE → HoldsAtlas atlas.new.kept
         (λ s. s ≡ started (sides_in width height) (options_in options.now) MOST_SLOTS) }
     ensures refused { result ≢ DONE → atlas.new.kept ≡ atlas.old.kept }
     ensures bad { result ≡ BAD_CALL → IsPositive (sides_in width height) × AreValid (options_in options.now) → ⊥ }
@@ -100,7 +100,7 @@ pub extern "C" fn guillotiere_atlas_with_slot_limit(
     limit: u32,
     atlas: &mut AtlasHandle,
 ) -> u32
-    ensures state { result ≡ DONE → Holds atlas.new.kept
+    ensures state { result ≡ DONE → HoldsAtlas atlas.new.kept
         (λ s. s ≡ started (sides_in width height) (options_in options.now) limit) }
     ensures refused { result ≢ DONE → atlas.new.kept ≡ atlas.old.kept }
     ensures bad { result ≡ BAD_CALL

@@ -1,7 +1,7 @@
 //! What crosses to C: statuses, numbers, and structs of numbers. All lengths are in pixels, all areas in unit squares.
 ghost use Rattle.std.specs.Prelude.{◌≡◌, ◌↔◌, IsOk};
 ghost use Rattle.guillotiere_c.specs.Numbers.{allocation_in, allocator_options_in, change_in, options_in};
-ghost use Rattle.guillotiere_c.specs.Numbers.{rectangle_in, size_in};
+ghost use Rattle.guillotiere_c.specs.Numbers.{corners_in, size_in};
 ghost use Rattle.guillotiere_c.specs.Statuses.{plain_reply, request_reply};
 ghost use Rattle.guillotiere_c.specs.SimpleStatuses.{plain_answer, request_answer};
 ghost use Rattle.guillotiere_c.specs.declared.plain.PlainAllocation.{PlainAllocation as Numbers};
@@ -125,7 +125,7 @@ pub fn plain_size(size: Size) -> PlainSize
 
 /// The same for C.
 pub fn plain_rectangle(rectangle: Rectangle) -> PlainRectangle
-    ensures { rectangle_in result ≡ rectangle }
+    ensures { corners_in result ≡ rectangle }
 {
     let Rectangle { min, max } = rectangle;
     PlainRectangle {

@@ -9,10 +9,10 @@ ghost use Rattle.guillotiere.specs.Simple.{IsSimple, SimpleStep, simple_answer, 
 ghost use Rattle.guillotiere.specs.Simple.SimpleAtlasCall.{Allocate, Clear, Grow, Reset};
 ghost use Rattle.guillotiere.specs.SimpleStored.{kept_entries, used_entries};
 ghost use Rattle.guillotiere.specs.TheConstants.{DEFAULT_OPTIONS};
-ghost use Rattle.guillotiere_c.specs.Numbers.{allocator_options_in, options_in, rectangle_in, sides_in, size_in};
+ghost use Rattle.guillotiere_c.specs.Numbers.{allocator_options_in, options_in, corners_in, sides_in, size_in};
 ghost use Rattle.guillotiere_c.specs.SimpleCalls.{HoldsSimple, IsHeldSimpleStep, IsHeldStart};
 ghost use Rattle.guillotiere_c.specs.SimpleStatuses.{plain_answer, request_answer};
-ghost use Rattle.guillotiere_c.specs.SimpleValues.{simple_state};
+ghost use Rattle.guillotiere.specs.SimpleStored.{simple_state_of};
 
 use crate::atlas_handle::AtlasHandle;
 use crate::plain::{
@@ -112,12 +112,12 @@ pub extern "C" fn guillotiere_simple_free(alloc: Global, simple: &mut SimpleHand
 
 // Requests a rectangle; what the export's contract needs of the answer.
 fn request(simple: &mut SimpleAtlasAllocator, size: Size) -> Result<Option<Rectangle>, AtlasError>
-    ensures step { SimpleStep (simple_state simple.old) (Allocate (sides_of size)) (simple_answer result)
-        (simple_state simple.new) }
+    ensures step { SimpleStep (simple_state_of simple.old) (Allocate (sides_of size)) (simple_answer result)
+        (simple_state_of simple.new) }
     ensures exact { IfOk result (λ granted. IfSome granted (λ rectangle. IsExact rectangle)) }
     ensures none { result ≡ Ok None → simple.new ≡ simple.old }
     ensures refused { OnErr result (simple.new ≡ simple.old) }
-    ensures simple { IsSimple (simple_state simple.new) }
+    ensures simple { IsSimple (simple_state_of simple.new) }
 {
     simple.allocate(size)
 }
@@ -134,7 +134,7 @@ pub extern "C" fn guillotiere_simple_allocate(
     ensures step { IsSome simple.old.kept → IsHeldSimpleStep simple.old.kept (Allocate (sides_in width height))
         (request_answer result granted.new) simple.new.kept }
     ensures kept { IsSome simple.old.kept → HoldsSimple simple.new.kept IsSimple }
-    ensures exact { result ≡ DONE → IsExact (rectangle_in granted.new) }
+    ensures exact { result ≡ DONE → IsExact (corners_in granted.new) }
     ensures refused { result ≢ DONE → (simple.new.kept ≡ simple.old.kept) × (granted.new ≡ granted.old) }
     ensures empty { IsNone simple.old.kept → result ≡ EMPTY }
 {

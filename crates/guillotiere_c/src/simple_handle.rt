@@ -1,6 +1,6 @@
 //! What C holds of a simple allocator.
 ghost use Rattle.std.specs.Prelude.{◌≡◌, is_some, Option, Some, None, IsSome};
-ghost use Rattle.guillotiere_c.specs.SimpleValues.{SimpleValue, simple_state};
+ghost use Rattle.guillotiere.specs.SimpleStored.{SimpleValue, simple_state_of};
 ghost use Rattle.guillotiere.specs.Simple.{IsSimple};
 
 use crate::held::{Held, hold, release};
@@ -82,7 +82,7 @@ impl SimpleHandle {
     pub fn put(&mut self, simple: Box<SimpleAtlasAllocator>)
         requires { self.old.kept ≡ None }
         ensures put { self.new.kept ≡ Some simple.value }
-        ensures kept { IsSimple (simple_state simple.value) }
+        ensures kept { IsSimple (simple_state_of simple.value) }
     {
         // Its contract says what each simple allocator keeps.
         let _size = simple.size();

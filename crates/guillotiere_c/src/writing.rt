@@ -1,5 +1,5 @@
 //! Lists, written into arrays of the caller's: as much as there is room for.
-ghost use Rattle.guillotiere_c.specs.Numbers.{allocation_in, change_in, rectangle_in};
+ghost use Rattle.guillotiere_c.specs.Numbers.{allocation_in, change_in, corners_in};
 ghost use Rattle.guillotiere_c.specs.Writing.{IsWritten};
 
 use crate::plain::{
@@ -18,7 +18,7 @@ pub fn write_allocations(list: &[Allocation], array: &mut [PlainAllocation])
 
 /// Writes rectangles.
 pub fn write_rectangles(list: &[Rectangle], array: &mut [PlainRectangle])
-    ensures { IsWritten rectangle_in list.now array.old array.new }
+    ensures { IsWritten corners_in list.now array.old array.new }
 {
     for i in 0..list.len().min(array.len()) {
         array[i] = plain_rectangle(list[i]);

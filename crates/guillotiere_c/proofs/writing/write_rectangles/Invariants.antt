@@ -1,6 +1,6 @@
-use Rattle.guillotiere_c.specs.Numbers.{rectangle_in}
+use Rattle.guillotiere_c.specs.Numbers.{corners_in}
 use Rattle.guillotiere_c.specs.Writing.{IsWrittenTo}
 use Rattle.guillotiere_c.proofs.writing.write_rectangles.Given as goal
 
 abbrev pub invariant-loop-i : goal.invariant-loop-i
-invariant-loop-i l = IsWrittenTo rectangle_in l.i l.list l.fn.array l.array
+invariant-loop-i l = IsWrittenTo corners_in l.i l.list l.fn.array l.array

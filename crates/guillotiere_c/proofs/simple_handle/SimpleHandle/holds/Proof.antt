@@ -25,7 +25,7 @@ use Rattle.std.proofs.GlobalToken.{dealloc_token-Testable}
 use Rattle.std.specs.Box.Ownership.{box_owns}
 use Rattle.std.specs.contracts.alloc.Global as heap
 use Rattle.std.specs.contracts.impls.GlobalAllocator.TheImpl.{ghosts}
-use Rattle.guillotiere_c.specs.SimpleValues.{SimpleValue}
+use Rattle.guillotiere.specs.SimpleStored.{SimpleValue}
 use Rattle.guillotiere.specs.contracts.simple.SimpleAtlasAllocator as value
 use Rattle.guillotiere_c.specs.Keeping.{keeps_simple, token}
 use Rattle.guillotiere_c.specs.contracts.simple_handle.SimpleHandle.holds as f

@@ -10,7 +10,7 @@ use types.ByLocal.{alloc_all, pass_all, free_all, look_at, sets}
 use types.Part.{agg}
 use contract.Running.{tables}
 use contract.Monad.{fact, fact_i}
-use Rattle.guillotiere_c.specs.SimpleValues.{SimpleValue}
+use Rattle.guillotiere.specs.SimpleStored.{SimpleValue}
 use denote.RattleType.{Valss, owns}
 use denote.Signature.{types_at}
 use denote.RawPtr.{Ptr, null_ptr}

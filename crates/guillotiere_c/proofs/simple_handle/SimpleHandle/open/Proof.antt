@@ -10,7 +10,7 @@ use types.ByLocal.{alloc_all, pass_all, free_all, look_at, get, get_in, sets}
 use types.Part.{agg, sub, whole}
 use contract.Running.{tables}
 use contract.Monad.{fact, fact_i}
-use Rattle.guillotiere_c.specs.SimpleValues.{SimpleValue}
+use Rattle.guillotiere.specs.SimpleStored.{SimpleValue}
 use denote.Exit.{yes}
 use denote.RattleType.{RattleType, Valss, owns}
 use denote.Signature.{plain, types_at}
