@@ -29,7 +29,7 @@ use Rattle.guillotiere_recording.specs.declared.steps.EventFault.TheVariants as 
 use Rattle.guillotiere_recording.specs.declared.names.LiveName.{LiveName as Entry}
 use Rattle.guillotiere_recording.specs.Events.{EventValue, ListValue, list_value_of}
 use Rattle.guillotiere_recording.specs.Events.EventValue.{Rearrange, ResizeAndRearrange}
-use Rattle.guillotiere_recording.specs.Kept.{entry_in, entries_in, IsFollowed, IsOther, IsUnlike}
+use Rattle.guillotiere_recording.specs.Kept.{entry_in, entries_in, IsFollowed, IsOtherList, IsUnlike}
 use Rattle.guillotiere_recording.specs.Moves.{change_under, failure_under, IsMoved}
 use Rattle.guillotiere_recording.specs.Names.{entries_of, name_among}
 use Rattle.guillotiere_recording.specs.Recordings.{session_of}
@@ -181,7 +181,7 @@ module _ {A : Type 0} (a b : AtlasValue) (names : Names) (asked : AtlasCall) (li
 
     -- A list that isn't the recorded one.
 
-    pub other_rearranging : (said : ListValue) → IsOther (entries_in names) list said → asked ≡ atlas.Rearrange
+    pub other_rearranging : (said : ListValue) → IsOtherList (entries_in names) list said → asked ≡ atlas.Rearrange
         → AnswersOtherwise s (Rearrange said)
     other_rearranging said o is = record {
       good = λ bad. bad;
@@ -196,7 +196,7 @@ module _ {A : Type 0} (a b : AtlasValue) (names : Names) (asked : AtlasCall) (li
           o.other (said_list o.moved o.is ∙ ap (shown_list s.name) one ∙ sym same);
     }
 
-    pub other_resizing : (size : Size) (said : ListValue) → IsPositive (sides_of size) → IsOther (entries_in names) list said
+    pub other_resizing : (size : Size) (said : ListValue) → IsPositive (sides_of size) → IsOtherList (entries_in names) list said
         → asked ≡ atlas.ResizeAndRearrange (sides_of size) → AnswersOtherwise s (ResizeAndRearrange size said)
     other_resizing size said positive o is = record {
       good = λ bad. bad positive;
@@ -213,7 +213,7 @@ module _ {A : Type 0} (a b : AtlasValue) (names : Names) (asked : AtlasCall) (li
 
 -- Why a list that isn't followed stops a replay.
 pub unlike_stops : {A : Type 0} (a : AtlasValue) (names : Names) (list : ChangeList A) (said : ListValue) (event : EventValue) (e : EventFault)
-    → ((s : Named) → ShowsNamed a names s → IsOther (entries_in names) list said → AnswersOtherwise s event)
+    → ((s : Named) → ShowsNamed a names s → IsOtherList (entries_in names) list said → AnswersOtherwise s event)
     → IsUnlike (entries_in names) list said e → IsStopped a names event e
 unlike_stops a names list said event stop.Memory other unlike = tt
 unlike_stops a names list said event stop.Differs other unlike = λ s h. other s h unlike

@@ -22,7 +22,7 @@ use Rattle.guillotiere_recording.specs.Events.EventValue.{Allocate, Deallocate, 
 use Rattle.guillotiere_recording.specs.Logs.{RecordingValue}
 use Rattle.guillotiere_recording.specs.Sessions.{Named, named_boxes, IsLiveName, Leads, LeadOn, Recorded, fresh_session}
 use Rattle.guillotiere_recording.specs.Recordings.{LeadsTo}
-use Rattle.guillotiere_recording.specs.Replays.{IsRecorded, IsBad, IsCall, IsAnswer, is_refused, AnswersOtherwise, LacksSlots, IsFaultOf, HasRearranging, MayFail, first_events}
+use Rattle.guillotiere_recording.specs.Replays.{IsRecorded, IsBad, IsCall, AnswersEvent, is_refused, AnswersOtherwise, LacksSlots, IsFaultOf, HasRearranging, MayFail, first_events}
 use Rattle.guillotiere_recording.specs.Twins.{is_plain_event, Asks, Says}
 use Rattle.guillotiere_recording.proofs.Booking.{sessions_are_named, books_are_true, listed_is_live}
 use Rattle.guillotiere_recording.proofs.Counts.{count_map}
@@ -134,7 +134,7 @@ asks t (Grow size) call plain is = is
 asks t (Rearrange list) call plain is = absurd (false≢true plain)
 asks t (ResizeAndRearrange size list) call plain is = absurd (false≢true plain)
 
-said_is_answer : (s s' t : Named) (event : EventValue) (reply : AtlasReply) → Leads s event s' → Says event reply → IsAnswer t event reply
+said_is_answer : (s s' t : Named) (event : EventValue) (reply : AtlasReply) → Leads s event s' → Says event reply → AnswersEvent t event reply
 said_is_answer s s' t (Allocate size None) reply h says = says
 said_is_answer s s' t (Allocate size (Some a)) reply h (g, is, box) = (g, is, h.exact ∙ ap rectangle_of (sym box))
 said_is_answer s s' t (Deallocate name) reply h says = says

@@ -54,7 +54,7 @@ pub record IsFollowed {A : Type 0} (entries : List LiveName) (list : ChangeList 
   pub has : HasEntries moved.names.items names
 
 -- The list under names is another than the said one.
-pub record IsOther {A : Type 0} (entries : List LiveName) (list : ChangeList A) (said : ListValue) : Type 0 where
+pub record IsOtherList {A : Type 0} (entries : List LiveName) (list : ChangeList A) (said : ListValue) : Type 0 where
   pub moved : Moved A
   pub is : IsMoved entries list moved
   pub other : list_value_of moved.list ≡ said → ⊥
@@ -62,6 +62,6 @@ pub record IsOther {A : Type 0} (entries : List LiveName) (list : ChangeList A) 
 -- Why a list isn't followed.
 abbrev pub IsUnlike : {A : Type 0} → List LiveName → ChangeList A → ListValue → EventFault → Type 0
 IsUnlike entries list said stop.Memory = Unit {0}
-IsUnlike entries list said stop.Differs = IsOther entries list said
+IsUnlike entries list said stop.Differs = IsOtherList entries list said
 IsUnlike entries list said stop.Slots = ⊥
 IsUnlike entries list said stop.Bad = ⊥

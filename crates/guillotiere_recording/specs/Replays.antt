@@ -84,14 +84,14 @@ shown_list name answer =
     record { changes = map (shown_change name) answer.changes; failures = map (shown_grant name) answer.failures }
 
 -- The reply is what the event says, but for the id of a grant.
-abbrev pub IsAnswer : Named → EventValue → AtlasReply → Type 0
-IsAnswer s (Allocate size None) reply = reply ≡ NoRoom
-IsAnswer s (Allocate size (Some a)) reply = (g : Grant) × (reply ≡ Allocated g) × (a.rectangle ≡ rectangle_of g.box)
-IsAnswer s (Deallocate name) reply = reply ≡ Done
-IsAnswer s (Grow size) reply = reply ≡ Done
-IsAnswer s (Rearrange list) reply =
+abbrev pub AnswersEvent : Named → EventValue → AtlasReply → Type 0
+AnswersEvent s (Allocate size None) reply = reply ≡ NoRoom
+AnswersEvent s (Allocate size (Some a)) reply = (g : Grant) × (reply ≡ Allocated g) × (a.rectangle ≡ rectangle_of g.box)
+AnswersEvent s (Deallocate name) reply = reply ≡ Done
+AnswersEvent s (Grow size) reply = reply ≡ Done
+AnswersEvent s (Rearrange list) reply =
     (answer : Rearrangement) × (reply ≡ Changed answer) × (list ≡ shown_list s.name answer)
-IsAnswer s (ResizeAndRearrange size list) reply =
+AnswersEvent s (ResizeAndRearrange size list) reply =
     (answer : Rearrangement) × (reply ≡ Changed answer) × (list ≡ shown_list s.name answer)
 
 abbrev pub is_refused : AtlasReply → Bool
@@ -107,7 +107,7 @@ pub record AnswersOtherwise (s : Named) (event : EventValue) : Type 0 where
   pub new : State
   pub step : Step s.state call reply new
   pub met : is_refused reply ≡ false
-  pub other : IsAnswer s event reply → ⊥
+  pub other : AnswersEvent s event reply → ⊥
 
 -- The event isn't bad, and the model has a refusal for slots as a reply to its call.
 pub record LacksSlots (s : Named) (event : EventValue) : Type 0 where
