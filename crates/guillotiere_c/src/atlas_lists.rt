@@ -12,7 +12,7 @@ ghost use Rattle.guillotiere.specs.declared.Allocation.{Allocation as Granted};
 ghost use Rattle.guillotiere.specs.declared.Rectangle.{Rectangle as Area};
 ghost use Rattle.guillotiere_c.specs.Calls.{FreesAll, HoldsAtlas, HoldsReserve, IsHeldStep};
 ghost use Rattle.guillotiere_c.specs.Numbers.{allocation_in, change_in, corners_in, sides_in};
-ghost use Rattle.guillotiere_c.specs.Rearrangings.{IsListed};
+ghost use Rattle.guillotiere_c.specs.Rearrangings.{AreBothWritten};
 ghost use Rattle.guillotiere_c.specs.Statuses.{plain_reply};
 ghost use Rattle.guillotiere_c.specs.Writing.{IsWritten};
 
