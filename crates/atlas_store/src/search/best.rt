@@ -198,7 +198,8 @@ impl Best {
         self.rank == 0
     }
 
-    /// Whether the best has an equal side and its `min.y` is less than `low`: no box that begins there or below is better.
+    /// Whether the best has an equal side and its `min.y` is less than `low`:
+    /// no box that begins there or below is better.
     pub fn settles(&self, low: u32) -> bool
         ensures { IsTrue result
             → (self.now.rank ≡ 0) × (natural self.now.found.rectangle.min.y < low) }

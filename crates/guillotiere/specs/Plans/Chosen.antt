@@ -24,8 +24,8 @@ pub record IsAtRest (v : Shelf) (h : Holding) : Type 0 where
   pub listed : IsLooseOnly [] h
   pub start : h.sequence.start ≡ 0
 
--- The free slot that a request takes, the list where it stands, at most the `min.y` of each other slot of that list, and
--- how the slot gives way.
+-- The free slot that a request takes, the list where it stands, at most the `min.y` of each other slot of that list,
+-- and how the slot gives way.
 pub record IsChosen (v : Shelf) (r : Sides) (p : Chosen) : Type 0 where
   pub free : (node_in v p.at.number).kind ≡ kind.Free
   pub area : (node_in v p.at.number).area ≡ p.area

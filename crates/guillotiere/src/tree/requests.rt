@@ -19,8 +19,8 @@ use atlas_store::slots::walks::slot_id;
 use atlas_store::store::Store;
 use std::alloc::Allocator;
 
-/// The free slot that a request takes, its rectangle, the list where it stands, at most the `min.y` of each other slot of
-/// that list, and how the slot gives way.
+/// The free slot that a request takes, its rectangle, the list where it stands, at most the `min.y` of each other slot
+/// of that list, and how the slot gives way.
 #[derive(Clone, Copy)]
 pub struct Chosen {
     pub at: Link,
