@@ -92,8 +92,8 @@ impl<A: Allocator> Store<A> {
         unlist_at(&mut self.slots, &mut self.lists, at, place);
     }
 
-    /// No slot of a list lies above this strip.
-    pub fn sharpen(&mut self, place: Place, low: u8)
+    /// `low` is at most the `min.y` of each slot of a list.
+    pub fn sharpen(&mut self, place: Place, low: u32)
         requires row { place.row < 52 }
         requires column { place.column < 52 }
         ensures { IsSharpened self.old self.new (number_of place) low }

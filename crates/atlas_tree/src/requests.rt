@@ -19,14 +19,14 @@ use atlas_store::slots::walks::slot_id;
 use atlas_store::store::Store;
 use std::alloc::Allocator;
 
-/// The free slot that a request takes, its rectangle, the list where it stands, a strip that no other slot of that list
-/// lies above, and how the slot gives way.
+/// The free slot that a request takes, its rectangle, the list where it stands, at most the `min.y` of each other slot
+/// of that list, and how the slot gives way.
 #[derive(Clone, Copy)]
 pub struct Chosen {
     pub at: Link,
     pub area: Rectangle,
     pub place: Place,
-    pub low: u8,
+    pub low: u32,
     pub plan: Plan,
 }
 

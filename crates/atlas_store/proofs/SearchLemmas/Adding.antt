@@ -1,13 +1,13 @@
 -- What a search knows once it was shown lists of a table.
 use Rattle.std.proofs.Common.{◌≡◌, ℕ, ◌+◌, ◌*◌, ◌<◌, ◌≤◌, ◌⊎◌, Bool, true, List, ◌++◌, refl, sym, subst, inl, inr, append_assoc, arith}
 use Rattle.std.specs.List.{Contains}
-use Rattle.std.proofs.lemmas.Bool.{ne_eqb, cases_lt}
+use Rattle.std.proofs.lemmas.Bool.{ne_eqb}
 use Rattle.std.proofs.lemmas.List.Elements.{Contains-append_left, Contains-append_right, Contains-append_cases}
 use Rattle.atlas_store.specs.declared.search.bands.Place.{Place}
 use Rattle.atlas_store.specs.declared.search.best.Best.{Best}
 use Rattle.atlas_store.specs.declared.search.best.Found.{Found}
 use Rattle.atlas_store.specs.declared.search.table.ListHead.{ListHead}
-use Rattle.atlas_store.specs.Search.Bands.{band_of, list_of, number_of, strip_of, IsInWindow}
+use Rattle.atlas_store.specs.Search.Bands.{band_of, list_of, number_of, IsInWindow}
 use Rattle.atlas_store.specs.Search.Bests.{HasSeen, IsSameBest}
 use Rattle.atlas_model.specs.Boxes.{Sides, IsPositive}
 use Rattle.atlas_model.specs.Choice.{Options, class_of}
@@ -20,7 +20,7 @@ use Rattle.atlas_store.specs.Search.Searches.{Shown}
 use Rattle.atlas_store.specs.Search.Tables.{head_of, low_of, is_used_at}
 use Rattle.atlas_store.proofs.SearchLemmas.BandLaws.{band_below, window_law}
 use Rattle.atlas_store.proofs.SearchLemmas.Besting.{seen-passed}
-use Rattle.atlas_store.proofs.SearchLemmas.Showing.{path-stop, path-same, append-none, shown_items-has, shown_items-in, strip-mono}
+use Rattle.atlas_store.proofs.SearchLemmas.Showing.{path-stop, path-same, append-none, shown_items-has, shown_items-in}
 
 -- Nothing was shown.
 pub added-none : (o : Options) (heads : List ListHead) (es : List Item) (class : ℕ) (r : Sides) (s : Best) → HasAdded o heads es class r (λ i j. ⊥) s s
@@ -108,7 +108,7 @@ module _ (o : Options) (heads : List ListHead) (es : List Item) (class : ℕ) (r
         has-each i free ec e = grind (arith, shown_items-has)
 
         -- The list is passed over.
-        pub added-passed : (s : Best) → s.rank ≡ 0 → strip_of (natural s.found.rectangle.min.y) < low_of heads (number_of place)
+        pub added-passed : (s : Best) → s.rank ≡ 0 → natural s.found.rectangle.min.y < low_of heads (number_of place)
             → HasAdded o heads es class r (λ i j. (i ≡ place.row) × (j ≡ place.column)) s s
         added-passed s best_is beyond =
             record {
@@ -118,13 +118,10 @@ module _ (o : Options) (heads : List ListHead) (es : List Item) (class : ℕ) (r
               seen = λ is_large shown h. seen-passed s is_large r shown (shown_items es xs) h best_is (λ c has e.
                   let t = shown_items-in es xs c has in
                   let own = a.own (number_of place) t.0 number-below (subst (λ zs. 0 < occurs t.0 zs) same t.1) in
-                  let low = subst (λ n. low_of heads n ≤ strip_of (item_box (item_at es t.0)).min.y) own.1 (a.low t.0 own.0) in
-                  subst (λ (d : Shown). natural s.found.rectangle.min.y < d.box.min.y) (sym t.2) (above _ _ (omega (arith, beyond, low))));
+                  let low = subst (λ n. low_of heads n ≤ (item_box (item_at es t.0)).min.y) own.1 (a.low t.0 own.0) in
+                  subst (λ (d : Shown). natural s.found.rectangle.min.y < d.box.min.y) (sym t.2) (omega (arith, beyond, low)));
               known = λ k. k;
             }
-          where
-            above : (m n : ℕ) → strip_of m < strip_of n → m < n
-            above m n h = elim (cases_lt m n) [ inl l ↦ l | inr g ↦ absurd (omega (arith, h, strip-mono n m g)) ]
 
         -- The best of the list is known.
         standing : (found : Found) → IsSpot es (head_of heads (number_of place)).number place xs found → IsLowBut es xs found.at.number found.low → IsStanding o heads es found
@@ -152,7 +149,7 @@ module _ (o : Options) (heads : List ListHead) (es : List Item) (class : ℕ) (r
           added-shown few w h.xs (path-same es _ h.xs (a.held (number_of place)) a.short h.path (a.path (number_of place) number-below)) s t h.seen h.found
 
       pub added-over : class < 3 → IsInWindow o class place.row place.column → (s : Best) → s.rank ≡ 0
-          → strip_of (natural s.found.rectangle.min.y) < low_of heads (number_of place)
+          → natural s.found.rectangle.min.y < low_of heads (number_of place)
           → HasAdded o heads es class r (λ i j. (i ≡ place.row) × (j ≡ place.column)) s s
       added-over few w s best_is beyond = added-passed few w (a.held (number_of place)) refl s best_is beyond
 

@@ -3,7 +3,7 @@ use Rattle.std.proofs.Common.{◌≡◌, ◌≢◌, ℕ, ◌+◌, ◌<◌, ◌�
 use Rattle.std.specs.Prelude.{◌==◌}
 use Rattle.std.proofs.lemmas.Bool.{cases_eq, both_ways, cond-true, cond-false, eq-eqb, ne_eqb}
 use Rattle.atlas_store.specs.declared.search.table.ListHead.{ListHead}
-use Rattle.atlas_store.specs.Search.Bands.{list_of, strip_of}
+use Rattle.atlas_store.specs.Search.Bands.{list_of}
 use Rattle.atlas_model.specs.Choice.{Options}
 use Rattle.atlas_store.specs.Search.Items.{Item, item_at, item_box, item_sides, IsPath}
 use Rattle.atlas_store.specs.Slots.Links.{IsSolid, held_with}
@@ -109,7 +109,7 @@ module _ (o : Options) (heads heads' : List ListHead) (es es' : List Item) (list
     (here : k < 2704 → IsPath es' (head_of heads' k).number (without x (listed.held k)) no_slot)
     (links : (j i : ℕ) → j ≢ k → j < 2704 → 0 < occurs i (listed.held j) → (item_at es' i).after ≡ (item_at es i).after)
     (other_heads : (j : ℕ) → j ≢ k → head_of heads' j ≡ head_of heads j)
-    (low_here : (i : ℕ) → (item_at es i).is_free ≡ true → list_at o es i ≡ k → i ≢ x → low_of heads' k ≤ strip_of (item_box (item_at es i)).min.y)
+    (low_here : (i : ℕ) → (item_at es i).is_free ≡ true → list_at o es i ≡ k → i ≢ x → low_of heads' k ≤ (item_box (item_at es i)).min.y)
     (other_lows : (j : ℕ) → j ≢ k → low_of heads' j ≡ low_of heads j) where
   same_list : (i : ℕ) → i ≢ x → list_at o es' i ≡ list_at o es i
   same_list i ne = ap (λ (r : _). list_of o (item_sides (record { area = r; after = 0; is_free = true }))) (kept i ne).0
@@ -133,9 +133,9 @@ module _ (o : Options) (heads heads' : List ListHead) (es es' : List Item) (list
   owned j i l h (inr ne) = grind (arith, occurs-without_other, same_list)
 
   lows : (i : ℕ) → i ≢ x → (item_at es i).is_free ≡ true → (list_at o es i ≡ k) ⊎ (list_at o es i ≢ k)
-      → low_of heads' (list_at o es i) ≤ strip_of (item_box (item_at es i)).min.y
-  lows i ne f (inl e) = subst (λ n. low_of heads' n ≤ strip_of (item_box (item_at es i)).min.y) (sym e) (low_here i f e ne)
-  lows i ne f (inr e) = subst (λ n. n ≤ strip_of (item_box (item_at es i)).min.y) (sym (other_lows (list_at o es i) e)) (listed.low i f)
+      → low_of heads' (list_at o es i) ≤ (item_box (item_at es i)).min.y
+  lows i ne f (inl e) = subst (λ n. low_of heads' n ≤ (item_box (item_at es i)).min.y) (sym e) (low_here i f e ne)
+  lows i ne f (inr e) = subst (λ n. n ≤ (item_box (item_at es i)).min.y) (sym (other_lows (list_at o es i) e)) (listed.low i f)
 
   pub listed-without : AreListed o heads' es'
   listed-without =
@@ -157,7 +157,7 @@ module _ (o : Options) (heads heads' : List ListHead) (es es' : List Item) (list
     (this : item_at es' x ≡ e) (others : (i : ℕ) → i ≢ x → item_at es' i ≡ item_at es i)
     (free : e.is_free ≡ true) (after : e.after ≡ (head_of heads k).number) (exact : IsSolid e.area) (list : list_of o (item_sides e) ≡ k)
     (head : (head_of heads' k).number ≡ x) (other_heads : (j : ℕ) → j ≢ k → head_of heads' j ≡ head_of heads j)
-    (low : low_of heads' k ≤ strip_of (item_box e).min.y)
+    (low : low_of heads' k ≤ (item_box e).min.y)
     (lower : is_used_at heads k ≡ true → low_of heads' k ≤ low_of heads k)
     (other_lows : (j : ℕ) → j ≢ k → low_of heads' j ≡ low_of heads j) where
   abbrev added : ℕ → List ℕ
@@ -214,7 +214,7 @@ module _ (o : Options) (heads heads' : List ListHead) (es es' : List Item) (list
       some [] p h z = omega (arith, h)
       some (y ∷ ys) p h z = omega (arith, z, p.0, p.1, listed.short)
 
-  low-added : k < 2704 → (i : ℕ) → (item_at es' i).is_free ≡ true → (i ≡ x) ⊎ (i ≢ x) → low_of heads' (list_at o es' i) ≤ strip_of (item_box (item_at es' i)).min.y
+  low-added : k < 2704 → (i : ℕ) → (item_at es' i).is_free ≡ true → (i ≡ x) ⊎ (i ≢ x) → low_of heads' (list_at o es' i) ≤ (item_box (item_at es' i)).min.y
   low-added l i f (inl is) = grind arith
   low-added l i f (inr ne) = grind (arith, used_list)
 

@@ -10,7 +10,6 @@ use Rattle.atlas_store.specs.declared.search.best.Found.{Found}
 use Rattle.atlas_store.specs.declared.search.bands.Place.{Place}
 use Rattle.atlas_model.specs.declared.geometry.Rectangle.{Rectangle}
 use Rattle.atlas_store.specs.declared.slots.Link.{Link}
-use Rattle.atlas_store.specs.Search.Bands.{strip_of}
 use Rattle.atlas_store.specs.Search.Bests.{HasSeen, IsLeast, IsLooked, IsSameBest}
 use Rattle.atlas_model.specs.Boxes.{Sides}
 use Rattle.atlas_store.specs.Search.Items.{Item, no_item, item_at, shown_item, shown_items, IsPath, IsPrevious, IsShowable}
@@ -223,20 +222,17 @@ natural-below : (x : ℤ) (y : ℕ) → x ≤ℤ pos y → natural x ≤ y
 natural-below (pos n) y h = omega (arith, ints)
 natural-below (negsuc n) y h = omega arith
 
-pub strip-mono : (m n : ℕ) → m ≤ n → strip_of m ≤ strip_of n
-strip-mono m n h = omega arith
-
--- The least `min.y` of the others gives a strip that none of them lies above.
-low-of_least : (es : List Item) (now : Best) (xs : List ℕ) → IsLeast now (shown_items es xs) → IsLowBut es xs now.found.at.number (strip_of (natural now.least))
+-- The least `min.y` of the others is their bound.
+low-of_least : (es : List Item) (now : Best) (xs : List ℕ) → IsLeast now (shown_items es xs) → IsLowBut es xs now.found.at.number (natural now.least)
 low-of_least es now xs least i h ne =
     elim (least (shown_item es i) (shown_items-has es xs i h)) [
       | inl e ↦ absurd (ne (ap (λ (s : Shown). s.at) e.1))
-      | inr l ↦ strip-mono _ _ (natural-below now.least _ l)
+      | inr l ↦ natural-below now.least _ l
     ]
 
 pub along-ends : (es : List Item) (head : ℕ) (place : Place) (start now after : Best) (at before : ℕ) → IsAlong es head place start at before now
     → at ≡ no_slot → KeepsSeen now after → (now.is_own ≡ false → IsSameBest now after)
-    → (now.is_own ≡ true → after.found ≡ record now.found { low = strip_of (natural now.least) })
+    → (now.is_own ≡ true → after.found ≡ record now.found { low = natural now.least })
     → HasShown es head place start after
 along-ends es head place start now after at before w here seen other own =
     record {
@@ -246,7 +242,7 @@ along-ends es head place start now after at before w here seen other own =
       found = elim w.found [
         | inl kept ↦ let same = other kept.0 in inl (record { rank = same.rank ∙ kept.1.rank; found = same.found ∙ kept.1.found })
         | inr new ↦
-            let f : Found = record now.found { low = strip_of (natural now.least) } in
+            let f : Found = record now.found { low = natural now.least } in
             let P : Found → Type 0 = λ g. IsSpot es head place w.done g × IsLowBut es w.done g.at.number g.low in
             inr (subst P (sym (own new.0)) (
               record { inside = new.1.inside; area = new.1.area; at_place = new.1.at_place; before = new.1.before },

@@ -5,13 +5,13 @@ use Rattle.std.proofs.lemmas.List.{length-map}
 use Rattle.atlas_store.specs.declared.slots.Slot.{Slot}
 use Rattle.atlas_store.specs.declared.search.table.ListHead.{ListHead}
 use Rattle.atlas_store.specs.declared.search.best.Found.{Found}
-use Rattle.atlas_store.specs.Search.Bands.{list_of, strip_of}
+use Rattle.atlas_store.specs.Search.Bands.{list_of}
 use Rattle.atlas_model.specs.Boxes.{Box, Sides, box_sides}
 use Rattle.atlas_model.specs.Choice.{Options, IsPick}
 use Rattle.atlas_model.specs.Pixels.{box_of}
 use Rattle.atlas_store.specs.Search.Items.{Item, item_at, item_box, item_sides, IsPath}
 use Rattle.atlas_store.specs.Slots.Links.{IsSolid}
-use Rattle.atlas_store.specs.Slots.Lists.{Chain, front, is_free, node_sides, node_strip, occurs}
+use Rattle.atlas_store.specs.Slots.Lists.{Chain, front, is_free, node_sides, node_top, occurs}
 use Rattle.atlas_store.specs.Search.Lookups.{AreListed, AreFreeItems, IsStanding}
 use Rattle.atlas_store.specs.Search.Picks.{slot_item, item_of, IsFreeSlot, IsPickedSlot, IsSearchable, AreFreeBoxes}
 use Rattle.atlas_store.specs.Slots.{nodes, rings, node_at, ring_at, no_slot}
@@ -70,11 +70,11 @@ listed-slots o slots heads s =
           low_at i k (ap (list_of o) (sym (sides-is slots i))) ((s.filed.free k (list_of-most o (node_sides (node_at ns i)))).low i (omega arith));
     }
   where
-    low_at : (i k : ℕ) → k ≡ list_of o (item_sides (item_at (items slots) i)) → low_of heads k ≤ node_strip (node_at (nodes slots) i)
-        → low_of heads (list_of o (item_sides (item_at (items slots) i))) ≤ strip_of (item_box (item_at (items slots) i)).min.y
+    low_at : (i k : ℕ) → k ≡ list_of o (item_sides (item_at (items slots) i)) → low_of heads k ≤ node_top (node_at (nodes slots) i)
+        → low_of heads (list_of o (item_sides (item_at (items slots) i))) ≤ (item_box (item_at (items slots) i)).min.y
     low_at i k e l =
-        subst (λ m. low_of heads m ≤ strip_of (item_box (item_at (items slots) i)).min.y) e
-        (subst (λ r. low_of heads k ≤ strip_of (box_of r).min.y) (sym (area-is slots i)) l)
+        subst (λ m. low_of heads m ≤ (item_box (item_at (items slots) i)).min.y) e
+        (subst (λ r. low_of heads k ≤ (box_of r).min.y) (sym (area-is slots i)) l)
 
 -- The boxes of free slots are those of free entries.
 pub free-items : (slots : List Slot) (free : List Box) → AreFreeBoxes (nodes slots) free → AreFreeItems (items slots) free
@@ -99,7 +99,7 @@ picked-slot o r slots heads found picked s =
       column = s.column;
       list = sym s.list ∙ ap (list_of o) (sides-is slots found.at.number);
       low = λ i free other list.
-          subst (λ r. found.low ≤ strip_of (box_of r).min.y) (area-is slots i)
+          subst (λ r. found.low ≤ (box_of r).min.y) (area-is slots i)
           (s.low i (free-item slots i free) (ap (list_of o) (sides-is slots i) ∙ list) other);
     }
 

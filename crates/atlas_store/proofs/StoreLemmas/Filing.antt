@@ -17,7 +17,7 @@ use Rattle.atlas_model.specs.Pixels.{sides_of, box_of}
 use Rattle.atlas_model.specs.Choice.{Options}
 use Rattle.atlas_store.specs.Slots.{nodes, rings, node_at, ring_at, use_count}
 use Rattle.atlas_store.specs.Slots.Numbered.{same}
-use Rattle.atlas_store.specs.Slots.Lists.{IsList, IsFiled, AreFiled, Places, occurs, without, filed, node_sides, node_strip, is_free}
+use Rattle.atlas_store.specs.Slots.Lists.{IsList, IsFiled, AreFiled, Places, occurs, without, filed, node_sides, node_top, is_free}
 use Rattle.atlas_store.specs.Search.Bands.{list_of, number_of}
 use Rattle.atlas_store.specs.Search.Tables.{head_of, low_of, is_used_at}
 use Rattle.atlas_store.specs.Slots.Links.{IsFiledSlot, IsLooseSlot, IsListed, IsUnlisted, with_mark, with_count, held_with, unlisted, listed}
@@ -179,7 +179,7 @@ module _ (o : Options) (ns : List Node) (rs ts : List Ring) (heads heads' : List
         each = λ j l. f.each j (omega (arith, w.same_length));
       }
 
-  pub AreFiled-listed : p.loose i ≡ true → IsPutIn rs ts (head_of heads m) (head_of heads' m) i → low_of heads' m ≤ node_strip (node_at ns i) → ((j : ℕ) → 0 < occurs j (p.held m) → low_of heads' m ≤ low_of heads m) → AreFiled o ns ts heads' unused (listed p m i)
+  pub AreFiled-listed : p.loose i ≡ true → IsPutIn rs ts (head_of heads m) (head_of heads' m) i → low_of heads' m ≤ node_top (node_at ns i) → ((j : ℕ) → 0 < occurs j (p.held m) → low_of heads' m ≤ low_of heads m) → AreFiled o ns ts heads' unused (listed p m i)
   AreFiled-listed kept w low lower =
       let mine = f.free m below in
       let none : occurs i (p.held m) ≡ 0 = loose-nowhere o ns rs heads unused p f m i below kept in
@@ -214,10 +214,10 @@ module _ (o : Options) (ns : List Node) (rs ts : List Ring) (heads heads' : List
         each = λ j l. f.each j (omega (arith, w.same_length));
       }
 
--- Another strip is kept of list m, which none of its slots lies above.
+-- Another bound is kept of list m.
 pub AreFiled-sharpened : (o : Options) (ns : List Node) (rs : List Ring) (heads heads' : List ListHead) (unused : Link) (p : Places) (m low : ℕ)
     → ((k : ℕ) → head_of heads' k ≡ head_of heads k) → ((k : ℕ) → k ≢ m → low_of heads' k ≡ low_of heads k) → low_of heads' m ≡ low
-    → ((i : ℕ) → (node_at ns i).kind ≡ kind.Free → p.loose i ≡ false → list_for o (node_at ns i) ≡ m → low ≤ node_strip (node_at ns i))
+    → ((i : ℕ) → (node_at ns i).kind ≡ kind.Free → p.loose i ≡ false → list_for o (node_at ns i) ≡ m → low ≤ node_top (node_at ns i))
     → AreFiled o ns rs heads unused p → AreFiled o ns rs heads' unused p
 AreFiled-sharpened o ns rs heads heads' unused p m low firsts lows here below f =
     grind (arith, below, listed-kind, listed-kept, listed-list, IsFiled-kept)
@@ -250,11 +250,11 @@ pub unlisted-by : (o : Options) (ns ms : List Node) (rs ts : List Ring) (heads h
 unlisted-by o ns ms rs ts heads heads' i m new en em free changes first low w unused p f kept =
     grind (arith, AreFiled-unlisted o ns rs ts heads heads' unused p f i m em free changes kept)
 
-pub listed-by : (o : Options) (ns ms : List Node) (rs ts : List Ring) (heads heads' : List ListHead) (i m strip : ℕ) (new : Link) → length rs < 4294967295 → ms ≡ ns → m ≡ list_for o (node_at ns i) → (node_at ns i).kind ≡ kind.Free
-    → ChangesList heads heads' m → head_of heads' m ≡ new → strip ≡ node_strip (node_at ns i) → low_of heads' m ≤ strip
+pub listed-by : (o : Options) (ns ms : List Node) (rs ts : List Ring) (heads heads' : List ListHead) (i m top : ℕ) (new : Link) → length rs < 4294967295 → ms ≡ ns → m ≡ list_for o (node_at ns i) → (node_at ns i).kind ≡ kind.Free
+    → ChangesList heads heads' m → head_of heads' m ≡ new → top ≡ node_top (node_at ns i) → low_of heads' m ≤ top
     → (is_used_at heads m ≡ true → low_of heads' m ≤ low_of heads m) → IsPutIn rs ts (head_of heads m) new i
     → (unused : Link) (p : Places) → AreFiled o ns rs heads unused p → p.loose i ≡ true → AreFiled o ms ts heads' unused (listed p (list_for o (node_at ns i)) i)
-listed-by o ns ms rs ts heads heads' i m strip new short en em free changes first es low lower w unused p f kept =
+listed-by o ns ms rs ts heads heads' i m top new short en em free changes first es low lower w unused p f kept =
     grind (
       arith,
       list_of-most o (node_sides (node_at ns i)),

@@ -151,7 +151,7 @@ pub listed-holds : (v : Shelf) (old mid new : List Slot) (heads : List ListHead)
 listed-holds v old mid new heads h held loose a same filed holds =
     grind (arith, stands-before, filed-before, short-mid)
 
--- Another strip is kept of a list.
+-- Another bound is kept of a list.
 pub sharpened-holds : (v : Shelf) (heads : List ListHead) (m low : ℕ) (h : Holding)
     → ((k : ℕ) → head_of heads k ≡ head_of v.heads k) → ((k : ℕ) → k ≢ m → low_of heads k ≡ low_of v.heads k) → low_of heads m ≡ low
     → IsLow v h m low → Holds v h → Holds (record v { heads = heads }) h

@@ -1,6 +1,6 @@
 -- The 52 bands of a side, and the 52 x 52 lists of free slots by the bands of both sides. No public clause cites this
 -- module.
-use Rattle.std.specs.Prelude.{ℕ, ◌+◌, ◌-◌, ◌*◌, ◌/◌, ◌<◌, ◌≤◌, ◌==◌, ◌⊎◌, ℤ, pos, int_le, nat_lt, min, if◌then◌else◌}
+use Rattle.std.specs.Prelude.{ℕ, ◌+◌, ◌-◌, ◌*◌, ◌/◌, ◌<◌, ◌≤◌, ◌==◌, ◌⊎◌, ℤ, pos, int_le, nat_lt, if◌then◌else◌}
 use Rattle.atlas_store.specs.declared.search.bands.Place.{Place}
 use Rattle.atlas_model.specs.Boxes.{Sides}
 use Rattle.atlas_model.specs.Pixels.{natural}
@@ -30,10 +30,6 @@ number_of p = 52 * p.row + p.column
 -- The list of a box with these sides: its row is the band of the width, its column that of the height.
 abbrev pub list_of : Options → Sides → ℕ
 list_of o s = 52 * band_of o s.width + band_of o s.height
-
--- The strip of a height, of 64 pixels each; the last one has no end.
-abbrev pub strip_of : ℕ → ℕ
-strip_of y = min (y / 64) 255
 
 -- The first band of the sides from a threshold on.
 abbrev pub border_of : Options → ℤ → ℕ

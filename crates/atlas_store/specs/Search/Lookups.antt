@@ -8,7 +8,7 @@ use Rattle.atlas_store.specs.declared.search.best.Best.{Best}
 use Rattle.atlas_store.specs.declared.search.best.Found.{Found}
 use Rattle.atlas_store.specs.declared.search.masks.Mask.{Mask}
 use Rattle.atlas_store.specs.declared.search.table.ListHead.{ListHead}
-use Rattle.atlas_store.specs.Search.Bands.{band_of, list_of, number_of, strip_of, start_of}
+use Rattle.atlas_store.specs.Search.Bands.{band_of, list_of, number_of, start_of}
 use Rattle.atlas_store.specs.Search.Bests.{HasSeen, IsSameBest}
 use Rattle.atlas_model.specs.Boxes.{Sides, Box, Fits, IsPositive}
 use Rattle.atlas_model.specs.Choice.{Options, AreValid, class_of}
@@ -30,9 +30,9 @@ pub record IsSpot (es : List Item) (head : ℕ) (place : Place) (xs : List ℕ) 
   pub at_place : found.place ≡ place
   pub before : IsPrevious es head xs found.before.number found.at.number
 
--- No other entry of the list xs lies in a strip above `low`.
+-- `low` is at most the `min.y` of each other entry of the list xs.
 abbrev pub IsLowBut : List Item → List ℕ → (at low : ℕ) → Type 0
-IsLowBut es xs at low = (i : ℕ) → 0 < occurs i xs → i ≢ at → low ≤ strip_of (item_box (item_at es i)).min.y
+IsLowBut es xs at low = (i : ℕ) → 0 < occurs i xs → i ≢ at → low ≤ (item_box (item_at es i)).min.y
 
 -- A search was shown the list that begins at `head`.
 pub record HasShown (es : List Item) (head : ℕ) (place : Place) (before after : Best) : Type 0 where
@@ -44,7 +44,7 @@ pub record HasShown (es : List Item) (head : ℕ) (place : Place) (before after 
       ⊎ (IsSpot es head place xs after.found × IsLowBut es xs after.found.at.number after.found.low)
 
 -- Each free entry stands once in the list of its sides, and nothing else stands in a list; its rectangle is exact, and
--- its strip is none above the list's.
+-- its `min.y` is at least the list's bound.
 pub record AreListed (o : Options) (heads : List ListHead) (es : List Item) : Type 0 where
   pub held : ℕ → List ℕ
   pub valid : AreValid o
@@ -56,10 +56,10 @@ pub record AreListed (o : Options) (heads : List ListHead) (es : List Item) : Ty
   pub once : (k i : ℕ) → k < 2704 → occurs i (held k) ≤ 1
   pub exact : (i : ℕ) → (item_at es i).is_free ≡ true → IsSolid (item_at es i).area
   pub low : (i : ℕ) → (item_at es i).is_free ≡ true
-      → low_of heads (list_of o (item_sides (item_at es i))) ≤ strip_of (item_box (item_at es i)).min.y
+      → low_of heads (list_of o (item_sides (item_at es i))) ≤ (item_box (item_at es i)).min.y
 
--- What a search says of the best: a free entry, its list, the entry before it there, and a strip that none of the
--- list's other entries lies above.
+-- What a search says of the best: a free entry, its list, the entry before it there, and at most the
+-- `min.y` of each other entry of the list.
 pub record IsStanding (o : Options) (heads : List ListHead) (es : List Item) (found : Found) : Type 0 where
   pub free : (item_at es found.at.number).is_free ≡ true
   pub area : (item_at es found.at.number).area ≡ found.rectangle
@@ -72,7 +72,7 @@ pub record IsStanding (o : Options) (heads : List ListHead) (es : List Item) (fo
       × ((item_at es found.before.number).after ≡ found.at.number))
   pub low : (i : ℕ) → (item_at es i).is_free ≡ true → list_of o (item_sides (item_at es i)) ≡ number_of found.place
       → i ≢ found.at.number
-      → found.low ≤ strip_of (item_box (item_at es i)).min.y
+      → found.low ≤ (item_box (item_at es i)).min.y
 
 -- The best is known, if there is one.
 abbrev pub IsKnown : Options → List ListHead → List Item → Best → Type 0

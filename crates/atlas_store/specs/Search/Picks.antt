@@ -14,7 +14,7 @@ use Rattle.atlas_model.specs.Trees.{most_slots}
 use Rattle.atlas_store.specs.Slots.{nodes, rings, node_at}
 use Rattle.atlas_store.specs.Search.Bands.{list_of, number_of}
 use Rattle.atlas_store.specs.Search.Items.{Item}
-use Rattle.atlas_store.specs.Slots.Lists.{AreFiled, Places, is_free, node_sides, node_strip}
+use Rattle.atlas_store.specs.Slots.Lists.{AreFiled, Places, is_free, node_sides, node_top}
 use Rattle.atlas_store.specs.Slots.Links.{IsSolid}
 
 abbrev pub node_box : Node → Box
@@ -46,7 +46,8 @@ pub record AreFreeBoxes (ns : List Node) (free : List Box) : Type 0 where
   pub of_slot : (b : Box) → Contains free b → (i : ℕ) × IsFreeSlot ns i × (node_box (node_at ns i) ≡ b)
   pub of_box : (i : ℕ) → IsFreeSlot ns i → Contains free (node_box (node_at ns i))
 
--- The free slot that a request takes: its list, and a strip that no other slot of that list lies above.
+-- The free slot that a request takes: its list, and at most the `min.y` of each other slot of that
+-- list.
 pub record IsPickedSlot (o : Options) (r : Sides) (ns : List Node) (found : Found) : Type 0 where
   pub free : IsFreeSlot ns found.at.number
   pub area : (node_at ns found.at.number).area ≡ found.rectangle
@@ -56,4 +57,4 @@ pub record IsPickedSlot (o : Options) (r : Sides) (ns : List Node) (found : Foun
   pub list : number_of found.place ≡ list_of o (node_sides (node_at ns found.at.number))
   pub low : (i : ℕ) → IsFreeSlot ns i → i ≢ found.at.number
       → list_of o (node_sides (node_at ns i)) ≡ number_of found.place
-      → found.low ≤ node_strip (node_at ns i)
+      → found.low ≤ node_top (node_at ns i)

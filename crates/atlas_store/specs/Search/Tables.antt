@@ -17,7 +17,7 @@ entry_at heads k = slice_index_or heads k blank_head
 unfoldable pub head_of : List ListHead → ℕ → Link
 head_of heads k = (entry_at heads k).first
 
--- A strip that none of the slots of list k lies above.
+-- At most the `min.y` of each slot of list k.
 unfoldable pub low_of : List ListHead → ℕ → ℕ
 low_of heads k = (entry_at heads k).low
 
@@ -30,10 +30,10 @@ pub record IsTable (heads : List ListHead) (rows : List Mask) : Type 0 where
   pub count : length heads ≡ 2704
   pub marked : (i j : ℕ) → i < 52 → j < 52 → is_marked_at rows i j ≡ is_used_at heads (52 * i + j)
 
--- A slot in this strip comes first in list k; no other list changes.
-pub record IsPushed (old new : List ListHead) (k : ℕ) (first : Link) (strip : ℕ) : Type 0 where
+-- A slot with this `min.y` comes first in list k; no other list changes.
+pub record IsPushed (old new : List ListHead) (k : ℕ) (first : Link) (top : ℕ) : Type 0 where
   pub head : head_of new k ≡ first
   pub heads : (j : ℕ) → j ≢ k → head_of new j ≡ head_of old j
-  pub low : low_of new k ≤ strip
+  pub low : low_of new k ≤ top
   pub lower : is_used_at old k ≡ true → low_of new k ≤ low_of old k
   pub lows : (j : ℕ) → j ≢ k → low_of new j ≡ low_of old j

@@ -10,7 +10,7 @@ use Rattle.atlas_store.specs.declared.search.table.ListHead.{ListHead}
 use Rattle.atlas_model.specs.Boxes.{Sides, box_sides}
 use Rattle.atlas_model.specs.Pixels.{box_of}
 use Rattle.atlas_model.specs.Choice.{Options}
-use Rattle.atlas_store.specs.Search.Bands.{list_of, strip_of}
+use Rattle.atlas_store.specs.Search.Bands.{list_of}
 use Rattle.atlas_store.specs.Search.Tables.{head_of, low_of}
 use Rattle.atlas_store.specs.Slots.{node_at, ring_at, use_count, no_slot}
 use Rattle.atlas_store.specs.Slots.Numbered.{same}
@@ -52,9 +52,9 @@ Line rs (x ∷ xs) = (x < length rs) × ((ring_at rs x).next.number ≡ front xs
 abbrev pub node_sides : Node → Sides
 node_sides n = box_sides (box_of n.area)
 
--- The strip that a slot's rectangle begins in.
-abbrev pub node_strip : Node → ℕ
-node_strip n = strip_of (box_of n.area).min.y
+-- The `min.y` of a slot's rectangle.
+abbrev pub node_top : Node → ℕ
+node_top n = (box_of n.area).min.y
 
 abbrev pub is_free : NodeKind → Bool
 is_free kind.Free = true
@@ -64,13 +64,13 @@ is_free _ = false
 abbrev pub filed : Options → (k : ℕ) → Node → ℕ
 filed o k n = if is_free n.kind && list_of o (node_sides n) == k then 1 else 0
 
--- List k holds the slots xs: the free ones that belong in it, but for those that are loose. None begins in a strip
--- above the one that is kept of the list.
+-- List k holds the slots xs: the free ones that belong in it, but for those that are loose. The `min.y` of
+-- each is at least the bound that is kept of the list.
 pub record IsFiled (o : Options) (ns : List Node) (rs : List Ring) (heads : List ListHead) (k : ℕ) (xs : List ℕ)
     (loose : ℕ → Bool) : Type 0 where
   pub links : IsList rs (head_of heads k) xs
   pub each : (i : ℕ) → occurs i xs ≡ (if loose i then 0 else filed o k (node_at ns i))
-  pub low : (i : ℕ) → 0 < occurs i xs → low_of heads k ≤ node_strip (node_at ns i)
+  pub low : (i : ℕ) → 0 < occurs i xs → low_of heads k ≤ node_top (node_at ns i)
 
 -- Where slots stand: `spare` are the unused ones, `held k` those of list k, `hand i` counts a slot that is taken and
 -- not used yet, and `loose` are the free ones that stand in no list.

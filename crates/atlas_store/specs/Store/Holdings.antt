@@ -7,7 +7,7 @@ use Rattle.atlas_model.specs.Boxes.{side, other, box_sides}
 use Rattle.atlas_model.specs.Pixels.{box_of, options_of}
 use Rattle.atlas_store.specs.Search.Bands.{list_of}
 use Rattle.atlas_model.specs.Trees.{most_slots}
-use Rattle.atlas_store.specs.Slots.Lists.{node_sides, node_strip}
+use Rattle.atlas_store.specs.Slots.Lists.{node_sides, node_top}
 use Rattle.atlas_store.specs.Slots.{nodes, node_at, axis_of, AreTakenOnce}
 use Rattle.atlas_store.specs.Slots.Links.{with_mark, tail_of}
 use Rattle.atlas_store.specs.Slots.Numbered.{Numbered, marked, joined, lifted, granted_at, split_at, wrapped_at}
@@ -51,12 +51,12 @@ pub record IsLooseLeaf (v : Shelf) (i : ℕ) (h : Holding) : Type 0 where
   pub kind : (node_in v i).kind ≡ kind.Free
   pub loose : h.loose i ≡ true
 
--- No free slot of list k, but those that are loose, lies above a strip.
+-- `low` is at most the `min.y` of each free slot of list k, but of those that are loose.
 abbrev pub IsLow : Shelf → Holding → (k low : ℕ) → Type 0
 IsLow v h k low =
     (i : ℕ) → (node_in v i).kind ≡ kind.Free → h.loose i ≡ false
     → list_of (options_of v.options) (node_sides (node_in v i)) ≡ k
-    → low ≤ node_strip (node_in v i)
+    → low ≤ node_top (node_in v i)
 
 -- There are as many slots, and room for as many.
 pub record KeepsRoom {A : Type 0} (old new : Store A) : Type 0 where

@@ -70,7 +70,7 @@ pub record IsUnlisted {A : Type 0} (old new : Store A) (i : ℕ) : Type 0 where
   pub once : KeepsTakenOnce old new
   pub turns : new.turns ≡ old.turns
 
--- No slot of list k lies above this strip.
+-- `low` is at most the `min.y` of each slot of list k.
 pub record IsSharpened {A : Type 0} (old new : Store A) (k low : ℕ) : Type 0 where
   pub kept : (h : Holding) → Holds (shelf_of old) h → IsLow (shelf_of old) h k low → Holds (shelf_of new) h
   pub slots : new.slots ≡ old.slots

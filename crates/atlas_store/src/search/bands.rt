@@ -1,7 +1,6 @@
 //! The lists of free slots by the bands of both sides.
 ghost use Rattle.std.specs.Prelude.{◌≡◌, ◌+◌, ◌<◌, ◌≤◌, pos, ◌<ℤ◌, ◌≤ℤ◌, ℕ};
 ghost use Rattle.atlas_store.specs.Search.Bands.{band_of, border_of, list_of, number_of, passes, start_of, step_of};
-ghost use Rattle.atlas_store.specs.Search.Bands.{strip_of};
 ghost use Rattle.atlas_model.specs.Choice.{Options};
 ghost use Rattle.atlas_store.specs.Search.Lookups.{AreBorders, IsWindowOf};
 ghost use Rattle.atlas_model.specs.Boxes.{IsPositive};
@@ -84,14 +83,6 @@ pub fn place_for(size: Size, options: &AllocatorOptions) -> Place
         row: band(size.width, options),
         column: band(size.height, options),
     }
-}
-
-/// The strip of a height.
-pub fn strip(y: i32) -> u8
-    requires { pos 0 ≤ℤ y }
-    ensures { result ≡ strip_of (natural y) }
-{
-    (y as u32 / 64).min(255) as u8
 }
 
 // The first band of the sides from a threshold on.

@@ -1,14 +1,13 @@
 //! The best free box that a search was shown, and what the search learns of its list on the way.
 ghost use Rattle.std.specs.Prelude.{◌≡◌, ◌≢◌, ◌<◌, ◌++◌, ◌∷◌, [], ℕ, Bool, true, false, List, pos, ◌≤ℤ◌, ◌↔◌, IsTrue};
 ghost use Rattle.std.specs.Prelude.{IfSome, None};
-ghost use Rattle.atlas_store.specs.Search.Bands.{strip_of};
 ghost use Rattle.atlas_model.specs.Boxes.{IsNonempty, IsPositive, Sides};
 ghost use Rattle.atlas_model.specs.Pixels.{box_of, natural, sides_of};
 ghost use Rattle.atlas_store.specs.Search.Ranks.{no_rank, rank_of};
 ghost use Rattle.atlas_store.specs.Rectangles.{IsUnsigned};
 
 use crate::choice::{is_before, margin_in};
-use crate::search::bands::{Place, strip};
+use crate::search::bands::Place;
 use crate::slots::Link;
 use atlas_model::{Point, Rectangle, Size, point2};
 
@@ -22,8 +21,8 @@ pub struct Found {
     pub before: Link,
     /// Its list.
     pub place: Place,
-    /// At most the strip of each other box of its list.
-    pub low: u8,
+    /// At most the `min.y` of each other box of its list.
+    pub low: u32,
 }
 
 // The rank of no box.
@@ -185,10 +184,10 @@ impl Best {
             → HasSeen self.new is_large r shown }
         ensures other { self.old.is_own ≡ false → IsSameBest self.old self.new }
         ensures own { self.old.is_own ≡ true
-            → self.new.found ≡ record self.old.found { low = strip_of (natural self.old.least) } }
+            → self.new.found ≡ record self.old.found { low = natural self.old.least } }
     {
         if self.is_own {
-            self.found.low = strip(self.least);
+            self.found.low = self.least as u32;
         }
     }
 
@@ -199,13 +198,13 @@ impl Best {
         self.rank == 0
     }
 
-    /// Whether the best has an equal side and lies in a strip above this one:
-    /// no box in the strip or below it is better.
-    pub fn settles(&self, strip_number: u8) -> bool
+    /// Whether the best has an equal side and its `min.y` is less than `low`:
+    /// no box that begins there or below is better.
+    pub fn settles(&self, low: u32) -> bool
         ensures { IsTrue result
-            → (self.now.rank ≡ 0) × (strip_of (natural self.now.found.rectangle.min.y) < strip_number) }
+            → (self.now.rank ≡ 0) × (natural self.now.found.rectangle.min.y < low) }
     {
-        self.rank == 0 && strip(self.found.rectangle.min.y) < strip_number
+        self.rank == 0 && (self.found.rectangle.min.y as u32) < low
     }
 
     /// The best of the boxes shown.

@@ -1,4 +1,4 @@
-//! The table of the lists of free slots: the first slot of each, a bound of its slots' strips, and marks of those that
+//! The table of the lists of free slots: the first slot of each, a bound of its slots' `min.y`, and marks of those that
 //! have a slot.
 ghost use Rattle.std.specs.Prelude.{◌≡◌, ◌≢◌, ◌+◌, ◌*◌, ◌<◌, ℕ, true, false, IfOk};
 ghost use Rattle.atlas_store.specs.Search.Bands.{number_of};
@@ -16,11 +16,11 @@ use std::marker::Model;
 /// How many lists of free slots there are.
 pub const LISTS: usize = 2704;
 
-/// The first slot of a list, or none, and a strip that none of the list's slots lies above.
+/// The first slot of a list, or none, and a bound: at most the `min.y` of each of the list's slots.
 #[derive(Clone, Copy, Debug, PartialEq, Eq)]
 pub struct ListHead {
     pub first: Link,
-    pub low: u8,
+    pub low: u32,
 }
 
 // The head of a list with no slot.
@@ -88,8 +88,8 @@ impl<A: Allocator> Table<A> {
         self.heads[BANDS * at.row + at.column].first
     }
 
-    /// A strip that none of the list's slots lies above.
-    pub fn low(&self, at: Place) -> u8
+    /// At most the `min.y` of each of the list's slots.
+    pub fn low(&self, at: Place) -> u32
         requires row { at.row < BANDS }
         requires column { at.column < BANDS }
         ensures { result ≡ low_of self.now (number_of at) }
@@ -97,21 +97,21 @@ impl<A: Allocator> Table<A> {
         self.heads[BANDS * at.row + at.column].low
     }
 
-    /// A slot in this strip comes first in a list.
-    pub fn push(&mut self, at: Place, first: Link, strip: u8)
+    /// A slot with this `min.y` comes first in a list.
+    pub fn push(&mut self, at: Place, first: Link, top: u32)
         requires row { at.row < BANDS }
         requires column { at.column < BANDS }
         requires slot { first.number ≢ no_slot }
-        ensures { IsPushed self.old self.new (number_of at) first strip }
+        ensures { IsPushed self.old self.new (number_of at) first top }
     {
         let head = &mut self.heads[BANDS * at.row + at.column];
         if head.first.number == NO_SLOT {
             head.first = first;
-            head.low = strip;
+            head.low = top;
             self.marks.mark(at);
         } else {
             head.first = first;
-            head.low = head.low.min(strip);
+            head.low = head.low.min(top);
         }
     }
 
@@ -132,8 +132,8 @@ impl<A: Allocator> Table<A> {
         }
     }
 
-    /// Another strip is the bound of a list.
-    pub fn set_low(&mut self, at: Place, low: u8)
+    /// Another bound is kept of a list.
+    pub fn set_low(&mut self, at: Place, low: u32)
         requires row { at.row < BANDS }
         requires column { at.column < BANDS }
         ensures heads { (k : ℕ) → head_of self.new k ≡ head_of self.old k }

@@ -1,6 +1,6 @@
 //! The lists of free slots, by the bands of both sides, and the list of unused slots: links inside the slots.
 ghost use Rattle.std.specs.Prelude.{◌≡◌, ◌<◌, ℕ, true, false, List, ◌∷◌, length, slice_set, vec_capacity};
-ghost use Rattle.atlas_store.specs.Search.Bands.{list_of, number_of, strip_of};
+ghost use Rattle.atlas_store.specs.Search.Bands.{list_of, number_of};
 ghost use Rattle.atlas_model.specs.Boxes.{IsPositive, box_sides};
 ghost use Rattle.atlas_model.specs.Choice.{Options};
 ghost use Rattle.atlas_model.specs.Pixels.{box_of, options_of, sides_of};
@@ -17,7 +17,7 @@ ghost use Rattle.atlas_store.specs.Slots.Links.{first_without, given_back, liste
 ghost use Rattle.atlas_store.specs.Slots.Links.{with_ring_previous};
 
 use crate::cut::Orientation;
-use crate::search::bands::{Place, place_for, strip};
+use crate::search::bands::{Place, place_for};
 use crate::search::table::Table;
 use crate::slots::{
     Link, NO_SLOT, Node, NodeKind, Ring, Slot, read_node, read_ring, write_node, write_ring,
@@ -97,12 +97,12 @@ pub fn exact_size(area: Rectangle) -> Size
     area.size()
 }
 
-// The strip that a rectangle begins in.
-fn strip_in(area: Rectangle) -> u8
+// The `min.y` of a rectangle.
+fn top_in(area: Rectangle) -> u32
     requires { IsSolid area }
-    ensures { result ≡ strip_of (box_of area).min.y }
+    ensures { result ≡ (box_of area).min.y }
 {
-    strip(area.min.y)
+    area.min.y as u32
 }
 
 /// Takes a free slot, whose rectangle is exact, out of its list; it is loose from then on.
@@ -172,7 +172,7 @@ pub fn enlist<A: Allocator>(
     let node = read_node(slots, at);
     let place = place_for(exact_size(node.area), options);
     let first = lists.head(place);
-    lists.push(place, at, strip_in(node.area));
+    lists.push(place, at, top_in(node.area));
     push_front(slots, first, at);
 }
 

@@ -27,8 +27,8 @@ impl Entry for Slot {
     }
 }
 
-/// The free slot that a request of this rounded size takes, its list, and a strip that no other slot of that list lies
-/// above.
+/// The free slot that a request of this rounded size takes, its list, and at most the `min.y` of each other slot of
+/// that list.
 pub fn pick<A: Allocator>(
     slots: &[Slot],
     lists: &Table<A>,

@@ -19,7 +19,7 @@ use Rattle.atlas_store.specs.Search.Picks.{AreFreeBoxes, IsFreeSlot, IsSearchabl
 use Rattle.atlas_store.specs.Stored.{Shelf, Holding, Holds, places_of}
 use Rattle.atlas_store.specs.Store.Holdings.{shelf_of, node_in, across_of, with_loose, with_held, IsLow}
 use Rattle.atlas_store.specs.Search.Bands.{list_of, number_of}
-use Rattle.atlas_store.specs.Slots.Lists.{node_sides, node_strip}
+use Rattle.atlas_store.specs.Slots.Lists.{node_sides, node_top}
 use Rattle.atlas_tree.specs.Plans.Planning.{IsPlanFor, IsFeasible, IsPlaceable, IsPlaceableAt, IsPlaced, IsPlanned}
 use Rattle.atlas_store.specs.Store.StoreCalls.{IsListedAt, IsSharpened, IsUnlisted}
 use Rattle.atlas_tree.specs.Plans.Chosen.{IsAtRest, IsChosen, IsGrantable, IsGrantMade}
@@ -60,7 +60,7 @@ module _ (v : Shelf) (h : Holding) (rest : IsAtRest v h) where
     pub found-chosen : (plan : Plan) → IsPlanFor leaf r plan → IsFeasible plan (extent_of leaf) (across_of leaf)
         → (found.place.row < 52) × (found.place.column < 52) × (number_of found.place ≡ list_of (options_of v.options) (node_sides (node_at (nodes slots) found.at.number)))
         → ((i : ℕ) → IsFreeSlot (nodes slots) i → i ≢ found.at.number → list_of (options_of v.options) (node_sides (node_at (nodes slots) i)) ≡ number_of found.place
-        → found.low ≤ node_strip (node_at (nodes slots) i))
+        → found.low ≤ node_top (node_at (nodes slots) i))
         → IsChosen v r (record { at = found.at; area = found.rectangle; place = found.place; low = found.low; plan = plan })
     found-chosen plan line feasible place low = grind (arith, free_here, area_here, picked_here)
 

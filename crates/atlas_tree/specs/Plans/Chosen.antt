@@ -12,7 +12,7 @@ use Rattle.atlas_store.specs.Slots.{nodes}
 use Rattle.atlas_store.specs.Slots.Numbered.{id_of}
 use Rattle.atlas_store.specs.Slots.Reading.{extent_of}
 use Rattle.atlas_store.specs.Search.Bands.{list_of, number_of}
-use Rattle.atlas_store.specs.Slots.Lists.{node_sides, node_strip}
+use Rattle.atlas_store.specs.Slots.Lists.{node_sides, node_top}
 use Rattle.atlas_store.specs.Search.Picks.{AreFreeBoxes, IsFreeSlot}
 use Rattle.atlas_store.specs.Stored.{Shelf, Holding, Holds, IsLooseOnly}
 use Rattle.atlas_store.specs.Store.Holdings.{shelf_of, node_in, across_of, HasSlotsFor, KeepsTakenOnce}
@@ -24,8 +24,8 @@ pub record IsAtRest (v : Shelf) (h : Holding) : Type 0 where
   pub listed : IsLooseOnly [] h
   pub start : h.sequence.start ≡ 0
 
--- The free slot that a request takes, the list where it stands, a strip that no other slot of that list lies above, and
--- how the slot gives way.
+-- The free slot that a request takes, the list where it stands, at most the `min.y` of each other slot of that list,
+-- and how the slot gives way.
 pub record IsChosen (v : Shelf) (r : Sides) (p : Chosen) : Type 0 where
   pub free : (node_in v p.at.number).kind ≡ kind.Free
   pub area : (node_in v p.at.number).area ≡ p.area
@@ -36,7 +36,7 @@ pub record IsChosen (v : Shelf) (r : Sides) (p : Chosen) : Type 0 where
   pub place : number_of p.place ≡ list_of (options_of v.options) (node_sides (node_in v p.at.number))
   pub low : (i : ℕ) → IsFreeSlot (nodes v.slots) i → i ≢ p.at.number
       → list_of (options_of v.options) (node_sides (node_in v i)) ≡ number_of p.place
-      → p.low ≤ node_strip (node_in v i)
+      → p.low ≤ node_top (node_in v i)
   pub line : IsPlanFor (node_in v p.at.number) r p.plan
   pub feasible : IsFeasible p.plan (extent_of (node_in v p.at.number)) (across_of (node_in v p.at.number))
 

@@ -9,7 +9,7 @@ use Rattle.guillotiere.specs.declared.simple.boxes.FreeBox.{FreeBox}
 use Rattle.atlas_model.specs.declared.geometry.Rectangle.{Rectangle}
 use Rattle.atlas_store.specs.declared.slots.Link.{Link}
 use Rattle.atlas_store.specs.declared.search.table.ListHead.{ListHead}
-use Rattle.atlas_store.specs.Search.Bands.{list_of, strip_of, number_of}
+use Rattle.atlas_store.specs.Search.Bands.{list_of, number_of}
 use Rattle.atlas_model.specs.Boxes.{Box, AreSameBoxes, same_box}
 use Rattle.guillotiere.specs.FreeBoxes.BoxShelves.{has_width, stored_item, free_item_boxes, free_count, idle_item, with_after, AreKept, IsInHand}
 use Rattle.atlas_model.specs.Choice.{Options, AreValid}
@@ -176,7 +176,7 @@ pub put-kept : (o : Options) (heads heads' : List ListHead) (es : List Item) (un
     → (hand : IsInHand o (record { entries = es; heads = heads; unused = unused; used = used }) x)
     → e.is_free ≡ true → e.after ≡ (head_of heads k).number → IsSolid e.area → list_of o (item_sides e) ≡ k → k < 2704
     → (head_of heads' k).number ≡ x → ((j : ℕ) → j ≢ k → head_of heads' j ≡ head_of heads j)
-    → low_of heads' k ≤ strip_of (item_box e).min.y → (is_used_at heads k ≡ true → low_of heads' k ≤ low_of heads k)
+    → low_of heads' k ≤ (item_box e).min.y → (is_used_at heads k ≡ true → low_of heads' k ≤ low_of heads k)
     → ((j : ℕ) → j ≢ k → low_of heads' j ≡ low_of heads j)
     → AreKept o (record { entries = slice_set es x e; heads = heads'; unused = unused; used = used })
 put-kept o heads heads' es unused used x k e hand free after exact list few head other_heads low lower other_lows =
@@ -271,8 +271,8 @@ module _ (o : Options) (heads heads' : List ListHead) (es es1 : List Item) (unus
   in_list : 0 < occurs x (kept.listed.held k)
   in_list = subst (λ n. 0 < occurs x (kept.listed.held n)) standing.list (kept.listed.each x standing.free)
 
-  lows : (i : ℕ) → (item_at es i).is_free ≡ true → list_at o es i ≡ k → i ≢ x → low_of heads' k ≤ strip_of (item_box (item_at es i)).min.y
-  lows i f e ne = subst (λ n. n ≤ strip_of (item_box (item_at es i)).min.y) (sym low_is) (standing.low i f e ne)
+  lows : (i : ℕ) → (item_at es i).is_free ≡ true → list_at o es i ≡ k → i ≢ x → low_of heads' k ≤ (item_box (item_at es i)).min.y
+  lows i f e ne = subst (λ n. n ≤ (item_box (item_at es i)).min.y) (sym low_is) (standing.low i f e ne)
 
   finish : length es1 ≡ length es
       → ((i : ℕ) → ((item_at es1 i).area ≡ (item_at es i).area) × ((item_at es1 i).is_free ≡ (item_at es i).is_free))

@@ -5,7 +5,6 @@ ghost use Rattle.guillotiere.specs.FreeBoxes.BoxCalls.{AreFiledBoxes, HasEntries
 ghost use Rattle.guillotiere.specs.FreeBoxes.BoxCalls.{KeepsEntries};
 ghost use Rattle.guillotiere.specs.FreeBoxes.BoxShelves.{AreKept, IsInHand, box_shelf, free_item_boxes, idle_item};
 ghost use Rattle.guillotiere.specs.FreeBoxes.BoxShelves.{stored_item};
-ghost use Rattle.atlas_store.specs.Search.Bands.{strip_of};
 ghost use Rattle.atlas_model.specs.Boxes.{AreSameBoxes};
 ghost use Rattle.atlas_model.specs.Choice.{AreValid, Options};
 ghost use Rattle.atlas_store.specs.Slots.Links.{IsSolid};
@@ -16,7 +15,7 @@ ghost use Rattle.atlas_store.specs.Slots.{no_slot};
 
 use atlas_model::{AllocatorOptions, AtlasError, Rectangle, point2};
 use atlas_store::search::Entry;
-use atlas_store::search::bands::{BANDS, Place, place_for, strip};
+use atlas_store::search::bands::{BANDS, Place, place_for};
 use atlas_store::search::best::Found;
 use atlas_store::search::table::Table;
 use atlas_store::slots::lists::exact_size;
@@ -70,12 +69,12 @@ fn unused_box(after: Link) -> FreeBox
     }
 }
 
-// The strip of a box.
-fn strip_in(area: Rectangle) -> u8
+// The `min.y` of a box.
+fn top_in(area: Rectangle) -> u32
     requires { IsUnsigned area }
-    ensures { result ≡ strip_of (box_of area).min.y }
+    ensures { result ≡ (box_of area).min.y }
 {
-    strip(area.min.y)
+    area.min.y as u32
 }
 
 impl<A: Allocator> FreeBoxes<A> {
@@ -133,7 +132,7 @@ impl<A: Allocator> FreeBoxes<A> {
         let place = place_for(exact_size(area), options);
         let after = self.table.head(place);
         self.entries[at.number as usize] = FreeBox { area, after };
-        self.table.push(place, at, strip_in(area));
+        self.table.push(place, at, top_in(area));
     }
 
     /// Makes it sure that n more entries can be used. The only error is `Memory`, where that is more than there are, and

@@ -1,6 +1,5 @@
 use Rattle.std.proofs.Common.{map, subst, ◌<◌, ℕ}
 use Rattle.atlas_store.specs.declared.slots.Link.{Link}
-use Rattle.atlas_store.specs.Search.Bands.{strip_of}
 use Rattle.atlas_store.specs.Search.Lookups.{HasShown}
 use Rattle.atlas_model.specs.Pixels.{natural}
 use Rattle.atlas_store.proofs.SearchLemmas.Adding.{added-list, added-over}
@@ -17,4 +16,4 @@ returns-else-not-settles g c o class r a few w =
     let es = map g.E.Entry.item c.args.entries.now in
     let settled = c.settles.ensures c.if-not-settles.false in
     added-over o c.args.table.now es class r a c.args.place c.requires.row c.requires.column few w c.args.best.now settled.0
-    (subst (λ (n : ℕ). strip_of (natural c.args.best.now.found.rectangle.min.y) < n) c.low.ensures settled.1)
+    (subst (λ (n : ℕ). natural c.args.best.now.found.rectangle.min.y < n) c.low.ensures settled.1)

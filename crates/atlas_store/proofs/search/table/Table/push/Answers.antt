@@ -8,14 +8,14 @@ use Rattle.atlas_store.proofs.search.table.Table.push.Goals as goal
 pub invariant_of-self : goal.invariant_of-self
 invariant_of-self g c =
     written-table c.self.inside.heads.items c.self.inside.marks c.mark.new.self c.args.at.row c.args.at.column
-    (record { first = c.args.first; low = c.args.strip }) c.self.invariant c.requires.row c.requires.column
+    (record { first = c.args.first; low = c.args.top }) c.self.invariant c.requires.row c.requires.column
     (c.mark.ensures.this ∙ sym (slot-is c.args.first c.requires.slot)) c.mark.ensures.others
 
 pub returns-then-head : goal.returns-then-head
 returns-then-head g c =
     let k = 52 * c.args.at.row + c.args.at.column in
     let hs = c.self.inside.heads.items in
-    let new : ListHead = record { first = c.args.first; low = c.args.strip } in
+    let new : ListHead = record { first = c.args.first; low = c.args.top } in
     let within : k < length hs = omega (arith, c.self.invariant.count, c.requires.row, c.requires.column) in
     let e = c.index_mut-head.result.now in
     let empty = ap (λ hs. is_used_at hs k) (sym c.self.view_is)
@@ -23,7 +23,7 @@ returns-then-head g c =
     record {
       head = head_of-same hs k new within;
       heads = λ j apart. head_of-other hs k new j apart ∙ ap (λ hs. head_of hs j) c.self.view_is;
-      low = subst (λ n. n ≤ c.args.strip) (sym (low_of-same hs k new within)) (omega arith);
+      low = subst (λ n. n ≤ c.args.top) (sym (low_of-same hs k new within)) (omega arith);
       lower = λ used. absurd (both_ways _ empty used);
       lows = λ j apart. low_of-other hs k new j apart ∙ ap (λ hs. low_of hs j) c.self.view_is;
     }
@@ -46,12 +46,12 @@ returns-else-head g c =
     let e = c.index_mut-head.result.now in
     let is = low_of-same hs k new within ∙ c.min-head.ensures in
     let old = read-low hs k e within c.index_mut-head.ensures.value ∙ ap (λ hs. low_of hs k) c.self.view_is in
-    let strip : min e.low c.args.strip ≤ c.args.strip = omega arith in
-    let less : min e.low c.args.strip ≤ e.low = omega arith in
+    let top : min e.low c.args.top ≤ c.args.top = omega arith in
+    let less : min e.low c.args.top ≤ e.low = omega arith in
     record {
       head = head_of-same hs k new within;
       heads = λ j apart. head_of-other hs k new j apart ∙ ap (λ hs. head_of hs j) c.self.view_is;
-      low = subst (λ n. n ≤ c.args.strip) (sym is) strip;
-      lower = λ used. subst (λ n. n ≤ low_of c.args.self.now k) (sym is) (subst (λ n. min e.low c.args.strip ≤ n) old less);
+      low = subst (λ n. n ≤ c.args.top) (sym is) top;
+      lower = λ used. subst (λ n. n ≤ low_of c.args.self.now k) (sym is) (subst (λ n. min e.low c.args.top ≤ n) old less);
       lows = λ j apart. low_of-other hs k new j apart ∙ ap (λ hs. low_of hs j) c.self.view_is;
     }

@@ -18,7 +18,7 @@ returns-clause-kept g c =
     let place = c.place_for-place.ensures in
     let few : k < 2704 = omega (arith, place.row_inside, place.column_inside) in
     let list = ap (list_of o) (sym c.exact_size.ensures.sides) ∙ sym place.number in
-    let low = subst (λ n. low_of c.push.new.self k ≤ n) c.strip_in.ensures c.push.ensures.low in
+    let low = subst (λ n. low_of c.push.new.self k ≤ n) c.top_in.ensures c.push.ensures.low in
     subst (λ (ts : List Item). AreKept o (record { entries = ts; heads = c.push.new.self; unused = c.args.self.now.unused; used = c.args.self.now.used }))
     (sym (map-set stored_item c.args.self.now.entries.items c.args.at.number (record { area = c.args.area; after = c.head-after.result })))
     (put-kept o c.args.self.now.table c.push.new.self es c.args.self.now.unused c.args.self.now.used c.args.at.number k e c.requires.hand
