@@ -11,8 +11,8 @@ ghost use Rattle.guillotiere.specs.SimpleStored.{simple_state_of};
 ghost use Rattle.atlas_store.specs.Stored.{state_of};
 
 use super::is_positive;
-use atlas_allocator::AtlasAllocator;
 use crate::simple::SimpleAtlasAllocator;
+use atlas_allocator::AtlasAllocator;
 use atlas_model::{AllocatorOptions, AtlasError, Rectangle, Size};
 use std::alloc::Allocator;
 

@@ -15,8 +15,8 @@ ghost use Rattle.atlas_store.specs.Stored.{state_of};
 ghost use Rattle.atlas_store.specs.Visits.{free_areas};
 
 use super::{SimpleAtlasAllocator, keep, kept_count};
-use atlas_allocator::{AtlasAllocator, store_of};
 use crate::simple::boxes::FreeBoxes;
+use atlas_allocator::{AtlasAllocator, store_of};
 use atlas_model::{AllocatorOptions, AtlasError, Rectangle, Size};
 use atlas_store::cut::guillotine;
 use atlas_store::slots::{NodeKind, Slot};
