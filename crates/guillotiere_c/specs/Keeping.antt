@@ -7,7 +7,7 @@ use denote.RawPtr.{Ptr, null_ptr}
 use Rattle.std.specs.Box.Ownership.{box_owns}
 use Rattle.std.specs.contracts.alloc.Global
 use Rattle.std.specs.contracts.impls.GlobalAllocator.TheImpl
-use Rattle.guillotiere.specs.contracts.atlas.AtlasAllocator
+use Rattle.atlas_allocator.specs.contracts.atlas.AtlasAllocator
 use Rattle.guillotiere.specs.contracts.simple.SimpleAtlasAllocator
 use Rattle.guillotiere.specs.Stored.{AtlasValue}
 use Rattle.guillotiere.specs.SimpleStored.{SimpleValue}
