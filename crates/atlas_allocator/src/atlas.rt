@@ -29,6 +29,7 @@ use atlas_model::{
     AllocId, Allocation, AllocatorOptions, AtlasError, ChangeList, DEFAULT_OPTIONS, MOST_SLOTS,
     Rectangle, Size, SlotCount,
 };
+use atlas_store::search::bands::Scale;
 use atlas_store::search::table::Table;
 use atlas_store::slots::batch::are_named_once;
 use atlas_store::slots::walks::{named_slot, slot_number};
@@ -141,7 +142,7 @@ impl<A: Allocator + Copy> AtlasAllocator<A> {
             slots: Vec::with_capacity(alloc, 1)?,
             lists: Table::new(alloc)?,
             unused: none,
-            options: *options,
+            options: Scale::new(options),
             turns: Turns::new(),
         };
         store.start(size, options);
@@ -357,7 +358,7 @@ impl<A: Allocator + Copy> AtlasAllocator<A> {
     {
         let order = self.refit_order()?;
         let alloc = *self.store.slots.allocator();
-        let options = self.store.options;
+        let options = self.store.options.plain();
         let mut placed = AtlasAllocator::with_slot_limit(alloc, new_size, &options, self.limit)?;
         let list = refit(&mut placed, order)?;
         self.become_like(placed);
@@ -408,7 +409,7 @@ impl<A: Allocator + Copy> AtlasAllocator<A> {
         ensures frame { KeepsFrame (state_of self.old) (state_of self.new) }
     {
         let size = self.size;
-        let options = self.store.options;
+        let options = self.store.options.plain();
         self.restart(size, &options);
         Ok(())
     }

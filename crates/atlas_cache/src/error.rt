@@ -16,6 +16,26 @@ pub enum CacheError {
     Numbers,
 }
 
+/// What is wrong with the options of a cache.
+#[derive(Clone, Copy, Debug, PartialEq, Eq, Error)]
+pub enum OptionsError {
+    /// A side of `page` is below 1.
+    #[error("a side of a new page is below 1")]
+    EmptyPage,
+    /// A side of `largest_page` is less than that of `page`.
+    #[error("the largest page is smaller than a new one")]
+    LargestPage,
+    /// `pages` is 0.
+    #[error("no pages are allowed")]
+    NoPages,
+    /// `padding` is below 0.
+    #[error("the padding is below 0")]
+    Padding,
+    /// An alignment of `atlas` is below 1, or its thresholds are out of order.
+    #[error("the options of the atlas are not valid")]
+    Atlas,
+}
+
 impl From<AllocError> for CacheError {
     ghost from_gives = { λ _ e. e ≡ Memory };
 

@@ -2,6 +2,10 @@
 #![tactic(auto)]
 
 mod error;
+mod options;
+mod places;
 pub mod recency;
 
-pub use error::CacheError;
+pub use error::{CacheError, OptionsError};
+pub use options::CacheOptions;
+pub use places::Place;

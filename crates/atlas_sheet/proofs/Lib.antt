@@ -1,7 +1,11 @@
 pub mod Asking
 pub mod BestWays
 pub mod Finding
+pub mod Maybes
 pub mod Numbering
 pub mod Ordering
 pub mod Placing
+pub mod Powers
+pub mod Rows
+pub mod Taking
 pub mod WholeSheets

@@ -12,9 +12,12 @@ pub enum SheetError {
     /// A request for memory was refused.
     #[error("no memory")]
     Memory,
-    /// A side of the sheet is below 1.
+    /// A side of the sheet, or the least that is allowed, is below 1.
     #[error("a side of the sheet is below 1")]
     EmptySheet,
+    /// No sheet is allowed: the greatest side is below the least.
+    #[error("the greatest side is below the least")]
+    EmptyRange,
     /// The sprite with this number, counted from 0, has a side below 1.
     #[error("sprite {0} has a side below 1")]
     EmptySprite(usize),

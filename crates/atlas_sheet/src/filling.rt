@@ -38,7 +38,7 @@ fn check_sprite(number: usize, sprite: Size, padding: u16) -> Result<(), SheetEr
 }
 
 // Whether all sprites can be packed.
-fn check(sprites: &[Size], padding: u16) -> Result<(), SheetError>
+pub fn check(sprites: &[Size], padding: u16) -> Result<(), SheetError>
     ensures ok { OnOk result (All (IsPackable padding) sprites.now) }
     ensures fault { IfErr result (λ e. HasFault padding sprites.now e) }
 {

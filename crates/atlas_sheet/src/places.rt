@@ -1,5 +1,6 @@
 //! Places for sprites, one after another.
-ghost use Rattle.std.specs.Prelude.{◌≡◌, ◌+◌, ◌-◌, ◌<◌, ◌≤◌, max, length, All, IfOk, IsOkUnless, IsPermutation};
+ghost use Rattle.std.specs.Prelude.{◌≡◌, ◌+◌, ◌-◌, ◌<◌, ◌≤◌, max, length, All, IfNone, IfOk, IfSome, IsOkUnless};
+ghost use Rattle.std.specs.Prelude.{IsPermutation};
 ghost use Rattle.std.specs.List.{enumerate_from};
 ghost use Rattle.guillotiere.specs.Boxes.{IsPositive};
 ghost use Rattle.guillotiere.specs.Pixels.{box_of, natural, sides_of};
@@ -7,6 +8,7 @@ ghost use Rattle.guillotiere.specs.Simple.{simple_start};
 ghost use Rattle.guillotiere.specs.SimpleStored.{simple_state_of};
 ghost use Rattle.atlas_sheet.specs.declared.error.SheetError.TheVariants.{Memory};
 ghost use Rattle.atlas_sheet.specs.Orders.{choice_options};
+ghost use Rattle.atlas_sheet.specs.Packings.{AllFindPlaces, LeavesOne};
 ghost use Rattle.atlas_sheet.specs.Sheets.{AreFoundBy, ArePlaces, FindPlaces, FindsPlace, GivesBox, IsPackable};
 ghost use Rattle.atlas_sheet.specs.Sheets.{asked_sides, inner_sides, padded, with_places};
 ghost use Rattle.guillotiere.specs.Replies.{IsExact};
@@ -14,8 +16,14 @@ ghost use Rattle.guillotiere.specs.Replies.{IsExact};
 use crate::error::SheetError;
 use crate::orders::greatest_first;
 use crate::ways::{Choice, Way};
-use guillotiere::{Rectangle, SimpleAtlasAllocator, Size, point2, size2};
+use guillotiere::{Point, Rectangle, SimpleAtlasAllocator, Size, point2, size2};
 use std::alloc::Allocator;
+
+// What stands for a place until it is found.
+const NOWHERE: Rectangle = Rectangle {
+    min: Point { x: 0, y: 0 },
+    max: Point { x: 0, y: 0 },
+};
 
 // What is left of a sheet's side without the padding at one end, and at least 1.
 fn inner_side(side: i32, padding: u16) -> i32
@@ -133,6 +141,35 @@ fn find_places<A: Allocator + Copy>(
         places[sprite.0] = place(&mut packer, sprite.1, padding)?;
     }
     Ok(places)
+}
+
+// A place for each of the numbered sprites in a new sheet, in the order of the numbers. None as soon as one finds none.
+pub fn find_all<A: Allocator + Copy>(
+    alloc: A,
+    sprites: &[Size],
+    order: &[(usize, Size)],
+    sheet: Size,
+    padding: u16,
+    choice: Choice,
+) -> Result<Option<Vec<Rectangle, A>>, SheetError>
+    requires positive { IsPositive (sides_of sheet) }
+    requires packable { All (IsPackable padding) sprites.now }
+    requires permuted { IsPermutation (enumerate_from 0 sprites.now) order.now }
+    ensures count { IfOk result (λ found. IfSome found (λ places. length places.items ≡ length sprites.now)) }
+    ensures found { IfOk result (λ found. IfSome found (λ places.
+        AllFindPlaces (sides_of sheet) padding choice order.now places.items)) }
+    ensures left { IfOk result (λ found. IfNone found (LeavesOne (sides_of sheet) padding choice order.now)) }
+    ensures unless { IsOkUnless result Memory }
+{
+    let mut places = vec![in alloc; NOWHERE; sprites.len()]?;
+    let mut packer = start(alloc, sheet, padding, choice)?;
+    for sprite in order {
+        match place(&mut packer, sprite.1, padding)? {
+            Some(found) => places[sprite.0] = found,
+            None => return Ok(None),
+        }
+    }
+    Ok(Some(places))
 }
 
 /// What each sprite finds in a new sheet in this way, in the order of the sprites.

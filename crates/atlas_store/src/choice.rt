@@ -6,7 +6,8 @@ ghost use Rattle.atlas_model.specs.Pixels.{box_of, natural, options_of, sides_of
 ghost use Rattle.atlas_store.specs.Rectangles.{IsUnsigned};
 ghost use Rattle.atlas_store.specs.Search.Requests.{CanBeRounded, IsBefore};
 
-use atlas_model::{AllocatorOptions, Point, Rectangle, Size};
+use crate::search::bands::Scale;
+use atlas_model::{Point, Rectangle, Size};
 
 // The least multiple of the alignment that is at least `side`, if an `i32` can hold it.
 fn rounded_side(side: i32, alignment: i32) -> Option<i32>
@@ -31,13 +32,14 @@ fn rounded_side(side: i32, alignment: i32) -> Option<i32>
 
 /// The size with both sides rounded up to multiples of the alignment; None if a side is 0 or less, or if a rounded side
 /// passes 2147483647.
-pub fn rounded(size: Size, options: &AllocatorOptions) -> Option<Size>
+pub fn rounded(size: Size, options: &Scale) -> Option<Size>
     requires { AreValid (options_of options.now) }
     ensures { SomeIff result (CanBeRounded (options_of options.now) (sides_of size))
         (size_of (rounded (options_of options.now) (sides_of size))) }
 {
-    let width = rounded_side(size.width, options.alignment.width)?;
-    let height = rounded_side(size.height, options.alignment.height)?;
+    let alignment = options.plain().alignment;
+    let width = rounded_side(size.width, alignment.width)?;
+    let height = rounded_side(size.height, alignment.height)?;
     Some(Size { width, height })
 }
 
@@ -50,13 +52,14 @@ fn reaches(size: Size, threshold: i32) -> bool
 }
 
 /// 2 for a large size, 1 for a medium one, 0 for a small one.
-pub fn class(size: Size, options: &AllocatorOptions) -> usize
+pub fn class(size: Size, options: &Scale) -> usize
     requires { IsPositive (sides_of size) }
     ensures { result ≡ class_of (options_of options.now) (sides_of size) }
 {
-    if reaches(size, options.large_size_threshold) {
+    let plain = options.plain();
+    if reaches(size, plain.large_size_threshold) {
         2
-    } else if reaches(size, options.small_size_threshold) {
+    } else if reaches(size, plain.small_size_threshold) {
         1
     } else {
         0

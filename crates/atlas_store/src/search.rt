@@ -18,14 +18,12 @@ pub mod masks;
 pub mod table;
 
 use crate::choice::class;
-use crate::search::bands::{
-    BANDS, Borders, Place, Window, borders_for, class_from, place_for, window_for,
-};
+use crate::search::bands::{BANDS, Borders, Place, Scale, Window, class_from, window_for};
 use crate::search::best::{Best, Found};
 use crate::search::masks::Mask;
 use crate::search::table::Table;
 use crate::slots::{Link, NO_SLOT};
-use atlas_model::{AllocatorOptions, Rectangle, Size};
+use atlas_model::{Rectangle, Size};
 use std::alloc::Allocator;
 
 // What a search computes of a request: its list, whether it is large, and the borders of the classes.
@@ -266,7 +264,7 @@ fn search_class<A: Allocator, E: Entry>(
 pub fn pick<A: Allocator, E: Entry>(
     entries: &[E],
     table: &Table<A>,
-    options: &AllocatorOptions,
+    options: &Scale,
     size: Size,
 ) -> Option<Found>
     requires positive { IsPositive (sides_of size) }
@@ -279,8 +277,8 @@ pub fn pick<A: Allocator, E: Entry>(
     ensures standing { IfSome result (IsStanding (options_of options.now) table.now (map E.item entries.now)) }
 {
     let own_class = class(size, options);
-    let own = place_for(size, options);
-    let borders = borders_for(options);
+    let own = options.place_for(size);
+    let borders = options.borders();
     let request = Request {
         size,
         is_large: own_class == 2,

@@ -12,13 +12,12 @@ pub mod extend;
 pub mod start;
 pub mod turns;
 
-use crate::search::bands::Place;
+use crate::search::bands::{Place, Scale};
 use crate::search::table::Table;
 use crate::slots::lists::{enlist, give_back, take_slot, unlist, unlist_at};
 use crate::slots::placing::{grant_leaf, split_leaf, wrap_leaf};
 use crate::slots::{Link, NO_SLOT, Node, NodeKind, Slot, join_next, lift, mark_free, read_node};
 use crate::store::turns::Turns;
-use atlas_model::AllocatorOptions;
 use std::alloc::{AllocError, Allocator};
 
 /// The slots, the lists that run through them, and the options by which free slots are listed. `turns` counts the
@@ -28,7 +27,7 @@ pub struct Store<A: Allocator> {
     pub slots: Vec<Slot, A>,
     pub lists: Table<A>,
     pub unused: Link,
-    pub options: AllocatorOptions,
+    pub options: Scale,
     pub turns: Turns,
 }
 
@@ -52,7 +51,7 @@ impl<A: Allocator> Store<A> {
             slots,
             lists,
             unused: self.unused,
-            options: self.options,
+            options: self.options.copy(),
             turns: Turns::new(),
         })
     }

@@ -20,6 +20,7 @@ use crate::simple::boxes::{FreeBox, FreeBoxes};
 use atlas_model::{AllocatorOptions, AtlasError, DEFAULT_OPTIONS, Rectangle, Size, SlotCount};
 use atlas_store::choice::rounded;
 use atlas_store::cut::{Rest, granted, guillotine};
+use atlas_store::search::bands::Scale;
 use atlas_store::search::best::Found;
 use atlas_store::search::pick;
 use atlas_store::slots::NO_SLOT;
@@ -39,7 +40,7 @@ use std::marker::Model;
 pub struct SimpleAtlasAllocator<A: Allocator + Copy = Global> {
     boxes: FreeBoxes<A>,
     size: Size,
-    options: AllocatorOptions,
+    options: Scale,
 }
 
 impl<A: Allocator + Copy> Model for SimpleAtlasAllocator<A> {
@@ -87,11 +88,12 @@ impl<A: Allocator + Copy> SimpleAtlasAllocator<A> {
         ensures entries { IfOk result UsesEachEntry }
     {
         let mut boxes = FreeBoxes::new(alloc)?;
-        boxes.restart(Rectangle::from(size), options);
+        let options = Scale::new(options);
+        boxes.restart(Rectangle::from(size), &options);
         Ok(SimpleAtlasAllocator {
             boxes,
             size,
-            options: *options,
+            options,
         })
     }
 
@@ -131,7 +133,7 @@ impl<A: Allocator + Copy> SimpleAtlasAllocator<A> {
         ensures options { result ≡ allocator_options_of (simple_state_of self.now).options }
         ensures valid { AreValid (options_of result) }
     {
-        self.options
+        self.options.plain()
     }
 
     /// Whether `grow` may be called with this size: neither side is less than the allocator's.
@@ -178,17 +180,18 @@ fn is_listed(entries: &[FreeBox], rectangle: &Rectangle) -> bool
 }
 
 // Whether a part is neither narrower nor lower than the alignment.
-fn is_kept(part: Rectangle, options: &AllocatorOptions) -> bool
+fn is_kept(part: Rectangle, options: &Scale) -> bool
     requires valid { AreValid (options_of options.now) }
     requires unsigned { IsUnsigned part }
     ensures { result ≡ is_kept (options_of options.now) (box_of part) }
 {
     let size = part.size();
-    size.width >= options.alignment.width && size.height >= options.alignment.height
+    let least = options.plain().alignment;
+    size.width >= least.width && size.height >= least.height
 }
 
 // Adds a part if it is kept.
-fn keep<A: Allocator>(boxes: &mut FreeBoxes<A>, part: Rectangle, options: &AllocatorOptions)
+fn keep<A: Allocator>(boxes: &mut FreeBoxes<A>, part: Rectangle, options: &Scale)
     requires unsigned { IsUnsigned part }
     requires kept { AreKept (options_of options.now) (box_shelf boxes.old) }
     requires room { is_kept (options_of options.now) (box_of part) ≡ true → HasEntriesFor 1 boxes.old }
@@ -202,7 +205,7 @@ fn keep<A: Allocator>(boxes: &mut FreeBoxes<A>, part: Rectangle, options: &Alloc
 }
 
 // How many parts of a rest are kept.
-fn kept_count(rest: &Rest, options: &AllocatorOptions) -> u32
+fn kept_count(rest: &Rest, options: &Scale) -> u32
     requires valid { AreValid (options_of options.now) }
     requires split { IsUnsigned rest.now.split }
     requires leftover { IsUnsigned rest.now.leftover }
@@ -223,7 +226,7 @@ fn cut_picked<A: Allocator>(
     boxes: &mut FreeBoxes<A>,
     found: Found,
     size: Size,
-    options: &AllocatorOptions,
+    options: &Scale,
 ) -> Result<(), AtlasError>
     requires { IsFoundFor (options_of options.now) found (sides_of size) boxes.old }
     ensures unless { IsOkUnless result AtlasError.Memory }
@@ -250,7 +253,7 @@ fn cut_picked<A: Allocator>(
 fn grant<A: Allocator>(
     boxes: &mut FreeBoxes<A>,
     requested_size: Size,
-    options: &AllocatorOptions,
+    options: &Scale,
 ) -> Result<Option<Rectangle>, AtlasError>
     requires { AreKept (options_of options.now) (box_shelf boxes.old) }
     ensures unless { IsOkUnless result AtlasError.Memory }

@@ -7,7 +7,7 @@ use std::alloc::{AllocError, Global};
 use std::process::Abort;
 use std::test::Fail;
 
-fn rectangle(left: i32, top: i32, right: i32, bottom: i32) -> Rectangle {
+pub fn rectangle(left: i32, top: i32, right: i32, bottom: i32) -> Rectangle {
     Rectangle {
         min: point2(left, top),
         max: point2(right, bottom),
@@ -148,7 +148,12 @@ fn next(number: u64) -> u64 {
 }
 
 // Sprites with sides from 1 to `most`.
-fn sprites_of(alloc: Global, seed: u32, count: usize, most: u16) -> Result<Vec<Size>, AllocError>
+pub fn sprites_of(
+    alloc: Global,
+    seed: u32,
+    count: usize,
+    most: u16,
+) -> Result<Vec<Size>, AllocError>
     requires { 0 < most }
 {
     let mut sprites = Vec::new(alloc);
@@ -164,7 +169,7 @@ fn sprites_of(alloc: Global, seed: u32, count: usize, most: u16) -> Result<Vec<S
 }
 
 // Whether a place has its sprite's sides and keeps to the border.
-fn is_good(sprite: Size, place: Rectangle, sheet: Size, padding: i32) -> bool {
+pub fn is_good(sprite: Size, place: Rectangle, sheet: Size, padding: i32) -> bool {
     place.max.x.wrapping_sub(place.min.x) == sprite.width
         && place.max.y.wrapping_sub(place.min.y) == sprite.height
         && padding <= place.min.x
@@ -174,7 +179,7 @@ fn is_good(sprite: Size, place: Rectangle, sheet: Size, padding: i32) -> bool {
 }
 
 // Whether two places are at least the padding apart in one direction.
-fn are_apart(a: Rectangle, b: Rectangle, padding: i32) -> bool {
+pub fn are_apart(a: Rectangle, b: Rectangle, padding: i32) -> bool {
     a.max.x.wrapping_add(padding) <= b.min.x
         || b.max.x.wrapping_add(padding) <= a.min.x
         || a.max.y.wrapping_add(padding) <= b.min.y

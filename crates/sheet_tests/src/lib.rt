@@ -3,3 +3,5 @@
 
 #[cfg(test)]
 mod filling;
+#[cfg(test)]
+mod packing;

@@ -1,5 +1,6 @@
-//! Tests of the lines of `atlas_tool`: `atlas_lines` and `atlas_words`. Expected replies are worked by hand from the
-//! rules, or are those of the Rust crate `guillotiere` 0.7.0; none is an answer of the code under test.
+//! Tests of the lines of `atlas_tool`, `atlas_lines` and `atlas_words`, and of those that spell the benchmark's jobs.
+//! Expected replies are worked by hand from the rules, or are those of the Rust crate `guillotiere` 0.7.0; none is an
+//! answer of the code under test.
 #![tactic(auto)]
 
 #[cfg(test)]
@@ -12,6 +13,8 @@ mod conversation;
 mod devices;
 #[cfg(test)]
 mod faults;
+#[cfg(test)]
+mod jobs;
 #[cfg(test)]
 mod playing;
 #[cfg(test)]

@@ -1,6 +1,6 @@
 pub mod Caching
-pub mod Holding
 pub mod HighestFirst
+pub mod Holding
 pub mod Keyed
 pub mod Numbering
 pub mod Placing
@@ -8,3 +8,4 @@ pub mod Ranges
 pub mod Recordings
 pub mod Repacking
 pub mod Sorting
+pub mod Texturing

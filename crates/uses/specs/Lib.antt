@@ -3,3 +3,4 @@ pub mod Glyphs
 pub mod Pictures
 pub mod Replaying
 pub mod Sheets
+pub mod TextureArrays

@@ -6,3 +6,4 @@ pub mod glyph_cache;
 pub mod repack;
 pub mod replayed;
 pub mod sheet;
+pub mod texture_array;

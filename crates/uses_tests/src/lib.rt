@@ -10,3 +10,5 @@ mod repack;
 mod replayed;
 #[cfg(test)]
 mod sheet;
+#[cfg(test)]
+mod texture_array;

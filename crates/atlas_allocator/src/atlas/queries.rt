@@ -18,7 +18,7 @@ impl<A: Allocator + Copy> AtlasAllocator<A> {
         ensures options { result ≡ allocator_options_of (state_of self.now).options }
         ensures valid { AreValid (options_of result) }
     {
-        self.store.options
+        self.store.options.plain()
     }
 
     /// Whether `grow` may be called with this size: neither side is less than the atlas's.

@@ -1,5 +1,5 @@
 -- The search through lists of entries: what it needs, and what it answers. No public clause cites this module.
-use Rattle.std.specs.Prelude.{ℕ, ◌+◌, ◌≡◌, ◌≢◌, ◌<◌, ◌≤◌, ◌==◌, ◌⊎◌, ◌++◌, Bool, true, List, Contains, length}
+use Rattle.std.specs.Prelude.{ℕ, ◌+◌, ◌≡◌, ◌≢◌, ◌<◌, ◌≤◌, ◌==◌, ◌⊎◌, ◌++◌, Bool, true, List, Contains, slice_index_or, length}
 use Rattle.atlas_store.specs.declared.search.Request.{Request}
 use Rattle.atlas_store.specs.declared.search.bands.Borders.{Borders}
 use Rattle.atlas_store.specs.declared.search.bands.Place.{Place}
@@ -149,6 +149,10 @@ pub record IsWindowOf (o : Options) (class : ℕ) (w : Window) : Type 0 where
 pub record AreBorders (o : Options) (b : Borders) : Type 0 where
   pub small : b.small ≡ start_of o 1
   pub large : b.large ≡ start_of o 2
+
+-- The band of each side up to 256.
+abbrev pub AreBands : Options → List ℕ → Type 0
+AreBands o bands = (length bands ≡ 257) × ((n : ℕ) → 0 < n → n ≤ 256 → slice_index_or bands n 0 ≡ band_of o n)
 
 -- What a search computes of its request.
 pub record IsRequest (o : Options) (q : Request) : Type 0 where

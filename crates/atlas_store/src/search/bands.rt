@@ -7,6 +7,7 @@ ghost use Rattle.atlas_model.specs.Boxes.{IsPositive};
 ghost use Rattle.atlas_model.specs.Pixels.{natural, options_of, sides_of};
 
 use atlas_model::{AllocatorOptions, Size};
+use std::marker::Model;
 
 /// How many bands a side may have: the lists have as many rows, and as many columns.
 pub const BANDS: usize = 52;
@@ -58,9 +59,9 @@ fn passed(side: i32, threshold: i32) -> usize
     if side >= threshold { 1 } else { 0 }
 }
 
-/// The band of a side.
+// The band of a side.
 #[tactic(auto, unfolding(crate::specs::Search::Bands::band_of))]
-pub fn band(side: i32, options: &AllocatorOptions) -> usize
+fn band(side: i32, options: &AllocatorOptions) -> usize
     requires { pos 0 <ℤ side }
     ensures band { result ≡ band_of (options_of options.now) (natural side) }
     ensures inside { result < BANDS }
@@ -68,21 +69,6 @@ pub fn band(side: i32, options: &AllocatorOptions) -> usize
     step(side as u32)
         + passed(side, options.small_size_threshold)
         + passed(side, options.large_size_threshold)
-}
-
-/// The list of a size.
-pub fn place_for(size: Size, options: &AllocatorOptions) -> Place
-    requires { IsPositive (sides_of size) }
-    ensures number { number_of result ≡ list_of (options_of options.now) (sides_of size) }
-    ensures row { result.row ≡ band_of (options_of options.now) (sides_of size).width }
-    ensures column { result.column ≡ band_of (options_of options.now) (sides_of size).height }
-    ensures row_inside { result.row < BANDS }
-    ensures column_inside { result.column < BANDS }
-{
-    Place {
-        row: band(size.width, options),
-        column: band(size.height, options),
-    }
 }
 
 // The first band of the sides from a threshold on.
@@ -104,13 +90,114 @@ pub struct Borders {
     pub large: usize,
 }
 
-/// The borders of the classes.
-pub fn borders_for(options: &AllocatorOptions) -> Borders
+// The borders of the classes.
+fn borders_for(options: &AllocatorOptions) -> Borders
     ensures { AreBorders (options_of options.now) result }
 {
     Borders {
         small: border(options.small_size_threshold, options),
         large: border(options.large_size_threshold, options),
+    }
+}
+
+/// Options, with what the lists take of them: the borders of the classes, and the band of each side up to 256.
+/// Contracts see the options alone.
+#[derive(Drop)]
+pub struct Scale {
+    options: AllocatorOptions,
+    borders: Borders,
+    bands: [u8; 257],
+}
+
+impl Model for Scale {
+    ghost use Rattle.atlas_model.specs.declared.options.AllocatorOptions.{AllocatorOptions};
+    ghost use Rattle.atlas_model.specs.Pixels.{options_of};
+    ghost use Rattle.atlas_store.specs.Search.Lookups.{AreBands, AreBorders};
+
+    ghost Value = { AllocatorOptions };
+
+    ghost view = { λ s. s.options };
+
+    ghost invariant = { λ s. AreBorders (options_of s.options) s.borders × AreBands (options_of s.options) s.bands };
+}
+
+impl Scale {
+    /// That of these options.
+    pub fn new(options: &AllocatorOptions) -> Scale
+        ensures { result ≡ options.now }
+    {
+        let mut bands = [0; 257];
+        for side in 1..257 {
+            bands[side] = band(side as i32, options) as u8;
+        }
+        Scale {
+            options: *options,
+            borders: borders_for(options),
+            bands,
+        }
+    }
+
+    /// That of these options from now on.
+    pub fn set(&mut self, options: &AllocatorOptions)
+        ensures { self.new ≡ options.now }
+    {
+        if self.options != *options {
+            *self = Scale::new(options);
+        }
+    }
+
+    /// The same again.
+    pub fn copy(&self) -> Scale
+        ensures { result ≡ self.now }
+    {
+        Scale {
+            options: self.options,
+            borders: self.borders,
+            bands: self.bands,
+        }
+    }
+
+    /// The options.
+    pub fn plain(&self) -> AllocatorOptions
+        ensures { result ≡ self.now }
+    {
+        self.options
+    }
+
+    /// The borders of the classes.
+    pub fn borders(&self) -> Borders
+        ensures { AreBorders (options_of self.now) result }
+    {
+        self.borders
+    }
+
+    // The band of a side.
+    #[tactic(auto, using(crate::proofs::SearchLemmas::BandLaws::band_below))]
+    fn band(&self, side: i32) -> usize
+        requires { pos 0 <ℤ side }
+        ensures band { result ≡ band_of (options_of self.now) (natural side) }
+        ensures inside { result < BANDS }
+    {
+        if side <= 256 {
+            self.bands[side as usize] as usize
+        } else {
+            band(side, &self.options)
+        }
+    }
+
+    /// The list of a size.
+    pub fn place_for(&self, size: Size) -> Place
+        requires { IsPositive (sides_of size) }
+        ensures number { number_of result ≡ list_of (options_of self.now) (sides_of size) }
+        ensures row { result.row ≡ band_of (options_of self.now) (sides_of size).width }
+        ensures column { result.column ≡ band_of (options_of self.now) (sides_of size).height }
+        ensures row_inside { result.row < BANDS }
+        ensures column_inside { result.column < BANDS }
+    {
+        Place {
+            row: self.band(size.width),
+            column: self.band(size.height),
+        }
     }
 }
 

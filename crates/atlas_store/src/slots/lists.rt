@@ -17,12 +17,12 @@ ghost use Rattle.atlas_store.specs.Slots.Links.{first_without, given_back, liste
 ghost use Rattle.atlas_store.specs.Slots.Links.{with_ring_previous};
 
 use crate::cut::Orientation;
-use crate::search::bands::{Place, place_for};
+use crate::search::bands::{Place, Scale};
 use crate::search::table::Table;
 use crate::slots::{
     Link, NO_SLOT, Node, NodeKind, Ring, Slot, read_node, read_ring, write_node, write_ring,
 };
-use atlas_model::{AllocatorOptions, Rectangle, Size, point2};
+use atlas_model::{Rectangle, Size, point2};
 use std::alloc::Allocator;
 
 /// `next` comes after `at` in its list; nothing happens where `at` is no slot.
@@ -107,12 +107,7 @@ fn top_in(area: Rectangle) -> u32
 
 /// Takes a free slot, whose rectangle is exact, out of its list; it is loose from then on.
 #[inline(always)]
-pub fn unlist<A: Allocator>(
-    slots: &mut [Slot],
-    lists: &mut Table<A>,
-    options: &AllocatorOptions,
-    at: Link,
-)
+pub fn unlist<A: Allocator>(slots: &mut [Slot], lists: &mut Table<A>, options: &Scale, at: Link)
     requires free { (node_at (nodes slots.old) at.number).kind ≡ Free }
     requires exact { IsSolid (node_at (nodes slots.old) at.number).area }
     requires kept { IsFiledSlot (options_of options.now) slots.old lists.old at.number }
@@ -128,7 +123,7 @@ pub fn unlist<A: Allocator>(
     unlink(slots, at, ring);
     if ring.previous.number == NO_SLOT {
         let node = read_node(slots, at);
-        let place = place_for(exact_size(node.area), options);
+        let place = options.place_for(exact_size(node.area));
         lists.set_head(place, ring.next);
     }
 }
@@ -152,12 +147,7 @@ pub fn unlist_at<A: Allocator>(slots: &mut [Slot], lists: &mut Table<A>, at: Lin
 
 /// Puts a free and loose slot, whose rectangle is exact, into its list.
 #[inline(always)]
-pub fn enlist<A: Allocator>(
-    slots: &mut [Slot],
-    lists: &mut Table<A>,
-    options: &AllocatorOptions,
-    at: Link,
-)
+pub fn enlist<A: Allocator>(slots: &mut [Slot], lists: &mut Table<A>, options: &Scale, at: Link)
     requires free { (node_at (nodes slots.old) at.number).kind ≡ Free }
     requires exact { IsSolid (node_at (nodes slots.old) at.number).area }
     requires loose { IsLooseSlot (options_of options.now) slots.old lists.old at.number }
@@ -170,7 +160,7 @@ pub fn enlist<A: Allocator>(
     ensures same_nodes { nodes slots.new ≡ nodes slots.old }
 {
     let node = read_node(slots, at);
-    let place = place_for(exact_size(node.area), options);
+    let place = options.place_for(exact_size(node.area));
     let first = lists.head(place);
     lists.push(place, at, top_in(node.area));
     push_front(slots, first, at);

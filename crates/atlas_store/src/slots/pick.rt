@@ -6,11 +6,12 @@ ghost use Rattle.atlas_store.specs.Search.Picks.{AreFreeBoxes, IsPickedSlot, IsS
 ghost use Rattle.atlas_model.specs.Pixels.{options_of, sides_of};
 ghost use Rattle.atlas_store.specs.Slots.{nodes};
 
+use crate::search::bands::Scale;
 use crate::search::best::Found;
 use crate::search::table::Table;
 use crate::search::{self, Entry};
 use crate::slots::{Link, Slot};
-use atlas_model::{AllocatorOptions, Rectangle, Size};
+use atlas_model::{Rectangle, Size};
 use std::alloc::Allocator;
 
 impl Entry for Slot {
@@ -32,7 +33,7 @@ impl Entry for Slot {
 pub fn pick<A: Allocator>(
     slots: &[Slot],
     lists: &Table<A>,
-    options: &AllocatorOptions,
+    options: &Scale,
     size: Size,
 ) -> Option<Found>
     requires positive { IsPositive (sides_of size) }

@@ -44,7 +44,7 @@ impl<A: Allocator> Store<A> {
         self.slots.push_reserved(whole_slot(size));
         self.lists.clear();
         self.unused = Link::NONE;
-        self.options = *options;
+        self.options.set(options);
         self.list(Link { number: 0 });
     }
 }

@@ -13,9 +13,9 @@ ghost use Rattle.atlas_model.specs.Pixels.{box_of, options_of};
 ghost use Rattle.atlas_store.specs.Rectangles.{IsUnsigned};
 ghost use Rattle.atlas_store.specs.Slots.{no_slot};
 
-use atlas_model::{AllocatorOptions, AtlasError, Rectangle, point2};
+use atlas_model::{AtlasError, Rectangle, point2};
 use atlas_store::search::Entry;
-use atlas_store::search::bands::{BANDS, Place, place_for};
+use atlas_store::search::bands::{BANDS, Place, Scale};
 use atlas_store::search::best::Found;
 use atlas_store::search::table::Table;
 use atlas_store::slots::lists::exact_size;
@@ -120,7 +120,7 @@ impl<A: Allocator> FreeBoxes<A> {
     }
 
     // Puts a box into the entry that is in hand, and that into the box's list.
-    fn put(&mut self, at: Link, area: Rectangle, options: &AllocatorOptions)
+    fn put(&mut self, at: Link, area: Rectangle, options: &Scale)
         requires exact { IsSolid area }
         requires hand { IsInHand (options_of options.now) (box_shelf self.old) at.number }
         ensures kept { AreKept (options_of options.now) (box_shelf self.new) }
@@ -129,7 +129,7 @@ impl<A: Allocator> FreeBoxes<A> {
         ensures used { self.new.used ≡ self.old.used }
         ensures entries { KeepsEntries self.old self.new }
     {
-        let place = place_for(exact_size(area), options);
+        let place = options.place_for(exact_size(area));
         let after = self.table.head(place);
         self.entries[at.number as usize] = FreeBox { area, after };
         self.table.push(place, at, top_in(area));
@@ -158,7 +158,7 @@ impl<A: Allocator> FreeBoxes<A> {
     }
 
     /// Adds a box, for which there is room.
-    pub fn add(&mut self, area: Rectangle, options: &AllocatorOptions)
+    pub fn add(&mut self, area: Rectangle, options: &Scale)
         requires exact { IsSolid area }
         requires kept { AreKept (options_of options.now) (box_shelf self.old) }
         requires room { HasEntriesFor 1 self.old }
@@ -170,7 +170,7 @@ impl<A: Allocator> FreeBoxes<A> {
     }
 
     /// Leaves this box alone, in the room that there is. Takes no memory.
-    pub fn restart(&mut self, area: Rectangle, options: &AllocatorOptions)
+    pub fn restart(&mut self, area: Rectangle, options: &Scale)
         requires exact { IsSolid area }
         requires valid { AreValid (options_of options.now) }
         requires room { 0 < vec_capacity self.old.entries }
@@ -202,7 +202,7 @@ impl<A: Allocator> FreeBoxes<A> {
     }
 
     /// Takes a box out of its list; its entry is unused from then on.
-    pub fn remove(&mut self, found: Found, options: &AllocatorOptions)
+    pub fn remove(&mut self, found: Found, options: &Scale)
         requires kept { AreKept (options_of options.now) (box_shelf self.old) }
         requires standing { IsStanding (options_of options.now) (box_shelf self.old).heads (box_shelf self.old).entries
             found }

@@ -19,6 +19,7 @@ use crate::simple::boxes::FreeBoxes;
 use atlas_allocator::{AtlasAllocator, store_of};
 use atlas_model::{AllocatorOptions, AtlasError, Rectangle, Size};
 use atlas_store::cut::guillotine;
+use atlas_store::search::bands::Scale;
 use atlas_store::slots::{NodeKind, Slot};
 use std::alloc::Allocator;
 
@@ -62,7 +63,7 @@ impl<A: Allocator + Copy> SimpleAtlasAllocator<A> {
         ensures guarded { IsGuarded (simple_state_of self.new) [] }
         ensures simple { IsSimple (simple_state_of self.new) }
     {
-        let options = self.options;
+        let options = self.options.plain();
         self.reset(self.size, &options)
     }
 
@@ -78,9 +79,9 @@ impl<A: Allocator + Copy> SimpleAtlasAllocator<A> {
         ensures guarded { IsGuarded (simple_state_of self.new) [] }
         ensures simple { IsSimple (simple_state_of self.new) }
     {
-        self.boxes.restart(Rectangle::from(size), options);
+        self.options = Scale::new(options);
+        self.boxes.restart(Rectangle::from(size), &self.options);
         self.size = size;
-        self.options = *options;
         Ok(())
     }
 
@@ -101,7 +102,7 @@ impl<A: Allocator + Copy> SimpleAtlasAllocator<A> {
         file_free(&mut boxes, store.slots.as_slice(), &store.options)?;
         self.boxes = boxes;
         self.size = size;
-        self.options = store.options;
+        self.options = store.options.copy();
         Ok(())
     }
 }
@@ -111,7 +112,7 @@ fn add_rest<A: Allocator>(
     boxes: &mut FreeBoxes<A>,
     size: Size,
     new_size: Size,
-    options: &AllocatorOptions,
+    options: &Scale,
 ) -> Result<(), AtlasError>
     requires sizes { IsPositive (sides_of size) × Fits (sides_of size) (sides_of new_size) }
     requires kept { AreKept (options_of options.now) (box_shelf boxes.old) }
@@ -135,7 +136,7 @@ fn add_rest<A: Allocator>(
 fn file_area<A: Allocator>(
     boxes: &mut FreeBoxes<A>,
     area: Rectangle,
-    options: &AllocatorOptions,
+    options: &Scale,
 ) -> Result<(), AtlasError>
     requires exact { IsUnsigned area × IsNonempty (box_of area) }
     requires kept { AreKept (options_of options.now) (box_shelf boxes.old) }
@@ -156,7 +157,7 @@ fn file_area<A: Allocator>(
 fn file_free<A: Allocator>(
     boxes: &mut FreeBoxes<A>,
     slots: &[Slot],
-    options: &AllocatorOptions,
+    options: &Scale,
 ) -> Result<(), AtlasError>
     requires areas { All (λ r. IsUnsigned r × IsNonempty (box_of r)) (free_areas (nodes slots.now)) }
     requires kept { AreKept (options_of options.now) (box_shelf boxes.old) }

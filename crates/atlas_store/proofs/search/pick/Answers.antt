@@ -12,7 +12,7 @@ loop-number-init g c =
     let r = sides_of c.args.size in
     let own = c.place_for-own in
     let reached = fits-from o c.args.table.now es r c.requires.listed own.result.row own.result.column c.least_from.result c.class_from.result
-    own.ensures.row own.ensures.column c.least_from.ensures (c.class_from.ensures.passed o c.borders_for-borders.ensures) in
+    own.ensures.row own.ensures.column c.least_from.ensures (c.class_from.ensures.passed o c.borders-borders.ensures) in
     let of_class = subst (λ (n : ℕ). FitsItemsFrom o es n r) (sym c.class-own_class.ensures) (from-own o es r) in
     subst (λ (n : ℕ). FitsItemsFrom o es n r) (sym c.max-first.ensures) (from-both o es r c.class_from.result c.class-own_class.result reached of_class)
 
@@ -20,8 +20,8 @@ pub search_class-requires-clause-search : goal.search_class-requires-clause-sear
 search_class-requires-clause-search g c = (
   options_of c.args.options.now,
   search-of (options_of c.args.options.now) c.args.table.now (map g.E.Entry.item c.args.entries.now) c.args.size c.class-own_class.result c.loop-number.number
-      c.place_for-own.result c.borders_for-borders.result c.requires.listed c.requires.positive c.class-own_class.ensures c.place_for-own.ensures.row
-      c.place_for-own.ensures.column c.borders_for-borders.ensures c.loop-number-test.true (omega (arith, c.loop-number.auto.number, c.max-first.ensures)),
+      c.place_for-own.result c.borders-borders.result c.requires.listed c.requires.positive c.class-own_class.ensures c.place_for-own.ensures.row
+      c.place_for-own.ensures.column c.borders-borders.ensures c.loop-number-test.true (omega (arith, c.loop-number.auto.number, c.max-first.ensures)),
 )
 
 pub loop-number-preserved : goal.loop-number-preserved
@@ -30,8 +30,8 @@ loop-number-preserved g c =
     let es = map g.E.Entry.item c.args.entries.now in
     let r = sides_of c.args.size in
     let searched = c.search_class.ensures o (search-of (options_of c.args.options.now) c.args.table.now (map g.E.Entry.item c.args.entries.now) c.args.size c.class-own_class.result c.loop-number.number
-    c.place_for-own.result c.borders_for-borders.result c.requires.listed c.requires.positive c.class-own_class.ensures c.place_for-own.ensures.row
-    c.place_for-own.ensures.column c.borders_for-borders.ensures c.loop-number-test.true (omega (arith, c.loop-number.auto.number, c.max-first.ensures))) in
+    c.place_for-own.result c.borders-borders.result c.requires.listed c.requires.positive c.class-own_class.ensures c.place_for-own.ensures.row
+    c.place_for-own.ensures.column c.borders-borders.ensures c.loop-number-test.true (omega (arith, c.loop-number.auto.number, c.max-first.ensures))) in
     from-next o es r c.loop-number.number c.loop-number.invariant
     (none-found o es r c.args.table.now c.loop-number.number c.search_class.result searched (c.best.ensures.none c.in_default.is))
 
@@ -43,8 +43,8 @@ returns-in-Some-clause-picked g c =
     let found = c.in-Some.found in
     let is = c.in-Some.ensures.some in
     let searched = c.search_class.ensures o (search-of (options_of c.args.options.now) c.args.table.now (map g.E.Entry.item c.args.entries.now) c.args.size c.class-own_class.result c.loop-number.number
-    c.place_for-own.result c.borders_for-borders.result c.requires.listed c.requires.positive c.class-own_class.ensures c.place_for-own.ensures.row
-    c.place_for-own.ensures.column c.borders_for-borders.ensures c.loop-number-test.true (omega (arith, c.loop-number.auto.number, c.max-first.ensures))) in
+    c.place_for-own.result c.borders-borders.result c.requires.listed c.requires.positive c.class-own_class.ensures c.place_for-own.ensures.row
+    c.place_for-own.ensures.column c.borders-borders.ensures c.loop-number-test.true (omega (arith, c.loop-number.auto.number, c.max-first.ensures))) in
     pick-of_items o es r c.args.table.now c.loop-number.number found c.loop-number.invariant
     (best-found o es r c.args.table.now c.loop-number.number c.search_class.result found searched is.0 is.1)
 
@@ -55,8 +55,8 @@ returns-in-Some-clause-standing g c =
     let r = sides_of c.args.size in
     let is = c.in-Some.ensures.some in
     let searched = c.search_class.ensures o (search-of (options_of c.args.options.now) c.args.table.now (map g.E.Entry.item c.args.entries.now) c.args.size c.class-own_class.result c.loop-number.number
-    c.place_for-own.result c.borders_for-borders.result c.requires.listed c.requires.positive c.class-own_class.ensures c.place_for-own.ensures.row
-    c.place_for-own.ensures.column c.borders_for-borders.ensures c.loop-number-test.true (omega (arith, c.loop-number.auto.number, c.max-first.ensures))) in
+    c.place_for-own.result c.borders-borders.result c.requires.listed c.requires.positive c.class-own_class.ensures c.place_for-own.ensures.row
+    c.place_for-own.ensures.column c.borders-borders.ensures c.loop-number-test.true (omega (arith, c.loop-number.auto.number, c.max-first.ensures))) in
     (best-found o es r c.args.table.now c.loop-number.number c.search_class.result c.in-Some.found searched is.0 is.1).standing
 
 pub returns-clause-none : goal.returns-clause-none

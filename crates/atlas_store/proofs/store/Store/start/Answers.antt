@@ -1,5 +1,6 @@
-use Rattle.std.proofs.Common.{◌<◌, ◌^◌, ◌∙◌, refl, rules}
-use Rattle.atlas_model.specs.Pixels.{natural, sides_of}
+use Rattle.std.proofs.Common.{◌<◌, ◌^◌, ◌∙◌, refl, subst, sym, rules}
+use Rattle.atlas_model.specs.Pixels.{natural, options_of, sides_of}
+use Rattle.atlas_model.specs.Choice.{AreValid}
 use Rattle.atlas_store.specs.Store.Starts.{loose_holding}
 use Rattle.atlas_store.proofs.StoreLemmas.Starting.{whole_leaf}
 use Rattle.atlas_store.proofs.StoreLemmas.TakenOnce.{once-whole}
@@ -10,7 +11,7 @@ list-requires g c =
     let wide : natural c.args.size.width < 2 ^ 31 = search rules in
     let high : natural c.args.size.height < 2 ^ 31 = search rules in (
       loose_holding (sides_of c.args.size),
-      whole_leaf _ c.args.size (record { slots = search rules; lists = c.clear-2.ensures; unused = refl; valid = c.requires.options }) c.requires.size wide high,
+      whole_leaf _ c.args.size (record { slots = search rules; lists = c.clear-2.ensures; unused = refl; valid = subst (λ o. AreValid (options_of o)) (sym c.set.ensures) c.requires.options }) c.requires.size wide high,
     )
 
 pub returns : goal.returns
@@ -20,11 +21,11 @@ returns g c =
     record {
       holds =
           c.list.ensures.kept (loose_holding (sides_of c.args.size))
-          (whole_leaf _ c.args.size (record { slots = search rules; lists = c.clear-2.ensures; unused = refl; valid = c.requires.options }) c.requires.size wide high);
+          (whole_leaf _ c.args.size (record { slots = search rules; lists = c.clear-2.ensures; unused = refl; valid = subst (λ o. AreValid (options_of o)) (sym c.set.ensures) c.requires.options }) c.requires.size wide high);
       slots = c.list.ensures.nodes ∙ search rules;
       one = c.list.ensures.room.slots ∙ search rules;
       once = c.list.ensures.once (once-whole c.args.size (search rules) refl);
-      options = c.list.ensures.room.options;
+      options = c.list.ensures.room.options ∙ c.set.ensures;
       capacity = c.list.ensures.room.capacity ∙ search rules;
       turns = c.list.ensures.turns;
     }

@@ -1,0 +1,68 @@
+-- The sheets that are allowed, and which of them are looked at before another.
+use Rattle.std.specs.Prelude.{◌≡◌, ℕ, ◌+◌, ◌-◌, ◌*◌, ◌^◌, ◌<◌, ◌≤◌, ⊤}
+use Rattle.guillotiere.specs.Boxes.{Sides, Fits, IsPositive}
+use Rattle.guillotiere.specs.Pixels.{natural, sides_of}
+use Rattle.atlas_sheet.specs.declared.allowed.Allowed.{Allowed}
+use Rattle.atlas_sheet.specs.declared.allowed.Allowed.TheVariants as allowed
+use Rattle.atlas_sheet.specs.declared.error.SheetError.{SheetError}
+use Rattle.atlas_sheet.specs.declared.error.SheetError.TheVariants as error
+
+abbrev pub least_sides : Allowed → Sides
+least_sides (allowed.One size) = sides_of size
+least_sides (allowed.Squares least greatest) = record { width = natural least; height = natural least }
+least_sides (allowed.Powers greatest) = record { width = 1; height = 1 }
+least_sides (allowed.Heights width greatest) = record { width = natural width; height = 1 }
+
+abbrev pub greatest_sides : Allowed → Sides
+greatest_sides (allowed.One size) = sides_of size
+greatest_sides (allowed.Squares least greatest) = record { width = natural greatest; height = natural greatest }
+greatest_sides (allowed.Powers greatest) = record { width = natural greatest; height = natural greatest }
+greatest_sides (allowed.Heights width greatest) = record { width = natural width; height = natural greatest }
+
+abbrev pub IsPowerOfTwo : ℕ → Type 0
+IsPowerOfTwo n = (k : ℕ) × (n ≡ 2 ^ k)
+
+-- The squares are as wide as high, and powers of two have such sides.
+abbrev pub HasShape : Allowed → Sides → Type 0
+HasShape (allowed.Squares least greatest) s = s.width ≡ s.height
+HasShape (allowed.Powers greatest) s = IsPowerOfTwo s.width × IsPowerOfTwo s.height
+HasShape _ s = ⊤
+
+-- A sheet that is allowed.
+pub record IsAllowed (by : Allowed) (sheet : Sides) : Type 0 where
+  pub least : Fits (least_sides by) sheet
+  pub greatest : Fits sheet (greatest_sides by)
+  pub shape : HasShape by sheet
+
+-- What is looked at before a sheet: of powers of two each with fewer pixels, else the one that is a pixel lower.
+abbrev pub ComesBefore : Allowed → Sides → Sides → Type 0
+ComesBefore (allowed.Powers greatest) s sheet = s.width * s.height < sheet.width * sheet.height
+ComesBefore _ s sheet = s.height + 1 ≡ sheet.height
+
+-- Neither is the least sheet empty, nor the greatest less.
+abbrev pub IsUsable : Allowed → Type 0
+IsUsable by = IsPositive (least_sides by) × Fits (least_sides by) (greatest_sides by)
+
+-- Not powers of two: each size is a pixel higher than the one before it.
+abbrev pub IsRow : Allowed → Type 0
+IsRow (allowed.Powers greatest) = ⊥
+IsRow _ = ⊤
+
+-- How many sizes such a row has.
+abbrev pub row_length : Allowed → ℕ
+row_length by = (greatest_sides by).height + 1 - (least_sides by).height
+
+-- The size that is k pixels higher than the least.
+abbrev pub nth_sides : Allowed → (k : ℕ) → Sides
+nth_sides (allowed.Squares least greatest) k = record { width = natural least + k; height = natural least + k }
+nth_sides by k = record { width = (least_sides by).width; height = (least_sides by).height + k }
+
+-- Powers of two as sides.
+abbrev pub power_sides : (wide high : ℕ) → Sides
+power_sides wide high = record { width = 2 ^ wide; height = 2 ^ high }
+
+-- What is wrong with what is allowed.
+abbrev pub IsAllowanceFault : Allowed → SheetError → Type 0
+IsAllowanceFault by error.EmptySheet = IsPositive (least_sides by) → ⊥
+IsAllowanceFault by error.EmptyRange = Fits (least_sides by) (greatest_sides by) → ⊥
+IsAllowanceFault by e = ⊥

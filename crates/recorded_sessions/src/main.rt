@@ -1,0 +1,28 @@
+//! Plays recorded sessions of the Rust crate `guillotiere` 0.7.0, and prints how many of each kind are answered as
+//! there.
+//!
+//! Each line of standard input is one of the tool (docs/TOOL.md) with its reply, as `LINE: REPLY`; the lines of a list
+//! are parted by commas. An empty line ends a session, and a line `# KIND: WHAT` begins another kind of sessions.
+#![tactic(auto)]
+
+mod error;
+mod play;
+mod run;
+mod takeover;
+
+use error::PlayError;
+use run::run;
+use std::process::ExitCode;
+
+fn main(rt: HostRuntime) -> ExitCode {
+    match run(rt.alloc(), &mut rt.stdin(), &mut rt.stdout()) {
+        Ok(()) => ExitCode::SUCCESS,
+        Err(error) => {
+            let _ = eprintln!(rt; "{error}");
+            match error {
+                PlayError::BadLine(_) => ExitCode::from(2),
+                _ => ExitCode::FAILURE,
+            }
+        }
+    }
+}

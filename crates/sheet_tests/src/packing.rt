@@ -1,0 +1,208 @@
+//! Packed sheets.
+ghost use Rattle.std.specs.Prelude.{◌<◌};
+
+use crate::filling::{are_apart, is_good, rectangle, sprites_of};
+use atlas_sheet::{Allowed, SheetError, SheetOptions, pack};
+use guillotiere::{Rectangle, Size, size2};
+use std::process::Abort;
+
+const NO_SIZE: Size = Size {
+    width: 0,
+    height: 4,
+};
+
+// Four sprites of 5 pixels need 1 + 5 + 1 + 5 + 1 in each direction.
+#[test]
+fn four_sprites(rt: HostRuntime) {
+    let sprites = [size2(5, 5), size2(5, 5), size2(5, 5), size2(5, 5)];
+    for (least, greatest, side) in [(1, 100, 13), (20, 100, 20), (1, 13, 13), (1, 12, 0)] {
+        let options = SheetOptions {
+            allowed: Allowed::Squares { least, greatest },
+            padding: 1,
+        };
+        let found = pack(rt.alloc(), &sprites, &options).expect(&rt, "memory");
+        let size = found.map(|sheet| sheet.size);
+        assert!(&rt;
+            size == if side == 0 {
+                None
+            } else {
+                Some(size2(side, side))
+            }
+        );
+    }
+}
+
+// Each kind of sheets, worked by hand: two sprites of 4 x 3 pixels.
+#[test]
+fn kinds_of_sheets(rt: HostRuntime) {
+    let rows = [
+        (Allowed::One(size2(9, 9)), Some(size2(9, 9))),
+        (Allowed::One(size2(4, 5)), None),
+        (Allowed::Powers { greatest: 64 }, Some(size2(8, 4))),
+        (Allowed::Powers { greatest: 4 }, None),
+        (
+            Allowed::Heights {
+                width: 8,
+                greatest: 50,
+            },
+            Some(size2(8, 3)),
+        ),
+        (
+            Allowed::Heights {
+                width: 7,
+                greatest: 50,
+            },
+            Some(size2(7, 6)),
+        ),
+        (
+            Allowed::Heights {
+                width: 3,
+                greatest: 50,
+            },
+            None,
+        ),
+    ];
+    for (row, (allowed, size)) in rows.iter().enumerate() {
+        let options = SheetOptions {
+            allowed: *allowed,
+            padding: 0,
+        };
+        let found = pack(rt.alloc(), &[size2(4, 3), size2(4, 3)], &options).expect(&rt, "memory");
+        assert!(&rt; found.map(|sheet| sheet.size) == *size, "row {row}");
+    }
+}
+
+// Places stand in the order of the sprites: the great one, which is placed first, is the second.
+#[test]
+fn order_of_places(rt: HostRuntime) {
+    let options = SheetOptions {
+        allowed: Allowed::One(size2(8, 6)),
+        padding: 0,
+    };
+    let found = pack(rt.alloc(), &[size2(2, 6), size2(6, 6)], &options).expect(&rt, "memory");
+    let sheet = found.expect(&rt, "a sheet");
+    assert!(&rt; sheet.places.len() == 2);
+    assert!(&rt; sheet.places.get(0).copied() == Some(rectangle(6, 0, 8, 6)));
+    assert!(&rt; sheet.places.get(1).copied() == Some(rectangle(0, 0, 6, 6)));
+}
+
+// What `pack` refuses.
+#[test]
+fn refused_options(rt: HostRuntime) {
+    let rows = [
+        (Allowed::One(NO_SIZE), SheetError::EmptySheet),
+        (
+            Allowed::Squares {
+                least: 0,
+                greatest: 9,
+            },
+            SheetError::EmptySheet,
+        ),
+        (
+            Allowed::Squares {
+                least: 10,
+                greatest: 9,
+            },
+            SheetError::EmptyRange,
+        ),
+        (Allowed::Powers { greatest: 0 }, SheetError::EmptyRange),
+        (
+            Allowed::Heights {
+                width: 0,
+                greatest: 9,
+            },
+            SheetError::EmptySheet,
+        ),
+        (
+            Allowed::Heights {
+                width: 9,
+                greatest: -1,
+            },
+            SheetError::EmptyRange,
+        ),
+        (Allowed::Powers { greatest: 8 }, SheetError::EmptySprite(1)),
+    ];
+    for (row, (allowed, error)) in rows.iter().enumerate() {
+        let options = SheetOptions {
+            allowed: *allowed,
+            padding: 0,
+        };
+        let found = pack(rt.alloc(), &[size2(1, 1), NO_SIZE], &options);
+        assert!(&rt; found.err() == Some(*error), "row {row}");
+    }
+}
+
+// Whether each place is good and apart from those after it.
+fn all_good(sprites: &[Size], places: &[Rectangle], sheet: Size, padding: i32) -> bool {
+    for (number, (sprite, place)) in sprites.iter().zip(places).enumerate() {
+        if !is_good(*sprite, *place, sheet, padding) {
+            return false;
+        }
+        for other in places.iter().skip(number).skip(1) {
+            if !are_apart(*place, *other, padding) {
+                return false;
+            }
+        }
+    }
+    true
+}
+
+// Inputs: the seed and the number of random sprites, the padding, and what is allowed.
+const INPUTS: [(u32, usize, u16, Allowed); 5] = [
+    (
+        1,
+        60,
+        0,
+        Allowed::Squares {
+            least: 1,
+            greatest: 2000,
+        },
+    ),
+    (
+        2,
+        60,
+        1,
+        Allowed::Squares {
+            least: 1,
+            greatest: 2000,
+        },
+    ),
+    (3, 60, 2, Allowed::Powers { greatest: 1024 }),
+    (
+        4,
+        60,
+        3,
+        Allowed::Heights {
+            width: 200,
+            greatest: 1000,
+        },
+    ),
+    (
+        5,
+        60,
+        0,
+        Allowed::One(Size {
+            width: 300,
+            height: 260,
+        }),
+    ),
+];
+
+// Random sprites: places are good and as many as sprites, and the same a second time.
+#[test]
+fn random_sprites(rt: HostRuntime) {
+    for (seed, count, padding, allowed) in INPUTS {
+        let sprites = sprites_of(rt.alloc(), seed, count, 40).expect(&rt, "sprites");
+        let options = SheetOptions { allowed, padding };
+        let first = pack(rt.alloc(), &sprites, &options).expect(&rt, "memory");
+        let sheet = first.expect(&rt, "a sheet");
+        assert!(&rt; sheet.places.len() == sprites.len());
+        assert!(&rt;
+            all_good(&sprites, &sheet.places, sheet.size, i32::from(padding)),
+            "seed {seed}"
+        );
+        let second = pack(rt.alloc(), &sprites, &options).expect(&rt, "memory");
+        let again = second.expect(&rt, "a sheet");
+        assert!(&rt; again.places == sheet.places && again.size == sheet.size);
+    }
+}
