@@ -1,17 +1,19 @@
 -- What the calls keep of entries: the map answers with the number of the entry with a key.
-use Rattle.std.proofs.Common.{ℕ, ◌+◌, ◌<◌, ◌≤◌, ◌≡◌, ◌⊎◌, inl, inr, Bool, true, false, cond, max, eqb, List, [], ◌∷◌, ◌++◌, length, Option, None, Some, IfSome, IsSome, is_some, refl, sym, ap, subst, ◌∙◌, arith, slice_get}
+use Rattle.std.proofs.Common.{ℕ, ◌+◌, ◌<◌, ◌≤◌, ◌≡◌, ◌⊎◌, inl, inr, Bool, true, false, cond, max, eqb, List, [], ◌∷◌, ◌++◌, length, Option, None, Some, IfSome, IsSome, is_some, refl, sym, ap, subst, ◌∙◌, arith, slice_get, length-set, set}
+use Rattle.std.specs.Option.{option_map_or}
 use Rattle.std.specs.Cmp.{IsEquivalence}
 use Rattle.std.specs.HashMap.{HashMap, get}
 use Rattle.std.specs.List.{AllByRecursion, IsDistinct}
 use Rattle.std.proofs.lemmas.Bool.{cases_eq, cases_Bool, cond-true, cond-false, false≢true}
 use Rattle.std.proofs.lemmas.Map.Keys.{IsDistinct-cons}
 use Rattle.std.proofs.lemmas.Option.{same_Some, none-some}
+use Rattle.guillotiere.specs.declared.Rectangle.{Rectangle}
 use Rattle.atlas_cache.specs.declared.entries.Entry.{Entry}
-use Rattle.atlas_cache.specs.Entries.{IsNumber, entry_at, keys, number_of, numbers}
+use Rattle.atlas_cache.specs.Entries.{IsNumber, entry_at, keys, moved, number_of, numbers, touched, without_number}
 use Rattle.atlas_cache.specs.Orders.{IsEntry, IsNew, Order, gone, joined, occurs, same, used, without}
 use Rattle.atlas_cache.specs.Tables.{AreKept, HasKey, numbered}
 use Rattle.atlas_cache.proofs.RingLemmas.{occurs-without, same-self, same-ne}
-use Rattle.atlas_cache.proofs.EntryLemmas.{IsInside, entry_at-numbered, first-stored, inside-tail, number-occurs, number_of-none, number_of-some, numbered-cons, numbers-numbered, option_is}
+use Rattle.atlas_cache.proofs.EntryLemmas.{IsInside, entry_at-none, entry_at-numbered, first-stored, inside-tail, number-occurs, number_of-none, number_of-some, numbered-cons, numbered-moved, numbered-same, numbered-without, numbers-numbered, option_is, slice_get-set_other, slice_get-set_same}
 
 module _ {K S : Type 0} (eq : K → K → Bool) (map : HashMap K ℕ S) (order : Order) (items : List (Entry K)) (h : AreKept eq map order items) where
   -- The map answers as the list of entries does.
@@ -163,6 +165,46 @@ module _ {K S : Type 0} (eq : K → K → Bool) (map : HashMap K ℕ S) (order :
         ])
       ];
     }
+
+  -- What a new entry makes of the list of entries.
+  pub joined-is : (n : ℕ) (e : Entry K) (stored : List (Entry K)) → IsNew n order → slice_get stored n ≡ Some e → ((k : ℕ) → (k ≡ n → ⊥) → k < length items → slice_get stored k ≡ slice_get items k) → numbered stored (n ∷ order.entries) ≡ (n, e) ∷ numbered items order.entries
+  joined-is n e stored fresh t o =
+      numbered-cons stored n order.entries e t ∙
+      ap (λ r. (n, e) ∷ r) (numbered-same items stored order.entries (λ k l. o k (λ q. omega (arith, l, fresh.free, ap (λ v. occurs v order.entries) q)) (h.inside k l)))
+
+  -- A number that is new is that of no entry.
+  pub new-none : (es : List (ℕ × Entry K)) → numbered items order.entries ≡ es → (n : ℕ) → IsNew n order → is_some (entry_at n es) ≡ false
+  new-none es v n fresh =
+      ap (λ es. is_some (entry_at n es)) (sym v) ∙ ap is_some (entry_at-none items n order.entries fresh.free)
+
+  -- A key without an entry isn't in the map.
+  pub absent-is : (es : List (ℕ × Entry K)) → numbered items order.entries ≡ es → (k : K) → is_some (number_of eq k es) ≡ false → get eq map k ≡ None
+  absent-is es v k z =
+      elim (option_is (get eq map k)) [
+        | inl none ↦ none
+        | inr w ↦ absurd (false≢true (sym z ∙ ap (λ es. is_some (number_of eq k es)) (sym v) ∙ ap is_some (sym (get-number_of k) ∙ w.1)))
+      ]
+
+  -- What belongs to a number is written, with the key that it had.
+  module _ (n : ℕ) (r e : Entry K) (l : IsEntry n order) (s : slice_get items n ≡ Some r) (key : e.key ≡ r.key) where
+    pub kept-written : AreKept eq map order (set items n e)
+    kept-written =
+        kept-changed n r e (set items n e) l s (slice_get-set_same items n e (h.inside n l)) key (length-set items n e) (λ k ne. slice_get-set_other items n k e ne)
+
+  pub touched-is : (n frame : ℕ) (r : Entry K) → IsEntry n order → slice_get items n ≡ Some r → numbered (set items n (record r { frame = frame })) (n ∷ without n order.entries) ≡ touched n frame (numbered items order.entries)
+  touched-is n frame r l s =
+      let e : Entry K = record r { frame = frame } in
+      let es = numbered items order.entries in
+      let rest = without n order.entries in
+      let ended : occurs n rest ≡ 0 = omega (arith, h.once n, occurs-without n order.entries l n, same-self n) in
+      numbered-cons (set items n e) n rest e (slice_get-set_same items n e (h.inside n l)) ∙
+      ap (λ r. (n, e) ∷ r) (numbered-same items (set items n e) rest (λ k m. slice_get-set_other items n k e (λ q. omega (arith, m, ended, ap (λ v. occurs v rest) q))) ∙ numbered-without items n order.entries h.inside) ∙
+      sym (ap (λ o. option_map_or (λ (x : Entry K). (n, record x { frame = frame }) ∷ without_number n es) o es) (entry_at-numbered items n order.entries h.inside l ∙ s))
+
+  pub moved-is : (n id : ℕ) (rectangle : Rectangle) (r : Entry K) → IsEntry n order → slice_get items n ≡ Some r → numbered (set items n (record r { id = id; rectangle = rectangle })) order.entries ≡ moved n id rectangle (numbered items order.entries)
+  moved-is n id rectangle r l s =
+      let e : Entry K = record r { id = id; rectangle = rectangle } in
+      numbered-moved items (set items n e) n id rectangle r order.entries h.inside s (slice_get-set_same items n e (h.inside n l)) (λ k ne. slice_get-set_other items n k e ne) (h.once n)
 
   -- No two entries of a part of the order have equal keys.
   keys-apart : IsEquivalence eq → (x : ℕ) (e : Entry K) (ns : List ℕ) → IsEntry x order → slice_get items x ≡ Some e → occurs x ns ≡ 0 → ((m : ℕ) → 0 < occurs m ns → IsEntry m order) → AllByRecursion (λ k. eq e.key k ≡ false) (keys (numbered items ns))
