@@ -18,4 +18,4 @@ returns g c =
     let n = c.args.number in
     let l : IsEntry n s.recency = entry-is g.K.PartialEq.eq s.map s.recency s.items.items c.self.invariant c.args.self.now c.self.view_is n c.requires in
     ap (entry_at n) (sym c.self.view_is) ∙ entry_at-numbered s.items.items n s.recency.entries c.self.invariant.inside l ∙
-    slice_get_read s.items.items _ n c.index.result.now s.items.ok.0 (omega (arith, c.self.invariant.inside n l, s.items.ok.0)) ?
+    slice_get_read s.items.items _ n c.index.result.now s.items.ok.0 (omega (arith, c.self.invariant.inside n l, s.items.ok.0)) c.index.ensures

@@ -19,7 +19,15 @@ remove-requires g c =
     entry-is g.K.PartialEq.eq s.map s.recency s.items.items c.self.invariant c.args.self.now c.self.view_is c.args.number c.requires
 
 pub invariant_of-self : goal.invariant_of-self
-invariant_of-self g c = ?
+invariant_of-self g c =
+    let s = c.self.inside in
+    let n = c.args.number in
+    let eq = g.K.PartialEq.eq in
+    let l : IsEntry n s.recency = entry-is eq s.map s.recency s.items.items c.self.invariant c.args.self.now c.self.view_is n c.requires in
+    let r = c.index.result.now in
+    let at : slice_get s.items.items n ≡ Some r = slice_get_read s.items.items _ n r s.items.ok.0 (omega (arith, c.self.invariant.inside n l, s.items.ok.0)) c.index.ensures in
+    subst (λ o. AreKept eq c.remove-number.new.self o s.items.items) (sym c.remove.ensures)
+    (kept-gone eq s.map s.recency s.items.items c.self.invariant g.met.K.Eq.laws n r c.remove-number.new.self l at c.remove-number.ensures.updates.0)
 
 pub returns : goal.returns
 returns g c =
