@@ -1,5 +1,5 @@
 -- What the calls keep of entries: the map answers with the number of the entry with a key.
-use Rattle.std.proofs.Common.{ℕ, ◌+◌, ◌<◌, ◌≤◌, ◌≡◌, ◌⊎◌, inl, inr, Bool, true, false, cond, max, eqb, List, [], ◌∷◌, ◌++◌, length, Option, None, Some, IfSome, IsSome, is_some, refl, sym, ap, subst, ◌∙◌, arith, slice_get, length-set, set}
+use Rattle.std.proofs.Common.{ℕ, ◌+◌, ◌<◌, ◌≤◌, ◌≡◌, inl, inr, Bool, true, false, cond, max, List, [], ◌∷◌, length, Option, None, Some, IfSome, is_some, sym, ap, subst, ◌∙◌, arith, slice_get, length-set, set}
 use Rattle.std.specs.Option.{option_map_or}
 use Rattle.std.specs.Cmp.{IsEquivalence}
 use Rattle.std.specs.HashMap.{HashMap, get}
@@ -11,9 +11,9 @@ use Rattle.guillotiere.specs.declared.Rectangle.{Rectangle}
 use Rattle.atlas_cache.specs.declared.entries.Entry.{Entry}
 use Rattle.atlas_cache.specs.Entries.{IsNumber, entry_at, keys, moved, number_of, numbers, touched, without_number}
 use Rattle.atlas_cache.specs.Orders.{IsEntry, IsNew, Order, gone, joined, occurs, same, used, without}
-use Rattle.atlas_cache.specs.Tables.{AreKept, HasKey, numbered}
+use Rattle.atlas_cache.specs.Tables.{AreKept, numbered}
 use Rattle.atlas_cache.proofs.RingLemmas.{occurs-without, same-self, same-ne}
-use Rattle.atlas_cache.proofs.EntryLemmas.{IsInside, entry_at-none, entry_at-numbered, first-stored, inside-tail, number-occurs, number_of-none, number_of-some, numbered-cons, numbered-moved, numbered-same, numbered-without, numbers-numbered, option_is, slice_get-set_other, slice_get-set_same}
+use Rattle.atlas_cache.proofs.EntryLemmas.{entry_at-none, entry_at-numbered, first-stored, number-occurs, number_of-none, number_of-some, numbered-cons, numbered-moved, numbered-same, numbered-without, numbers-numbered, option_is, slice_get-set_other, slice_get-set_same}
 
 module _ {K S : Type 0} (eq : K → K → Bool) (map : HashMap K ℕ S) (order : Order) (items : List (Entry K)) (h : AreKept eq map order items) where
   -- The map answers as the list of entries does.
@@ -23,10 +23,10 @@ module _ {K S : Type 0} (eq : K → K → Bool) (map : HashMap K ℕ S) (order :
         | inl none ↦ elim (option_is (get eq map k)) [
           | inl z ↦ z ∙ sym none
           | inr w ↦ (let f = h.found k w.0 w.1 in
-          absurd (number_of-none eq k items w.0 f.entry order.entries h.inside none f.listed f.stored f.same))
+              absurd (number_of-none eq k items w.0 f.entry order.entries h.inside none f.listed f.stored f.same))
         ]
         | inr w ↦ (let s = number_of-some eq k items w.0 order.entries h.inside w.1 in
-        h.known k w.0 (record { listed = s.0; entry = s.1; stored = s.2; same = s.3 }) ∙ sym w.1)
+            h.known k w.0 (record { listed = s.0; entry = s.1; stored = s.2; same = s.3 }) ∙ sym w.1)
       ]
 
   -- A number of the order is that of an entry.
@@ -74,7 +74,7 @@ module _ {K S : Type 0} (eq : K → K → Bool) (map : HashMap K ℕ S) (order :
     back k m x p q =
         elim (cases_eq m n) [
           | inl is ↦ (let same_entry : e' ≡ x = same_Some e' x (sym t ∙ ap (slice_get new) (sym is) ∙ p) in
-          (e, ap (slice_get items) is ∙ s, ap (eq k) (sym key ∙ ap (λ (v : Entry K). v.key) same_entry) ∙ q))
+              (e, ap (slice_get items) is ∙ s, ap (eq k) (sym key ∙ ap (λ (v : Entry K). v.key) same_entry) ∙ q))
           | inr ne ↦ (x, sym (o m ne) ∙ p, q)
         ]
 
@@ -82,7 +82,7 @@ module _ {K S : Type 0} (eq : K → K → Bool) (map : HashMap K ℕ S) (order :
     forth k m x p q =
         elim (cases_eq m n) [
           | inl is ↦ (let same_entry : e ≡ x = same_Some e x (sym s ∙ ap (slice_get items) (sym is) ∙ p) in
-          (e', ap (slice_get new) is ∙ t, ap (eq k) (key ∙ ap (λ (v : Entry K). v.key) same_entry) ∙ q))
+              (e', ap (slice_get new) is ∙ t, ap (eq k) (key ∙ ap (λ (v : Entry K). v.key) same_entry) ∙ q))
           | inr ne ↦ (x, o m ne ∙ p, q)
         ]
 
@@ -120,16 +120,16 @@ module _ {K S : Type 0} (eq : K → K → Bool) (map : HashMap K ℕ S) (order :
         found = λ k m g. elim (cases_Bool (eq e.key k)) [
           | inl q ↦ absurd (none-some m (sym (cond-true (eq e.key k) None (get eq map k) q) ∙ sym (u k) ∙ g))
           | inr f ↦ (let w = h.found k m (sym (cond-false (eq e.key k) None (get eq map k) f) ∙ sym (u k) ∙ g) in
-          let ne : m ≡ n → ⊥ = (λ is. let same_entry : e ≡ w.entry = same_Some e w.entry (sym s ∙ ap (slice_get items) (sym is) ∙ w.stored) in
-          false≢true (sym f ∙ laws.symm e.key k ∙ ap (λ (v : Entry K). eq k v.key) same_entry ∙ w.same)) in
-          record { listed = omega (arith, w.listed, occurs-without n order.entries l m, same-ne m n ne); entry = w.entry; stored = w.stored; same = w.same })
+              let ne : m ≡ n → ⊥ = (λ is. let same_entry : e ≡ w.entry = same_Some e w.entry (sym s ∙ ap (slice_get items) (sym is) ∙ w.stored) in
+              false≢true (sym f ∙ laws.symm e.key k ∙ ap (λ (v : Entry K). eq k v.key) same_entry ∙ w.same)) in
+              record { listed = omega (arith, w.listed, occurs-without n order.entries l m, same-ne m n ne); entry = w.entry; stored = w.stored; same = w.same })
         ];
         known = λ k m w. let g = h.known k m (record { listed = there m w.listed; entry = w.entry; stored = w.stored; same = w.same }) in
-        elim (cases_Bool (eq e.key k)) [
-          | inl q ↦ (let is : m ≡ n = same_Some m n (sym g ∙ own k q) in
-          absurd (omega (arith, w.listed, ended, ap (λ v. occurs v (without n order.entries)) is)))
-          | inr f ↦ u k ∙ cond-false (eq e.key k) None (get eq map k) f ∙ g
-        ];
+            elim (cases_Bool (eq e.key k)) [
+              | inl q ↦ (let is : m ≡ n = same_Some m n (sym g ∙ own k q) in
+                  absurd (omega (arith, w.listed, ended, ap (λ v. occurs v (without n order.entries)) is)))
+              | inr f ↦ u k ∙ cond-false (eq e.key k) None (get eq map k) f ∙ g
+            ];
       }
 
   -- An entry with a new key joins.
@@ -150,19 +150,19 @@ module _ {K S : Type 0} (eq : K → K → Bool) (map : HashMap K ℕ S) (order :
       ];
       found = λ k m g. elim (cases_Bool (eq e.key k)) [
         | inl q ↦ (let is : n ≡ m = same_Some n m (sym (cond-true (eq e.key k) (Some n) (get eq map k) q) ∙ sym (u k) ∙ g) in
-        record { listed = omega (arith, same-self n, ap (λ v. same v n) is); entry = e; stored = ap (slice_get stored) (sym is) ∙ t; same = laws.symm k e.key ∙ q })
+            record { listed = omega (arith, same-self n, ap (λ v. same v n) is); entry = e; stored = ap (slice_get stored) (sym is) ∙ t; same = laws.symm k e.key ∙ q })
         | inr f ↦ (let w = h.found k m (sym (cond-false (eq e.key k) (Some n) (get eq map k) f) ∙ sym (u k) ∙ g) in
-        record { listed = omega (arith, w.listed); entry = w.entry; stored = o m (apart m w.listed) (h.inside m w.listed) ∙ w.stored; same = w.same })
+            record { listed = omega (arith, w.listed); entry = w.entry; stored = o m (apart m w.listed) (h.inside m w.listed) ∙ w.stored; same = w.same })
       ];
       known = λ k m w. elim (cases_eq m n) [
         | inl is ↦ (let same_entry : e ≡ w.entry = same_Some e w.entry (sym t ∙ ap (slice_get stored) (sym is) ∙ w.stored) in
-        u k ∙ cond-true (eq e.key k) (Some n) (get eq map k) (laws.symm e.key k ∙ ap (λ (v : Entry K). eq k v.key) same_entry ∙ w.same) ∙ ap Some (sym is))
+            u k ∙ cond-true (eq e.key k) (Some n) (get eq map k) (laws.symm e.key k ∙ ap (λ (v : Entry K). eq k v.key) same_entry ∙ w.same) ∙ ap Some (sym is))
         | inr ne ↦ (let listed : IsEntry m order = omega (arith, w.listed, same-ne m n ne) in
-        let old : slice_get items m ≡ Some w.entry = sym (o m ne (h.inside m listed)) ∙ w.stored in
-        elim (cases_Bool (eq e.key k)) [
-          | inl q ↦ absurd (none-some m (sym absent ∙ h.known e.key m (record { listed = listed; entry = w.entry; stored = old; same = laws.congr e.key k w.entry.key q ∙ w.same })))
-          | inr f ↦ u k ∙ cond-false (eq e.key k) (Some n) (get eq map k) f ∙ h.known k m (record { listed = listed; entry = w.entry; stored = old; same = w.same })
-        ])
+            let old : slice_get items m ≡ Some w.entry = sym (o m ne (h.inside m listed)) ∙ w.stored in
+            elim (cases_Bool (eq e.key k)) [
+              | inl q ↦ absurd (none-some m (sym absent ∙ h.known e.key m (record { listed = listed; entry = w.entry; stored = old; same = laws.congr e.key k w.entry.key q ∙ w.same })))
+              | inr f ↦ u k ∙ cond-false (eq e.key k) (Some n) (get eq map k) f ∙ h.known k m (record { listed = listed; entry = w.entry; stored = old; same = w.same })
+            ])
       ];
     }
 
@@ -213,9 +213,9 @@ module _ {K S : Type 0} (eq : K → K → Bool) (map : HashMap K ℕ S) (order :
       let w = first-stored items y ns (λ m i. h.inside m (inner m i)) in
       let apart : eq e.key w.0.key ≡ false = elim (cases_Bool (eq e.key w.0.key)) [
         | inl t ↦ (let one = h.known e.key x (record { listed = l; entry = e; stored = s; same = laws.refl e.key }) in
-        let other = h.known e.key y (record { listed = inner y (omega (arith, same-self y)); entry = w.0; stored = w.1; same = t }) in
-        let is : x ≡ y = same_Some x y (sym one ∙ other) in
-        absurd (omega (arith, z, same-self x, ap (λ v. same x v) is)))
+            let other = h.known e.key y (record { listed = inner y (omega (arith, same-self y)); entry = w.0; stored = w.1; same = t }) in
+            let is : x ≡ y = same_Some x y (sym one ∙ other) in
+            absurd (omega (arith, z, same-self x, ap (λ v. same x v) is)))
         | inr f ↦ f
       ] in
       subst (λ es. AllByRecursion (λ k. eq e.key k ≡ false) (keys es)) (sym (numbered-cons items y ns w.0 w.1))

@@ -1,17 +1,16 @@
 -- Entries under their numbers: what becomes of them where the order or the list of what belongs to each number changes.
-use Rattle.std.proofs.Common.{ℕ, zero, suc, ◌+◌, ◌<◌, ◌≤◌, ◌≡◌, ◌⊎◌, inl, inr, Bool, true, false, cond, eqb, List, [], ◌∷◌, ◌++◌, length, get_or, set, Option, None, Some, IsSome, is_some, refl, sym, ap, subst, ◌∙◌, arith, true≢false, slice_get, length-set, length-append, get_or-set_same, get_or-set_other}
+use Rattle.std.proofs.Common.{ℕ, zero, suc, ◌<◌, ◌≤◌, ◌≡◌, ◌⊎◌, inl, inr, Bool, true, false, cond, eqb, List, [], ◌∷◌, ◌++◌, length, set, Option, None, Some, is_some, refl, sym, ap, ◌∙◌, arith, slice_get, length-set, get_or-set_same, get_or-set_other}
 use Rattle.std.specs.Option.{option_map_or}
 use Rattle.std.specs.List.{AllByRecursion, IsDistinct}
 use Rattle.std.proofs.lemmas.Bool.{cases_eq, cases_lt, cond_both, cases_Bool, eqb-true, eqb-false, eq-eqb, ne_eqb, cond-true, cond-false, false≢true}
-use Rattle.std.proofs.lemmas.List.{get_or_append_left}
 use Rattle.std.proofs.lemmas.Map.Keys.{IsDistinct-cons}
 use Rattle.std.proofs.lemmas.Option.{same_Some, none-some, slice_get-get_or, slice_get_past}
 use Rattle.guillotiere.specs.declared.Rectangle.{Rectangle}
 use Rattle.atlas_cache.specs.declared.entries.Entry.{Entry}
-use Rattle.atlas_cache.specs.Entries.{IsNumber, entry_at, keys, moved, number_of, numbers, without_number}
+use Rattle.atlas_cache.specs.Entries.{IsNumber, entry_at, moved, number_of, numbers, without_number}
 use Rattle.atlas_cache.specs.Orders.{occurs, same, without}
 use Rattle.atlas_cache.specs.Tables.{numbered}
-use Rattle.atlas_cache.proofs.RingLemmas.{same-self, same-ne, ne-from_same}
+use Rattle.atlas_cache.proofs.RingLemmas.{same-self, same-ne}
 
 module _ {A : Type 0} where
   pub option_is : (o : Option A) → (o ≡ None) ⊎ ((x : A) × (o ≡ Some x))
@@ -130,14 +129,14 @@ module _ {K : Type 0} where
       let step : numbered new (x ∷ ns) ≡ moved n id rectangle ((x, w.0) ∷ numbered items ns) =
       elim (cases_eq n x) [
         | inl q ↦ (let same_entry : e ≡ w.0 = same_Some e w.0 (sym s ∙ ap (slice_get items) q ∙ w.1) in
-        let at : slice_get new x ≡ Some (record w.0 { id = id; rectangle = rectangle }) = ap (slice_get new) (sym q) ∙ t ∙ ap (λ (v : Entry K). Some (record v { id = id; rectangle = rectangle })) same_entry in
-        let zero_rest : occurs n ns ≡ 0 = omega (arith, once, same-self x, ap (λ v. same v x) q) in
-        numbered-cons new x ns (record w.0 { id = id; rectangle = rectangle }) at ∙
-        ap (λ r. (x, record w.0 { id = id; rectangle = rectangle }) ∷ r) (numbered-same items new ns (λ k l. o k (λ p. omega (arith, l, zero_rest, ap (λ v. occurs v ns) p)))) ∙
-        sym (cond-true (eqb n x) ((x, record w.0 { id = id; rectangle = rectangle }) ∷ numbered items ns) ((x, w.0) ∷ moved n id rectangle (numbered items ns)) (eq-eqb n x q)))
+            let at : slice_get new x ≡ Some (record w.0 { id = id; rectangle = rectangle }) = ap (slice_get new) (sym q) ∙ t ∙ ap (λ (v : Entry K). Some (record v { id = id; rectangle = rectangle })) same_entry in
+            let zero_rest : occurs n ns ≡ 0 = omega (arith, once, same-self x, ap (λ v. same v x) q) in
+            numbered-cons new x ns (record w.0 { id = id; rectangle = rectangle }) at ∙
+            ap (λ r. (x, record w.0 { id = id; rectangle = rectangle }) ∷ r) (numbered-same items new ns (λ k l. o k (λ p. omega (arith, l, zero_rest, ap (λ v. occurs v ns) p)))) ∙
+            sym (cond-true (eqb n x) ((x, record w.0 { id = id; rectangle = rectangle }) ∷ numbered items ns) ((x, w.0) ∷ moved n id rectangle (numbered items ns)) (eq-eqb n x q)))
         | inr ne ↦ numbered-cons new x ns w.0 (o x (λ q. ne (sym q)) ∙ w.1) ∙
-        ap (λ r. (x, w.0) ∷ r) (numbered-moved items new n id rectangle e ns (inside-tail items x ns h) s t o (omega (arith, once))) ∙
-        sym (cond-false (eqb n x) ((x, record w.0 { id = id; rectangle = rectangle }) ∷ numbered items ns) ((x, w.0) ∷ moved n id rectangle (numbered items ns)) (ne_eqb n x ne))
+            ap (λ r. (x, w.0) ∷ r) (numbered-moved items new n id rectangle e ns (inside-tail items x ns h) s t o (omega (arith, once))) ∙
+            sym (cond-false (eqb n x) ((x, record w.0 { id = id; rectangle = rectangle }) ∷ numbered items ns) ((x, w.0) ∷ moved n id rectangle (numbered items ns)) (ne_eqb n x ne))
       ] in
       step ∙ ap (moved n id rectangle) (sym (numbered-cons items x ns w.0 w.1))
 
@@ -150,9 +149,9 @@ module _ {K : Type 0} where
         let at : cond (eq k w.0.key) (Some x) (number_of eq k (numbered items ns)) ≡ Some n = sym (ap (number_of eq k) (numbered-cons items x ns w.0 w.1)) ∙ q in
         elim (cases_Bool (eq k w.0.key)) [
           | inl t ↦ (let same_number : x ≡ n = same_Some x n (sym (cond-true (eq k w.0.key) (Some x) (number_of eq k (numbered items ns)) t) ∙ at) in
-          (omega (arith, same-self x, ap (λ v. same v x) same_number), w.0, ap (slice_get items) (sym same_number) ∙ w.1, t))
+              (omega (arith, same-self x, ap (λ v. same v x) same_number), w.0, ap (slice_get items) (sym same_number) ∙ w.1, t))
           | inr f ↦ (let r = number_of-some n ns (inside-tail items x ns h) (sym (cond-false (eq k w.0.key) (Some x) (number_of eq k (numbered items ns)) f) ∙ at) in
-          (omega (arith, r.0), r.1, r.2, r.3))
+              (omega (arith, r.0), r.1, r.2, r.3))
         ]
 
     -- Where none is found, no entry has the key.
@@ -165,7 +164,7 @@ module _ {K : Type 0} where
           | inl y ↦ none-some x (sym at ∙ cond-true (eq k w.0.key) (Some x) (number_of eq k (numbered items ns)) y)
           | inr f ↦ elim (cases_eq n x) [
             | inl p ↦ (let same_entry : e ≡ w.0 = same_Some e w.0 (sym s ∙ ap (slice_get items) p ∙ w.1) in
-            false≢true (sym f ∙ ap (λ (v : Entry K). eq k v.key) (sym same_entry) ∙ t))
+                false≢true (sym f ∙ ap (λ (v : Entry K). eq k v.key) (sym same_entry) ∙ t))
             | inr ne ↦ number_of-none n e ns (inside-tail items x ns h) (sym (cond-false (eq k w.0.key) (Some x) (number_of eq k (numbered items ns)) f) ∙ at) (omega (arith, l, same-ne n x ne)) s t
           ]
         ]

@@ -233,4 +233,3 @@ impl<K: Copy + Eq + Hash, S: BuildHasher, A: Allocator + Copy> Entries<K, S, A> 
         self.items.clear();
     }
 }
-

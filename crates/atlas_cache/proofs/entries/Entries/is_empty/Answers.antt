@@ -1,4 +1,4 @@
-use Rattle.std.proofs.Common.{◌≡◌, ◌∙◌, [], List, ℕ, ap, sym}
+use Rattle.std.proofs.Common.{◌∙◌, ap, sym}
 use Rattle.atlas_cache.specs.Entries.{numbers}
 use Rattle.atlas_cache.specs.Tables.{numbered}
 use Rattle.atlas_cache.proofs.EntryKeeping.{numbers-are}

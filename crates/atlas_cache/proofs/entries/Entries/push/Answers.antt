@@ -1,4 +1,4 @@
-use Rattle.std.proofs.Common.{◌≡◌, ◌∙◌, ◌∷◌, ap, subst, sym}
+use Rattle.std.proofs.Common.{◌∙◌, ◌∷◌, ap, subst, sym}
 use Rattle.atlas_cache.specs.Tables.{AreKept, numbered}
 use Rattle.atlas_cache.proofs.EntryKeeping.{absent-is, joined-is, kept-alike, kept-joined, new-none}
 use Rattle.atlas_cache.proofs.entries.Entries.push.Goals as goal

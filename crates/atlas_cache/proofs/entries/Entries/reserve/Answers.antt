@@ -1,4 +1,4 @@
-use Rattle.std.proofs.Common.{◌≡◌, subst, sym}
+use Rattle.std.proofs.Common.{subst, sym}
 use Rattle.atlas_cache.specs.Tables.{AreKept}
 use Rattle.atlas_cache.proofs.EntryKeeping.{kept-alike}
 use Rattle.atlas_cache.proofs.entries.Entries.reserve.Goals as goal
