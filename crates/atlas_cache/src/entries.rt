@@ -221,6 +221,7 @@ impl<K: Copy + Eq + Hash, S: BuildHasher, A: Allocator + Copy> Entries<K, S, A> 
     {
         self.map.reserve(additional)?;
         self.items.reserve(additional)?;
+        self.recency.reserve(additional)?;
         Ok(())
     }
 
