@@ -1,3 +1,5 @@
 pub mod Asking
+pub mod Entries
 pub mod Orders
 pub mod Rings
+pub mod Tables
