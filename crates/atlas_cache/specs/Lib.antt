@@ -1,3 +1,4 @@
 pub mod Asking
 pub mod Orders
 pub mod Rings
+pub mod Rooms

@@ -5,3 +5,5 @@
 mod options;
 #[cfg(test)]
 mod recency;
+#[cfg(test)]
+mod rooms;
