@@ -2,3 +2,4 @@ pub mod RingLemmas
 pub mod RingCalls
 pub mod SpareLemmas
 pub mod Moves
+pub mod RoomLemmas
