@@ -1,9 +1,10 @@
 //! The workload `cache` over the Rust crate's own code, as a Rust program would write such a cache: an atlas a page, a
 //! `HashMap` from keys to places in a vector, and its entries linked in the order of their use. For bench/driver.rs.
 //!
-//! 10,000 glyphs of 8 to 40 pixels a side, with a padding of 1, on up to four pages of 1024x1024. A call looks a glyph up;
-//! where the cache hasn't got it, the next call inserts it: on the first page with room, else on a new page, else the
-//! least recently used glyphs go, one by one, until there is room, but none that this frame used. A frame has 2,000 calls.
+//! 10,000 glyphs of 8 to 40 pixels a side, with a padding of 1, on up to four pages of 1024x1024. A call looks a glyph
+//! up; where the cache hasn't got it, the next call inserts it: on the first page with room, else on a new page, else
+//! the least recently used glyphs go, one by one, until there is room, but none that this frame used. A frame has 2,000
+//! calls.
 use crate::allocator::{AllocId, AtlasAllocator};
 use crate::{Answers, Random, Rectangle, Size};
 use euclid::size2;
