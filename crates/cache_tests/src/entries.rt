@@ -1,5 +1,5 @@
 //! Entries under their keys, in the order of their use.
-ghost use Rattle.std.specs.Prelude.{IfSome};
+ghost use Rattle.std.specs.Prelude.{◌≡◌, ◌<◌, length, IfSome};
 ghost use Rattle.atlas_cache.specs.Entries.{IsNumber};
 
 use atlas_cache::CacheError;
@@ -11,7 +11,9 @@ use std::hash::{BuildHasherDefault, FoldHasher};
 use std::test::Fail;
 
 // An entry with this key, last used in this frame.
-fn entry(key: u32, frame: u64) -> Entry<u32> {
+fn entry(key: u32, frame: u64) -> Entry<u32>
+    ensures { result.key ≡ key }
+{
     Entry {
         key,
         size: size2(8, 16),
@@ -94,7 +96,7 @@ fn moved(entries: &mut Entries<u32>, key: u32, id: AllocId, x: i32) -> Option<En
         max: point2(x, 18),
     };
     entries.move_to(number, id, rectangle);
-    Some(entries.entry(number))
+    Some(entries.entry(entries.find(&key)?))
 }
 
 #[test]
@@ -168,8 +170,15 @@ fn agrees(entries: &Entries<u32>, list: &[(u32, u64)], place: usize) -> bool {
 }
 
 // Where a key stands in a plain list.
-fn place_of(list: &[(u32, u64)], key: u32) -> Option<usize> {
-    list.iter().position(|held| held.0 == key)
+fn place_of(list: &[(u32, u64)], key: u32) -> Option<usize>
+    ensures { IfSome result (λ place. place < length list.now) }
+{
+    for place in 0..list.len() {
+        if list[place].0 == key {
+            return Some(place);
+        }
+    }
+    None
 }
 
 // One call on both, with one of 60 keys: a new entry, or else a use or a removal. `false` if one of them alone has the key.
