@@ -1,4 +1,6 @@
 pub mod Asking
+pub mod Entries
 pub mod Orders
 pub mod Rings
 pub mod Rooms
+pub mod Tables

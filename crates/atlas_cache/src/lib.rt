@@ -1,6 +1,7 @@
 //! The parts of a cache of rectangles in a texture array, over `guillotiere`.
 #![tactic(auto)]
 
+pub mod entries;
 mod error;
 mod options;
 mod places;

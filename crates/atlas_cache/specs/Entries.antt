@@ -1,0 +1,43 @@
+-- Entries of a cache under their numbers, the most recently used first.
+use Rattle.std.specs.Prelude.{ℕ, Bool, nat_eq, if◌then◌else◌, List, [], ◌∷◌, map, Option, None, Some, IsSome}
+use Rattle.std.specs.Option.{option_map_or}
+use Rattle.std.specs.Map.{keys_of, lookup, remove_entry}
+use Rattle.guillotiere.specs.declared.Rectangle.{Rectangle}
+use Rattle.atlas_cache.specs.declared.entries.Entry.{Entry}
+
+module _ {K : Type 0} where
+  -- The entry of a number.
+  abbrev pub entry_at : ℕ → List (ℕ × Entry K) → Option (Entry K)
+  entry_at n es = lookup (nat_eq n) es
+
+  -- The number is that of an entry.
+  abbrev pub IsNumber : ℕ → List (ℕ × Entry K) → Type 0
+  IsNumber n es = IsSome (entry_at n es)
+
+  -- The number of the first entry with this key.
+  abbrev pub number_of : (K → K → Bool) → K → List (ℕ × Entry K) → Option ℕ
+  number_of eq k [] = None
+  number_of eq k (e ∷ es) = if eq k e.1.key then Some e.0 else number_of eq k es
+
+  -- The numbers of the entries.
+  abbrev pub numbers : List (ℕ × Entry K) → List ℕ
+  numbers es = keys_of es
+
+  -- The keys of the entries.
+  abbrev pub keys : List (ℕ × Entry K) → List K
+  keys es = map (λ e. e.1.key) es
+
+  -- The others, without the entry of a number.
+  abbrev pub without_number : ℕ → List (ℕ × Entry K) → List (ℕ × Entry K)
+  without_number n es = remove_entry (nat_eq n) es
+
+  -- The entry is used in this frame, and the most recently used; the others keep their order.
+  abbrev pub touched : ℕ → (frame : ℕ) → List (ℕ × Entry K) → List (ℕ × Entry K)
+  touched n frame es =
+      option_map_or (λ e. (n, record e { frame = frame }) ∷ without_number n es) (entry_at n es) es
+
+  -- The entry has another id and rectangle; the order stays.
+  abbrev pub moved : ℕ → (id : ℕ) → Rectangle → List (ℕ × Entry K) → List (ℕ × Entry K)
+  moved n id rectangle [] = []
+  moved n id rectangle (e ∷ es) =
+      if nat_eq n e.0 then (e.0, record e.1 { id = id; rectangle = rectangle }) ∷ es else e ∷ moved n id rectangle es

@@ -1,0 +1,224 @@
+//! Entries under their keys, in the order of their use: each call takes a few steps and at most one look-up by a hash,
+//! however many entries there are.
+ghost use Rattle.std.specs.Prelude.{◌≡◌, ◌↔◌, None, Some, [], ◌∷◌, ◌++◌, ℕ, List, length, nat_eq};
+ghost use Rattle.std.specs.Prelude.{IfOk, IfSome, IsNone, IsTrue, OnErr};
+ghost use Rattle.std.specs.List.{IsDistinct};
+ghost use Rattle.atlas_cache.specs.Orders.{first_of, last_of};
+
+use crate::error::CacheError;
+use crate::recency::Recency;
+use guillotiere::{AllocId, Rectangle, Size};
+use std::alloc::{Allocator, Global};
+use std::collections::HashMap;
+use std::hash::{BuildHasher, BuildHasherDefault, FoldHasher, Hash};
+use std::marker::Model;
+
+/// The hasher of `new`. Its seed is fixed: for keys that an attacker picks, give `with_hasher` a `RandomState`.
+pub type DefaultHasher = BuildHasherDefault<FoldHasher>;
+
+/// What a cache holds under a key.
+#[derive(Clone, Copy, Debug, PartialEq, Eq)]
+pub struct Entry<K> {
+    pub key: K,
+    /// What was asked for, without the padding, in pixels.
+    pub size: Size,
+    /// The page, counted from 0.
+    pub page: u32,
+    /// The id of its rectangle on that page.
+    pub id: AllocId,
+    /// Its rectangle on that page, with the padding, in pixels.
+    pub rectangle: Rectangle,
+    /// The frame that used it last.
+    pub frame: u64,
+}
+
+/// Entries under their keys, in the order of their use. Each has a number; that of an entry which is gone is given to a
+/// later one. Contracts see a list of the numbers with their entries, the most recently used first.
+#[derive(Drop)]
+pub struct Entries<K: Copy + Eq + Hash, S: BuildHasher = DefaultHasher, A: Allocator = Global> {
+    map: HashMap<K, u32, S, A>,
+    recency: Recency<A>,
+    items: Vec<Entry<K>, A>,
+}
+
+impl<K: Copy + Eq + Hash, S: BuildHasher, A: Allocator> Model for Entries<K, S, A> {
+    ghost use Rattle.std.specs.Prelude.{ℕ, List};
+    ghost use Rattle.atlas_cache.specs.declared.entries.Entry.{Entry};
+
+    ghost Value = { List (ℕ × Entry K) };
+
+    ghost use Rattle.atlas_cache.specs.Tables.{AreKept, numbered};
+
+    ghost view = { λ s. numbered s.items.items s.recency.entries };
+
+    ghost invariant = { λ s. AreKept K.eq s.map s.recency s.items.items };
+}
+
+impl<K: Copy + Eq + Hash, A: Allocator + Copy> Entries<K, DefaultHasher, A> {
+    /// No entries. Takes no memory.
+    pub fn new(alloc: A) -> Self
+        ensures { result ≡ [] }
+    {
+        Entries::with_hasher(alloc, BuildHasherDefault::new())
+    }
+}
+
+impl<K: Copy + Eq + Hash, S: BuildHasher, A: Allocator + Copy> Entries<K, S, A> {
+    ghost use Rattle.atlas_cache.specs.Entries.{IsNumber, entry_at, keys, moved, number_of, numbers, touched, without_number};
+
+    /// No entries, with a hasher for the keys. Takes no memory.
+    pub fn with_hasher(alloc: A, hasher: S) -> Self
+        ensures { result ≡ [] }
+    {
+        Entries {
+            map: HashMap::with_hasher(alloc, hasher),
+            recency: Recency::new(alloc),
+            items: Vec::new(alloc),
+        }
+    }
+
+    /// How many entries there are.
+    pub fn len(&self) -> usize
+        ensures { result ≡ length self.now }
+    {
+        self.recency.len()
+    }
+
+    /// Whether there are none.
+    pub fn is_empty(&self) -> bool
+        ensures { IsTrue result ↔ (self.now ≡ []) }
+    {
+        self.recency.is_empty()
+    }
+
+    /// Says what the entries keep, and does nothing: each has a number of its own and a key of its own.
+    pub fn prove_kept(&self)
+        ensures numbers { IsDistinct nat_eq (numbers self.now) }
+        ensures keys { IsDistinct K.eq (keys self.now) }
+    {
+        let _map = &self.map;
+    }
+
+    /// The number of the entry with this key; None if there is none.
+    pub fn find(&self, key: &K) -> Option<u32>
+        ensures number { result ≡ number_of K.eq key.now self.now }
+        ensures entry { IfSome result (λ number. IsNumber number self.now) }
+    {
+        self.map.get(key).copied()
+    }
+
+    /// The entry of a number.
+    pub fn entry(&self, number: u32) -> Entry<K>
+        requires { IsNumber number self.now }
+        ensures { entry_at number self.now ≡ Some result }
+    {
+        self.items[number as usize]
+    }
+
+    /// The most recently used entry; None if there is none.
+    pub fn newest(&self) -> Option<u32>
+        ensures first { result ≡ first_of (numbers self.now) }
+        ensures entry { IfSome result (λ number. IsNumber number self.now) }
+    {
+        self.recency.newest()
+    }
+
+    /// The least recently used entry; None if there is none.
+    pub fn oldest(&self) -> Option<u32>
+        ensures last { result ≡ last_of (numbers self.now) }
+        ensures entry { IfSome result (λ number. IsNumber number self.now) }
+    {
+        self.recency.oldest()
+    }
+
+    /// The entry that was used next before this one; None if this is the least recently used.
+    pub fn older(&self, number: u32) -> Option<u32>
+        requires { IsNumber number self.now }
+        ensures next { (newer older : List ℕ) → numbers self.now ≡ newer ++ number ∷ older
+            → result ≡ first_of older }
+        ensures entry { IfSome result (λ number. IsNumber number self.now) }
+    {
+        self.recency.older(number)
+    }
+
+    /// An entry is used in this frame, and is the most recently used from now on.
+    pub fn touch(&mut self, number: u32, frame: u64)
+        requires { IsNumber number self.old }
+        ensures { self.new ≡ touched number frame self.old }
+    {
+        self.recency.touch(number);
+        self.items[number as usize].frame = frame;
+    }
+
+    /// An entry with a new key joins, the most recently used from now on: its number, which was none's. `Numbers` if all
+    /// are in use, and `Memory` if memory is refused; then nothing changes.
+    pub fn push(&mut self, entry: Entry<K>) -> Result<u32, CacheError>
+        requires { IsNone (number_of K.eq entry.key self.old) }
+        ensures new { IfOk result (λ number. IsNone (entry_at number self.old)) }
+        ensures joined { IfOk result (λ number. self.new ≡ (number, entry) ∷ self.old) }
+        ensures refused { OnErr result (self.new ≡ self.old) }
+    {
+        self.map.reserve(1)?;
+        self.items.reserve(1)?;
+        let number = self.recency.push()?;
+        store(&mut self.items, number, entry);
+        bind(&mut self.map, entry.key, number);
+        Ok(number)
+    }
+
+    /// An entry goes. Its number belongs to none from now on.
+    pub fn remove(&mut self, number: u32)
+        requires { IsNumber number self.old }
+        ensures { self.new ≡ without_number number self.old }
+    {
+        let key = self.items[number as usize].key;
+        self.recency.remove(number);
+        let _number = self.map.remove(&key);
+    }
+
+    /// The rectangle of an entry is another one of its page from now on. The order stays.
+    pub fn move_to(&mut self, number: u32, id: AllocId, rectangle: Rectangle)
+        requires { IsNumber number self.old }
+        ensures { self.new ≡ moved number id rectangle self.old }
+    {
+        let entry = &mut self.items[number as usize];
+        entry.id = id;
+        entry.rectangle = rectangle;
+    }
+
+    /// Asks for room for so many more entries. Nothing else changes. `Memory` if memory is refused.
+    pub fn reserve(&mut self, additional: usize) -> Result<(), CacheError>
+        ensures { self.new ≡ self.old }
+    {
+        self.map.reserve(additional)?;
+        self.items.reserve(additional)?;
+        Ok(())
+    }
+
+    /// All entries go. Keeps its memory.
+    pub fn clear(&mut self)
+        ensures { self.new ≡ [] }
+    {
+        self.map.clear();
+        self.recency.clear();
+        self.items.clear();
+    }
+}
+
+// Puts an entry at a number: in the place of what stood there, or behind all.
+fn store<K: Copy, A: Allocator>(items: &mut Vec<Entry<K>, A>, number: u32, entry: Entry<K>) {
+    if (number as usize) < items.len() {
+        items[number as usize] = entry;
+        return;
+    }
+    let _pushed = items.push(entry);
+}
+
+// Gives a key a number.
+fn bind<K: Copy + Eq + Hash, S: BuildHasher, A: Allocator + Copy>(
+    map: &mut HashMap<K, u32, S, A>,
+    key: K,
+    number: u32,
+) {
+    let _inserted = map.insert(key, number);
+}
