@@ -2,3 +2,5 @@ pub mod RingLemmas
 pub mod RingCalls
 pub mod SpareLemmas
 pub mod Moves
+pub mod ListLemmas
+pub mod HoldingLemmas

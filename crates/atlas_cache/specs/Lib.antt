@@ -1,4 +1,7 @@
 pub mod Asking
+pub mod Caches
+pub mod Changes
+pub mod Counting
 pub mod Entries
 pub mod Orders
 pub mod Rings

@@ -77,7 +77,7 @@ pub record IsFirstToGrow (o : CacheOptions) (sizes : List Size) (page : ℕ) (si
   pub old : Size
   pub here : slice_get sizes page ≡ Some old
   pub smaller : old ≢ o.largest_page
-  pub size : size ≡ size_of (grown_sides (sides_of o.largest_page) (sides_of old))
+  pub grown : size ≡ size_of (grown_sides (sides_of o.largest_page) (sides_of old))
 
 -- Each page is at its largest.
 abbrev pub AreAllLargest : CacheOptions → List Size → Type 0
