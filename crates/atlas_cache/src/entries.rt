@@ -1,7 +1,8 @@
 //! Entries under their keys, in the order of their use: each call takes a few steps and at most one look-up by a hash,
 //! however many entries there are.
-ghost use Rattle.std.specs.Prelude.{◌≡◌, ◌↔◌, None, Some, [], ◌∷◌, ◌++◌, ℕ, List, length, nat_eq};
-ghost use Rattle.std.specs.Prelude.{IfOk, IfSome, IsNone, IsTrue, OnErr};
+ghost use Rattle.std.specs.Prelude.{◌≡◌, ◌≢◌, ◌↔◌, ◌+◌, ◌<◌, ◌≤◌, max, None, Some, [], ◌∷◌, ◌++◌, ℕ, List, length};
+ghost use Rattle.std.specs.Prelude.{IfOk, IfSome, IsNone, IsTrue, OnErr, nat_eq, slice_get, vec_capacity, vec_len};
+ghost use Rattle.std.specs.HashMap.{Updates, spare};
 ghost use Rattle.std.specs.List.{IsDistinct};
 ghost use Rattle.atlas_cache.specs.Orders.{first_of, last_of};
 
@@ -52,6 +53,34 @@ impl<K: Copy + Eq + Hash, S: BuildHasher, A: Allocator> Model for Entries<K, S, 
     ghost view = { λ s. numbered s.items.items s.recency.entries };
 
     ghost invariant = { λ s. AreKept K.eq s.map s.recency s.items.items };
+}
+
+// Puts an entry at a number: in the place of what stood there, or behind all.
+fn store<K: Copy, A: Allocator>(items: &mut Vec<Entry<K>, A>, number: u32, entry: Entry<K>)
+    requires next { number ≤ length items.old.items }
+    requires room { vec_len items.old < vec_capacity items.old }
+    ensures stored { slice_get items.new.items number ≡ Some entry }
+    ensures others { (k : ℕ) → k ≢ number → k < length items.old.items
+        → slice_get items.new.items k ≡ slice_get items.old.items k }
+    ensures size { length items.new.items ≡ max (length items.old.items) (number + 1) }
+{
+    if (number as usize) < items.len() {
+        items[number as usize] = entry;
+        return;
+    }
+    let _pushed = items.push(entry);
+}
+
+// Gives a key a number.
+fn bind<K: Copy + Eq + Hash, S: BuildHasher, A: Allocator + Copy>(
+    map: &mut HashMap<K, u32, S, A>,
+    key: K,
+    number: u32,
+)
+    requires { 0 < spare map.old }
+    ensures { Updates K.eq map.old map.new key (Some number) }
+{
+    let _inserted = map.insert(key, number);
 }
 
 impl<K: Copy + Eq + Hash, A: Allocator + Copy> Entries<K, DefaultHasher, A> {
@@ -203,22 +232,4 @@ impl<K: Copy + Eq + Hash, S: BuildHasher, A: Allocator + Copy> Entries<K, S, A> 
         self.recency.clear();
         self.items.clear();
     }
-}
-
-// Puts an entry at a number: in the place of what stood there, or behind all.
-fn store<K: Copy, A: Allocator>(items: &mut Vec<Entry<K>, A>, number: u32, entry: Entry<K>) {
-    if (number as usize) < items.len() {
-        items[number as usize] = entry;
-        return;
-    }
-    let _pushed = items.push(entry);
-}
-
-// Gives a key a number.
-fn bind<K: Copy + Eq + Hash, S: BuildHasher, A: Allocator + Copy>(
-    map: &mut HashMap<K, u32, S, A>,
-    key: K,
-    number: u32,
-) {
-    let _inserted = map.insert(key, number);
 }

@@ -1,0 +1,8 @@
+use Rattle.std.proofs.Common.{◌∙◌, ap, length, sym}
+use Rattle.atlas_cache.proofs.EntryLemmas.{length-numbered}
+use Rattle.atlas_cache.proofs.entries.Entries.len.Goals as goal
+
+pub returns : goal.returns
+returns g c =
+    let s = c.self.inside in
+    c.len.ensures ∙ sym (length-numbered s.items.items s.recency.entries c.self.invariant.inside) ∙ ap length c.self.view_is

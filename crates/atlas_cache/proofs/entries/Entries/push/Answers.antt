@@ -1,0 +1,54 @@
+use Rattle.std.proofs.Common.{◌∙◌, ◌∷◌, ap, subst, sym}
+use Rattle.atlas_cache.specs.Tables.{AreKept, numbered}
+use Rattle.atlas_cache.proofs.EntryKeeping.{absent-is, joined-is, kept-alike, kept-joined, new-none}
+use Rattle.atlas_cache.proofs.entries.Entries.push.Goals as goal
+
+pub invariant_of-self : goal.invariant_of-self
+invariant_of-self g c =
+    let s = c.self.inside in
+    kept-alike g.K.PartialEq.eq s.map s.recency s.items.items c.self.invariant c.reserve.new.self c.in_err-reserve.ensures.entries.2
+
+pub invariant_of-self-in_err-reserve-2 : goal.invariant_of-self-in_err-reserve-2
+invariant_of-self-in_err-reserve-2 g c =
+    let s = c.self.inside in
+    subst (λ xs. AreKept g.K.PartialEq.eq c.reserve.new.self s.recency xs) (sym c.in_err-reserve-2.ensures.items)
+    (kept-alike g.K.PartialEq.eq s.map s.recency s.items.items c.self.invariant c.reserve.new.self c.in_ok-reserve.ensures.entries.2)
+
+pub invariant_of-self-in_err-number : goal.invariant_of-self-in_err-number
+invariant_of-self-in_err-number g c =
+    let s = c.self.inside in
+    let eq = g.K.PartialEq.eq in
+    let kept : AreKept eq c.reserve.new.self s.recency c.reserve-2.new.self.items = subst (λ xs. AreKept eq c.reserve.new.self s.recency xs) (sym c.in_ok-reserve-2.ensures.items) (kept-alike eq s.map s.recency s.items.items c.self.invariant c.reserve.new.self c.in_ok-reserve.ensures.entries.2) in
+    subst (λ o. AreKept eq c.reserve.new.self o c.reserve-2.new.self.items) (sym c.in_err-number.ensures.refused) kept
+
+pub invariant_of-self-2 : goal.invariant_of-self-2
+invariant_of-self-2 g c =
+    let s = c.self.inside in
+    let eq = g.K.PartialEq.eq in
+    let e = c.args.entry in
+    let n = c.in_ok-number.number in
+    let map = c.reserve.new.self in
+    let items = c.reserve-2.new.self.items in
+    let kept : AreKept eq map s.recency items = subst (λ xs. AreKept eq map s.recency xs) (sym c.in_ok-reserve-2.ensures.items) (kept-alike eq s.map s.recency s.items.items c.self.invariant map c.in_ok-reserve.ensures.entries.2) in
+    let absent = c.in_ok-reserve.ensures.entries.2 e.key ∙ absent-is eq s.map s.recency s.items.items c.self.invariant c.args.self.now c.self.view_is e.key c.requires in
+    subst (λ o. AreKept eq c.bind.new.map o c.store.new.items.items) (sym c.in_ok-number.ensures.joined)
+    (kept-joined eq map s.recency items kept g.met.K.Eq.laws n e c.bind.new.map c.store.new.items.items c.in_ok-number.ensures.new absent c.bind.ensures.0 c.store.ensures.stored c.store.ensures.others c.store.ensures.size)
+
+pub returns-clause-new : goal.returns-clause-new
+returns-clause-new g c =
+    let s = c.self.inside in
+    new-none g.K.PartialEq.eq s.map s.recency s.items.items c.self.invariant c.args.self.now c.self.view_is c.in_ok-number.number c.in_ok-number.ensures.new
+
+pub returns-clause-joined : goal.returns-clause-joined
+returns-clause-joined g c =
+    let s = c.self.inside in
+    let eq = g.K.PartialEq.eq in
+    let e = c.args.entry in
+    let n = c.in_ok-number.number in
+    let map = c.reserve.new.self in
+    let items = c.reserve-2.new.self.items in
+    let kept : AreKept eq map s.recency items = subst (λ xs. AreKept eq map s.recency xs) (sym c.in_ok-reserve-2.ensures.items) (kept-alike eq s.map s.recency s.items.items c.self.invariant map c.in_ok-reserve.ensures.entries.2) in
+    ap (λ o. numbered c.store.new.items.items o.entries) c.in_ok-number.ensures.joined ∙
+    joined-is eq map s.recency items kept n e c.store.new.items.items c.in_ok-number.ensures.new c.store.ensures.stored c.store.ensures.others ∙
+    ap (λ xs. (n, e) ∷ numbered xs s.recency.entries) c.in_ok-reserve-2.ensures.items ∙
+    ap (λ es. (n, e) ∷ es) c.self.view_is
