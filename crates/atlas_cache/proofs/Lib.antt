@@ -6,3 +6,7 @@ pub mod EntryLemmas
 pub mod EntryKeeping
 pub mod ListLemmas
 pub mod HoldingLemmas
+pub mod KeyLemmas
+pub mod PictureLemmas
+pub mod CacheLemmas
+pub mod LoopLemmas

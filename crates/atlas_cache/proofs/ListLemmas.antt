@@ -1,6 +1,7 @@
 -- Lists of a cache's entries, with their numbers and without.
 use Rattle.std.proofs.Common.{ℕ, ◌+◌, ◌<◌, ◌≤◌, ◌≡◌, ◌≢◌, ◌⊎◌, inl, inr, Bool, true, false, eqb, List, [], ◌∷◌, ◌++◌, Option, None, Some, refl, sym, ap, ◌∙◌, arith, length}
 use Rattle.std.proofs.lemmas.{Bool.{cases_Bool}, Bool.Decides.{eqb_tells}}
+use Rattle.std.proofs.lemmas.Map.Keys.{IsDistinct-head, IsDistinct-tail}
 use Rattle.std.specs.List.{AllByRecursion, IsDistinct}
 use Rattle.atlas_cache.specs.declared.entries.Entry.{Entry}
 use Rattle.atlas_cache.specs.Caches.{entries_of, entry_for, FramesFall, IsFound}
@@ -109,9 +110,9 @@ module _ {K : Type 0} where
       | inr miss ↦ rw miss (elim (eqb_tells n x.0) [
         | inl same ↦
             let there = rw miss at is in
-            let differs = number-among x.0 n es there apart.0 in
+            let differs = number-among x.0 n es there (IsDistinct-head eqb x.0 (numbers es) apart) in
             absurd (let self = rw same.1 at same.0 in let differs2 = rw same.1 at differs in cc)
-        | inr other ↦ let there = rw miss at is in let deep = rw other.0 at at in found n e es apart.1 there deep
+        | inr other ↦ let there = rw miss at is in let deep = rw other.0 at at in found n e es (IsDistinct-tail eqb x.0 (numbers es) apart) there deep
       ])
     ]
 
@@ -142,9 +143,22 @@ module _ {K : Type 0} where
   ]
   last n e (x ∷ (y ∷ es)) apart is at = elim (eqb_tells n x.0) [
     | inl same ↦
-        let differs = last-among x.0 n (numbers (y ∷ es)) is apart.0 in
+        let differs = last-among x.0 n (numbers (y ∷ es)) is (IsDistinct-head eqb x.0 (numbers (y ∷ es)) apart) in
         absurd (let self = rw same.1 at same.0 in let differs2 = rw same.1 at differs in cc)
     | inr other ↦
         let deep = rw other.0 at at in
-        record { was = rw other.0 (ap (λ zs. x.1 ∷ zs) (last n e (y ∷ es) apart.1 is deep).was) }
+        record { was = rw other.0 (ap (λ zs. x.1 ∷ zs) (last n e (y ∷ es) (IsDistinct-tail eqb x.0 (numbers (y ∷ es)) apart) is deep).was) }
   ]
+
+  pub none-last : (es : List (ℕ × Entry K)) → last_of (numbers es) ≡ None → entries_of es ≡ []
+  none-last [] is = refl
+  none-last (x ∷ []) is = absurd (let some : Some x.0 ≡ None = is in cc)
+  none-last (x ∷ (y ∷ es)) is = absurd (let none = none-last (y ∷ es) is in cc)
+
+  pub none-listed : (es : List (ℕ × Entry K)) → entries_of es ≡ [] → es ≡ []
+  none-listed [] is = refl
+  none-listed (x ∷ es) is = absurd (let some : x.1 ∷ entries_of es ≡ [] = is in cc)
+
+  pub length-listed : (es : List (ℕ × Entry K)) → length (entries_of es) ≡ length es
+  length-listed [] = refl
+  length-listed (x ∷ es) = omega (arith, length-listed es)

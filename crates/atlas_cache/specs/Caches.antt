@@ -96,6 +96,11 @@ module _ {K : Type 0} where
   abbrev pub IsNoneInUse : CacheState K → Type 0
   IsNoneInUse s = AllByRecursion (λ e. e.frame < s.frame) s.entries
 
+  -- No two entries have one key.
+  abbrev pub HaveOwnKeys : (K → K → Bool) → List (Entry K) → Type 0
+  HaveOwnKeys eq [] = Unit {0}
+  HaveOwnKeys eq (e ∷ es) = AllByRecursion (λ f. eq e.key f.key ≡ false) es × HaveOwnKeys eq es
+
   -- The places of two keys on one page lie apart, the padding included.
   abbrev pub PlacesLieApart : (K → K → Bool) → CacheState K → Type 0
   PlacesLieApart eq s =

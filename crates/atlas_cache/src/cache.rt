@@ -8,7 +8,7 @@ ghost use Rattle.atlas_cache.specs.Rooms.{page_sizes};
 
 pub mod holding;
 
-use crate::cache::holding::{grant, look_up, place_of, take_out};
+use crate::cache::holding::{grant, look_up, oldest, place_of, take_out};
 use crate::changes::{CacheChange, Changes};
 use crate::counts::{Counts, NO_COUNTS, count};
 use crate::entries::{DefaultHasher, Entries};
@@ -133,8 +133,10 @@ impl<K: Copy + Eq + Hash, S: BuildHasher, A: Allocator + Copy> TextureCache<K, S
     pub fn peek(&self, key: &K) -> Option<Place>
         ensures { result ≡ place_for K.eq self.now key.now }
     {
-        let (_, entry) = look_up(&self.entries, key)?;
-        Some(place_of(entry, self.rooms.options().padding))
+        let Some((_, entry)) = look_up(&self.entries, key) else {
+            return None;
+        };
+        Some(place_of(entry, &self.rooms.options()))
     }
 
     /// The place of a key, which is used in this frame from now on; None if it isn't held. Counts a hit or a miss.
@@ -152,7 +154,7 @@ impl<K: Copy + Eq + Hash, S: BuildHasher, A: Allocator + Copy> TextureCache<K, S
         };
         self.counts.hits = count(self.counts.hits);
         self.entries.touch(number, self.frame);
-        Some(place_of(entry, self.rooms.options().padding))
+        Some(place_of(entry, &self.rooms.options()))
     }
 
     /// A place for a key.
@@ -175,7 +177,7 @@ impl<K: Copy + Eq + Hash, S: BuildHasher, A: Allocator + Copy> TextureCache<K, S
                 return Err(CacheError::OtherSize);
             }
             self.entries.touch(number, self.frame);
-            return Ok(Some(place_of(entry, self.rooms.options().padding)));
+            return Ok(Some(place_of(entry, &self.rooms.options())));
         }
         let Some(asked) = self.rooms.options().asked(size) else {
             return Ok(None);
@@ -189,9 +191,11 @@ impl<K: Copy + Eq + Hash, S: BuildHasher, A: Allocator + Copy> TextureCache<K, S
         ensures removes { IfSome (entry_for K.eq key.now self.old.entries) (λ e. Removes e self.old self.new) }
         ensures none { result ≡ None → self.new ≡ self.old }
     {
-        let (number, _) = look_up(&self.entries, key)?;
-        let entry = take_out(&mut self.rooms, &mut self.entries, number);
-        Some(place_of(entry, self.rooms.options().padding))
+        let Some((number, entry)) = look_up(&self.entries, key) else {
+            return None;
+        };
+        take_out(&mut self.rooms, &mut self.entries, number, entry);
+        Some(place_of(entry, &self.rooms.options()))
     }
 
     // Inserts a key that isn't held, of a size that can stand on a page.
@@ -239,7 +243,7 @@ impl<K: Copy + Eq + Hash, S: BuildHasher, A: Allocator + Copy> TextureCache<K, S
         let Some(entry) = granted else {
             return Ok(None);
         };
-        Ok(Some(place_of(entry, self.rooms.options().padding)))
+        Ok(Some(place_of(entry, &self.rooms.options())))
     }
 
     // One change for a request that has room on no page; `false` if nothing can be done.
@@ -273,15 +277,15 @@ impl<K: Copy + Eq + Hash, S: BuildHasher, A: Allocator + Copy> TextureCache<K, S
         ensures stops { result ≡ false → AreAllInUse self.old }
         ensures stays { result ≡ false → (self.new ≡ self.old) × (changes.new.items ≡ changes.old.items) }
     {
-        let Some(number) = self.entries.oldest() else {
+        let Some((number, entry)) = oldest(&self.entries) else {
             return false;
         };
-        if self.entries.entry(number).frame == self.frame {
+        if entry.frame == self.frame {
             return false;
         }
-        let entry = take_out(&mut self.rooms, &mut self.entries, number);
+        take_out(&mut self.rooms, &mut self.entries, number, entry);
         self.counts.evictions = count(self.counts.evictions);
-        let place = place_of(entry, self.rooms.options().padding);
+        let place = place_of(entry, &self.rooms.options());
         let key = entry.key;
         changes.push_reserved(CacheChange::Evicted { key, place });
         true

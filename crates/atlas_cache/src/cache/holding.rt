@@ -1,14 +1,15 @@
 //! Steps over the pages and the entries of a cache: what is live on the pages stays what the entries hold, each once.
-ghost use Rattle.std.specs.Prelude.{◌≡◌, ◌∷◌, length, IfNone, IfOk, IfSome, IsNone, None, Ok, OnErr, Some};
+ghost use Rattle.std.specs.Prelude.{◌≡◌, [], ◌∷◌, ◌++◌, length, IfNone, IfOk, IfSome, IsNone, None, Ok, OnErr, Some};
 ghost use Rattle.guillotiere.specs.Pages.{HasSameRectangles, LeavesNoBoxOn, NoneHasRoomBelow};
 ghost use Rattle.atlas_cache.specs.Asking.{IsBorderedBy};
 ghost use Rattle.atlas_cache.specs.Caches.{entries_of, entry_for, shown, HoldsEntries, IsFound};
 ghost use Rattle.atlas_cache.specs.Changes.{IsPlaced};
-ghost use Rattle.atlas_cache.specs.Entries.{entry_at, number_of, without_number, IsNumber};
+ghost use Rattle.atlas_cache.specs.Entries.{entry_at, number_of, without_number};
 ghost use Rattle.atlas_cache.specs.Rooms.{page_sizes};
 
 use crate::entries::{Entries, Entry};
 use crate::error::CacheError;
+use crate::options::CacheOptions;
 use crate::places::Place;
 use crate::rooms::Rooms;
 use guillotiere::Size;
@@ -29,12 +30,26 @@ pub fn look_up<K: Copy + Eq + Hash, S: BuildHasher, A: Allocator + Copy>(
     Some((number, entries.entry(number)))
 }
 
-/// The place of an entry.
-pub fn place_of<K: Copy>(entry: Entry<K>, padding: i32) -> Place
-    requires { IsBorderedBy padding entry.size entry.rectangle }
-    ensures { result ≡ shown padding entry }
+/// The least recently used entry with its number; None if there is none.
+pub fn oldest<K: Copy + Eq + Hash, S: BuildHasher, A: Allocator + Copy>(
+    entries: &Entries<K, S, A>,
+) -> Option<(u32, Entry<K>)>
+    ensures here { IfSome result (λ found. entry_at found.0 entries.now ≡ Some found.1) }
+    ensures last { IfSome result (λ found. entries_of entries.now
+        ≡ entries_of (without_number found.0 entries.now) ++ found.1 ∷ []) }
+    ensures none { IfNone result (entries_of entries.now ≡ []) }
 {
-    Place::new(entry.page, entry.rectangle, entry.size, padding)
+    entries.prove_kept();
+    let number = entries.oldest()?;
+    Some((number, entries.entry(number)))
+}
+
+/// The place of an entry.
+pub fn place_of<K: Copy>(entry: Entry<K>, options: &CacheOptions) -> Place
+    requires { IsBorderedBy options.now.padding entry.size entry.rectangle }
+    ensures { result ≡ shown options.now.padding entry }
+{
+    Place::new(entry.page, entry.rectangle, entry.size, options.padding)
 }
 
 /// A new entry on the first page that has room for it; None if none has. After an error no rectangle has moved.
@@ -85,18 +100,16 @@ pub fn take_out<K: Copy + Eq + Hash, S: BuildHasher, A: Allocator + Copy>(
     rooms: &mut Rooms<A>,
     entries: &mut Entries<K, S, A>,
     number: u32,
-) -> Entry<K>
+    entry: Entry<K>,
+)
     requires held { HoldsEntries rooms.old.pages (entries_of entries.old) }
-    requires number { IsNumber number entries.old }
+    requires here { entry_at number entries.old ≡ Some entry }
     ensures held { HoldsEntries rooms.new.pages (entries_of entries.new) }
-    ensures entry { entry_at number entries.old ≡ Some result }
     ensures without { entries.new ≡ without_number number entries.old }
-    ensures leaves { LeavesNoBoxOn rooms.old.pages rooms.new.pages result.page result.id }
+    ensures leaves { LeavesNoBoxOn rooms.old.pages rooms.new.pages entry.page entry.id }
     ensures sizes { page_sizes rooms.new.pages ≡ page_sizes rooms.old.pages }
     ensures options { rooms.new.options ≡ rooms.old.options }
 {
-    let entry = entries.entry(number);
     entries.remove(number);
     rooms.free(entry.page, entry.id);
-    entry
 }

@@ -1,0 +1,60 @@
+use Rattle.std.proofs.Common.{◌≡◌, ap, refl, ◌∷◌, arith, rules}
+use Rattle.guillotiere.specs.declared.Size.{Size}
+use Rattle.atlas_cache.specs.Caches.{entries_of}
+use Rattle.atlas_cache.specs.Entries.{without_number}
+use Rattle.atlas_cache.specs.declared.entries.Entry.{Entry}
+use Rattle.atlas_cache.proofs.CacheLemmas.{bordered-at, touched-is, used}
+use Rattle.atlas_cache.proofs.ListLemmas.{parts}
+use Rattle.atlas_cache.proofs.cache.TextureCache.insert.Goals as goal
+
+pub place_of-requires : goal.place_of-requires
+place_of-requires g c =
+    let found = rw c.in-Some.is at c.look_up.ensures.found in
+    rw c.options.ensures.options (bordered-at _ _ c.self.inside.entries c.in-Some.entry c.self.invariant.bordered found.at)
+
+pub invariant_of-self : goal.invariant_of-self
+invariant_of-self g c =
+    let found = rw c.in-Some.is at c.look_up.ensures.found in
+    let it = c.self.inside in
+    let n = c.in-Some.number in
+    let e = c.in-Some.entry in
+    let was = c.self.invariant in
+    let p = parts n it.entries e found.at in
+    let k = used it.rooms.pages it.rooms.options.padding it.frame e (entries_of it.entries)
+    (entries_of (without_number n it.entries)) p was.held was.bordered was.frames in
+    rw (c.touch.ensures, touched-is n it.frame it.entries e found.at)
+    (record { held = k.held; bordered = k.bordered; frames = k.frames })
+
+pub returns-in-Some-clause-known : goal.returns-in-Some-clause-known
+returns-in-Some-clause-known g c =
+    let found = rw c.in-Some.is at c.look_up.ensures.found in
+    let it = c.self.inside in
+    let n = c.in-Some.number in
+    let e = c.in-Some.entry in
+    let p = parts n it.entries e found.at in
+    let front : Entry g.row.K.Denot = record e { frame = it.frame } in
+    let sized : e.size ≡ c.args.size = first_of (search rules, grind arith) in
+    rw (← c.self.view_is, found.here, c.touch.ensures, touched-is n it.frame it.entries e found.at) (
+      record {
+        same = λ _. (
+          rw (c.place_of.ensures, c.options.ensures.options) refl,
+          record {
+            newer = p.newer;
+            older = p.older;
+            was = p.was;
+            is = ap (λ r. front ∷ r) p.rests;
+            pages = refl;
+            options = refl;
+            frame = refl;
+          },
+          refl,
+        );
+        other = λ differ. absurd (differ sized);
+      },
+      refl,
+    )
+
+pub returns-clause-outside : goal.returns-clause-outside
+returns-clause-outside g c = λ absent cannot. absurd (cannot (
+    let stands = c.in-Some-asked.ensures.0 in
+    rw (← c.self.view_is) (rw c.options-2.ensures.options at stands)))
