@@ -10,3 +10,4 @@ pub mod KeyLemmas
 pub mod PictureLemmas
 pub mod CacheLemmas
 pub mod LoopLemmas
+pub mod RoomLemmas

@@ -19,6 +19,9 @@ pub record RoomsState : Type 0 where
   pub options : CacheOptions
   pub pages : List AtlasValue
 
+abbrev pub rooms_of : CacheOptions → List AtlasValue → RoomsState
+rooms_of o pages = record { options = o; pages = pages }
+
 -- The size of a page, in pixels.
 abbrev pub size_of_page : AtlasValue → Size
 size_of_page s = size_of (state_of s).size
@@ -77,7 +80,7 @@ pub record IsFirstToGrow (o : CacheOptions) (sizes : List Size) (page : ℕ) (si
   pub old : Size
   pub here : slice_get sizes page ≡ Some old
   pub smaller : old ≢ o.largest_page
-  pub grown : size ≡ size_of (grown_sides (sides_of o.largest_page) (sides_of old))
+  pub grows : size ≡ size_of (grown_sides (sides_of o.largest_page) (sides_of old))
 
 -- Each page is at its largest.
 abbrev pub AreAllLargest : CacheOptions → List Size → Type 0

@@ -1,8 +1,8 @@
 //! The pages of a cache, each an atlas: small steps, of which none evicts.
-ghost use Rattle.std.specs.Prelude.{◌≡◌, ◌≢◌, ◌↔◌, ◌*◌, ◌<◌, ◌≤◌, ◌≤ℤ◌, ℕ, min, pos, [], ◌∷◌, ◌++◌, length};
+ghost use Rattle.std.specs.Prelude.{◌≡◌, ◌≢◌, ◌↔◌, ◌*◌, ◌<◌, ◌≤◌, ℕ, min, pos, [], ◌∷◌, ◌++◌, length};
 ghost use Rattle.std.specs.Prelude.{slice_get, slice_set, IfErr, IfNone, IfOk, IfSome, IsOkUnless, IsSome, IsTrue};
 ghost use Rattle.std.specs.Prelude.{None, Ok, OnErr, OnOk, Some};
-ghost use Rattle.guillotiere.specs.Boxes.{Fits};
+ghost use Rattle.guillotiere.specs.Boxes.{Fits, IsPositive};
 ghost use Rattle.guillotiere.specs.Callers.{IsShortage};
 ghost use Rattle.guillotiere.specs.Pages.{rectangle_on, AddsBoxOn, AllLieApartOn, AllLieWithinOn, HasRoomOn};
 ghost use Rattle.guillotiere.specs.Pages.{HasSameRectangles, LeavesNoBoxOn, NoneHasRoomBelow};
@@ -11,7 +11,7 @@ ghost use Rattle.guillotiere.specs.Stored.{AtlasValue, state_of};
 ghost use Rattle.atlas_cache.specs.declared.options.CacheOptions.{CacheOptions};
 ghost use Rattle.atlas_cache.specs.Asking.{AreUsable};
 ghost use Rattle.atlas_cache.specs.Rooms.{grown_sides, growth_left, page_sizes, AreAllLargest, AreLargestBelow};
-ghost use Rattle.atlas_cache.specs.Rooms.{ArePagesOf, IsAtLeast, IsFirstToGrow, IsNothingLive, IsRefusal, KeepsRooms};
+ghost use Rattle.atlas_cache.specs.Rooms.{rooms_of, IsAtLeast, IsFirstToGrow, IsNothingLive, IsRefusal, KeepsRooms};
 ghost use Rattle.atlas_cache.specs.Rooms.{LargestHasRoom};
 
 use crate::error::CacheError;
@@ -29,13 +29,13 @@ pub struct Rooms<A: Allocator + Copy = Global> {
 }
 
 impl<A: Allocator + Copy> Model for Rooms<A> {
-    ghost use Rattle.atlas_cache.specs.Rooms.{KeepsRooms, RoomsState};
+    ghost use Rattle.atlas_cache.specs.Rooms.{rooms_of, KeepsRooms, RoomsState};
 
     ghost Value = { RoomsState };
 
-    ghost view = { λ r. record { options = r.options; pages = r.pages.items } };
+    ghost view = { λ r. rooms_of r.options r.pages.items };
 
-    ghost invariant = { λ r. KeepsRooms (record { options = r.options; pages = r.pages.items }) };
+    ghost invariant = { λ r. KeepsRooms (rooms_of r.options r.pages.items) };
 }
 
 // Why a cache refuses what an atlas refused.
@@ -49,19 +49,28 @@ fn refusal(error: AtlasError) -> CacheError
     }
 }
 
+// A page's number, or how many pages there are, as a `u32`.
+fn number(page: usize, most: u32) -> u32
+    requires { page ≤ most }
+    ensures { result ≡ page }
+{
+    page as u32
+}
+
 // Grants a request on a page that has room for it.
 fn take<A: Allocator + Copy>(
-    pages: &mut [AtlasAllocator<A>],
+    pages: &mut Vec<AtlasAllocator<A>, A>,
     page: usize,
     asked: Size,
 ) -> Result<Allocation, CacheError>
-    requires page { page < length pages.old }
-    requires room { HasRoomOn asked pages.old page }
-    ensures adds { IfOk result (λ a. AddsBoxOn pages.old pages.new page a.id a.rectangle) }
+    requires page { page < length pages.old.items }
+    requires room { HasRoomOn asked pages.old.items page }
+    ensures adds { IfOk result (λ a. AddsBoxOn pages.old.items pages.new.items page a.id a.rectangle) }
     ensures large { IfOk result (λ a. IsAtLeast asked a.rectangle) }
-    ensures sizes { page_sizes pages.new ≡ page_sizes pages.old }
-    ensures kept { (o : CacheOptions) → ArePagesOf o pages.old → ArePagesOf o pages.new }
-    ensures refused { OnErr result (pages.new ≡ pages.old) }
+    ensures sizes { page_sizes pages.new.items ≡ page_sizes pages.old.items }
+    ensures kept { (o : CacheOptions) → KeepsRooms (rooms_of o pages.old.items)
+        → KeepsRooms (rooms_of o pages.new.items) }
+    ensures refused { OnErr result (pages.new.items ≡ pages.old.items) }
     ensures errors { IfErr result IsRefusal }
 {
     match pages[page].allocate(asked) {
@@ -71,14 +80,53 @@ fn take<A: Allocator + Copy>(
     }
 }
 
+// Grants a request on the first page that has room for it.
+fn place_first<A: Allocator + Copy>(
+    pages: &mut Vec<AtlasAllocator<A>, A>,
+    options: &CacheOptions,
+    asked: Size,
+) -> Result<Option<(u32, Allocation)>, CacheError>
+    requires { KeepsRooms (rooms_of options.now pages.old.items) }
+    ensures adds { IfOk result (λ placed. IfSome placed (λ place.
+        AddsBoxOn pages.old.items pages.new.items place.0 place.1.id place.1.rectangle)) }
+    ensures large { IfOk result (λ placed. IfSome placed (λ place. IsAtLeast asked place.1.rectangle)) }
+    ensures first { IfOk result (λ placed. IfSome placed (λ place.
+        NoneHasRoomBelow asked pages.old.items place.0)) }
+    ensures page { IfOk result (λ placed. IfSome placed (λ place. place.0 < length pages.old.items)) }
+    ensures sizes { page_sizes pages.new.items ≡ page_sizes pages.old.items }
+    ensures kept { KeepsRooms (rooms_of options.now pages.new.items) }
+    ensures full { result ≡ Ok None → NoneHasRoomBelow asked pages.old.items (length pages.old.items) }
+    ensures none { result ≡ Ok None → pages.new.items ≡ pages.old.items }
+    ensures refused { OnErr result (pages.new.items ≡ pages.old.items) }
+    ensures errors { IfErr result IsRefusal }
+{
+    let Some(page) = page_with_room(pages, asked) else {
+        return Ok(None);
+    };
+    let granted = take(pages, page, asked)?;
+    Ok(Some((number(page, options.pages), granted)))
+}
+
 // Frees the rectangle of an id of a page, if it has one.
-fn give_back<A: Allocator + Copy>(pages: &mut [AtlasAllocator<A>], page: usize, id: AllocId)
-    requires { page < length pages.old }
-    ensures leaves { LeavesNoBoxOn pages.old pages.new page id }
-    ensures sizes { page_sizes pages.new ≡ page_sizes pages.old }
-    ensures kept { (o : CacheOptions) → ArePagesOf o pages.old → ArePagesOf o pages.new }
+fn give_back<A: Allocator + Copy>(
+    pages: &mut Vec<AtlasAllocator<A>, A>,
+    page: usize,
+    id: AllocId,
+)
+    requires { page < length pages.old.items }
+    ensures leaves { LeavesNoBoxOn pages.old.items pages.new.items page id }
+    ensures sizes { page_sizes pages.new.items ≡ page_sizes pages.old.items }
+    ensures kept { (o : CacheOptions) → KeepsRooms (rooms_of o pages.old.items)
+        → KeepsRooms (rooms_of o pages.new.items) }
 {
     let _freed = pages[page].deallocate(id);
+}
+
+// Whether a page is at its largest.
+fn is_largest(size: Size, largest: Size) -> bool
+    ensures { IsTrue result ↔ (size ≡ largest) }
+{
+    size == largest
 }
 
 // The first page that isn't at its largest, and its size.
@@ -93,7 +141,7 @@ fn first_to_grow<A: Allocator + Copy>(
 {
     for page in 0..pages.len() {
         let size = pages[page].size();
-        if size != largest {
+        if !is_largest(size, largest) {
             return Some((page, size));
         }
     }
@@ -102,8 +150,8 @@ fn first_to_grow<A: Allocator + Copy>(
 
 // Twice a side, up to the largest.
 fn doubled(side: i32, most: i32) -> i32
-    requires side { pos 0 ≤ℤ side }
-    requires most { side ≤ℤ most }
+    requires side { 0 < natural side }
+    requires most { natural side ≤ natural most }
     ensures { result ≡ pos (min (2 * natural side) (natural most)) }
 {
     if side >= most - side {
@@ -115,10 +163,8 @@ fn doubled(side: i32, most: i32) -> i32
 
 // The size that a page grows to.
 fn grown(size: Size, largest: Size) -> Size
-    requires width { pos 0 ≤ℤ size.width }
-    requires height { pos 0 ≤ℤ size.height }
-    requires wide { size.width ≤ℤ largest.width }
-    requires high { size.height ≤ℤ largest.height }
+    requires positive { IsPositive (sides_of size) }
+    requires fits { Fits (sides_of size) (sides_of largest) }
     ensures { result ≡ size_of (grown_sides (sides_of largest) (sides_of size)) }
 {
     if size.width < largest.width
@@ -138,24 +184,53 @@ fn grown(size: Size, largest: Size) -> Size
 
 // A page grows to this size.
 fn grow_to<A: Allocator + Copy>(
-    pages: &mut [AtlasAllocator<A>],
+    pages: &mut Vec<AtlasAllocator<A>, A>,
     page: usize,
     size: Size,
 ) -> Result<(), CacheError>
-    requires page { page < length pages.old }
+    requires page { page < length pages.old.items }
     requires exact { size_of (sides_of size) ≡ size }
-    requires larger { (s : AtlasValue) → slice_get pages.old page ≡ Some s → Fits (state_of s).size (sides_of size) }
-    ensures same { HasSameRectangles pages.old pages.new }
-    ensures sizes { OnOk result (page_sizes pages.new ≡ slice_set (page_sizes pages.old) page size) }
-    ensures kept { (o : CacheOptions) → Fits (sides_of size) (sides_of o.largest_page) → ArePagesOf o pages.old
-        → ArePagesOf o pages.new }
-    ensures refused { OnErr result (pages.new ≡ pages.old) }
+    requires larger { (s : AtlasValue) → slice_get pages.old.items page ≡ Some s
+        → Fits (state_of s).size (sides_of size) }
+    ensures same { HasSameRectangles pages.old.items pages.new.items }
+    ensures sizes { OnOk result (page_sizes pages.new.items ≡ slice_set (page_sizes pages.old.items) page size) }
+    ensures kept { (o : CacheOptions) → Fits (sides_of size) (sides_of o.largest_page)
+        → KeepsRooms (rooms_of o pages.old.items) → KeepsRooms (rooms_of o pages.new.items) }
+    ensures refused { OnErr result (pages.new.items ≡ pages.old.items) }
     ensures errors { IfErr result IsRefusal }
 {
     match pages[page].grow(size) {
         Ok(()) => Ok(()),
         Err(error) => Err(refusal(error)),
     }
+}
+
+// The first page that isn't at its largest grows.
+fn grow_first<A: Allocator + Copy>(
+    pages: &mut Vec<AtlasAllocator<A>, A>,
+    options: &CacheOptions,
+) -> Result<Option<(u32, Size)>, CacheError>
+    requires { KeepsRooms (rooms_of options.now pages.old.items) }
+    ensures first { IfOk result (λ grown. IfSome grown (λ growth.
+        IsFirstToGrow options.now (page_sizes pages.old.items) growth.0 growth.1)) }
+    ensures sizes { IfOk result (λ grown. IfSome grown (λ growth.
+        page_sizes pages.new.items ≡ slice_set (page_sizes pages.old.items) growth.0 growth.1)) }
+    ensures less { IfOk result (λ grown. IfSome grown (λ _.
+        growth_left options.now (page_sizes pages.new.items)
+        < growth_left options.now (page_sizes pages.old.items))) }
+    ensures same { HasSameRectangles pages.old.items pages.new.items }
+    ensures kept { KeepsRooms (rooms_of options.now pages.new.items) }
+    ensures none { (result ≡ Ok None) ↔ AreAllLargest options.now (page_sizes pages.old.items) }
+    ensures nothing { result ≡ Ok None → pages.new.items ≡ pages.old.items }
+    ensures refused { OnErr result (pages.new.items ≡ pages.old.items) }
+    ensures errors { IfErr result IsRefusal }
+{
+    let Some((page, old)) = first_to_grow(pages, options.largest_page) else {
+        return Ok(None);
+    };
+    let size = grown(old, options.largest_page);
+    grow_to(pages, page, size)?;
+    Ok(Some((number(page, options.pages), size)))
 }
 
 // A new page with nothing on it comes last.
@@ -167,7 +242,11 @@ fn push_page<A: Allocator + Copy>(
     ensures same { HasSameRectangles pages.old.items pages.new.items }
     ensures sizes { OnOk result
         (page_sizes pages.new.items ≡ page_sizes pages.old.items ++ options.now.page ∷ []) }
-    ensures kept { ArePagesOf options.now pages.old.items → ArePagesOf options.now pages.new.items }
+    ensures kept { OnOk result (length pages.old.items < options.now.pages
+        → KeepsRooms (rooms_of options.now pages.old.items) → KeepsRooms (rooms_of options.now pages.new.items)) }
+    ensures less { OnOk result (length pages.old.items < options.now.pages
+        → growth_left options.now (page_sizes pages.new.items)
+        < growth_left options.now (page_sizes pages.old.items)) }
     ensures refused { OnErr result (pages.new.items ≡ pages.old.items) }
     ensures unless { IsOkUnless result CacheError.Memory }
 {
@@ -182,10 +261,11 @@ fn push_page<A: Allocator + Copy>(
 }
 
 // All rectangles of each page go.
-fn clear_pages<A: Allocator + Copy>(pages: &mut [AtlasAllocator<A>])
-    ensures nothing { IsNothingLive pages.new }
-    ensures sizes { page_sizes pages.new ≡ page_sizes pages.old }
-    ensures kept { (o : CacheOptions) → ArePagesOf o pages.old → ArePagesOf o pages.new }
+fn clear_pages<A: Allocator + Copy>(pages: &mut Vec<AtlasAllocator<A>, A>)
+    ensures nothing { IsNothingLive pages.new.items }
+    ensures sizes { page_sizes pages.new.items ≡ page_sizes pages.old.items }
+    ensures kept { (o : CacheOptions) → KeepsRooms (rooms_of o pages.old.items)
+        → KeepsRooms (rooms_of o pages.new.items) }
 {
     for page in 0..pages.len() {
         let _cleared = pages[page].clear();
@@ -228,7 +308,7 @@ impl<A: Allocator + Copy> Rooms<A> {
         ensures pages { result ≡ length self.now.pages }
         ensures few { result ≤ self.now.options.pages }
     {
-        self.pages.len() as u32
+        number(self.pages.len(), self.options.pages)
     }
 
     /// Whether there are none.
@@ -267,7 +347,7 @@ impl<A: Allocator + Copy> Rooms<A> {
         ensures large { IfOk result (λ placed. IfSome placed (λ place. IsAtLeast asked place.1.rectangle)) }
         ensures first { IfOk result (λ placed. IfSome placed (λ place.
             NoneHasRoomBelow asked self.old.pages place.0)) }
-        ensures page { IfOk result (λ placed. IfSome placed (λ place. place.0 < length self.new.pages)) }
+        ensures page { IfOk result (λ placed. IfSome placed (λ place. place.0 < length self.old.pages)) }
         ensures sizes { page_sizes self.new.pages ≡ page_sizes self.old.pages }
         ensures options { self.new.options ≡ self.old.options }
         ensures full { result ≡ Ok None → NoneHasRoomBelow asked self.old.pages (length self.old.pages) }
@@ -275,11 +355,7 @@ impl<A: Allocator + Copy> Rooms<A> {
         ensures refused { OnErr result (self.new ≡ self.old) }
         ensures errors { IfErr result IsRefusal }
     {
-        let Some(page) = page_with_room(&self.pages, asked) else {
-            return Ok(None);
-        };
-        let granted = take(&mut self.pages, page, asked)?;
-        Ok(Some((page as u32, granted)))
+        place_first(&mut self.pages, &self.options, asked)
     }
 
     /// Frees the rectangle of an id of a page. Asks that the id is live there. No other rectangle moves. Takes no
@@ -312,13 +388,7 @@ impl<A: Allocator + Copy> Rooms<A> {
         ensures refused { OnErr result (self.new ≡ self.old) }
         ensures errors { IfErr result IsRefusal }
     {
-        let largest = self.options.largest_page;
-        let Some((page, old)) = first_to_grow(&self.pages, largest) else {
-            return Ok(None);
-        };
-        let size = grown(old, largest);
-        grow_to(&mut self.pages, page, size)?;
-        Ok(Some((page as u32, size)))
+        grow_first(&mut self.pages, &self.options)
     }
 
     /// A new page with nothing on it comes last: its number and its size, in pixels. None exactly if there are as many
