@@ -12,7 +12,7 @@ module _ {K : Type 0} where
   abbrev pub IsLiveOn : List AtlasValue → Entry K → Type 0
   IsLiveOn pages e = rectangle_on pages e.page e.id ≡ Some e.rectangle
 
-  id_cases : (page id : ℕ) (e : Entry K)
+  pub id_cases : (page id : ℕ) (e : Entry K)
       → ((has_id page id e ≡ true) × (e.page ≡ page) × (e.id ≡ id)) ⊎ ((has_id page id e ≡ false) × (e.page ≡ page → e.id ≢ id))
   id_cases page id e = elim (eqb_tells e.page page) [
     | inl p ↦ elim (eqb_tells e.id id) [

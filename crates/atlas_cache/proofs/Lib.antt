@@ -11,3 +11,4 @@ pub mod PictureLemmas
 pub mod CacheLemmas
 pub mod LoopLemmas
 pub mod RoomLemmas
+pub mod ApartLemmas

@@ -101,17 +101,16 @@ module _ {K : Type 0} where
   HaveOwnKeys eq [] = Unit {0}
   HaveOwnKeys eq (e ∷ es) = AllByRecursion (λ f. eq e.key f.key ≡ false) es × HaveOwnKeys eq es
 
-  -- The places of two keys on one page lie apart, the padding included.
-  abbrev pub PlacesLieApart : (K → K → Bool) → CacheState K → Type 0
-  PlacesLieApart eq s =
-      (j k : K) (p q : Place) → eq j k ≡ false → place_for eq s j ≡ Some p → place_for eq s k ≡ Some q
-      → p.page ≡ q.page → RectanglesLieApart p.rectangle q.rectangle
+  -- No pixel of a page lies in two entries, their padding included: two entries of one page lie apart.
+  abbrev pub EntriesLieApart : List (Entry K) → Type 0
+  EntriesLieApart [] = Unit {0}
+  EntriesLieApart (e ∷ es) =
+      AllByRecursion (λ f. e.page ≡ f.page → RectanglesLieApart e.rectangle f.rectangle) es × EntriesLieApart es
 
-  -- There is a page under each place, and the place lies within it, the padding included.
-  abbrev pub PlacesLieWithin : (K → K → Bool) → CacheState K → Type 0
-  PlacesLieWithin eq s =
-      (k : K) (p : Place) → place_for eq s k ≡ Some p
-      → (a : AtlasValue) × (slice_get s.pages p.page ≡ Some a) × IsWithin (state_of a).size (box_of p.rectangle)
+  -- There is a page under each entry, and the entry lies within it, its padding included.
+  abbrev pub EntriesLieWithin : List AtlasValue → List (Entry K) → Type 0
+  EntriesLieWithin pages es =
+      AllByRecursion (λ e. (a : AtlasValue) × (slice_get pages e.page ≡ Some a) × IsWithin (state_of a).size (box_of e.rectangle)) es
 
   -- How many changes an insert can still make at most.
   abbrev pub steps_left : CacheState K → ℕ

@@ -7,3 +7,4 @@ pub mod Orders
 pub mod Rings
 pub mod Rooms
 pub mod Tables
+pub mod Telling

@@ -86,9 +86,10 @@ impl<K: Copy + Eq + Hash, S: BuildHasher + Drop, A: Allocator + Copy> TextureCac
 }
 
 impl<K: Copy + Eq + Hash, S: BuildHasher, A: Allocator + Copy> TextureCache<K, S, A> {
-    ghost use Rattle.atlas_cache.specs.Caches.{entry_for, place_for, steps_left, AreAllInUse, HasNoPageFor, IsFull};
-    ghost use Rattle.atlas_cache.specs.Changes.{picture_of, placed, Adds, DoesOne, FindsKnown, Inserts, IsExhausted};
-    ghost use Rattle.atlas_cache.specs.Changes.{LooksSame, Removes, ShowsSame, Uses};
+    ghost use Rattle.atlas_cache.specs.Caches.{entry_for, place_for, steps_left, AreAllInUse, EntriesLieApart};
+    ghost use Rattle.atlas_cache.specs.Caches.{EntriesLieWithin, HasNoPageFor, HaveOwnKeys, IsFull, IsKept};
+    ghost use Rattle.atlas_cache.specs.Changes.{Adds, DoesOne, FindsKnown, Inserts, IsExhausted, LooksSame, Removes, Uses};
+    ghost use Rattle.atlas_cache.specs.Telling.{Tells};
 
     /// A new frame: what was used before may go from now on.
     pub fn begin_frame(&mut self)
@@ -129,14 +130,27 @@ impl<K: Copy + Eq + Hash, S: BuildHasher, A: Allocator + Copy> TextureCache<K, S
         }
     }
 
+    /// Says what each cache keeps, and does nothing: what is live on its pages is what the entries hold, each once; each
+    /// entry has its padding; two entries of one page lie apart, and each lies within its page, padding included; and
+    /// each has a key of its own.
+    pub fn prove_kept(&self)
+        ensures kept { IsKept self.now }
+        ensures apart { EntriesLieApart self.now.entries }
+        ensures within { EntriesLieWithin self.now.pages self.now.entries }
+        ensures keys { HaveOwnKeys K.eq self.now.entries }
+    {
+        self.rooms.prove_kept();
+        self.entries.prove_kept();
+    }
+
     /// The place of a key; None if it isn't held. It counts as no use.
     pub fn peek(&self, key: &K) -> Option<Place>
         ensures { result ≡ place_for K.eq self.now key.now }
     {
-        let Some((_, entry)) = look_up(&self.entries, key) else {
+        let Some((_, found)) = look_up(&self.entries, key) else {
             return None;
         };
-        Some(place_of(entry, &self.rooms.options()))
+        Some(place_of(found, &self.rooms.options()))
     }
 
     /// The place of a key, which is used in this frame from now on; None if it isn't held. Counts a hit or a miss.
@@ -157,7 +171,12 @@ impl<K: Copy + Eq + Hash, S: BuildHasher, A: Allocator + Copy> TextureCache<K, S
         Some(place_of(entry, &self.rooms.options()))
     }
 
-    /// A place for a key.
+    /// A place for a key, which is used in this frame. A key that is held keeps its place; asked with another size, it is
+    /// refused with `OtherSize`, and nothing changes. A new key comes on the first page with room for its size, in
+    /// pixels, with the padding. Where none has, a page grows; where none can, one is added; and where all are there, the
+    /// least recently used entry goes that this frame didn't use; and so on. None if the size is empty or doesn't fit
+    /// the largest page, and then nothing changes, or if all entries are in use and no page has room. What was done is
+    /// added to the changes, also after an error, `Memory`, `Slots` or `Numbers`.
     pub fn insert(
         &mut self,
         key: K,
@@ -171,12 +190,14 @@ impl<K: Copy + Eq + Hash, S: BuildHasher, A: Allocator + Copy> TextureCache<K, S
         ensures new { entry_for K.eq key self.old.entries ≡ None → CanStand self.old.options size
             → Inserts (size_of (bordered self.old.options size)) key size result changes.old.items changes.new.items
             self.old self.new }
+        ensures told { Tells K.eq key result changes.old.items changes.new.items self.old self.new }
     {
-        if let Some((number, entry)) = look_up(&self.entries, &key) {
+        self.entries.prove_kept();
+        if let Some((known, entry)) = look_up(&self.entries, &key) {
             if entry.size != size {
                 return Err(CacheError::OtherSize);
             }
-            self.entries.touch(number, self.frame);
+            self.entries.touch(known, self.frame);
             return Ok(Some(place_of(entry, &self.rooms.options())));
         }
         let Some(asked) = self.rooms.options().asked(size) else {

@@ -1,10 +1,12 @@
-use Rattle.std.proofs.Common.{◌≡◌, ap, refl, ◌∷◌, arith, rules}
+use Rattle.std.proofs.Common.{◌≡◌, ap, refl, sym, ◌∙◌, ◌∷◌, [], arith, rules}
 use Rattle.guillotiere.specs.declared.Size.{Size}
 use Rattle.atlas_cache.specs.Caches.{entries_of}
 use Rattle.atlas_cache.specs.Entries.{without_number}
 use Rattle.atlas_cache.specs.declared.entries.Entry.{Entry}
 use Rattle.atlas_cache.proofs.CacheLemmas.{bordered-at, touched-is, used}
-use Rattle.atlas_cache.proofs.ListLemmas.{parts}
+use Rattle.atlas_cache.proofs.KeyLemmas.{own_keys}
+use Rattle.atlas_cache.proofs.ListLemmas.{append-none, parts}
+use Rattle.atlas_cache.proofs.PictureLemmas.{inserts_tell, same_shown, uses_tell}
 use Rattle.atlas_cache.proofs.cache.TextureCache.insert.Goals as goal
 
 pub place_of-requires : goal.place_of-requires
@@ -16,7 +18,7 @@ pub invariant_of-self : goal.invariant_of-self
 invariant_of-self g c =
     let found = rw c.in-Some.is at c.look_up.ensures.found in
     let it = c.self.inside in
-    let n = c.in-Some.number in
+    let n = c.in-Some.known in
     let e = c.in-Some.entry in
     let was = c.self.invariant in
     let p = parts n it.entries e found.at in
@@ -29,7 +31,7 @@ pub returns-in-Some-clause-known : goal.returns-in-Some-clause-known
 returns-in-Some-clause-known g c =
     let found = rw c.in-Some.is at c.look_up.ensures.found in
     let it = c.self.inside in
-    let n = c.in-Some.number in
+    let n = c.in-Some.known in
     let e = c.in-Some.entry in
     let p = parts n it.entries e found.at in
     let front : Entry g.row.K.Denot = record e { frame = it.frame } in
@@ -58,3 +60,10 @@ pub returns-clause-outside : goal.returns-clause-outside
 returns-clause-outside g c = λ absent cannot. absurd (cannot (
     let stands = c.in-Some-asked.ensures.0 in
     rw (← c.self.view_is) (rw c.options-2.ensures.options at stands)))
+
+pub returns-clause-told : goal.returns-clause-told
+returns-clause-told g c =
+    let own = own_keys g.K.PartialEq.eq c.self.inside.entries c.prove_kept.ensures.keys in
+    inserts_tell g.K.PartialEq.eq g.met.K.Eq.laws c.in-Some-asked.asked c.args.key c.args.size c.insert_new.result
+    c.args.changes.now.items c.insert_new.new.changes.items c.args.self.now c.insert_new.new.self (rw (← c.self.view_is) own)
+    c.insert_new.ensures
