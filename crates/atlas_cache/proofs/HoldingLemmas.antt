@@ -66,8 +66,10 @@ module _ {K : Type 0} where
         ];
         known = λ page id r is_r. elim (id_cases page id e) [
           | inl it ↦ rw it.0 (omega arith)
-          | inr other ↦ rw other.0 (omega (arith,
-              held.known page id r (sym (adds.same page id (λ p i. other.1 (sym p) (sym i))) ∙ is_r)))
+          | inr other ↦ rw other.0 (omega (
+            arith,
+            held.known page id r (sym (adds.same page id (λ p i. other.1 (sym p) (sym i))) ∙ is_r),
+          ))
         ];
       }
 

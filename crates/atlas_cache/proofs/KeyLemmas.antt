@@ -29,6 +29,17 @@ module _ {K : Type 0} (eq : K → K → Bool) where
   other_found q [] e ys apart = rw apart refl
   other_found q (x ∷ xs) e ys apart = ap (λ o. cond (eq q x.key) (Some x) o) (other_found q xs e ys apart)
 
+  pub found_named : (k : K) (e : Entry K) (es : List (Entry K)) → entry_for eq k es ≡ Some e → eq k e.key ≡ true
+  found_named k e [] is = absurd (let none : None ≡ Some e = is in cc)
+  found_named k e (x ∷ es) is = elim (cases_Bool (eq k x.key)) [
+    | inl hit ↦
+        let here = rw hit at is in
+        let same : Some x ≡ Some e = here in
+        let x_e : x ≡ e = cc in
+        ap (λ (y : Entry K). eq k y.key) (sym x_e) ∙ hit
+    | inr miss ↦ let there = rw miss at is in found_named k e es there
+  ]
+
   module _ (laws : IsEquivalence eq) where
     others_differ : (xs : List (Entry K)) (e : Entry K) (ys : List (Entry K)) → HaveOwnKeys eq (xs ++ e ∷ ys)
         → AllByRecursion (λ f. eq e.key f.key ≡ false) (xs ++ ys)
@@ -69,11 +80,12 @@ module _ {K : Type 0} (eq : K → K → Bool) where
         → option_map show (entry_for eq q (f ∷ (xs ++ ys))) ≡ option_map show (entry_for eq q (xs ++ e ∷ ys))
     fronted show e f named shows xs ys h q = elim (cases_Bool (eq e.key q)) [
       | inl same ↦
-          let at = laws.symm q e.key ∙ same in
-          rw (named, at, here xs e ys h q same) (ap Some shows)
+          let at = ap (λ k. eq q k) named ∙ (laws.symm q e.key ∙ same) in
+          rw (at, here xs e ys h q same) (ap Some shows)
       | inr apart ↦
           let off = laws.symm q e.key ∙ apart in
-          rw (named, off, other_found q xs e ys off) refl
+          let at = ap (λ k. eq q k) named ∙ off in
+          rw (at, other_found q xs e ys off) refl
     ]
 
     differ_named : (e : Entry K) (k : K) → e.key ≡ k → (es : List (Entry K)) → entry_for eq k es ≡ None

@@ -56,8 +56,7 @@ module _ {K : Type 0} (eq : K → K → Bool) where
       rw does.keeps.entries own,
     )
     one_step (Evicted key place) s t own does =
-        let rest = sym (append-none t.entries) in
-        (
+        let rest = sym (append-none t.entries) in (
           record {
             places = λ k. rw does.named (taken s t t.entries does.entry [] own does.last rest does.options k);
             pages = sym does.sizes;
@@ -82,8 +81,8 @@ module _ {K : Type 0} (eq : K → K → Bool) where
     pub added : (asked : Size) (key : K) (size : Size) (place : Place) (s t : CacheState K) → Adds asked key size place s t
         → ShowsSame (placed eq key (Some place) (picture_of eq s)) (picture_of eq t)
     added asked key size place s t adds = record {
-      places = λ k. rw (adds.first, adds.options, first eq laws adds.entry s.entries k, adds.placed.named, adds.shows)
-          (sym (map-cond (shown s.options.padding) (eq key k) (Some adds.entry) (entry_for eq k s.entries)));
+      places = λ k. rw (adds.first, adds.options, first eq laws adds.entry s.entries k, ← adds.placed.named, adds.shows)
+          (sym (map-cond (shown s.options.padding) (eq adds.entry.key k) (Some adds.entry) (entry_for eq k s.entries)));
       pages = sym adds.sizes;
     }
 
@@ -129,9 +128,10 @@ module _ {K : Type 0} (eq : K → K → Bool) where
       places = λ q. elim (cases_Bool (eq key q)) [
         | inl same ↦
             let at = sym (laws.congr key entry.key q (laws.symm key entry.key ∙ named)) ∙ same in
-            let found = here eq laws uses.newer entry uses.older (rw uses.was at own) q at in
-            rw (same, kept q, uses.was, found) refl
-        | inr apart ↦ rw (apart, kept q) refl
+            let found : entry_for eq q s.entries ≡ Some entry =
+            rw uses.was (here eq laws uses.newer entry uses.older (rw uses.was at own) q at) in
+            rw same (sym (kept q ∙ ap (option_map (shown s.options.padding)) found))
+        | inr apart ↦ rw apart (sym (kept q))
       ];
       pages = ap page_sizes (sym uses.pages);
     }

@@ -24,7 +24,11 @@ use std::marker::Model;
 /// Rectangles under keys in the pages of a texture array. Contracts see a `CacheState`: how the cache was made, the
 /// atlas of each page, the entries, the most recently used first, the frame, and how the cache was used.
 #[derive(Drop)]
-pub struct TextureCache<K: Copy + Eq + Hash, S: BuildHasher = DefaultHasher, A: Allocator + Copy = Global> {
+pub struct TextureCache<
+    K: Copy + Eq + Hash,
+    S: BuildHasher = DefaultHasher,
+    A: Allocator + Copy = Global,
+> {
     rooms: Rooms<A>,
     entries: Entries<K, S, A>,
     frame: u64,
@@ -37,19 +41,19 @@ impl<K: Copy + Eq + Hash, S: BuildHasher, A: Allocator + Copy> Model for Texture
     ghost Value = { CacheState K };
 
     ghost view = { λ c. record {
-        options = c.rooms.options;
-        pages = c.rooms.pages;
-        entries = entries_of c.entries;
-        frame = c.frame;
-        counts = c.counts;
+      options = c.rooms.options;
+      pages = c.rooms.pages;
+      entries = entries_of c.entries;
+      frame = c.frame;
+      counts = c.counts;
     } };
 
     ghost invariant = { λ c. IsKept (record {
-        options = c.rooms.options;
-        pages = c.rooms.pages;
-        entries = entries_of c.entries;
-        frame = c.frame;
-        counts = c.counts;
+      options = c.rooms.options;
+      pages = c.rooms.pages;
+      entries = entries_of c.entries;
+      frame = c.frame;
+      counts = c.counts;
     }) };
 }
 
@@ -159,8 +163,10 @@ impl<K: Copy + Eq + Hash, S: BuildHasher, A: Allocator + Copy> TextureCache<K, S
         ensures uses { IfSome (entry_for K.eq key.now self.old.entries) (λ e. Uses e self.old self.new) }
         ensures hit { IsSome result → self.new.counts
             ≡ record self.old.counts { hits = one_more self.old.counts.hits } }
-        ensures miss { result ≡ None → self.new ≡ record self.old { counts =
-            record self.old.counts { misses = one_more self.old.counts.misses } } }
+        ensures miss { result ≡ None → self.new ≡ record self.old {
+          counts =
+              record self.old.counts { misses = one_more self.old.counts.misses };
+        } }
     {
         let Some((number, entry)) = look_up(&self.entries, key) else {
             self.counts.misses = count(self.counts.misses);
