@@ -108,11 +108,7 @@ fn place_first<A: Allocator + Copy>(
 }
 
 // Frees the rectangle of an id of a page, if it has one.
-fn give_back<A: Allocator + Copy>(
-    pages: &mut Vec<AtlasAllocator<A>, A>,
-    page: usize,
-    id: AllocId,
-)
+fn give_back<A: Allocator + Copy>(pages: &mut Vec<AtlasAllocator<A>, A>, page: usize, id: AllocId)
     requires { page < length pages.old.items }
     ensures leaves { LeavesNoBoxOn pages.old.items pages.new.items page id }
     ensures sizes { page_sizes pages.new.items ≡ page_sizes pages.old.items }
@@ -167,9 +163,7 @@ fn grown(size: Size, largest: Size) -> Size
     requires fits { Fits (sides_of size) (sides_of largest) }
     ensures { result ≡ size_of (grown_sides (sides_of largest) (sides_of size)) }
 {
-    if size.width < largest.width
-        && (size.width <= size.height || size.height >= largest.height)
-    {
+    if size.width < largest.width && (size.width <= size.height || size.height >= largest.height) {
         Size {
             width: doubled(size.width, largest.width),
             height: size.height,

@@ -1,5 +1,5 @@
 -- One page of a list becomes another, or one comes last: what that makes of the sizes, and of what each page keeps.
-use Rattle.std.proofs.Common.{◌≡◌, ◌≢◌, ◌<◌, ◌≤◌, ◌+◌, ◌++◌, ◌∷◌, [], ℕ, zero, suc, List, Option, Some, None, length, map, get_or}
+use Rattle.std.proofs.Common.{◌≡◌, ◌<◌, ◌++◌, ◌∷◌, [], ℕ, zero, suc, List, Some, length, get_or}
 use Rattle.std.specs.Prelude.{find}
 use Rattle.std.proofs.Common.{◌==◌, option_map, slice_get, slice_set, refl, sym, ap, ◌∙◌, subst, inl, inr, arith, length-append, IsSome}
 use Rattle.std.proofs.lemmas.Bool.Decides.{eqb_tells}

@@ -1,5 +1,5 @@
 -- What has room on a page, and what lies there.
-use Rattle.std.proofs.Common.{◌≡◌, ◌≢◌, ◌<◌, ◌≤◌, ◌+◌, ◌*◌, ◌∷◌, [], ℕ, List, Option, Some, None, length, option_map}
+use Rattle.std.proofs.Common.{◌≡◌, ◌<◌, ◌≤◌, ◌+◌, ◌∷◌, [], ℕ, List, Some, None, length, option_map}
 use Rattle.std.proofs.Common.{slice_get, slice_set, refl, ap, subst, sym, inl, inr, arith, eq-eqb, ◌==◌}
 use Rattle.std.specs.Prelude.{ℤ, pos, negsuc, ◌≤ℤ◌, ◌<ℤ◌, ◌+ℤ◌, find}
 use Rattle.std.proofs.lemmas.Bool.Decides.{eqb_tells}
@@ -10,7 +10,7 @@ use Rattle.guillotiere.specs.Boxes.{Fits}
 use Rattle.guillotiere.specs.Callers.{IsGranted}
 use Rattle.guillotiere.specs.Choice.{Options, rounded}
 use Rattle.guillotiere.specs.Pages.{rectangle_on}
-use Rattle.guillotiere.specs.Pixels.{box_of, natural, options_of, rectangle_of, sides_of}
+use Rattle.guillotiere.specs.Pixels.{natural, options_of, rectangle_of, sides_of}
 use Rattle.guillotiere.specs.Replies.{IsExact}
 use Rattle.guillotiere.specs.States.{State, live_in}
 use Rattle.guillotiere.specs.Stored.{AtlasValue, state_of}

@@ -1,6 +1,6 @@
-use Rattle.std.proofs.Common.{◌<◌, arith}
+use Rattle.std.proofs.Common.{arith}
 use Rattle.std.proofs.lemmas.Result.{err_from_is_err_and}
-use Rattle.atlas_cache.specs.Rooms.{growth_left, page_sizes, rooms_of}
+use Rattle.atlas_cache.specs.Rooms.{page_sizes, rooms_of}
 use Rattle.atlas_cache.proofs.RoomLemmas.Growing.{grown_less, growth_of, not_all_largest}
 use Rattle.atlas_cache.proofs.rooms.grow_first.Goals as goal
 
@@ -27,9 +27,11 @@ grow_to-requires-clause-larger g c =
 
 pub returns-in_err-grow_to-clause-none : goal.returns-in_err-grow_to-clause-none
 returns-in_err-grow_to-clause-none g c =
-    let p = err_from_is_err_and c.from_residual.result c.from_residual.ensures.1 in
-    (λ is. let err = p.1 in cc, λ all. absurd (not_all_largest c.args.options.now (page_sizes c.args.pages.now.items)
-    c.in-Some.page c.in-Some.old (rw c.deref.ensures.value at c.in-Some.ensures.here) c.in-Some.ensures.smaller all))
+    let p = err_from_is_err_and c.from_residual.result c.from_residual.ensures.1 in (
+      λ is. let err = p.1 in cc,
+      λ all. absurd (not_all_largest c.args.options.now (page_sizes c.args.pages.now.items)
+          c.in-Some.page c.in-Some.old (rw c.deref.ensures.value at c.in-Some.ensures.here) c.in-Some.ensures.smaller all),
+    )
 
 pub number-requires : goal.number-requires
 number-requires g c =
@@ -61,6 +63,8 @@ returns-clause-kept g c =
     c.grow_to.ensures.kept c.args.options.now (rw c.grown-size.ensures growth.grows.within) c.requires
 
 pub returns-clause-none : goal.returns-clause-none
-returns-clause-none g c =
-    (λ is. cc, λ all. absurd (not_all_largest c.args.options.now (page_sizes c.args.pages.now.items) c.in-Some.page
-    c.in-Some.old (rw c.deref.ensures.value at c.in-Some.ensures.here) c.in-Some.ensures.smaller all))
+returns-clause-none g c = (
+  λ is. cc,
+  λ all. absurd (not_all_largest c.args.options.now (page_sizes c.args.pages.now.items) c.in-Some.page
+      c.in-Some.old (rw c.deref.ensures.value at c.in-Some.ensures.here) c.in-Some.ensures.smaller all),
+)

@@ -1,7 +1,6 @@
-use Rattle.std.proofs.Common.{◌≡◌, ◌∙◌, ap, map}
+use Rattle.std.proofs.Common.{ap}
 use Rattle.guillotiere.specs.States.{live_in}
 use Rattle.guillotiere.proofs.Callers.{page_added}
-use Rattle.atlas_cache.proofs.RoomLemmas.Growing.{new_page_less}
 use Rattle.atlas_cache.proofs.RoomLemmas.Paging.{new_is_page, rooms_joined}
 use Rattle.atlas_cache.proofs.rooms.push_page.Goals as goal
 
