@@ -5,3 +5,10 @@ pub mod RingCalls
 pub mod RingLemmas
 pub mod RoomLemmas
 pub mod SpareLemmas
+pub mod ListLemmas
+pub mod HoldingLemmas
+pub mod KeyLemmas
+pub mod PictureLemmas
+pub mod CacheLemmas
+pub mod LoopLemmas
+pub mod ApartLemmas

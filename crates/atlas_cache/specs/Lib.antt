@@ -1,6 +1,10 @@
 pub mod Asking
+pub mod Caches
+pub mod Changes
+pub mod Counting
 pub mod Entries
 pub mod Orders
 pub mod Rings
 pub mod Rooms
 pub mod Tables
+pub mod Telling

@@ -17,6 +17,9 @@ pub enum CacheError {
     /// The slots of a page's atlas don't suffice.
     #[error("no slot left on a page")]
     Slots,
+    /// The key is held with another size.
+    #[error("the key is held with another size")]
+    OtherSize,
 }
 
 /// What is wrong with the options of a cache.

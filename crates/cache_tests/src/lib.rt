@@ -3,6 +3,7 @@
 
 #[cfg(test)]
 mod entries;
+mod cache;
 #[cfg(test)]
 mod options;
 #[cfg(test)]

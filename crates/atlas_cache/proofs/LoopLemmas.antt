@@ -1,0 +1,69 @@
+-- Changes, one after another.
+use Rattle.std.proofs.Common.{ℕ, ◌≡◌, Bool, true, false, cond, List, [], ◌∷◌, ◌++◌, Option, None, Some, Result, Ok, Err, inl, inr, refl, sym, ap, subst, ◌∙◌, append_assoc, length}
+use Rattle.std.proofs.lemmas.{Bool.{cases_Bool}}
+use Rattle.guillotiere.specs.declared.Size.{Size}
+use Rattle.atlas_cache.specs.declared.changes.CacheChange.{CacheChange}
+use Rattle.atlas_cache.specs.declared.changes.CacheChange.TheVariants.{PageAdded, PageGrown, Evicted, Moved}
+use Rattle.atlas_cache.specs.declared.entries.Entry.{Entry}
+use Rattle.atlas_cache.specs.declared.error.CacheError.{CacheError}
+use Rattle.atlas_cache.specs.declared.places.Place.{Place}
+use Rattle.atlas_cache.specs.Caches.{CacheState, entry_for, HasNoPageFor}
+use Rattle.atlas_cache.specs.Changes.{Does, DoesOne, Ends, Inserts, Leads}
+
+module _ {K : Type 0} where
+  -- What an insert did so far.
+  pub record Reached (asked : Size) (before now : List (CacheChange K)) (s t : CacheState K) : Type 0 where
+    pub made : List (CacheChange K)
+    pub listed : now ≡ before ++ made
+    pub leads : Leads asked made s t
+
+  pub nothing_yet : (asked : Size) (before : List (CacheChange K)) (s : CacheState K) → before ≡ before ++ [] → Reached asked before before s s
+  nothing_yet asked before s same = record { made = []; listed = same; leads = refl }
+
+  leads-last : (asked : Size) (cs : List (CacheChange K)) (c : CacheChange K) (s t u : CacheState K) → Leads asked cs s t
+      → HasNoPageFor asked t → Does c t u → Leads asked (cs ++ c ∷ []) s u
+  leads-last asked [] c s t u same none does =
+      (u, subst (HasNoPageFor asked) (sym same) none, subst (λ v. Does c v u) (sym same) does, refl)
+  leads-last asked (d ∷ cs) c s t u leads none does =
+      (leads.0, leads.1, leads.2, leads-last asked cs c leads.0 t u leads.3 none does)
+
+  pub one_more_change : (asked : Size) (before now new : List (CacheChange K)) (s t u : CacheState K) → Reached asked before now s t
+      → HasNoPageFor asked t → DoesOne now new t u → Reached asked before new s u
+  one_more_change asked before now new s t u was none one = record {
+    made = was.made ++ one.change ∷ [];
+    listed = one.listed ∙ ap (λ cs. cs ++ one.change ∷ []) was.listed ∙ append_assoc before was.made (one.change ∷ []);
+    leads = leads-last asked was.made one.change s t u was.leads none one.does;
+  }
+
+  does_options : (c : CacheChange K) (s t : CacheState K) → Does c s t → t.options ≡ s.options
+  does_options (PageAdded page size) s t does = does.keeps.options
+  does_options (PageGrown page size) s t does = does.keeps.options
+  does_options (Evicted key place) s t does = does.options
+  does_options (Moved key from to) s t does = absurd does
+
+  pub one_options : (before after : List (CacheChange K)) (s t : CacheState K) → DoesOne before after s t → t.options ≡ s.options
+  one_options before after s t one = does_options one.change s t one.does
+
+  module _ (eq : K → K → Bool) (k : K) where
+    none_left : (xs ys : List (Entry K)) → entry_for eq k (xs ++ ys) ≡ None → entry_for eq k xs ≡ None
+    none_left [] ys none = refl
+    none_left (x ∷ xs) ys none = elim (cases_Bool (eq k x.key)) [
+      | inl hit ↦ let found = rw hit at none in absurd (let some : Some x ≡ None = found in cc)
+      | inr miss ↦ let rest = rw miss at none in rw miss (none_left xs ys rest)
+    ]
+
+    does_absent : (c : CacheChange K) (s t : CacheState K) → Does c s t → entry_for eq k s.entries ≡ None → entry_for eq k t.entries ≡ None
+    does_absent (PageAdded page size) s t does none = rw does.keeps.entries none
+    does_absent (PageGrown page size) s t does none = rw does.keeps.entries none
+    does_absent (Evicted key place) s t does none = none_left t.entries (does.entry ∷ []) (rw does.last at none)
+    does_absent (Moved key from to) s t does none = absurd does
+
+    pub one_absent : (before after : List (CacheChange K)) (s t : CacheState K) → DoesOne before after s t
+        → entry_for eq k s.entries ≡ None → entry_for eq k t.entries ≡ None
+    one_absent before after s t one none = does_absent one.change s t one.does none
+
+  pub inserted : (asked : Size) (key : K) (size : Size) (result : Result (Option Place) CacheError)
+      (before after : List (CacheChange K)) (s t u : CacheState K) → Reached asked before after s t → Ends asked key size result t u
+      → Inserts asked key size result before after s u
+  inserted asked key size result before after s t u was ends =
+      record { made = was.made; listed = was.listed; done = t; leads = was.leads; ends = ends }

@@ -1,0 +1,43 @@
+use Rattle.std.proofs.Common.{ap, refl, ◌∷◌}
+use Rattle.atlas_cache.specs.Caches.{entries_of}
+use Rattle.atlas_cache.specs.Entries.{without_number}
+use Rattle.atlas_cache.specs.declared.entries.Entry.{Entry}
+use Rattle.atlas_cache.proofs.CacheLemmas.{bordered-at, number-at, touched-is, used}
+use Rattle.atlas_cache.proofs.ListLemmas.{parts}
+use Rattle.atlas_cache.proofs.cache.TextureCache.get.Goals as goal
+
+pub place_of-requires : goal.place_of-requires
+place_of-requires g c =
+    let found = rw c.in-Some.is at c.look_up.ensures.found in
+    rw c.options.ensures.options (bordered-at _ _ c.self.inside.entries c.in-Some.entry c.self.invariant.bordered found.at)
+
+pub invariant_of-self-2 : goal.invariant_of-self-2
+invariant_of-self-2 g c =
+    let found = rw c.in-Some.is at c.look_up.ensures.found in
+    let it = c.self.inside in
+    let n = c.in-Some.number in
+    let e = c.in-Some.entry in
+    let was = c.self.invariant in
+    let p = parts n it.entries e found.at in
+    let k = used it.rooms.pages it.rooms.options.padding it.frame e (entries_of it.entries)
+    (entries_of (without_number n it.entries)) p was.held was.bordered was.frames in
+    rw (c.touch.ensures, touched-is n it.frame it.entries e found.at)
+    (record { held = k.held; bordered = k.bordered; frames = k.frames })
+
+pub returns-clause-uses : goal.returns-clause-uses
+returns-clause-uses g c =
+    let found = rw c.in-Some.is at c.look_up.ensures.found in
+    let it = c.self.inside in
+    let n = c.in-Some.number in
+    let e = c.in-Some.entry in
+    let p = parts n it.entries e found.at in
+    let front : Entry g.row.K.Denot = record e { frame = it.frame } in
+    rw (← c.self.view_is, found.here, c.touch.ensures, touched-is n it.frame it.entries e found.at) (record {
+      newer = p.newer;
+      older = p.older;
+      was = p.was;
+      is = ap (λ r. front ∷ r) p.rests;
+      pages = refl;
+      options = refl;
+      frame = refl;
+    })

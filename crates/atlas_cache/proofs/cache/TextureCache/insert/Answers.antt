@@ -1,0 +1,119 @@
+use Rattle.std.proofs.Common.{◌≡◌, ap, refl, sym, ◌∙◌, ◌∷◌, [], arith, rules}
+use Rattle.guillotiere.specs.declared.Size.{Size}
+use Rattle.atlas_cache.specs.Caches.{CacheState, entries_of}
+use Rattle.atlas_cache.specs.Changes.{Uses}
+use Rattle.atlas_cache.specs.Entries.{without_number}
+use Rattle.atlas_cache.specs.declared.entries.Entry.{Entry}
+use Rattle.atlas_cache.proofs.CacheLemmas.{bordered-at, touched-is, used}
+use Rattle.atlas_cache.proofs.KeyLemmas.{found_named, own_keys}
+use Rattle.atlas_cache.proofs.ListLemmas.{append-none, parts}
+use Rattle.atlas_cache.proofs.PictureLemmas.{inserts_tell, same_shown, uses_tell}
+use Rattle.atlas_cache.proofs.cache.TextureCache.insert.Goals as goal
+
+pub place_of-requires : goal.place_of-requires
+place_of-requires g c =
+    let found = rw c.in-Some.is at c.look_up.ensures.found in
+    rw c.options.ensures.options (bordered-at _ _ c.self.inside.entries c.in-Some.entry c.self.invariant.bordered found.at)
+
+pub invariant_of-self : goal.invariant_of-self
+invariant_of-self g c =
+    let found = rw c.in-Some.is at c.look_up.ensures.found in
+    let it = c.self.inside in
+    let n = c.in-Some.known in
+    let e = c.in-Some.entry in
+    let was = c.self.invariant in
+    let p = parts n it.entries e found.at in
+    let k = used it.rooms.pages it.rooms.options.padding it.frame e (entries_of it.entries)
+    (entries_of (without_number n it.entries)) p was.held was.bordered was.frames in
+    rw (c.touch.ensures, touched-is n it.frame it.entries e found.at)
+    (record { held = k.held; bordered = k.bordered; frames = k.frames })
+
+pub returns-in-Some-clause-known : goal.returns-in-Some-clause-known
+returns-in-Some-clause-known g c =
+    let found = rw c.in-Some.is at c.look_up.ensures.found in
+    let it = c.self.inside in
+    let n = c.in-Some.known in
+    let e = c.in-Some.entry in
+    let p = parts n it.entries e found.at in
+    let front : Entry g.row.K.Denot = record e { frame = it.frame } in
+    let sized : e.size ≡ c.args.size = first_of (search rules, grind arith) in
+    rw (← c.self.view_is, found.here, c.touch.ensures, touched-is n it.frame it.entries e found.at) (
+      record {
+        same = λ _. (
+          rw (c.place_of.ensures, c.options.ensures.options) refl,
+          record {
+            newer = p.newer;
+            older = p.older;
+            was = p.was;
+            is = ap (λ r. front ∷ r) p.rests;
+            pages = refl;
+            options = refl;
+            frame = refl;
+          },
+          refl,
+        );
+        other = λ differ. absurd (differ sized);
+      },
+      refl,
+    )
+
+pub returns-clause-outside : goal.returns-clause-outside
+returns-clause-outside g c = λ absent cannot. absurd (cannot (
+    let stands = c.in-Some-asked.ensures.0 in
+    rw (← c.self.view_is) (rw c.options-2.ensures.options at stands)))
+
+pub returns-then-ne-clause-told : goal.returns-then-ne-clause-told
+returns-then-ne-clause-told g c = record {
+  made = [];
+  listed = sym (append-none c.args.changes.now.items);
+  shows = same_shown g.K.PartialEq.eq c.args.self.now;
+}
+
+pub returns-in_default-asked-clause-told : goal.returns-in_default-asked-clause-told
+returns-in_default-asked-clause-told g c = record {
+  made = [];
+  listed = sym (append-none c.args.changes.now.items);
+  shows = same_shown g.K.PartialEq.eq c.args.self.now;
+}
+
+pub returns-in-Some-clause-told : goal.returns-in-Some-clause-told
+returns-in-Some-clause-told g c =
+    let found = rw c.in-Some.is at c.look_up.ensures.found in
+    let eq = g.K.PartialEq.eq in
+    let laws = g.met.K.Eq.laws in
+    let it = c.self.inside in
+    let n = c.in-Some.known in
+    let e = c.in-Some.entry in
+    let p = parts n it.entries e found.at in
+    let front : Entry g.row.K.Denot = record e { frame = it.frame } in
+    let s : CacheState g.row.K.Denot = record {
+      options = it.rooms.options;
+      pages = it.rooms.pages;
+      entries = entries_of it.entries;
+      frame = it.frame;
+      counts = it.counts;
+    } in
+    let t : CacheState g.row.K.Denot = record s { entries = entries_of c.touch.new.self } in
+    let uses : Uses e s t = record {
+      newer = p.newer;
+      older = p.older;
+      was = p.was;
+      is = rw (c.touch.ensures, touched-is n it.frame it.entries e found.at) (ap (λ r. front ∷ r) p.rests);
+      pages = refl;
+      options = refl;
+      frame = refl;
+    } in
+    let own = own_keys eq it.entries c.prove_kept.ensures.keys in
+    let named = laws.symm e.key c.args.key ∙ found_named eq c.args.key e (entries_of it.entries) found.here in
+    rw (← c.self.view_is, c.place_of.ensures, c.options.ensures.options) (record {
+      made = [];
+      listed = sym (append-none c.args.changes.now.items);
+      shows = uses_tell eq laws c.args.key e s t own named uses;
+    })
+
+pub returns-clause-told : goal.returns-clause-told
+returns-clause-told g c =
+    let own = own_keys g.K.PartialEq.eq c.self.inside.entries c.prove_kept.ensures.keys in
+    inserts_tell g.K.PartialEq.eq g.met.K.Eq.laws c.in-Some-asked.asked c.args.key c.args.size c.insert_new.result
+    c.args.changes.now.items c.insert_new.new.changes.items c.args.self.now c.insert_new.new.self (rw (← c.self.view_is) own)
+    c.insert_new.ensures

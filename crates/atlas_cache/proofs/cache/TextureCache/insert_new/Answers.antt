@@ -1,0 +1,27 @@
+use Rattle.std.proofs.Common.{ap, sym, refl, ◌∙◌, Ok, [], append-nil}
+use Rattle.atlas_cache.proofs.ListLemmas.{append-none}
+use Rattle.atlas_cache.proofs.LoopLemmas.{inserted, nothing_yet, one_absent, one_more_change, one_options}
+use Rattle.atlas_cache.proofs.cache.TextureCache.insert_new.Goals as goal
+
+pub loop-place-init : goal.loop-place-init
+loop-place-init g c = record {
+  reached = nothing_yet _ _ _ (sym (append-none _));
+  absent = c.requires.absent;
+  options = refl;
+}
+
+pub loop-place-preserved : goal.loop-place-preserved
+loop-place-preserved g c =
+    let was = c.loop-place.invariant in
+    let same = c.in_ok-place.ensures.none (ap Ok c.in_default.is) in
+    let full = c.in_ok-place.ensures.full (ap Ok c.in_default.is) in
+    let one = rw same at (c.in_ok-make_room.ensures.does c.if-not-branch.false) in
+    let t = c.loop-place.self in
+    let u = c.make_room.new.self in
+    let now = c.loop-place.changes.items in
+    let new = c.make_room.new.changes.items in
+    record {
+      reached = one_more_change c.args.asked c.args.changes.now.items now new c.args.self.now t u was.reached full one;
+      absent = one_absent g.K.PartialEq.eq c.args.key now new t u one was.absent;
+      options = one_options now new t u one ∙ was.options;
+    }

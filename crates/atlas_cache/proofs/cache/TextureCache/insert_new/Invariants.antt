@@ -1,0 +1,15 @@
+use Rattle.std.proofs.Common.{◌≡◌, None}
+use Rattle.atlas_cache.specs.Caches.{entry_for, steps_left}
+use Rattle.atlas_cache.proofs.LoopLemmas.{Reached}
+use Rattle.atlas_cache.proofs.cache.TextureCache.insert_new.Given as goal
+
+abbrev pub invariant-loop-place : goal.invariant-loop-place
+invariant-loop-place g l =
+    record {
+      reached : Reached l.asked l.fn.changes.items l.changes.items l.fn.self l.self;
+      absent : entry_for g.K.PartialEq.eq l.key l.self.entries ≡ None;
+      options : l.self.options ≡ l.fn.self.options;
+    }
+
+abbrev pub decreases-loop-place : goal.decreases-loop-place
+decreases-loop-place g l = steps_left l.self

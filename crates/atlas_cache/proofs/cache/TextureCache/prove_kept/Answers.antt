@@ -1,0 +1,22 @@
+use Rattle.atlas_cache.specs.Caches.{entries_of}
+use Rattle.atlas_cache.proofs.ApartLemmas.{apart, within}
+use Rattle.atlas_cache.proofs.KeyLemmas.{own_keys}
+use Rattle.atlas_cache.proofs.cache.TextureCache.prove_kept.Goals as goal
+
+pub returns-clause-kept : goal.returns-clause-kept
+returns-clause-kept g c = rw (← c.self.view_is) c.self.invariant
+
+pub returns-clause-apart : goal.returns-clause-apart
+returns-clause-apart g c =
+    let held = c.self.invariant.held in
+    rw (← c.self.view_is)
+    (apart c.self.inside.rooms.pages c.prove_kept.ensures.apart (entries_of c.self.inside.entries) held.live held.once)
+
+pub returns-clause-within : goal.returns-clause-within
+returns-clause-within g c =
+    rw (← c.self.view_is)
+    (within c.self.inside.rooms.pages c.prove_kept.ensures.within (entries_of c.self.inside.entries) c.self.invariant.held.live)
+
+pub returns-clause-keys : goal.returns-clause-keys
+returns-clause-keys g c =
+    rw (← c.self.view_is) (own_keys g.K.PartialEq.eq c.self.inside.entries c.prove_kept-2.ensures.keys)

@@ -1,0 +1,128 @@
+-- What a cache holds, and what it keeps.
+use Rattle.std.specs.Prelude.{◌≡◌, ◌+◌, ◌<◌, ◌≤◌, ◌==◌, ◌&&◌, ℕ, ℤ, Bool, false, List, [], ◌∷◌, length, map, find, if◌then◌else◌}
+use Rattle.std.specs.Prelude.{Option, Some, None, option_map, slice_get}
+use Rattle.std.specs.List.{AllByRecursion}
+use Rattle.guillotiere.specs.declared.Rectangle.{Rectangle}
+use Rattle.guillotiere.specs.declared.Size.{Size}
+use Rattle.guillotiere.specs.Boxes.{IsWithin}
+use Rattle.guillotiere.specs.Callers.{RectanglesLieApart}
+use Rattle.guillotiere.specs.Pages.{rectangle_on, NoneHasRoomBelow}
+use Rattle.guillotiere.specs.Pixels.{box_of}
+use Rattle.guillotiere.specs.Stored.{AtlasValue, state_of}
+use Rattle.atlas_cache.specs.declared.counts.Counts.{Counts}
+use Rattle.atlas_cache.specs.declared.entries.Entry.{Entry}
+use Rattle.atlas_cache.specs.declared.options.CacheOptions.{CacheOptions}
+use Rattle.atlas_cache.specs.declared.places.Place.{Place}
+use Rattle.atlas_cache.specs.Asking.{inner_of, IsBorderedBy}
+use Rattle.atlas_cache.specs.Entries.{entry_at}
+use Rattle.atlas_cache.specs.Rooms.{growth_left, page_sizes, AreAllLargest}
+
+-- What contracts see of a cache: how it was made, the atlas of each page, the entries, the most recently used first,
+-- the frame, and how it was used.
+pub record CacheState (K : Type 0) : Type 0 where
+  pub options : CacheOptions
+  pub pages : List AtlasValue
+  pub entries : List (Entry K)
+  pub frame : ℕ
+  pub counts : Counts
+
+module _ {K : Type 0} where
+  -- The entries without their numbers.
+  abbrev pub entries_of : List (ℕ × Entry K) → List (Entry K)
+  entries_of es = map (λ e. e.1) es
+
+  -- What a caller is shown of an entry: its page, its rectangle there, and that without the padding.
+  abbrev pub shown : (padding : ℤ) → Entry K → Place
+  shown padding e = record { page = e.page; rectangle = e.rectangle; inner = inner_of padding e.size e.rectangle }
+
+  -- The entry of a key.
+  abbrev pub entry_for : (K → K → Bool) → K → List (Entry K) → Option (Entry K)
+  entry_for eq k es = find (λ e. eq k e.key) es
+
+  -- The entry of a key, and its number.
+  pub record IsFound (eq : K → K → Bool) (k : K) (number : ℕ) (entry : Entry K) (es : List (ℕ × Entry K)) : Type 0 where
+    pub at : entry_at number es ≡ Some entry
+    pub here : entry_for eq k (entries_of es) ≡ Some entry
+
+  -- The place of a key.
+  abbrev pub place_for : (K → K → Bool) → CacheState K → K → Option Place
+  place_for eq s k = option_map (shown s.options.padding) (entry_for eq k s.entries)
+
+  -- The entry has this id of this page.
+  abbrev pub has_id : (page id : ℕ) → Entry K → Bool
+  has_id page id e = (e.page == page) && (e.id == id)
+
+  -- How many entries have this id of this page.
+  abbrev pub holders : (page id : ℕ) → List (Entry K) → ℕ
+  holders page id [] = 0
+  holders page id (e ∷ es) = (if has_id page id e then 1 else 0) + holders page id es
+
+  -- What is live on the pages is what the entries hold, each once: an entry's rectangle is that of its id on its page;
+  -- no two entries have one id of one page; and each id that is live is an entry's, so that nothing leaks.
+  pub record HoldsEntries (pages : List AtlasValue) (es : List (Entry K)) : Type 0 where
+    pub live : AllByRecursion (λ e. rectangle_on pages e.page e.id ≡ Some e.rectangle) es
+    pub once : (page id : ℕ) → holders page id es ≤ 1
+    pub known : (page id : ℕ) (r : Rectangle) → rectangle_on pages page id ≡ Some r → 0 < holders page id es
+
+  -- Along the list no entry was used in a later frame than the one before it, and the first in none after this frame.
+  abbrev pub FramesFall : (frame : ℕ) → List (Entry K) → Type 0
+  FramesFall frame [] = Unit {0}
+  FramesFall frame (e ∷ es) = (e.frame ≤ frame) × FramesFall e.frame es
+
+  -- Each entry's rectangle is at least as large as the entry with its padding.
+  abbrev pub AreBordered : (padding : ℤ) → List (Entry K) → Type 0
+  AreBordered padding es = AllByRecursion (λ e. IsBorderedBy padding e.size e.rectangle) es
+
+  -- What each cache keeps, beside what its pages and its keys do.
+  pub record IsKept (s : CacheState K) : Type 0 where
+    pub held : HoldsEntries s.pages s.entries
+    pub bordered : AreBordered s.options.padding s.entries
+    pub frames : FramesFall s.frame s.entries
+
+  -- Every page is there, and each is at its largest.
+  pub record IsFull (s : CacheState K) : Type 0 where
+    pub all : length s.pages ≡ s.options.pages
+    pub largest : AreAllLargest s.options (page_sizes s.pages)
+
+  -- The request has room on no page.
+  abbrev pub HasNoPageFor : Size → CacheState K → Type 0
+  HasNoPageFor asked s = NoneHasRoomBelow asked s.pages (length s.pages)
+
+  -- Each entry was used in this frame.
+  abbrev pub AreAllInUse : CacheState K → Type 0
+  AreAllInUse s = AllByRecursion (λ e. e.frame ≡ s.frame) s.entries
+
+  -- No entry was used in this frame.
+  abbrev pub IsNoneInUse : CacheState K → Type 0
+  IsNoneInUse s = AllByRecursion (λ e. e.frame < s.frame) s.entries
+
+  -- No two entries have one key.
+  abbrev pub HaveOwnKeys : (K → K → Bool) → List (Entry K) → Type 0
+  HaveOwnKeys eq [] = Unit {0}
+  HaveOwnKeys eq (e ∷ es) = AllByRecursion (λ f. eq e.key f.key ≡ false) es × HaveOwnKeys eq es
+
+  -- No pixel of a page lies in two entries, their padding included: two entries of one page lie apart.
+  abbrev pub EntriesLieApart : List (Entry K) → Type 0
+  EntriesLieApart [] = Unit {0}
+  EntriesLieApart (e ∷ es) =
+      AllByRecursion (λ f. e.page ≡ f.page → RectanglesLieApart e.rectangle f.rectangle) es × EntriesLieApart es
+
+  -- There is a page under each entry, and the entry lies within it, its padding included.
+  abbrev pub EntriesLieWithin : List AtlasValue → List (Entry K) → Type 0
+  EntriesLieWithin pages es =
+      AllByRecursion (λ e. (a : AtlasValue) × (slice_get pages e.page ≡ Some a) × IsWithin (state_of a).size (box_of e.rectangle)) es
+
+  -- How many changes an insert can still make at most.
+  abbrev pub steps_left : CacheState K → ℕ
+  steps_left s = growth_left s.options (page_sizes s.pages) + length s.entries
+
+  -- A cache that holds nothing yet, and has no page.
+  abbrev pub nothing_held : CacheOptions → CacheState K
+  nothing_held o =
+      record {
+        options = o;
+        pages = [];
+        entries = [];
+        frame = 0;
+        counts = record { hits = 0; misses = 0; evictions = 0 };
+      }

@@ -1,0 +1,177 @@
+-- What a cache does, change by change, and what a caller learns of it.
+use Rattle.std.specs.Prelude.{◌≡◌, ◌≢◌, ◌<◌, ℕ, Bool, List, [], ◌∷◌, ◌++◌, length, Option, Some, None, Result, Ok, Err}
+use Rattle.std.specs.Prelude.{if◌then◌else◌, slice_set}
+use Rattle.guillotiere.specs.declared.Size.{Size}
+use Rattle.guillotiere.specs.Stored.{AtlasValue}
+use Rattle.guillotiere.specs.Pages.{AddsBoxOn, HasSameRectangles, LeavesNoBoxOn, NoneHasRoomBelow}
+use Rattle.atlas_cache.specs.declared.changes.CacheChange.{CacheChange}
+use Rattle.atlas_cache.specs.declared.changes.CacheChange.TheVariants.{PageAdded, PageGrown, Evicted, Moved}
+use Rattle.atlas_cache.specs.declared.counts.Counts.{Counts}
+use Rattle.atlas_cache.specs.declared.entries.Entry.{Entry}
+use Rattle.atlas_cache.specs.declared.error.CacheError.{CacheError}
+use Rattle.atlas_cache.specs.declared.error.CacheError.TheVariants.{OtherSize}
+use Rattle.atlas_cache.specs.declared.places.Place.{Place}
+use Rattle.atlas_cache.specs.Caches.{CacheState, place_for, shown, AreAllInUse, HasNoPageFor, IsFull}
+use Rattle.atlas_cache.specs.Counting.{one_more}
+use Rattle.atlas_cache.specs.Rooms.{page_sizes, AreAllLargest, IsAtLeast, IsFirstToGrow}
+
+-- A caller's picture of a cache: the place of each key, and the size of each page.
+pub record Picture (K : Type 0) : Type 0 where
+  pub places : K → Option Place
+  pub pages : List Size
+
+module _ {K : Type 0} where
+  -- The picture of what a cache holds.
+  abbrev pub picture_of : (K → K → Bool) → CacheState K → Picture K
+  picture_of eq s = record { places = place_for eq s; pages = page_sizes s.pages }
+
+  -- A key has this place, or none; the others have theirs.
+  abbrev pub placed : (K → K → Bool) → K → Option Place → Picture K → Picture K
+  placed eq key place p = record p { places = λ q. if eq key q then place else p.places q }
+
+  -- What a caller makes of a change.
+  abbrev pub changed : (K → K → Bool) → CacheChange K → Picture K → Picture K
+  changed eq (PageAdded page size) p = record p { pages = p.pages ++ size ∷ [] }
+  changed eq (PageGrown page size) p = record p { pages = slice_set p.pages page size }
+  changed eq (Evicted key place) p = placed eq key None p
+  changed eq (Moved key from to) p = placed eq key (Some to) p
+
+  -- And of several, the first first.
+  abbrev pub all_changed : (K → K → Bool) → List (CacheChange K) → Picture K → Picture K
+  all_changed eq [] p = p
+  all_changed eq (c ∷ cs) p = all_changed eq cs (changed eq c p)
+
+  -- Both pictures show the same.
+  pub record ShowsSame (p q : Picture K) : Type 0 where
+    pub places : (k : K) → p.places k ≡ q.places k
+    pub pages : p.pages ≡ q.pages
+
+  -- Entries, frame, options and counts stay. The pages may change.
+  pub record KeepsEntries (s t : CacheState K) : Type 0 where
+    pub entries : t.entries ≡ s.entries
+    pub options : t.options ≡ s.options
+    pub frame : t.frame ≡ s.frame
+    pub counts : t.counts ≡ s.counts
+
+  -- The first page that isn't at its largest grows, and nothing on it moves.
+  pub record GrowsPage (page : ℕ) (size : Size) (s t : CacheState K) : Type 0 where
+    pub first : IsFirstToGrow s.options (page_sizes s.pages) page size
+    pub sizes : page_sizes t.pages ≡ slice_set (page_sizes s.pages) page size
+    pub same : HasSameRectangles s.pages t.pages
+    pub keeps : KeepsEntries s t
+
+  -- Each page is at its largest, and one is added.
+  pub record AddsPage (page : ℕ) (size : Size) (s t : CacheState K) : Type 0 where
+    pub largest : AreAllLargest s.options (page_sizes s.pages)
+    pub last : page ≡ length s.pages
+    pub sized : size ≡ s.options.page
+    pub sizes : page_sizes t.pages ≡ page_sizes s.pages ++ size ∷ []
+    pub same : HasSameRectangles s.pages t.pages
+    pub keeps : KeepsEntries s t
+
+  -- Every page is there and at its largest, and the least recently used entry goes, which this frame didn't use.
+  pub record Evicts (key : K) (place : Place) (s t : CacheState K) : Type 0 where
+    pub full : IsFull s
+    pub entry : Entry K
+    pub last : s.entries ≡ t.entries ++ entry ∷ []
+    pub named : key ≡ entry.key
+    pub shows : place ≡ shown s.options.padding entry
+    pub unused : entry.frame < s.frame
+    pub leaves : LeavesNoBoxOn s.pages t.pages entry.page entry.id
+    pub sizes : page_sizes t.pages ≡ page_sizes s.pages
+    pub options : t.options ≡ s.options
+    pub frame : t.frame ≡ s.frame
+    pub counts : t.counts ≡ record s.counts { evictions = one_more s.counts.evictions }
+
+  -- What an insert does by one change.
+  abbrev pub Does : CacheChange K → (s t : CacheState K) → Type 0
+  Does (PageAdded page size) s t = AddsPage page size s t
+  Does (PageGrown page size) s t = GrowsPage page size s t
+  Does (Evicted key place) s t = Evicts key place s t
+  Does (Moved key from to) s t = ⊥
+
+  -- What one more change does, which is listed last.
+  pub record DoesOne (before after : List (CacheChange K)) (s t : CacheState K) : Type 0 where
+    pub change : CacheChange K
+    pub listed : after ≡ before ++ change ∷ []
+    pub does : Does change s t
+
+  -- The changes lead from one state to another, and before each of them the request had room on no page.
+  abbrev pub Leads : (asked : Size) → List (CacheChange K) → (s t : CacheState K) → Type 0
+  Leads asked [] s t = s ≡ t
+  Leads asked (c ∷ cs) s t =
+      (next : CacheState K) × HasNoPageFor asked s × Does c s next × Leads asked cs next t
+
+  -- A new entry of this key and size, used in this frame, is on the first page that has room for what was asked.
+  pub record IsPlaced (asked : Size) (key : K) (size : Size) (frame : ℕ) (old new : List AtlasValue) (entry : Entry K) : Type 0 where
+    pub named : entry.key ≡ key
+    pub sized : entry.size ≡ size
+    pub used : entry.frame ≡ frame
+    pub large : IsAtLeast asked entry.rectangle
+    pub lowest : NoneHasRoomBelow asked old entry.page
+    pub adds : AddsBoxOn old new entry.page entry.id entry.rectangle
+
+  -- A key is added, the most recently used from now on.
+  pub record Adds (asked : Size) (key : K) (size : Size) (place : Place) (s t : CacheState K) : Type 0 where
+    pub entry : Entry K
+    pub first : t.entries ≡ entry ∷ s.entries
+    pub placed : IsPlaced asked key size s.frame s.pages t.pages entry
+    pub shows : place ≡ shown s.options.padding entry
+    pub sizes : page_sizes t.pages ≡ page_sizes s.pages
+    pub options : t.options ≡ s.options
+    pub frame : t.frame ≡ s.frame
+    pub counts : t.counts ≡ s.counts
+
+  -- Nothing that a caller can see changed.
+  pub record LooksSame (s t : CacheState K) : Type 0 where
+    pub same : HasSameRectangles s.pages t.pages
+    pub sizes : page_sizes t.pages ≡ page_sizes s.pages
+    pub keeps : KeepsEntries s t
+
+  -- The request has room on no page, every page is there and at its largest, and each entry is in use.
+  pub record IsExhausted (asked : Size) (s : CacheState K) : Type 0 where
+    pub none : HasNoPageFor asked s
+    pub full : IsFull s
+    pub in_use : AreAllInUse s
+
+  -- How an insert ends, once its changes are made: the key is added, or nothing can be done, or it is refused.
+  abbrev pub Ends : (asked : Size) (key : K) (size : Size) → Result (Option Place) CacheError → (s t : CacheState K) → Type 0
+  Ends asked key size (Ok (Some place)) s t = Adds asked key size place s t
+  Ends asked key size (Ok None) s t = (s ≡ t) × IsExhausted asked s
+  Ends asked key size (Err error) s t = LooksSame s t
+
+  -- What an insert of a new key did: it made changes, listed in their order, and then it ended so.
+  pub record Inserts (asked : Size) (key : K) (size : Size) (result : Result (Option Place) CacheError)
+      (before after : List (CacheChange K)) (s t : CacheState K) : Type 0 where
+    pub made : List (CacheChange K)
+    pub listed : after ≡ before ++ made
+    pub done : CacheState K
+    pub leads : Leads asked made s done
+    pub ends : Ends asked key size result done t
+
+  -- An entry is used in this frame, and is the most recently used from now on; the others keep their order.
+  pub record Uses (entry : Entry K) (s t : CacheState K) : Type 0 where
+    pub newer : List (Entry K)
+    pub older : List (Entry K)
+    pub was : s.entries ≡ newer ++ entry ∷ older
+    pub is : t.entries ≡ record entry { frame = s.frame } ∷ (newer ++ older)
+    pub pages : t.pages ≡ s.pages
+    pub options : t.options ≡ s.options
+    pub frame : t.frame ≡ s.frame
+
+  -- What an insert of a key does that is held: it is used, or nothing happens if it has another size.
+  pub record FindsKnown (entry : Entry K) (size : Size) (result : Result (Option Place) CacheError) (s t : CacheState K) : Type 0 where
+    pub same : entry.size ≡ size → (result ≡ Ok (Some (shown s.options.padding entry))) × Uses entry s t × (t.counts ≡ s.counts)
+    pub other : entry.size ≢ size → (result ≡ Err OtherSize) × (t ≡ s)
+
+  -- An entry is gone with its rectangle; the others keep their order.
+  pub record Removes (entry : Entry K) (s t : CacheState K) : Type 0 where
+    pub newer : List (Entry K)
+    pub older : List (Entry K)
+    pub was : s.entries ≡ newer ++ entry ∷ older
+    pub is : t.entries ≡ newer ++ older
+    pub leaves : LeavesNoBoxOn s.pages t.pages entry.page entry.id
+    pub sizes : page_sizes t.pages ≡ page_sizes s.pages
+    pub options : t.options ≡ s.options
+    pub frame : t.frame ≡ s.frame
+    pub counts : t.counts ≡ s.counts

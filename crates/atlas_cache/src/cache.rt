@@ -1,0 +1,320 @@
+//! The cache.
+ghost use Rattle.std.specs.Prelude.{◌≡◌, ◌↔◌, ◌<◌, [], false, length, slice_get, IfErr, IfOk, IfSome, IsOk, IsSome, IsTrue};
+ghost use Rattle.std.specs.Prelude.{None, Ok, OnErr, vec_capacity, vec_len};
+ghost use Rattle.guillotiere.specs.Pixels.{size_of};
+ghost use Rattle.atlas_cache.specs.Asking.{bordered, AreUsable, CanStand, IsFaultIn};
+ghost use Rattle.atlas_cache.specs.Counting.{one_more};
+ghost use Rattle.atlas_cache.specs.Rooms.{page_sizes};
+
+pub mod holding;
+
+use crate::cache::holding::{grant, look_up, oldest, place_of, take_out};
+use crate::changes::{CacheChange, Changes};
+use crate::counts::{Counts, NO_COUNTS, count};
+use crate::entries::{DefaultHasher, Entries};
+use crate::error::{CacheError, OptionsError};
+use crate::options::CacheOptions;
+use crate::places::Place;
+use crate::rooms::Rooms;
+use guillotiere::Size;
+use std::alloc::{Allocator, Global};
+use std::hash::{BuildHasher, BuildHasherDefault, Hash};
+use std::marker::Model;
+
+/// Rectangles under keys in the pages of a texture array. Contracts see a `CacheState`: how the cache was made, the
+/// atlas of each page, the entries, the most recently used first, the frame, and how the cache was used.
+#[derive(Drop)]
+pub struct TextureCache<
+    K: Copy + Eq + Hash,
+    S: BuildHasher = DefaultHasher,
+    A: Allocator + Copy = Global,
+> {
+    rooms: Rooms<A>,
+    entries: Entries<K, S, A>,
+    frame: u64,
+    counts: Counts,
+}
+
+impl<K: Copy + Eq + Hash, S: BuildHasher, A: Allocator + Copy> Model for TextureCache<K, S, A> {
+    ghost use Rattle.atlas_cache.specs.Caches.{CacheState, IsKept, entries_of};
+
+    ghost Value = { CacheState K };
+
+    ghost view = { λ c. record {
+      options = c.rooms.options;
+      pages = c.rooms.pages;
+      entries = entries_of c.entries;
+      frame = c.frame;
+      counts = c.counts;
+    } };
+
+    ghost invariant = { λ c. IsKept (record {
+      options = c.rooms.options;
+      pages = c.rooms.pages;
+      entries = entries_of c.entries;
+      frame = c.frame;
+      counts = c.counts;
+    }) };
+}
+
+impl<K: Copy + Eq + Hash, A: Allocator + Copy> TextureCache<K, DefaultHasher, A> {
+    ghost use Rattle.atlas_cache.specs.Caches.{nothing_held};
+
+    /// No pages and no entries. Takes no memory. An error says what is wrong with the options.
+    pub fn new(alloc: A, options: CacheOptions) -> Result<Self, OptionsError>
+        ensures ok { IsOk result ↔ AreUsable options }
+        ensures new { IfOk result (λ cache. cache ≡ nothing_held options) }
+        ensures fault { IfErr result (IsFaultIn options) }
+    {
+        TextureCache::with_hasher(alloc, options, BuildHasherDefault::new())
+    }
+}
+
+impl<K: Copy + Eq + Hash, S: BuildHasher + Drop, A: Allocator + Copy> TextureCache<K, S, A> {
+    ghost use Rattle.atlas_cache.specs.Caches.{nothing_held};
+
+    /// The same, with a hasher for the keys.
+    pub fn with_hasher(alloc: A, options: CacheOptions, hasher: S) -> Result<Self, OptionsError>
+        ensures ok { IsOk result ↔ AreUsable options }
+        ensures new { IfOk result (λ cache. cache ≡ nothing_held options) }
+        ensures fault { IfErr result (IsFaultIn options) }
+    {
+        options.check()?;
+        Ok(TextureCache {
+            rooms: Rooms::new(alloc, options),
+            entries: Entries::with_hasher(alloc, hasher),
+            frame: 0,
+            counts: NO_COUNTS,
+        })
+    }
+}
+
+impl<K: Copy + Eq + Hash, S: BuildHasher, A: Allocator + Copy> TextureCache<K, S, A> {
+    ghost use Rattle.atlas_cache.specs.Caches.{entry_for, place_for, steps_left, AreAllInUse, EntriesLieApart};
+    ghost use Rattle.atlas_cache.specs.Caches.{EntriesLieWithin, HasNoPageFor, HaveOwnKeys, IsFull, IsKept};
+    ghost use Rattle.atlas_cache.specs.Changes.{Adds, DoesOne, FindsKnown, Inserts, IsExhausted, LooksSame, Removes, Uses};
+    ghost use Rattle.atlas_cache.specs.Telling.{Tells};
+
+    /// A new frame: what was used before may go from now on.
+    pub fn begin_frame(&mut self)
+        ensures { self.new ≡ record self.old { frame = one_more self.old.frame } }
+    {
+        self.frame = count(self.frame);
+    }
+
+    /// How many entries there are.
+    pub fn len(&self) -> usize
+        ensures { result ≡ length self.now.entries }
+    {
+        self.entries.len()
+    }
+
+    /// Whether there are none.
+    pub fn is_empty(&self) -> bool
+        ensures { IsTrue result ↔ (self.now.entries ≡ []) }
+    {
+        self.entries.is_empty()
+    }
+
+    /// How many pages there are.
+    pub fn pages(&self) -> u32
+        ensures { result ≡ length self.now.pages }
+    {
+        self.rooms.len()
+    }
+
+    /// The size of a page, in pixels; None if there is no such page.
+    pub fn page_size(&self, page: u32) -> Option<Size>
+        ensures { result ≡ slice_get (page_sizes self.now.pages) page }
+    {
+        if page < self.rooms.len() {
+            Some(self.rooms.page_size(page))
+        } else {
+            None
+        }
+    }
+
+    /// Says what each cache keeps, and does nothing: what is live on its pages is what the entries hold, each once; each
+    /// entry has its padding; two entries of one page lie apart, and each lies within its page, padding included; and
+    /// each has a key of its own.
+    pub fn prove_kept(&self)
+        ensures kept { IsKept self.now }
+        ensures apart { EntriesLieApart self.now.entries }
+        ensures within { EntriesLieWithin self.now.pages self.now.entries }
+        ensures keys { HaveOwnKeys K.eq self.now.entries }
+    {
+        self.rooms.prove_kept();
+        self.entries.prove_kept();
+    }
+
+    /// The place of a key; None if it isn't held. It counts as no use.
+    pub fn peek(&self, key: &K) -> Option<Place>
+        ensures { result ≡ place_for K.eq self.now key.now }
+    {
+        let Some((_, found)) = look_up(&self.entries, key) else {
+            return None;
+        };
+        Some(place_of(found, &self.rooms.options()))
+    }
+
+    /// The place of a key, which is used in this frame from now on; None if it isn't held. Counts a hit or a miss.
+    pub fn get(&mut self, key: &K) -> Option<Place>
+        ensures place { result ≡ place_for K.eq self.old key.now }
+        ensures uses { IfSome (entry_for K.eq key.now self.old.entries) (λ e. Uses e self.old self.new) }
+        ensures hit { IsSome result → self.new.counts
+            ≡ record self.old.counts { hits = one_more self.old.counts.hits } }
+        ensures miss { result ≡ None → self.new ≡ record self.old {
+          counts =
+              record self.old.counts { misses = one_more self.old.counts.misses };
+        } }
+    {
+        let Some((number, entry)) = look_up(&self.entries, key) else {
+            self.counts.misses = count(self.counts.misses);
+            return None;
+        };
+        self.counts.hits = count(self.counts.hits);
+        self.entries.touch(number, self.frame);
+        Some(place_of(entry, &self.rooms.options()))
+    }
+
+    /// A place for a key, which is used in this frame. A key that is held keeps its place; asked with another size, it is
+    /// refused with `OtherSize`, and nothing changes. A new key comes on the first page with room for its size, in
+    /// pixels, with the padding. Where none has, a page grows; where none can, one is added; and where all are there, the
+    /// least recently used entry goes that this frame didn't use; and so on. None if the size is empty or doesn't fit
+    /// the largest page, and then nothing changes, or if all entries are in use and no page has room. What was done is
+    /// added to the changes, also after an error, `Memory`, `Slots` or `Numbers`.
+    pub fn insert(
+        &mut self,
+        key: K,
+        size: Size,
+        changes: &mut Changes<K, A>,
+    ) -> Result<Option<Place>, CacheError>
+        ensures known { IfSome (entry_for K.eq key self.old.entries) (λ e.
+            FindsKnown e size result self.old self.new × (changes.new.items ≡ changes.old.items)) }
+        ensures outside { entry_for K.eq key self.old.entries ≡ None → (CanStand self.old.options size → ⊥)
+            → (result ≡ Ok None) × (self.new ≡ self.old) × (changes.new.items ≡ changes.old.items) }
+        ensures new { entry_for K.eq key self.old.entries ≡ None → CanStand self.old.options size
+            → Inserts (size_of (bordered self.old.options size)) key size result changes.old.items changes.new.items
+            self.old self.new }
+        ensures told { Tells K.eq key result changes.old.items changes.new.items self.old self.new }
+    {
+        self.entries.prove_kept();
+        if let Some((known, entry)) = look_up(&self.entries, &key) {
+            if entry.size != size {
+                return Err(CacheError::OtherSize);
+            }
+            self.entries.touch(known, self.frame);
+            return Ok(Some(place_of(entry, &self.rooms.options())));
+        }
+        let Some(asked) = self.rooms.options().asked(size) else {
+            return Ok(None);
+        };
+        self.insert_new(key, size, asked, changes)
+    }
+
+    /// A key goes: the place that it had; None if it isn't held. Takes no memory.
+    pub fn remove(&mut self, key: &K) -> Option<Place>
+        ensures place { result ≡ place_for K.eq self.old key.now }
+        ensures removes { IfSome (entry_for K.eq key.now self.old.entries) (λ e. Removes e self.old self.new) }
+        ensures none { result ≡ None → self.new ≡ self.old }
+    {
+        let Some((number, entry)) = look_up(&self.entries, key) else {
+            return None;
+        };
+        take_out(&mut self.rooms, &mut self.entries, number, entry);
+        Some(place_of(entry, &self.rooms.options()))
+    }
+
+    // Inserts a key that isn't held, of a size that can stand on a page.
+    fn insert_new(
+        &mut self,
+        key: K,
+        size: Size,
+        asked: Size,
+        changes: &mut Changes<K, A>,
+    ) -> Result<Option<Place>, CacheError>
+        requires absent { entry_for K.eq key self.old.entries ≡ None }
+        requires stands { CanStand self.old.options size }
+        requires asked { asked ≡ size_of (bordered self.old.options size) }
+        ensures { Inserts asked key size result changes.old.items changes.new.items self.old self.new }
+    {
+        loop {
+            if let Some(place) = self.add(key, size, asked)? {
+                return Ok(Some(place));
+            }
+            if !self.make_room(asked, changes)? {
+                return Ok(None);
+            }
+        }
+    }
+
+    // Adds a key on the first page that has room for it; None if none has.
+    fn add(&mut self, key: K, size: Size, asked: Size) -> Result<Option<Place>, CacheError>
+        requires absent { entry_for K.eq key self.old.entries ≡ None }
+        requires stands { CanStand self.old.options size }
+        requires asked { asked ≡ size_of (bordered self.old.options size) }
+        ensures adds { IfOk result (λ placed. IfSome placed (λ place.
+            Adds asked key size place self.old self.new)) }
+        ensures none { result ≡ Ok None → self.new ≡ self.old }
+        ensures full { result ≡ Ok None → HasNoPageFor asked self.old }
+        ensures refused { OnErr result (LooksSame self.old self.new) }
+    {
+        let granted = grant(
+            &mut self.rooms,
+            &mut self.entries,
+            key,
+            size,
+            asked,
+            self.frame,
+        )?;
+        let Some(entry) = granted else {
+            return Ok(None);
+        };
+        Ok(Some(place_of(entry, &self.rooms.options())))
+    }
+
+    // One change for a request that has room on no page; `false` if nothing can be done.
+    fn make_room(&mut self, asked: Size, changes: &mut Changes<K, A>) -> Result<bool, CacheError>
+        requires { HasNoPageFor asked self.old }
+        ensures does { IfOk result (λ more. IsTrue more
+            → DoesOne changes.old.items changes.new.items self.old self.new) }
+        ensures less { IfOk result (λ more. IsTrue more → steps_left self.new < steps_left self.old) }
+        ensures stops { result ≡ Ok false → IsExhausted asked self.old }
+        ensures stays { result ≡ Ok false → (self.new ≡ self.old) × (changes.new.items ≡ changes.old.items) }
+        ensures refused { OnErr result ((self.new ≡ self.old) × (changes.new.items ≡ changes.old.items)) }
+    {
+        changes.reserve(1)?;
+        if let Some((page, size)) = self.rooms.grow_page()? {
+            changes.push_reserved(CacheChange::PageGrown { page, size });
+            return Ok(true);
+        }
+        if let Some((page, size)) = self.rooms.add_page()? {
+            changes.push_reserved(CacheChange::PageAdded { page, size });
+            return Ok(true);
+        }
+        Ok(self.evict(changes))
+    }
+
+    // The least recently used entry goes, if this frame didn't use it; whether it did.
+    fn evict(&mut self, changes: &mut Changes<K, A>) -> bool
+        requires full { IsFull self.old }
+        requires room { vec_len changes.old < vec_capacity changes.old }
+        ensures does { IsTrue result → DoesOne changes.old.items changes.new.items self.old self.new }
+        ensures less { IsTrue result → steps_left self.new < steps_left self.old }
+        ensures stops { result ≡ false → AreAllInUse self.old }
+        ensures stays { result ≡ false → (self.new ≡ self.old) × (changes.new.items ≡ changes.old.items) }
+    {
+        let Some((number, entry)) = oldest(&self.entries) else {
+            return false;
+        };
+        if entry.frame == self.frame {
+            return false;
+        }
+        take_out(&mut self.rooms, &mut self.entries, number, entry);
+        self.counts.evictions = count(self.counts.evictions);
+        let place = place_of(entry, &self.rooms.options());
+        let key = entry.key;
+        changes.push_reserved(CacheChange::Evicted { key, place });
+        true
+    }
+}

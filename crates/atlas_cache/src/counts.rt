@@ -1,0 +1,28 @@
+//! How a cache was used.
+ghost use Rattle.std.specs.Prelude.{◌≡◌};
+ghost use Rattle.atlas_cache.specs.Counting.{one_more};
+
+/// How often a cache had what it was asked for. A count that reaches 2^64 - 1 stays there.
+#[derive(Clone, Copy, Debug, PartialEq, Eq)]
+pub struct Counts {
+    /// The calls of `get` that found their key.
+    pub hits: u64,
+    /// The calls of `get` that didn't.
+    pub misses: u64,
+    /// The entries that made room for others.
+    pub evictions: u64,
+}
+
+/// No calls yet.
+pub const NO_COUNTS: Counts = Counts {
+    hits: 0,
+    misses: 0,
+    evictions: 0,
+};
+
+/// One more, up to 2^64 - 1.
+pub fn count(number: u64) -> u64
+    ensures { result ≡ one_more number }
+{
+    number.saturating_add(1)
+}
