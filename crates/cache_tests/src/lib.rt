@@ -2,8 +2,9 @@
 #![tactic(auto)]
 
 #[cfg(test)]
-mod entries;
 mod cache;
+#[cfg(test)]
+mod entries;
 #[cfg(test)]
 mod options;
 #[cfg(test)]
