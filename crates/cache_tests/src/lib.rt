@@ -2,8 +2,6 @@
 #![tactic(auto)]
 
 #[cfg(test)]
-mod cache;
-#[cfg(test)]
 mod options;
 #[cfg(test)]
 mod recency;
