@@ -2,8 +2,6 @@
 #![tactic(auto)]
 
 #[cfg(test)]
-mod cache;
-#[cfg(test)]
 mod entries;
 #[cfg(test)]
 mod options;
