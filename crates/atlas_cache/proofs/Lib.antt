@@ -1,6 +1,7 @@
-pub mod RingLemmas
-pub mod RingCalls
-pub mod SpareLemmas
-pub mod Moves
-pub mod EntryLemmas
 pub mod EntryKeeping
+pub mod EntryLemmas
+pub mod Moves
+pub mod RingCalls
+pub mod RingLemmas
+pub mod RoomLemmas
+pub mod SpareLemmas

@@ -14,6 +14,9 @@ pub enum CacheError {
     /// All 4,294,967,295 numbers of entries are in use.
     #[error("no number left for an entry")]
     Numbers,
+    /// The slots of a page's atlas don't suffice.
+    #[error("no slot left on a page")]
+    Slots,
 }
 
 /// What is wrong with the options of a cache.

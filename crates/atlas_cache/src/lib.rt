@@ -6,6 +6,7 @@ mod error;
 mod options;
 mod places;
 pub mod recency;
+pub mod rooms;
 
 pub use error::{CacheError, OptionsError};
 pub use options::CacheOptions;

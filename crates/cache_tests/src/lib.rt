@@ -7,3 +7,5 @@ mod entries;
 mod options;
 #[cfg(test)]
 mod recency;
+#[cfg(test)]
+mod rooms;

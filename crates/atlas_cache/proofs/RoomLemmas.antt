@@ -1,0 +1,4 @@
+-- What the steps make of the pages of a cache.
+pub mod Growing
+pub mod Paging
+pub mod Standing

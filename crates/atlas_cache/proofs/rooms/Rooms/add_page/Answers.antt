@@ -1,0 +1,11 @@
+use Rattle.std.proofs.Common.{◌<◌, length, arith}
+use Rattle.atlas_cache.proofs.rooms.Rooms.add_page.Goals as goal
+
+pub returns-clause-less : goal.returns-clause-less
+returns-clause-less g c =
+    let count = rw (← c.self.view_is) at c.len-number.ensures.pages in
+    let less : length c.self.inside.pages.items < c.self.inside.options.pages = omega (arith, count, c.self.invariant.few) in
+    rw (← c.self.view_is) (c.in_ok-push_page.ensures.less less)
+
+pub returns-clause-same : goal.returns-clause-same
+returns-clause-same g c = rw (← c.self.view_is) c.in_ok-push_page.ensures.same

@@ -1,0 +1,18 @@
+use Rattle.std.proofs.Common.{◌≡◌, ◌∙◌, ap, slice_get, Some}
+use Rattle.atlas_cache.specs.Rooms.{page_sizes}
+use Rattle.atlas_cache.proofs.RoomLemmas.Paging.{size_read}
+use Rattle.atlas_cache.proofs.rooms.first_to_grow.Goals as goal
+use borrow.Author.Count.{below_more}
+
+pub returns-then-not-is_largest-clause-here : goal.returns-then-not-is_largest-clause-here
+returns-then-not-is_largest-clause-here g c =
+    let page = c.index-pages-page in
+    size_read _ _ page.result _ c.loop-page-test.true page.is c.size-size.ensures.size
+
+pub loop-page-preserved : goal.loop-page-preserved
+loop-page-preserved g c =
+    let page = c.index-pages-page in
+    let here = size_read _ _ page.result _ c.loop-page-test.true page.is c.size-size.ensures.size in
+    let same = c.is_largest.ensures.0 c.if-not-is_largest.false in
+    below_more (λ k. slice_get (page_sizes c.args.pages.now) k ≡ Some c.args.largest) c.loop-page.page
+    c.loop-page.invariant (here ∙ ap Some same)

@@ -1,0 +1,24 @@
+use Rattle.std.proofs.Common.{arith}
+use Rattle.std.proofs.lemmas.Option.{slice_get_within}
+use Rattle.guillotiere.specs.Pages.{AllLieApartOn, AllLieWithinOn}
+use Rattle.atlas_cache.proofs.RoomLemmas.Paging.{on_page}
+use Rattle.atlas_cache.proofs.rooms.prove_pages.Goals as goal
+use borrow.Author.Count.{below_more}
+
+pub loop-page-preserved : goal.loop-page-preserved
+loop-page-preserved g c =
+    let was = c.loop-page.invariant in
+    record {
+      apart = below_more (AllLieApartOn c.args.pages.now) c.loop-page.page was.apart c.prove_page.ensures.apart;
+      within = below_more (AllLieWithinOn c.args.pages.now) c.loop-page.page was.within c.prove_page.ensures.within;
+    }
+
+pub returns-clause-apart : goal.returns-clause-apart
+returns-clause-apart g c = λ page i j r q differ is_r.
+    let there = (on_page c.args.pages.now page i r is_r).2 in
+    c.loop-page.invariant.apart page (omega (arith, there)) i j r q differ is_r
+
+pub returns-clause-within : goal.returns-clause-within
+returns-clause-within g c = λ page i r s is_s.
+    let there = slice_get_within c.args.pages.now page s is_s in
+    c.loop-page.invariant.within page (omega (arith, there)) i r s is_s

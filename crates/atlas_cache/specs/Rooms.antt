@@ -1,0 +1,110 @@
+-- The pages of a cache, each an atlas.
+use Rattle.std.specs.Prelude.{◌≡◌, ◌≢◌, ◌⊎◌, ◌<◌, ◌≤◌, ◌+◌, ◌-◌, ◌*◌, ℕ, Bool, ◌&&◌, ◌||◌, min, nat_le, nat_lt}
+use Rattle.std.specs.Prelude.{if◌then◌else◌, List, length, map, sum_by, Some, None, slice_get}
+use Rattle.guillotiere.specs.declared.Rectangle.{Rectangle}
+use Rattle.guillotiere.specs.declared.Size.{Size}
+use Rattle.guillotiere.specs.Boxes.{Fits, Sides}
+use Rattle.guillotiere.specs.Pages.{rectangle_on, NoneHasRoomBelow}
+use Rattle.guillotiere.specs.Pixels.{box_of, natural, options_of, sides_of, size_of}
+use Rattle.guillotiere.specs.Replies.{IsExact}
+use Rattle.guillotiere.specs.States.{IsSound}
+use Rattle.guillotiere.specs.Stored.{AtlasValue, state_of}
+use Rattle.atlas_cache.specs.declared.error.CacheError.{CacheError}
+use Rattle.atlas_cache.specs.declared.error.CacheError.TheVariants.{Memory, Slots}
+use Rattle.atlas_cache.specs.declared.options.CacheOptions.{CacheOptions}
+use Rattle.atlas_cache.specs.Asking.{AreUsable, bordered, CanStand}
+
+-- What contracts see of the pages of a cache: its options, and the atlas of each page.
+pub record RoomsState : Type 0 where
+  pub options : CacheOptions
+  pub pages : List AtlasValue
+
+abbrev pub rooms_of : CacheOptions → List AtlasValue → RoomsState
+rooms_of o pages = record { options = o; pages = pages }
+
+-- The size of a page, in pixels.
+abbrev pub size_of_page : AtlasValue → Size
+size_of_page s = size_of (state_of s).size
+
+-- The sizes of all pages.
+abbrev pub page_sizes : List AtlasValue → List Size
+page_sizes pages = map size_of_page pages
+
+-- The atlas of a page: it is sound and has the options of the cache, and its size is from `page` to `largest_page`.
+pub record IsPageOf (o : CacheOptions) (s : AtlasValue) : Type 0 where
+  pub sound : IsSound (state_of s)
+  pub options : (state_of s).options ≡ options_of o.atlas
+  pub least : Fits (sides_of o.page) (state_of s).size
+  pub most : Fits (state_of s).size (sides_of o.largest_page)
+
+-- Each page is one of the cache.
+abbrev pub ArePagesOf : CacheOptions → List AtlasValue → Type 0
+ArePagesOf o pages = (k : ℕ) (s : AtlasValue) → slice_get pages k ≡ Some s → IsPageOf o s
+
+-- What the pages of a cache keep: its options can be used, and there are no more pages than they allow.
+pub record KeepsRooms (r : RoomsState) : Type 0 where
+  pub usable : AreUsable r.options
+  pub few : length r.pages ≤ r.options.pages
+  pub each : ArePagesOf r.options r.pages
+
+-- Memory was refused, or the slots of a page don't suffice.
+abbrev pub IsRefusal : CacheError → Type 0
+IsRefusal error = (error ≡ Memory) ⊎ (error ≡ Slots)
+
+-- The rectangle has the coordinates of a box, and is at least this large.
+pub record IsAtLeast (size : Size) (r : Rectangle) : Type 0 where
+  pub exact : IsExact r
+  pub wide : (box_of r).min.x + natural size.width ≤ (box_of r).max.x
+  pub high : (box_of r).min.y + natural size.height ≤ (box_of r).max.y
+
+-- A page of these sides grows in width, and not in height: its width isn't the greater side, or its height is at its
+-- largest.
+abbrev pub grows_in_width : (largest sides : Sides) → Bool
+grows_in_width largest sides =
+    nat_lt sides.width largest.width && (nat_le sides.width sides.height || nat_le largest.height sides.height)
+
+-- The sides that a page grows to: the side that grows is doubled, up to the largest.
+abbrev pub grown_sides : (largest sides : Sides) → Sides
+grown_sides largest sides =
+    if grows_in_width largest sides
+    then record sides { width = min (2 * sides.width) largest.width }
+    else record sides { height = min (2 * sides.height) largest.height }
+
+-- The first n pages have the largest size.
+abbrev pub AreLargestBelow : (largest : Size) → List Size → (n : ℕ) → Type 0
+AreLargestBelow largest sizes n = (k : ℕ) → k < n → slice_get sizes k ≡ Some largest
+
+-- The first page that isn't at its largest, and the size that it grows to.
+pub record IsFirstToGrow (o : CacheOptions) (sizes : List Size) (page : ℕ) (size : Size) : Type 0 where
+  pub before : AreLargestBelow o.largest_page sizes page
+  pub old : Size
+  pub here : slice_get sizes page ≡ Some old
+  pub smaller : old ≢ o.largest_page
+  pub grows : size ≡ size_of (grown_sides (sides_of o.largest_page) (sides_of old))
+
+-- Each page is at its largest.
+abbrev pub AreAllLargest : CacheOptions → List Size → Type 0
+AreAllLargest o sizes = AreLargestBelow o.largest_page sizes (length sizes)
+
+-- Both sides of a size together.
+abbrev pub both_sides : Size → ℕ
+both_sides size = natural size.width + natural size.height
+
+-- How far the pages can still grow and be added to: by what each page's sides together are less than the largest ones,
+-- where a page that isn't there counts as one without any sides.
+abbrev pub growth_left : CacheOptions → List Size → ℕ
+growth_left o sizes =
+    sum_by (λ size. both_sides o.largest_page - both_sides size) sizes
+    + (o.pages - length sizes) * both_sides o.largest_page
+
+-- Nothing is live on any page.
+abbrev pub IsNothingLive : List AtlasValue → Type 0
+IsNothingLive pages = (page id : ℕ) → rectangle_on pages page id ≡ None
+
+-- Where nothing is live on a page that is at its largest, whatever can stand on an empty page of the largest size has
+-- room on some page.
+abbrev pub LargestHasRoom : RoomsState → Type 0
+LargestHasRoom r =
+    (page : ℕ) (size : Size) → slice_get (page_sizes r.pages) page ≡ Some r.options.largest_page
+    → ((id : ℕ) → rectangle_on r.pages page id ≡ None) → CanStand r.options size
+    → NoneHasRoomBelow (size_of (bordered r.options size)) r.pages (length r.pages) → ⊥
