@@ -15,7 +15,7 @@ const PAGE: i32 = 1024;
 const PAGES: usize = 4;
 const PADDING: i32 = 1;
 const GLYPHS: u64 = 10_000;
-const CALLS_IN_A_FRAME: u64 = 2_000;
+const CALLS_IN_A_FRAME: u32 = 2_000;
 const NONE: u32 = u32::MAX;
 
 // Each doubling of the rank is as likely as the one before, about as by Zipf's law.
@@ -185,15 +185,22 @@ impl Cache {
     }
 }
 
-/// So many calls; the last one may be a look-up that finds nothing.
+/// So many calls.
 pub fn run(calls: u32) -> Answers {
     let mut random = Random(1);
     let mut cache = Cache::new();
-    while cache.answers.calls < u64::from(calls) {
-        cache.frame = cache.answers.calls / CALLS_IN_A_FRAME;
-        let key = key_of(next_rank(&mut random));
-        if !cache.get(key) && cache.answers.calls < u64::from(calls) {
+    let mut wanted = None;
+    for call in 0..calls {
+        if call % CALLS_IN_A_FRAME == 0 {
+            cache.frame += 1;
+        }
+        if let Some(key) = wanted.take() {
             cache.insert(key);
+            continue;
+        }
+        let key = key_of(next_rank(&mut random));
+        if !cache.get(key) {
+            wanted = Some(key);
         }
     }
     cache.answers
