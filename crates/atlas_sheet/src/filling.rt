@@ -7,7 +7,10 @@ ghost use Rattle.atlas_sheet.specs.Fillings.{AreBest, HasFault, IsFillingFault, 
 ghost use Rattle.atlas_sheet.specs.Sheets.{ArePlaces, IsPackable, place_area, used_area};
 ghost use Rattle.atlas_sheet.specs.declared.ways.TheConstants.{WAYS};
 
+use crate::allowed::check_allowed;
 use crate::error::SheetError;
+use crate::options::SheetOptions;
+use crate::placed::Placed;
 use crate::places::try_way;
 use crate::ways::{WAYS, Way};
 use guillotiere::{Rectangle, Size};
@@ -16,10 +19,21 @@ use std::alloc::{Allocator, Global};
 /// A filled sheet.
 #[derive(Drop)]
 pub struct Filled<A: Allocator = Global> {
+    /// The size of the sheet, in pixels.
+    pub size: Size,
     /// A place or none for each sprite, in the order of the sprites.
-    pub places: Vec<Option<Rectangle>, A>,
+    pub places: Vec<Option<Placed>, A>,
     /// How many pixels these places have together.
     pub used_area: u128,
+    /// The numbers of the sprites in the order in which they asked for places.
+    pub order: Vec<usize, A>,
+}
+
+// What the best way finds.
+#[derive(Drop)]
+struct Filling<A: Allocator> {
+    places: Vec<Option<Rectangle>, A>,
+    used_area: u128,
 }
 
 // Whether a sprite can be packed.
@@ -86,7 +100,7 @@ fn fill_by<A: Allocator + Copy>(
     size: Size,
     padding: u16,
     ways: &[Way],
-) -> Result<Filled<A>, SheetError>
+) -> Result<Filling<A>, SheetError>
     requires positive { IsPositive (sides_of size) }
     requires packable { All (IsPackable padding) sprites.now }
     requires ways { 0 < length ways.now }
@@ -106,32 +120,45 @@ fn fill_by<A: Allocator + Copy>(
             most = area;
         }
     }
-    Ok(Filled {
+    Ok(Filling {
         places,
         used_area: most,
     })
 }
 
-/// Places sprites in a sheet of this size, in pixels, each at least `padding` from the border and from each other. Of
-/// the places that `WAYS` find, these have the most pixels. A sprite that found no room in that way has none.
-///
-/// `EmptySheet` if a side of the sheet is below 1; `EmptySprite` and `GreatSprite` name a sprite that can't be placed in
-/// any sheet; `Memory` if memory is refused.
+// A filling as a sheet.
+fn filled_of<A: Allocator + Copy>(
+    alloc: A,
+    size: Size,
+    filling: Filling<A>,
+) -> Result<Filled<A>, SheetError> {
+    let mut places = Vec::new(alloc);
+    let mut order = Vec::new(alloc);
+    for (number, place) in filling.places.iter().enumerate() {
+        places.push(place.map(|area| Placed {
+            area,
+            turned: false,
+        }))?;
+        order.push(number)?;
+    }
+    Ok(Filled {
+        size,
+        places,
+        used_area: filling.used_area,
+        order,
+    })
+}
+
+/// Places sprites in the greatest sheet that is allowed. Of the places that `WAYS` find, these have the most pixels. A
+/// sprite that found no room in that way has none.
 pub fn fill<A: Allocator + Copy>(
     alloc: A,
     sprites: &[Size],
-    size: Size,
-    padding: u16,
-) -> Result<Filled<A>, SheetError>
-    ensures places { IfOk result (λ filled. ArePlaces (sides_of size) padding sprites.now filled.places.items) }
-    ensures area { IfOk result (λ filled. filled.used_area ≡ used_area filled.places.items) }
-    ensures best { IfOk result (λ filled.
-        AreBest WAYS (sides_of size) padding sprites.now filled.places.items) }
-    ensures fault { IfErr result (λ e. IsFillingFault (sides_of size) padding sprites.now e) }
-{
-    if !size.is_positive() {
-        return Err(SheetError::EmptySheet);
-    }
-    check(sprites, padding)?;
-    fill_by(alloc, sprites, size, padding, &WAYS)
+    options: &SheetOptions,
+) -> Result<Filled<A>, SheetError> {
+    check_allowed(options.allowed)?;
+    check(sprites, options.padding)?;
+    let size = options.allowed.greatest();
+    let filling = fill_by(alloc, sprites, size, options.padding, &WAYS)?;
+    filled_of(alloc, size, filling)
 }

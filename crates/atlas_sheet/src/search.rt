@@ -10,10 +10,16 @@ ghost use Rattle.atlas_sheet.specs.Sheets.{IsPackable};
 
 use crate::allowed::Allowed;
 use crate::error::SheetError;
-use crate::packing::Sheet;
 use crate::trials::{Trial, try_all};
-use guillotiere::{Size, size2};
+use guillotiere::{Rectangle, Size, size2};
 use std::alloc::Allocator;
+
+/// A sheet that takes all sprites.
+#[derive(Drop)]
+pub struct Packing<A: Allocator> {
+    pub size: Size,
+    pub places: Vec<Rectangle, A>,
+}
 
 // Where the search goes on: at the first guess, then further and further away from it, until a size that packs and one
 // that doesn't are known; then half way between them.
@@ -77,7 +83,7 @@ fn bisect<A: Allocator + Copy>(
     trials: &[Trial<A>],
     allowed: Allowed,
     padding: u16,
-) -> Result<Option<Sheet<A>>, SheetError>
+) -> Result<Option<Packing<A>>, SheetError>
     requires usable { IsUsable allowed }
     requires row { IsRow allowed }
     requires packable { All (IsPackable padding) sprites.now }
@@ -159,7 +165,7 @@ fn try_size<A: Allocator + Copy>(
     trials: &[Trial<A>],
     size: Size,
     padding: u16,
-) -> Result<Option<Sheet<A>>, SheetError>
+) -> Result<Option<Packing<A>>, SheetError>
     requires positive { IsPositive (sides_of size) }
     requires packable { All (IsPackable padding) sprites.now }
     requires orders { All (λ t. IsOrderBy t.way sprites.now t.order.items) trials.now }
@@ -173,7 +179,7 @@ fn try_size<A: Allocator + Copy>(
     let Some(places) = try_all(alloc, sprites, trials, size, padding)? else {
         return Ok(None);
     };
-    Ok(Some(Sheet { size, places }))
+    Ok(Some(Packing { size, places }))
 }
 
 // The sheets of 2 ^ sum pixels, those that are nearest to a square first.
@@ -184,7 +190,7 @@ fn try_shapes<A: Allocator + Copy>(
     sum: u32,
     most: u32,
     padding: u16,
-) -> Result<Option<Sheet<A>>, SheetError>
+) -> Result<Option<Packing<A>>, SheetError>
     requires most { most < 31 }
     requires sum { sum ≤ 2 * most }
     requires packable { All (IsPackable padding) sprites.now }
@@ -220,7 +226,7 @@ fn scan<A: Allocator + Copy>(
     trials: &[Trial<A>],
     greatest: i32,
     padding: u16,
-) -> Result<Option<Sheet<A>>, SheetError>
+) -> Result<Option<Packing<A>>, SheetError>
     requires positive { 0 < natural greatest }
     requires packable { All (IsPackable padding) sprites.now }
     requires orders { All (λ t. IsOrderBy t.way sprites.now t.order.items) trials.now }
@@ -247,7 +253,7 @@ pub fn smallest<A: Allocator + Copy>(
     trials: &[Trial<A>],
     allowed: Allowed,
     padding: u16,
-) -> Result<Option<Sheet<A>>, SheetError>
+) -> Result<Option<Packing<A>>, SheetError>
     requires usable { IsUsable allowed }
     requires packable { All (IsPackable padding) sprites.now }
     requires orders { All (λ t. IsOrderBy t.way sprites.now t.order.items) trials.now }
