@@ -1,8 +1,19 @@
 //! What a sheet keeps to.
 ghost use Rattle.std.specs.Prelude.{◌≡◌, false};
+ghost use Rattle.guillotiere.specs.Pixels.{sides_of};
+ghost use Rattle.atlas_sheet.specs.Settings.{spacing_of};
 
 use crate::allowed::Allowed;
 use guillotiere::{Size, size2};
+
+/// How far apart sprites lie, and on what their places begin.
+#[derive(Clone, Copy, Debug, PartialEq, Eq)]
+pub struct Spacing {
+    /// How many pixels at least lie between two sprites, and between a sprite and the border.
+    pub padding: u16,
+    /// Each place, with the padding at its left and above, begins on multiples of these sides.
+    pub alignment: Size,
+}
 
 /// What a sheet keeps to, and how long better places are looked for.
 #[derive(Clone, Copy, Debug, PartialEq, Eq)]
@@ -30,6 +41,7 @@ impl SheetOptions {
         ensures turn { result.turn ≡ false }
         ensures effort { result.effort ≡ 0 }
         ensures seed { result.seed ≡ 0 }
+        ensures alignment { sides_of result.alignment ≡ record { width = 1; height = 1 } }
     {
         SheetOptions {
             allowed,
@@ -38,6 +50,16 @@ impl SheetOptions {
             turn: false,
             effort: 0,
             seed: 0,
+        }
+    }
+
+    /// The padding and the alignment.
+    pub fn spacing(&self) -> Spacing
+        ensures { result ≡ spacing_of self.now }
+    {
+        Spacing {
+            padding: self.padding,
+            alignment: self.alignment,
         }
     }
 }
