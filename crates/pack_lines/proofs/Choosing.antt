@@ -5,7 +5,7 @@ use Rattle.atlas_words.specs.Words.{IsEmptyOrSpaced, BeginsWithWord, BeginsWithN
 use Rattle.atlas_words.proofs.Keywords.{has_no_space, no_space_by_test}
 use Rattle.atlas_words.proofs.Parting.{one_word}
 use Rattle.pack_lines.specs.declared.settings.Setting.{Setting}
-use Rattle.pack_lines.specs.declared.settings.Setting.TheVariants.{Allowed, Padding, Align, Turn, Effort, Seed, Json}
+use Rattle.pack_lines.specs.declared.settings.Setting.TheVariants.{Allowed, Padding, Align, Turn, Effort, Seed, Fill, Json}
 use Rattle.pack_lines.specs.declared.settings.Sheets.TheVariants.{One, Squares, Powers, Heights}
 use Rattle.pack_lines.specs.Settings.{keyword, arguments, BeginsWithNumbers, BeginsWithSetting, IsSmall, padding_of, setting_alone, setting_with_number, setting_with_numbers}
 
@@ -20,6 +20,7 @@ keyword_test (Align size) = refl
 keyword_test Turn = refl
 keyword_test (Effort n) = refl
 keyword_test (Seed n) = refl
+keyword_test Fill = refl
 keyword_test Json = refl
 
 numbers_spaced : (zs : List ℤ) (text rest : List ℕ) → BeginsWithNumbers zs text rest → IsEmptyOrSpaced text
@@ -46,6 +47,7 @@ by_count (Align size) = omega arith
 by_count Turn = omega arith
 by_count (Effort n) = omega arith
 by_count (Seed n) = omega arith
+by_count Fill = omega arith
 by_count Json = omega arith
 
 none_alone : (s : Setting) (z : ℤ) (zs : List ℤ) → arguments s ≡ z ∷ zs → setting_alone (keyword s) ≡ None
@@ -58,6 +60,7 @@ none_alone (Align size) z zs e = refl
 none_alone Turn z zs e = absurd (cc)
 none_alone (Effort n) z zs e = refl
 none_alone (Seed n) z zs e = refl
+none_alone Fill z zs e = absurd (cc)
 none_alone Json z zs e = absurd (cc)
 
 some_alone : (s : Setting) → arguments s ≡ [] → setting_alone (keyword s) ≡ Some s
@@ -70,6 +73,7 @@ some_alone (Align size) e = absurd (cc)
 some_alone Turn e = refl
 some_alone (Effort n) e = absurd (cc)
 some_alone (Seed n) e = absurd (cc)
+some_alone Fill e = refl
 some_alone Json e = refl
 
 small_padding : (n : ℕ) → n < 65536 → padding_of (Some n) ≡ Some (Padding n)
@@ -85,6 +89,7 @@ some_with_number (Align size) z h e = absurd (cc)
 some_with_number Turn z h e = absurd (cc)
 some_with_number (Effort n) z h e = let same : pos n ≡ z = cc in subst (λ (y : ℤ). setting_with_number (codes "effort") y ≡ Some (Effort n)) same refl
 some_with_number (Seed n) z h e = let same : pos n ≡ z = cc in subst (λ (y : ℤ). setting_with_number (codes "seed") y ≡ Some (Seed n)) same refl
+some_with_number Fill z h e = absurd (cc)
 some_with_number Json z h e = absurd (cc)
 
 none_with_number : (s : Setting) (z y : ℤ) (zs : List ℤ) → arguments s ≡ z ∷ y ∷ zs → setting_with_number (keyword s) z ≡ None
@@ -97,6 +102,7 @@ none_with_number (Align size) z y zs e = refl
 none_with_number Turn z y zs e = absurd (cc)
 none_with_number (Effort n) z y zs e = absurd (cc)
 none_with_number (Seed n) z y zs e = absurd (cc)
+none_with_number Fill z y zs e = absurd (cc)
 none_with_number Json z y zs e = absurd (cc)
 
 some_with_numbers : (s : Setting) (z y : ℤ) → arguments s ≡ z ∷ y ∷ [] → setting_with_numbers (keyword s) z y ≡ Some s
@@ -109,6 +115,7 @@ some_with_numbers (Align size) z y e = let a : size.width ≡ z = cc in let b : 
 some_with_numbers Turn z y e = absurd (cc)
 some_with_numbers (Effort n) z y e = absurd (cc)
 some_with_numbers (Seed n) z y e = absurd (cc)
+some_with_numbers Fill z y e = absurd (cc)
 some_with_numbers Json z y e = absurd (cc)
 
 -- How a word and the numbers after it are a setting.

@@ -18,6 +18,7 @@ keyword (setting.Align size) = codes "align"
 keyword setting.Turn = codes "turn"
 keyword (setting.Effort changes) = codes "effort"
 keyword (setting.Seed start) = codes "seed"
+keyword setting.Fill = codes "fill"
 keyword setting.Json = codes "json"
 
 -- The numbers after that word.
@@ -31,6 +32,7 @@ arguments (setting.Align size) = size.width ∷ size.height ∷ []
 arguments setting.Turn = []
 arguments (setting.Effort changes) = pos changes ∷ []
 arguments (setting.Seed start) = pos start ∷ []
+arguments setting.Fill = []
 arguments setting.Json = []
 
 -- Numbers, each after one space, and what follows them.
@@ -63,6 +65,7 @@ changed old (setting.Align size) = record old { alignment = size }
 changed old setting.Turn = record old { turn = true }
 changed old (setting.Effort changes) = record old { effort = changes }
 changed old (setting.Seed start) = record old { seed = start }
+changed old setting.Fill = record old { fill = true }
 changed old setting.Json = record old { json = true }
 
 -- Settings with several changed, one after another.
@@ -74,7 +77,8 @@ changed_by old (s ∷ others) = changed_by (changed old s) others
 abbrev pub setting_alone : (word : List ℕ) → Option Setting
 setting_alone word =
     if bytes_eq word (codes "turn") then Some setting.Turn
-    else (if bytes_eq word (codes "json") then Some setting.Json else None)
+    else (if bytes_eq word (codes "fill") then Some setting.Fill
+    else (if bytes_eq word (codes "json") then Some setting.Json else None))
 
 abbrev pub from_zero : ℤ → Option ℕ
 from_zero (pos n) = Some n

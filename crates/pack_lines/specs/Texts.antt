@@ -3,6 +3,7 @@ use Rattle.std.specs.Prelude.{List, ℕ, Bool, [], if◌then◌else◌, ◌++◌
 use Rattle.std.specs.Fmt.{signed_decimal}
 use Rattle.atlas_model.specs.declared.geometry.Size.{Size}
 use Rattle.pack_lines.specs.declared.frames.Frame.{Frame}
+use Rattle.pack_lines.specs.declared.sprites.Sprite.{Sprite}
 use Rattle.pack_lines.specs.Frames.{fullness}
 
 -- The size of the sheet.
@@ -28,6 +29,11 @@ line_text p =
 abbrev pub full_text : ℕ → List ℕ
 full_text fullness = codes "full " ++ (decimal fullness ++ codes "\n")
 
--- The sheet, a line a sprite in order, and how full it is.
-abbrev pub text_of : Size → List Frame → List ℕ
-text_of sheet frames = sheet_text sheet ++ (flat_map line_text frames ++ full_text (fullness sheet frames))
+-- A sprite that found no place.
+abbrev pub left_text : Sprite → List ℕ
+left_text sprite = sprite.name.now ++ codes " none\n"
+
+-- The sheet, a line for each sprite with a place and then for each without, in order, and how full the sheet is.
+abbrev pub text_of : Size → List Frame → (left : List Sprite) → List ℕ
+text_of sheet frames left =
+    sheet_text sheet ++ (flat_map line_text frames ++ (flat_map left_text left ++ full_text (fullness sheet frames)))

@@ -35,6 +35,8 @@ pub enum Setting {
     Effort(u32),
     /// `seed N`: where the row of random changes begins.
     Seed(u32),
+    /// `fill`: as many sprites are placed as the greatest sheet takes.
+    Fill,
     /// `json`: the sheet is written as JSON.
     Json,
 }
@@ -54,6 +56,8 @@ pub struct Settings {
     pub effort: u32,
     /// Where the row of random changes begins.
     pub seed: u32,
+    /// Whether as many sprites are placed as the greatest sheet takes, in place of all in a small one.
+    pub fill: bool,
     /// Whether the sheet is written as JSON.
     pub json: bool,
 }
@@ -69,6 +73,7 @@ pub const DEFAULT_SETTINGS: Settings = Settings {
     turn: false,
     effort: 0,
     seed: 0,
+    fill: false,
     json: false,
 };
 
@@ -83,6 +88,7 @@ fn change(settings: &mut Settings, setting: Setting)
         Setting::Turn => settings.turn = true,
         Setting::Effort(changes) => settings.effort = changes,
         Setting::Seed(start) => settings.seed = start,
+        Setting::Fill => settings.fill = true,
         Setting::Json => settings.json = true,
     }
 }
@@ -101,6 +107,9 @@ fn alone(word: &[u8]) -> Option<Setting>
 {
     if word == b"turn".as_slice() {
         return Some(Setting::Turn);
+    }
+    if word == b"fill".as_slice() {
+        return Some(Setting::Fill);
     }
     if word == b"json".as_slice() {
         return Some(Setting::Json);
