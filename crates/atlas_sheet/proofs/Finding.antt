@@ -10,17 +10,18 @@ use Rattle.guillotiere.specs.declared.Rectangle.{Rectangle}
 use Rattle.guillotiere.specs.Simple.{SimpleState}
 use Rattle.guillotiere.proofs.TreeLemmas.TreeBasics.{one_if}
 use Rattle.guillotiere.proofs.ListLemmas.Counting.{count_by-cons, count_by-append}
+use Rattle.atlas_sheet.specs.declared.options.Spacing.{Spacing}
+use Rattle.atlas_sheet.specs.Orders.{AreNumberedOnce}
 use Rattle.atlas_sheet.specs.Sheets.{FindsPlace, FindPlaces, place_in, with_places}
-use Rattle.atlas_sheet.proofs.Numbering.{AreNumberedOnce}
 
 -- What stands past the end of a list of sprites.
 abbrev pub no_sprite : ℕ × Size
 no_sprite = (0, record { width = lib.IntN.pos 0; height = lib.IntN.pos 0 })
 
 -- After the first sprites have asked, and found this, whatever further ones find is found from the start.
-abbrev pub HaveFound : (padding : ℕ) → (start now : SimpleState) → List (Size × Option Rectangle) → Type 0
-HaveFound padding start now found =
-    (later : List (Size × Option Rectangle)) → FindPlaces padding now later → FindPlaces padding start (found ++ later)
+abbrev pub HaveFound : (spacing : Spacing) → (start now : SimpleState) → List (Size × Option Rectangle) → Type 0
+HaveFound spacing start now found =
+    (later : List (Size × Option Rectangle)) → FindPlaces spacing now later → FindPlaces spacing start (found ++ later)
 
 -- A write at a number that sprites don't have leaves their places.
 elsewhere : (places : List (Option Rectangle)) (n : ℕ) (found : Option Rectangle) (s : ℕ × Size) → s.0 ≢ n
@@ -28,7 +29,7 @@ elsewhere : (places : List (Option Rectangle)) (n : ℕ) (found : Option Rectang
 elsewhere places n found s other = get_or-set_other places n s.0 found _ other
 
 -- Of sprites none of which has the number.
-others : (n : ℕ) (xs : List (ℕ × Size)) → count_by (λ s. s.0 == n) xs ≡ 0 → All (λ s. s.0 ≢ n) xs
+pub others : (n : ℕ) (xs : List (ℕ × Size)) → count_by (λ s. s.0 == n) xs ≡ 0 → All (λ s. s.0 ≢ n) xs
 others n [] none = All-nil (λ s. s.0 ≢ n)
 others n (s ∷ xs) none =
     let count : count_by (λ s. s.0 == n) (s ∷ xs) ≡ one_if (s.0 == n) + count_by (λ s. s.0 == n) xs = count_by-cons (λ s. s.0 == n) s xs in
@@ -56,9 +57,9 @@ unused order k s once split =
     let few : count_by p order ≤ 1 = once s.0 in
     others s.0 (take k order) (omega arith)
 
-module _ (padding : ℕ) (start now next : SimpleState) (order : List (ℕ × Size)) (k : ℕ) (places : List (Option Rectangle)) (s d : ℕ × Size)
+module _ (spacing : Spacing) (start now next : SimpleState) (order : List (ℕ × Size)) (k : ℕ) (places : List (Option Rectangle)) (s d : ℕ × Size)
     (found : Option Rectangle) (once : AreNumberedOnce order) (inside : k < length order) (is : s ≡ get_or order k d) (room : s.0 < length places)
-    (step : FindsPlace padding now s.1 found next) (before : HaveFound padding start now (with_places places (take k order))) where
+    (step : FindsPlace spacing now s.1 found next) (before : HaveFound spacing start now (with_places places (take k order))) where
   split : drop k order ≡ s ∷ drop (suc k) order
   split = drop-cons order k d inside ∙ ap (λ t. t ∷ drop (suc k) order) (sym is)
 
@@ -74,15 +75,15 @@ module _ (padding : ℕ) (start now next : SimpleState) (order : List (ℕ × Si
       ∙ map-append (λ t. (t.1, place_in (set places s.0 found) t)) (take k order) (s ∷ [])
       ∙ (λ i. places_elsewhere places s.0 found (take k order) (unused order k s once split) i ++ (s.1, here i) ∷ [])
 
-  pub more : HaveFound padding start next (with_places (set places s.0 found) (take (suc k) order))
+  pub more : HaveFound spacing start next (with_places (set places s.0 found) (take (suc k) order))
   more later asked =
-      subst (λ ps. FindPlaces padding start (ps ++ later)) (sym written)
-      (subst (FindPlaces padding start) (sym (append_assoc (with_places places (take k order)) ((s.1, found) ∷ []) later))
+      subst (λ ps. FindPlaces spacing start (ps ++ later)) (sym written)
+      (subst (FindPlaces spacing start) (sym (append_assoc (with_places places (take k order)) ((s.1, found) ∷ []) later))
       (before ((s.1, found) ∷ later) (next, step, asked)))
 
 -- All have asked.
-pub all_found : (padding : ℕ) (start now : SimpleState) (order : List (ℕ × Size)) (k : ℕ) (places : List (Option Rectangle)) → length order ≤ k
-    → HaveFound padding start now (with_places places (take k order)) → FindPlaces padding start (with_places places order)
-all_found padding start now order k places end before =
-    subst (λ xs. FindPlaces padding start (with_places places xs)) (take_all k order end)
-    (subst (FindPlaces padding start) (append-nil (with_places places (take k order))) (before [] tt))
+pub all_found : (spacing : Spacing) (start now : SimpleState) (order : List (ℕ × Size)) (k : ℕ) (places : List (Option Rectangle)) → length order ≤ k
+    → HaveFound spacing start now (with_places places (take k order)) → FindPlaces spacing start (with_places places order)
+all_found spacing start now order k places end before =
+    subst (λ xs. FindPlaces spacing start (with_places places xs)) (take_all k order end)
+    (subst (FindPlaces spacing start) (append-nil (with_places places (take k order))) (before [] tt))

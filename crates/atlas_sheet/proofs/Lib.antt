@@ -1,3 +1,4 @@
+pub mod Arranging
 pub mod Asking
 pub mod BestWays
 pub mod Finding
@@ -7,5 +8,7 @@ pub mod Ordering
 pub mod Placing
 pub mod Powers
 pub mod Rows
+pub mod Steps
 pub mod Taking
+pub mod Turning
 pub mod WholeSheets

@@ -5,13 +5,10 @@ use Rattle.std.proofs.lemmas.Bool.{eqb-true}
 use Rattle.std.proofs.lemmas.List.Elements.{All-nil, All-cons, All-head, All-tail}
 use Rattle.std.proofs.lemmas.List.Sorted.{All-permutation}
 use Rattle.guillotiere.specs.declared.Size.{Size}
+use Rattle.atlas_sheet.specs.Orders.{AreNumberedOnce}
 use Rattle.guillotiere.proofs.TreeLemmas.TreeBasics.{one_if}
 use Rattle.guillotiere.proofs.ListLemmas.Counting.{count_by-cons}
 use Rattle.guillotiere.proofs.ListLemmas.CallerLemmas.{count_by-permutation}
-
--- No two sprites have one number.
-abbrev pub AreNumberedOnce : List (ℕ × Size) → Type 0
-AreNumberedOnce order = (k : ℕ) → count_by (λ s. s.0 == k) order ≤ 1
 
 numbers_below : (n most : ℕ) (xs : List Size) → n + length xs ≤ most → All (λ s. s.0 < most) (enumerate_from n xs)
 numbers_below n most [] le = All-nil (λ s. s.0 < most)

@@ -4,13 +4,13 @@ use Rattle.std.proofs.Math.Pow.{pow_mono}
 use Rattle.std.proofs.lemmas.Bool.{cases_lt}
 use Rattle.std.proofs.lemmas.Nat.{pow_pos, pow-add}
 use Rattle.guillotiere.specs.declared.Size.{Size}
-use Rattle.guillotiere.specs.declared.Rectangle.{Rectangle}
 use Rattle.guillotiere.specs.Boxes.{Sides}
 use Rattle.guillotiere.specs.Pixels.{natural, sides_of}
+use Rattle.atlas_sheet.specs.declared.options.Spacing.{Spacing}
 use Rattle.atlas_sheet.specs.declared.allowed.Allowed.TheVariants as allowed
 use Rattle.atlas_sheet.specs.declared.ways.Way.{Way}
-use Rattle.atlas_sheet.specs.Allowances.{IsAllowed, power_sides}
-use Rattle.atlas_sheet.specs.Packings.{ArePacked, IsLeastFound, IsPowerPacked, NoShapePacks, NoWayPacks, NoneIsFound}
+use Rattle.atlas_sheet.specs.Allowances.{IsAllowed, IsGreatest, power_sides}
+use Rattle.atlas_sheet.specs.Packings.{ArePacked, Packed, IsLeastFound, IsPowerPacked, NoShapePacks, NoWayPacks, NoneIsFound}
 use Rattle.atlas_sheet.proofs.Maybes.{at_none}
 
 -- The exponent of a power that doesn't pass a limit.
@@ -40,25 +40,43 @@ fewer a b c d less = elim (cases_lt (a + b) (c + d)) [
       absurd (omega arith)
 ]
 
-module _ (ways : List Way) (most padding : ℕ) (sprites : List Size) where
+-- The greatest sheet of powers of two.
+pub powers_greatest : (most : ℕ) (greatest : ℤ) → 2 ^ most ≤ natural greatest → natural greatest < 2 * 2 ^ most
+    → IsGreatest (allowed.Powers greatest) (power_sides most most)
+powers_greatest most greatest power next =
+    let c : 0 < 2 ^ most = pow_pos most in
+    record {
+      allowed = record { least = (c, c); greatest = (power, power); shape = ((most, refl), (most, refl)) };
+      greatest = λ s is.
+          let x = is.shape.0.0 in
+          let y = is.shape.1.0 in
+          let w : s.width ≡ 2 ^ x = is.shape.0.1 in
+          let h : s.height ≡ 2 ^ y = is.shape.1.1 in
+          let room = is.greatest in
+          let a : 2 ^ x ≤ 2 ^ most = pow_mono (exponent x most (natural greatest) (omega arith) next) in
+          let b : 2 ^ y ≤ 2 ^ most = pow_mono (exponent y most (natural greatest) (omega arith) next) in
+          (omega arith, omega arith);
+    }
+
+module _ (ways : List Way) (most : ℕ) (spacing : Spacing) (sprites : List Size) where
   -- Into no sheet with fewer pixels one of the ways packs all.
   abbrev pub FailsUpTo : (sum : ℕ) → Type 0
-  FailsUpTo sum = (j : ℕ) → j < sum → NoShapePacks ways most j padding sprites
+  FailsUpTo sum = (j : ℕ) → j < sum → NoShapePacks ways most j spacing sprites
 
   -- Nor into one that is nearer to a square than those that are left: `half` is half of the exponents together.
   abbrev pub FailsOutside : (sum half flat : ℕ) → Type 0
   FailsOutside sum half flat =
       (wide high : ℕ) → wide + high ≡ sum → wide ≤ most → high ≤ most → half < wide + flat → half < high + flat
-      → NoWayPacks ways (power_sides wide high) padding sprites
+      → NoWayPacks ways (power_sides wide high) spacing sprites
 
-  pub up_to_more : (sum : ℕ) → FailsUpTo sum → NoShapePacks ways most sum padding sprites → FailsUpTo (sum + 1)
+  pub up_to_more : (sum : ℕ) → FailsUpTo sum → NoShapePacks ways most sum spacing sprites → FailsUpTo (sum + 1)
   up_to_more sum before here j below = elim (cases_lt j sum) [
     | inl less ↦ before j less
-    | inr more ↦ let same : sum ≡ j = omega arith in subst (λ n. NoShapePacks ways most n padding sprites) same here
+    | inr more ↦ let same : sum ≡ j = omega arith in subst (λ n. NoShapePacks ways most n spacing sprites) same here
   ]
 
   pub outside_more : (sum half flat less more : ℕ) → flat ≤ half → less ≡ half - flat → more ≡ sum - less → FailsOutside sum half flat
-      → NoWayPacks ways (power_sides more less) padding sprites → NoWayPacks ways (power_sides less more) padding sprites
+      → NoWayPacks ways (power_sides more less) spacing sprites → NoWayPacks ways (power_sides less more) spacing sprites
       → FailsOutside sum half (flat + 1)
   outside_more sum half flat less more inside is rest before fails_wide fails_high wide high together w h a b =
       elim (cases_lt half (wide + flat)) [
@@ -67,46 +85,46 @@ module _ (ways : List Way) (most padding : ℕ) (sprites : List Size) where
           | inr high_out ↦
               let e : less ≡ high = omega arith in
               let f : more ≡ wide = omega arith in
-              subst (λ s. NoWayPacks ways s padding sprites) (λ i. record { width = 2 ^ f i; height = 2 ^ e i }) fails_wide
+              subst (λ s. NoWayPacks ways s spacing sprites) (λ i. record { width = 2 ^ f i; height = 2 ^ e i }) fails_wide
         ]
         | inr wide_out ↦
             let e : less ≡ wide = omega arith in
             let f : more ≡ high = omega arith in
-            subst (λ s. NoWayPacks ways s padding sprites) (λ i. record { width = 2 ^ e i; height = 2 ^ f i }) fails_high
+            subst (λ s. NoWayPacks ways s spacing sprites) (λ i. record { width = 2 ^ e i; height = 2 ^ f i }) fails_high
       ]
 
   -- The next ones are too long.
   pub outside_long : (sum half flat less more : ℕ) → less ≡ half - flat → more ≡ sum - less → most < more → FailsOutside sum half flat
-      → NoShapePacks ways most sum padding sprites
+      → NoShapePacks ways most sum spacing sprites
   outside_long sum half flat less more is rest long before wide high together w h = before wide high together w h (omega arith) (omega arith)
 
-  pub outside_all : (sum half flat : ℕ) → half < flat → FailsOutside sum half flat → NoShapePacks ways most sum padding sprites
+  pub outside_all : (sum half flat : ℕ) → half < flat → FailsOutside sum half flat → NoShapePacks ways most sum spacing sprites
   outside_all sum half flat end before wide high together w h = before wide high together w h (omega arith) (omega arith)
 
   -- What a try at a sheet of powers of two says.
-  pub shape_packed : {T : Type 0} (size : T → Size) (places : T → List Rectangle) (found : Option T) (given : Size) (sum wide high : ℕ)
+  pub shape_packed : {T : Type 0} (size : T → Size) (packed : T → Packed) (found : Option T) (given : Size) (sum wide high : ℕ)
       → sides_of given ≡ power_sides wide high → wide + high ≡ sum → wide ≤ most → high ≤ most → IfSome found (λ s. size s ≡ given)
-      → IfSome found (λ s. ArePacked ways (sides_of given) padding sprites (places s))
-      → IfSome found (λ s. IsPowerPacked ways most sum padding sprites (sides_of (size s)) (places s))
-  shape_packed size places None given sum wide high sides together w h is packed = tt
-  shape_packed size places (Some sheet) given sum wide high sides together w h is packed = record {
+      → IfSome found (λ s. ArePacked ways (sides_of given) spacing sprites (packed s))
+      → IfSome found (λ s. IsPowerPacked ways most sum spacing sprites (sides_of (size s)) (packed s))
+  shape_packed size packed None given sum wide high sides together w h is good = tt
+  shape_packed size packed (Some sheet) given sum wide high sides together w h is good = record {
     wide = wide;
     high = high;
     together = together;
     inside = (w, h);
     sides = ap sides_of is ∙ sides;
-    packed = subst (λ s. ArePacked ways (sides_of s) padding sprites (places sheet)) (sym is) packed;
+    good = subst (λ s. ArePacked ways (sides_of s) spacing sprites (packed sheet)) (sym is) good;
   }
 
   pub shape_fails : {T : Type 0} (found : Option T) (given : Size) (wide high : ℕ) → sides_of given ≡ power_sides wide high
-      → is_some found ≡ false → IfNone found (NoWayPacks ways (sides_of given) padding sprites)
-      → NoWayPacks ways (power_sides wide high) padding sprites
-  shape_fails found given wide high sides empty fails = subst (λ s. NoWayPacks ways s padding sprites) sides (at_none found empty fails)
+      → is_some found ≡ false → IfNone found (NoWayPacks ways (sides_of given) spacing sprites)
+      → NoWayPacks ways (power_sides wide high) spacing sprites
+  shape_fails found given wide high sides empty fails = subst (λ s. NoWayPacks ways s spacing sprites) sides (at_none found empty fails)
 
   module _ (greatest : ℤ) (power : 2 ^ most ≤ natural greatest) (next : natural greatest < 2 * 2 ^ most) where
-    pub scan_found : (sum : ℕ) (sheet : Sides) (places : List Rectangle) → FailsUpTo sum → IsPowerPacked ways most sum padding sprites sheet places
-        → IsLeastFound ways (allowed.Powers greatest) padding sprites sheet places
-    scan_found sum sheet places before found =
+    pub scan_found : (sum : ℕ) (sheet : Sides) (packed : Packed) → FailsUpTo sum → IsPowerPacked ways most sum spacing sprites sheet packed
+        → IsLeastFound ways (allowed.Powers greatest) spacing sprites sheet packed
+    scan_found sum sheet packed before found =
         let wide = found.wide in
         let high = found.high in
         let a : 2 ^ wide ≤ 2 ^ most = pow_mono found.inside.0 in
@@ -117,7 +135,7 @@ module _ (ways : List Way) (most padding : ℕ) (sprites : List Size) where
         let sh : sheet.height ≡ 2 ^ high = ap (λ t. t.height) found.sides in
         record {
           allowed = record { least = (omega arith, omega arith); greatest = (omega arith, omega arith); shape = ((wide, sw), (high, sh)) };
-          packed = found.packed;
+          good = found.good;
           least = λ s is less.
               let x = is.shape.0.0 in
               let y = is.shape.1.0 in
@@ -130,24 +148,13 @@ module _ (ways : List Way) (most padding : ℕ) (sprites : List Size) where
               let together : wide + high ≡ sum = found.together in
               let room = is.greatest in
               let at : power_sides x y ≡ s = λ i. record { width = sym w i; height = sym h i } in
-              subst (λ t. NoWayPacks ways t padding sprites) at
+              subst (λ t. NoWayPacks ways t spacing sprites) at
               (before (x + y) (omega arith) x y refl (exponent x most (natural greatest) (omega arith) next) (exponent y most (natural greatest) (omega arith) next));
         }
 
-    pub scan_none : (sum : ℕ) → 2 * most < sum → FailsUpTo sum → NoneIsFound ways (allowed.Powers greatest) padding sprites
-    scan_none sum end before =
-        let c : 0 < 2 ^ most = pow_pos most in
-        record {
-          sheet = power_sides most most;
-          allowed = record { least = (c, c); greatest = (power, power); shape = ((most, refl), (most, refl)) };
-          greatest = λ s is.
-              let x = is.shape.0.0 in
-              let y = is.shape.1.0 in
-              let w : s.width ≡ 2 ^ x = is.shape.0.1 in
-              let h : s.height ≡ 2 ^ y = is.shape.1.1 in
-              let room = is.greatest in
-              let a : 2 ^ x ≤ 2 ^ most = pow_mono (exponent x most (natural greatest) (omega arith) next) in
-              let b : 2 ^ y ≤ 2 ^ most = pow_mono (exponent y most (natural greatest) (omega arith) next) in
-              (omega arith, omega arith);
-          fails = before (most + most) (omega arith) most most refl (omega arith) (omega arith);
-        }
+    pub scan_none : (sum : ℕ) → 2 * most < sum → FailsUpTo sum → NoneIsFound ways (allowed.Powers greatest) spacing sprites
+    scan_none sum end before = record {
+      sheet = power_sides most most;
+      greatest = powers_greatest most greatest power next;
+      fails = before (most + most) (omega arith) most most refl (omega arith) (omega arith);
+    }

@@ -8,37 +8,38 @@ use Rattle.std.proofs.lemmas.List.Elements.{All-push, Contains-push}
 use Rattle.guillotiere.specs.declared.Size.{Size}
 use Rattle.guillotiere.specs.declared.Rectangle.{Rectangle}
 use Rattle.guillotiere.specs.Boxes.{Sides, IsPositive}
+use Rattle.guillotiere.specs.Pixels.{sides_of}
 use Rattle.guillotiere.specs.Simple.{SimpleState, simple_start}
+use Rattle.atlas_sheet.specs.declared.options.Spacing.{Spacing}
 use Rattle.atlas_sheet.specs.declared.ways.Choice.{Choice}
 use Rattle.atlas_sheet.specs.declared.ways.Way.{Way}
-use Rattle.atlas_sheet.specs.Orders.{choice_options}
-use Rattle.atlas_sheet.specs.Packings.{AllFindPlaces, ArePacked, IsOrderBy, LeavesOne}
+use Rattle.atlas_sheet.specs.Packings.{AllFindPlaces, ArePacked, Packed, IsOrderBy, LeavesOne}
+use Rattle.atlas_sheet.specs.Orders.{AreNumberedOnce, choice_options}
 use Rattle.atlas_sheet.specs.Sheets.{FindPlaces, FindsPlace, IsPackable, inner_sides, place_in, with_places}
 use Rattle.atlas_sheet.proofs.Finding.{HaveFound, more}
-use Rattle.atlas_sheet.proofs.Numbering.{AreNumberedOnce}
 use Rattle.atlas_sheet.proofs.WholeSheets.{found_places}
 
-module _ (padding : ℕ) (start now next : SimpleState) (order : List (ℕ × Size)) (k : ℕ) (places : List Rectangle) (s d : ℕ × Size)
+module _ (spacing : Spacing) (start now next : SimpleState) (order : List (ℕ × Size)) (k : ℕ) (places : List Rectangle) (s d : ℕ × Size)
     (once : AreNumberedOnce order) (inside : k < length order) (is : s ≡ get_or order k d) (room : s.0 < length places)
-    (before : HaveFound padding start now (with_places (map Some places) (take k order))) where
+    (before : HaveFound spacing start now (with_places (map Some places) (take k order))) where
   wide : s.0 < length (map Some places)
   wide = subst (λ n. s.0 < n) (sym (length-map places Some)) room
 
   -- The next one has a place.
-  pub one_more : (found : Rectangle) → FindsPlace padding now s.1 (Some found) next
-      → HaveFound padding start next (with_places (map Some (set places s.0 found)) (take (suc k) order))
+  pub one_more : (found : Rectangle) → FindsPlace spacing now s.1 (Some found) next
+      → HaveFound spacing start next (with_places (map Some (set places s.0 found)) (take (suc k) order))
   one_more found step =
-      subst (λ ps. HaveFound padding start next (with_places ps (take (suc k) order))) (sym (map-set Some places s.0 found))
-      (more padding start now next order k (map Some places) s d (Some found) once inside is wide step before)
+      subst (λ ps. HaveFound spacing start next (with_places ps (take (suc k) order))) (sym (map-set Some places s.0 found))
+      (more spacing start now next order k (map Some places) s d (Some found) once inside is wide step before)
 
   -- The next one has none.
 
-  pub one_left : (sheet : Sides) (choice : Choice) → start ≡ simple_start (inner_sides padding sheet) (choice_options choice)
-      → FindsPlace padding now s.1 None next → LeavesOne sheet padding choice order
+  pub one_left : (sheet : Sides) (choice : Choice) → start ≡ simple_start (inner_sides spacing sheet) (choice_options spacing choice)
+      → FindsPlace spacing now s.1 None next → LeavesOne sheet spacing choice order
   one_left sheet choice begun step =
       let after = set (map Some places) s.0 None in
-      let all : HaveFound padding start next (with_places after (take (suc k) order)) =
-      more padding start now next order k (map Some places) s d None once inside is wide step before in
+      let all : HaveFound spacing start next (with_places after (take (suc k) order)) =
+      more spacing start now next order k (map Some places) s d None once inside is wide step before in
       let longer : take (suc k) order ≡ take k order ++ s ∷ [] = take-suc order k d inside ∙ ap (λ t. take k order ++ t ∷ []) (sym is) in
       let absent : place_in after s ≡ None = get_or-set_same (map Some places) s.0 None _ wide in
       let listed : map (place_in after) (take (suc k) order) ≡ map (place_in after) (take k order) ++ None ∷ [] =
@@ -46,28 +47,23 @@ module _ (padding : ℕ) (start now next : SimpleState) (order : List (ℕ × Si
       record {
         many = suc k;
         places = after;
-        found = subst (λ b. FindPlaces padding b (with_places after (take (suc k) order))) begun
-            (subst (FindPlaces padding start) (append-nil (with_places after (take (suc k) order))) (all [] tt));
+        found = subst (λ b. FindPlaces spacing b (with_places after (take (suc k) order))) begun
+            (subst (FindPlaces spacing start) (append-nil (with_places after (take (suc k) order))) (all [] tt));
         left = subst (λ ps. Contains ps None) (sym listed) (Contains-push (map (place_in after) (take k order)) None);
       }
 
 -- One of the ways packs all.
-pub a_way_packs : (ways : List Way) (way : Way) (sheet : Sides) (padding : ℕ) (sprites : List Size) (order : List (ℕ × Size)) (places : List Rectangle)
-    → Contains ways way → IsPositive sheet → All (IsPackable padding) sprites → IsOrderBy way sprites order → length places ≡ length sprites
-    → AllFindPlaces sheet padding way.choice order places → ArePacked ways sheet padding sprites places
-a_way_packs ways way sheet padding sprites order places tried positive packable by long found =
-    let count : length (map Some places) ≡ length sprites = length-map places Some ∙ long in
+pub a_way_packs : (ways : List Way) (sheet : Sides) (spacing : Spacing) (sprites : List Size) (packed : Packed)
+    → Contains ways packed.way → IsPositive sheet → IsPositive (sides_of spacing.alignment) → All (IsPackable spacing) sprites
+    → IsOrderBy packed.way sprites packed.order → length packed.places ≡ length sprites
+    → AllFindPlaces sheet spacing packed.way.choice packed.order packed.places → ArePacked ways sheet spacing sprites packed
+a_way_packs ways sheet spacing sprites packed tried positive aligned packable by long found =
+    let count : length (map Some packed.places) ≡ length sprites = length-map packed.places Some ∙ long in
     record {
-      good = found_places sheet padding way.choice sprites order (map Some places) positive packable by.permuted count found;
-      way = way;
+      good = found_places sheet spacing packed.way.choice sprites packed.order (map Some packed.places) positive aligned packable by.permuted count found;
       tried = tried;
-      found = record {
-        count = count;
-        order = order;
-        permuted = by.permuted;
-        greatest = by.greatest;
-        found = found;
-      };
+      by = by;
+      found = found;
     }
 
 module _ {T : Type 0} (f : T → Way) (xs : List T) (k : ℕ) (x : T) (inside : k < length xs) (is : x ≡ get_or xs k x) where

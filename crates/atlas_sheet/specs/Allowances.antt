@@ -1,5 +1,5 @@
 -- The sheets that are allowed, and which of them are looked at before another.
-use Rattle.std.specs.Prelude.{◌≡◌, ℕ, ◌+◌, ◌-◌, ◌*◌, ◌^◌, ◌<◌, ◌≤◌, ⊤}
+use Rattle.std.specs.Prelude.{◌≡◌, ℕ, ◌+◌, ◌-◌, ◌*◌, ◌/◌, ◌^◌, ◌<◌, ◌≤◌, ◌⊎◌, ⊤}
 use Rattle.guillotiere.specs.Boxes.{Sides, Fits, IsPositive}
 use Rattle.guillotiere.specs.Pixels.{natural, sides_of}
 use Rattle.atlas_sheet.specs.declared.allowed.Allowed.{Allowed}
@@ -34,6 +34,15 @@ pub record IsAllowed (by : Allowed) (sheet : Sides) : Type 0 where
   pub greatest : Fits sheet (greatest_sides by)
   pub shape : HasShape by sheet
 
+-- The allowed sheet whose sides no other passes.
+pub record IsGreatest (by : Allowed) (sheet : Sides) : Type 0 where
+  pub allowed : IsAllowed by sheet
+  pub greatest : (s : Sides) → IsAllowed by s → Fits s sheet
+
+-- How many pixels a sheet has.
+abbrev pub pixels : Sides → ℕ
+pixels s = s.width * s.height
+
 -- What is looked at before a sheet: of powers of two each with fewer pixels, else the one that is a pixel lower.
 abbrev pub ComesBefore : Allowed → Sides → Sides → Type 0
 ComesBefore (allowed.Powers greatest) s sheet = s.width * s.height < sheet.width * sheet.height
@@ -60,6 +69,12 @@ nth_sides by k = record { width = (least_sides by).width; height = (least_sides 
 -- Powers of two as sides.
 abbrev pub power_sides : (wide high : ℕ) → Sides
 power_sides wide high = record { width = 2 ^ wide; height = 2 ^ high }
+
+-- One side is half of the other sheet's, which is above 1, and the other side is the same.
+abbrev pub HasHalfOf : Sides → Sides → Type 0
+HasHalfOf t s =
+    ((1 < s.width) × (t.width ≡ s.width / 2) × (t.height ≡ s.height))
+    ⊎ ((1 < s.height) × (t.width ≡ s.width) × (t.height ≡ s.height / 2))
 
 -- What is wrong with what is allowed.
 abbrev pub IsAllowanceFault : Allowed → SheetError → Type 0

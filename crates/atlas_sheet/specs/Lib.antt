@@ -1,5 +1,7 @@
 pub mod Allowances
 pub mod Fillings
+pub mod Lying
 pub mod Orders
 pub mod Packings
+pub mod Settings
 pub mod Sheets

@@ -1,10 +1,11 @@
 -- The orders in which sprites are placed, and how they choose among free boxes.
-use Rattle.std.specs.Prelude.{ℕ, ◌*◌, ◌≤◌, pos, min, max, List, length}
+use Rattle.std.specs.Prelude.{ℕ, ◌*◌, ◌≤◌, ◌==◌, pos, min, max, List, length, count_by}
 use Rattle.std.specs.List.{AllAdjacentBelow}
 use Rattle.guillotiere.specs.declared.Size.{Size}
 use Rattle.guillotiere.specs.Boxes.{Sides}
 use Rattle.guillotiere.specs.Choice.{Options}
 use Rattle.guillotiere.specs.Pixels.{sides_of}
+use Rattle.atlas_sheet.specs.declared.options.Spacing.{Spacing}
 use Rattle.atlas_sheet.specs.declared.orders.Key.{Key}
 use Rattle.atlas_sheet.specs.declared.orders.Key.TheVariants as key
 use Rattle.atlas_sheet.specs.declared.ways.Choice.{Choice}
@@ -23,9 +24,13 @@ abbrev pub AreGreatestFirst : Key → List (ℕ × Size) → Type 0
 AreGreatestFirst key order =
     AllAdjacentBelow (λ s t. key_of key (sides_of t.1) ≤ key_of key (sides_of s.1)) order (length order)
 
--- The options of an allocator that chooses so: alignment 1, and the thresholds in pixels.
-abbrev pub choice_options : Choice → Options
-choice_options choice.Usual =
-    record { alignment = record { width = 1; height = 1 }; small_threshold = pos 32; large_threshold = pos 256 }
-choice_options choice.Roomiest =
-    record { alignment = record { width = 1; height = 1 }; small_threshold = pos 0; large_threshold = pos 0 }
+-- The options of an allocator that chooses so, with the thresholds in pixels.
+abbrev pub choice_options : Spacing → Choice → Options
+choice_options spacing choice.Roomiest =
+    record { alignment = sides_of spacing.alignment; small_threshold = pos 0; large_threshold = pos 0 }
+choice_options spacing choice.Tightest =
+    record { alignment = sides_of spacing.alignment; small_threshold = pos 0; large_threshold = pos 2147483647 }
+
+-- No two of the sprites have one number.
+abbrev pub AreNumberedOnce : List (ℕ × Size) → Type 0
+AreNumberedOnce order = (k : ℕ) → count_by (λ s. s.0 == k) order ≤ 1

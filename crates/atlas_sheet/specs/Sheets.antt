@@ -1,22 +1,23 @@
 -- Sheets of sprites: what the places on a sheet keep to, and how sprites find them.
-use Rattle.std.specs.Prelude.{◌≡◌, ℕ, ◌+◌, ◌-◌, ◌≤◌, max, ⊤, Bool, false, List, [], ◌∷◌, map, length, slice_index_or}
+use Rattle.std.specs.Prelude.{◌≡◌, ℕ, ◌+◌, ◌-◌, ◌%◌, ◌≤◌, max, ⊤, Bool, false, List, [], ◌∷◌, map, length, slice_index_or}
 use Rattle.std.specs.Prelude.{Option, Some, None, IfSome, IsPermutation}
 use Rattle.std.specs.List.{AllZip, enumerate_from, count_by, sum_by}
 use Rattle.guillotiere.specs.declared.Size.{Size}
 use Rattle.guillotiere.specs.declared.Rectangle.{Rectangle}
-use Rattle.guillotiere.specs.Boxes.{Sides, Box, IsPositive, box_sides, area, covers}
+use Rattle.guillotiere.specs.Boxes.{Position, Sides, Box, IsPositive, box_at, box_sides, area, covers}
 use Rattle.guillotiere.specs.Choice.{HasNoRoom}
 use Rattle.guillotiere.specs.Pixels.{box_of, sides_of}
 use Rattle.guillotiere.specs.Replies.{IsExact}
 use Rattle.guillotiere.specs.Simple.{SimpleState, SimplyGrants, simple_start}
+use Rattle.atlas_sheet.specs.declared.options.Spacing.{Spacing}
 use Rattle.atlas_sheet.specs.declared.ways.Way.{Way}
 use Rattle.atlas_sheet.specs.Orders.{AreGreatestFirst, choice_options}
 
 -- A sprite that isn't empty, and with the padding at both its sides has sides of at most 2147483647.
-pub record IsPackable (padding : ℕ) (sprite : Size) : Type 0 where
+pub record IsPackable (spacing : Spacing) (sprite : Size) : Type 0 where
   pub positive : IsPositive (sides_of sprite)
-  pub wide : (sides_of sprite).width + padding + padding ≤ 2147483647
-  pub high : (sides_of sprite).height + padding + padding ≤ 2147483647
+  pub wide : (sides_of sprite).width + spacing.padding + spacing.padding ≤ 2147483647
+  pub high : (sides_of sprite).height + spacing.padding + spacing.padding ≤ 2147483647
 
 -- A place with its padding at the left and above.
 abbrev pub padded : (padding : ℕ) → Rectangle → Box
@@ -26,24 +27,30 @@ padded padding place =
       max = (box_of place).max;
     }
 
--- A place for a sprite in a sheet: it has the sprite's sides, and keeps the padding to the border.
-pub record IsPlaceFor (sheet : Sides) (padding : ℕ) (sprite : Size) (place : Rectangle) : Type 0 where
+-- A position whose coordinates are multiples of the alignment.
+abbrev pub IsOnGrid : (alignment : Sides) → Position → Type 0
+IsOnGrid alignment p = (p.x % alignment.width ≡ 0) × (p.y % alignment.height ≡ 0)
+
+-- A place for a sprite in a sheet: it has the sprite's sides, keeps the padding to the border, and with it begins on
+-- multiples of the alignment.
+pub record IsPlaceFor (sheet : Sides) (spacing : Spacing) (sprite : Size) (place : Rectangle) : Type 0 where
   pub sides : box_sides (box_of place) ≡ sides_of sprite
-  pub left : padding ≤ (box_of place).min.x
-  pub above : padding ≤ (box_of place).min.y
-  pub right : (box_of place).max.x + padding ≤ sheet.width
-  pub below : (box_of place).max.y + padding ≤ sheet.height
+  pub left : spacing.padding ≤ (box_of place).min.x
+  pub above : spacing.padding ≤ (box_of place).min.y
+  pub right : (box_of place).max.x + spacing.padding ≤ sheet.width
+  pub below : (box_of place).max.y + spacing.padding ≤ sheet.height
+  pub aligned : IsOnGrid (sides_of spacing.alignment) (padded spacing.padding place).min
   pub exact : IsExact place
 
 -- Whether the unit square (x, y) lies in a place with its padding.
-abbrev pub covers_place : (padding x y : ℕ) → Option Rectangle → Bool
-covers_place padding x y None = false
-covers_place padding x y (Some place) = covers x y (padded padding place)
+abbrev pub covers_place : (spacing : Spacing) (x y : ℕ) → Option Rectangle → Bool
+covers_place spacing x y None = false
+covers_place spacing x y (Some place) = covers x y (padded spacing.padding place)
 
 -- A place or none a sprite, in the order of the sprites; no unit square lies in two places with their padding.
-pub record ArePlaces (sheet : Sides) (padding : ℕ) (sprites : List Size) (places : List (Option Rectangle)) : Type 0 where
-  pub each : AllZip (λ sprite place. IfSome place (IsPlaceFor sheet padding sprite)) sprites places
-  pub apart : (x y : ℕ) → count_by (covers_place padding x y) places ≤ 1
+pub record ArePlaces (sheet : Sides) (spacing : Spacing) (sprites : List Size) (places : List (Option Rectangle)) : Type 0 where
+  pub each : AllZip (λ sprite place. IfSome place (IsPlaceFor sheet spacing sprite)) sprites places
+  pub apart : (x y : ℕ) → count_by (covers_place spacing x y) places ≤ 1
 
 -- How many pixels a place has.
 abbrev pub place_area : Option Rectangle → ℕ
@@ -60,26 +67,28 @@ asked_sides padding sprite =
     record { width = (sides_of sprite).width + padding; height = (sides_of sprite).height + padding }
 
 -- What is left of a sheet without the padding at its right and below, and at least 1.
-abbrev pub inner_sides : (padding : ℕ) → Sides → Sides
-inner_sides padding sheet = record { width = max (sheet.width - padding) 1; height = max (sheet.height - padding) 1 }
+abbrev pub inner_sides : (spacing : Spacing) → Sides → Sides
+inner_sides spacing sheet =
+    record { width = max (sheet.width - spacing.padding) 1; height = max (sheet.height - spacing.padding) 1 }
 
 -- A request is granted a box, or finds no room.
 abbrev pub GivesBox : SimpleState → Sides → Option Rectangle → SimpleState → Type 0
 GivesBox old asked None new = HasNoRoom old.free old.options asked × (new ≡ old)
 GivesBox old asked (Some area) new = SimplyGrants old asked (box_of area) new × IsExact area
 
--- A sprite that asks is granted its place with its padding, or finds no room.
-abbrev pub FindsPlace : (padding : ℕ) → SimpleState → Size → Option Rectangle → SimpleState → Type 0
-FindsPlace padding old sprite None new = HasNoRoom old.free old.options (asked_sides padding sprite) × (new ≡ old)
-FindsPlace padding old sprite (Some place) new =
-    SimplyGrants old (asked_sides padding sprite) (padded padding place) new
-    × (padding ≤ (box_of place).min.x) × (padding ≤ (box_of place).min.y) × IsExact place
+-- A sprite that asks is granted a box, in whose corner its place lies with its padding, or finds no room.
+abbrev pub FindsPlace : (spacing : Spacing) → SimpleState → Size → Option Rectangle → SimpleState → Type 0
+FindsPlace spacing old sprite None new = HasNoRoom old.free old.options (asked_sides spacing.padding sprite) × (new ≡ old)
+FindsPlace spacing old sprite (Some place) new =
+    (box : Box) × SimplyGrants old (asked_sides spacing.padding sprite) box new
+    × (padded spacing.padding place ≡ box_at box.min (asked_sides spacing.padding sprite))
+    × (spacing.padding ≤ (box_of place).min.x) × (spacing.padding ≤ (box_of place).min.y) × IsExact place
 
 -- Sprites ask one after another, each with what it finds.
-abbrev pub FindPlaces : (padding : ℕ) → SimpleState → List (Size × Option Rectangle) → Type 0
-FindPlaces padding s [] = ⊤
-FindPlaces padding s (asked ∷ rest) =
-    (next : SimpleState) × FindsPlace padding s asked.0 asked.1 next × FindPlaces padding next rest
+abbrev pub FindPlaces : (spacing : Spacing) → SimpleState → List (Size × Option Rectangle) → Type 0
+FindPlaces spacing s [] = ⊤
+FindPlaces spacing s (asked ∷ rest) =
+    (next : SimpleState) × FindsPlace spacing s asked.0 asked.1 next × FindPlaces spacing next rest
 
 -- The place of a numbered sprite.
 abbrev pub place_in : List (Option Rectangle) → ℕ × Size → Option Rectangle
@@ -89,12 +98,11 @@ place_in places sprite = slice_index_or places sprite.0 None
 abbrev pub with_places : List (Option Rectangle) → List (ℕ × Size) → List (Size × Option Rectangle)
 with_places places order = map (λ s. (s.1, place_in places s)) order
 
--- What sprites find in a new sheet in some way: they come in an order by the way's key.
-pub record AreFoundBy (sheet : Sides) (padding : ℕ) (sprites : List Size) (way : Way)
+-- What sprites find in a new sheet in some way: they come in this order, which is one by the way's key.
+pub record AreFoundBy (sheet : Sides) (spacing : Spacing) (sprites : List Size) (way : Way) (order : List (ℕ × Size))
     (places : List (Option Rectangle)) : Type 0 where
   pub count : length places ≡ length sprites
-  pub order : List (ℕ × Size)
   pub permuted : IsPermutation (enumerate_from 0 sprites) order
   pub greatest : AreGreatestFirst way.key order
-  pub found : FindPlaces padding (simple_start (inner_sides padding sheet) (choice_options way.choice))
+  pub found : FindPlaces spacing (simple_start (inner_sides spacing sheet) (choice_options spacing way.choice))
       (with_places places order)

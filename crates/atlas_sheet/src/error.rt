@@ -18,6 +18,9 @@ pub enum SheetError {
     /// No sheet is allowed: the greatest side is below the least.
     #[error("the greatest side is below the least")]
     EmptyRange,
+    /// A side of the alignment is below 1.
+    #[error("a side of the alignment is below 1")]
+    EmptyAlignment,
     /// The sprite with this number, counted from 0, has a side below 1.
     #[error("sprite {0} has a side below 1")]
     EmptySprite(usize),

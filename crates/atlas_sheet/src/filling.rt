@@ -1,49 +1,56 @@
 //! A sheet of one size with as many pixels of sprites as it takes.
-ghost use Rattle.std.specs.Prelude.{◌≡◌, ◌<◌, ◌≤◌, length, All, IfErr, IfOk, IsOkUnless, OnOk};
+ghost use Rattle.std.specs.Prelude.{◌≡◌, ◌+◌, ◌<◌, ◌≤◌, ◌↔◌, length, All, IfErr, IfOk, IsOkUnless, IsTrue, OnOk};
 ghost use Rattle.guillotiere.specs.Boxes.{IsPositive};
 ghost use Rattle.guillotiere.specs.Pixels.{natural, sides_of};
 ghost use Rattle.atlas_sheet.specs.declared.error.SheetError.TheVariants.{Memory};
-ghost use Rattle.atlas_sheet.specs.Fillings.{AreBest, HasFault, IsFillingFault, IsSpriteFault};
+ghost use Rattle.atlas_sheet.specs.Fillings.{AreBest, HasFault, IsSpriteFault};
 ghost use Rattle.atlas_sheet.specs.Sheets.{ArePlaces, IsPackable, place_area, used_area};
-ghost use Rattle.atlas_sheet.specs.declared.ways.TheConstants.{WAYS};
 
 use crate::error::SheetError;
-use crate::places::try_way;
-use crate::ways::{WAYS, Way};
+use crate::options::Spacing;
+use crate::places::{Found, try_way};
+use crate::ways::Way;
 use guillotiere::{Rectangle, Size};
-use std::alloc::{Allocator, Global};
+use std::alloc::Allocator;
 
-/// A filled sheet.
+/// What the best of several ways finds.
 #[derive(Drop)]
-pub struct Filled<A: Allocator = Global> {
-    /// A place or none for each sprite, in the order of the sprites.
-    pub places: Vec<Option<Rectangle>, A>,
-    /// How many pixels these places have together.
+pub struct Filling<A: Allocator> {
+    pub way: Way,
+    pub found: Found<A>,
+    /// How many pixels the places have together.
     pub used_area: u128,
 }
 
+// Whether a side with the padding at both its ends is at most 2147483647.
+fn is_short(side: i32, padding: u16) -> bool
+    requires { 0 < natural side }
+    ensures { IsTrue result ↔ (natural side + padding + padding ≤ 2147483647) }
+{
+    side <= i32::MAX - 2 * i32::from(padding)
+}
+
 // Whether a sprite can be packed.
-fn check_sprite(number: usize, sprite: Size, padding: u16) -> Result<(), SheetError>
-    ensures ok { OnOk result (IsPackable padding sprite) }
-    ensures fault { IfErr result (λ e. IsSpriteFault padding number sprite e) }
+fn check_sprite(number: usize, sprite: Size, spacing: Spacing) -> Result<(), SheetError>
+    ensures ok { OnOk result (IsPackable spacing sprite) }
+    ensures fault { IfErr result (λ e. IsSpriteFault spacing number sprite e) }
 {
     if !sprite.is_positive() {
         return Err(SheetError::EmptySprite(number));
     }
-    let most = i32::MAX - 2 * i32::from(padding);
-    if sprite.width > most || sprite.height > most {
+    if !is_short(sprite.width, spacing.padding) || !is_short(sprite.height, spacing.padding) {
         return Err(SheetError::GreatSprite(number));
     }
     Ok(())
 }
 
 // Whether all sprites can be packed.
-pub fn check(sprites: &[Size], padding: u16) -> Result<(), SheetError>
-    ensures ok { OnOk result (All (IsPackable padding) sprites.now) }
-    ensures fault { IfErr result (λ e. HasFault padding sprites.now e) }
+pub fn check(sprites: &[Size], spacing: Spacing) -> Result<(), SheetError>
+    ensures ok { OnOk result (All (IsPackable spacing) sprites.now) }
+    ensures fault { IfErr result (λ e. HasFault spacing sprites.now e) }
 {
     for (number, sprite) in sprites.iter().enumerate() {
-        check_sprite(number, *sprite, padding)?;
+        check_sprite(number, *sprite, spacing)?;
     }
     Ok(())
 }
@@ -69,7 +76,7 @@ fn place_area(place: Option<Rectangle>) -> u64
 }
 
 // How many pixels the places have together.
-fn used_area(places: &[Option<Rectangle>]) -> u128
+pub fn used_area(places: &[Option<Rectangle>]) -> u128
     ensures { result ≡ used_area places.now }
 {
     let mut area = 0;
@@ -79,59 +86,43 @@ fn used_area(places: &[Option<Rectangle>]) -> u128
     area
 }
 
-// The best of what these ways find, the last one of those that are alike.
-fn fill_by<A: Allocator + Copy>(
+// What these ways find, from the best one so far on.
+pub fn fill_by<A: Allocator + Copy>(
     alloc: A,
     sprites: &[Size],
     size: Size,
-    padding: u16,
+    spacing: Spacing,
     ways: &[Way],
-) -> Result<Filled<A>, SheetError>
+) -> Result<Filling<A>, SheetError>
     requires positive { IsPositive (sides_of size) }
-    requires packable { All (IsPackable padding) sprites.now }
+    requires aligned { IsPositive (sides_of spacing.alignment) }
+    requires packable { All (IsPackable spacing) sprites.now }
     requires ways { 0 < length ways.now }
-    ensures places { IfOk result (λ filled. ArePlaces (sides_of size) padding sprites.now filled.places.items) }
-    ensures area { IfOk result (λ filled. filled.used_area ≡ used_area filled.places.items) }
-    ensures best { IfOk result (λ filled.
-        AreBest ways.now (sides_of size) padding sprites.now filled.places.items) }
+    ensures places { IfOk result (λ filling.
+        ArePlaces (sides_of size) spacing sprites.now filling.found.places.items) }
+    ensures area { IfOk result (λ filling. filling.used_area ≡ used_area filling.found.places.items) }
+    ensures best { IfOk result (λ filling. AreBest ways.now (sides_of size) spacing sprites.now filling.way
+        filling.found.order.items filling.found.places.items) }
     ensures unless { IsOkUnless result Memory }
 {
-    let mut places = Vec::new(alloc);
+    let mut best = Found {
+        order: Vec::new(alloc),
+        places: Vec::new(alloc),
+    };
+    let mut best_way = ways[0];
     let mut most = 0;
     for way in ways {
-        let found = try_way(alloc, sprites, size, padding, *way)?;
-        let area = used_area(&found);
+        let found = try_way(alloc, sprites, size, spacing, *way)?;
+        let area = used_area(&found.places);
         if most <= area {
-            places = found;
+            best = found;
+            best_way = *way;
             most = area;
         }
     }
-    Ok(Filled {
-        places,
+    Ok(Filling {
+        way: best_way,
+        found: best,
         used_area: most,
     })
-}
-
-/// Places sprites in a sheet of this size, in pixels, each at least `padding` from the border and from each other. Of
-/// the places that `WAYS` find, these have the most pixels. A sprite that found no room in that way has none.
-///
-/// `EmptySheet` if a side of the sheet is below 1; `EmptySprite` and `GreatSprite` name a sprite that can't be placed in
-/// any sheet; `Memory` if memory is refused.
-pub fn fill<A: Allocator + Copy>(
-    alloc: A,
-    sprites: &[Size],
-    size: Size,
-    padding: u16,
-) -> Result<Filled<A>, SheetError>
-    ensures places { IfOk result (λ filled. ArePlaces (sides_of size) padding sprites.now filled.places.items) }
-    ensures area { IfOk result (λ filled. filled.used_area ≡ used_area filled.places.items) }
-    ensures best { IfOk result (λ filled.
-        AreBest WAYS (sides_of size) padding sprites.now filled.places.items) }
-    ensures fault { IfErr result (λ e. IsFillingFault (sides_of size) padding sprites.now e) }
-{
-    if !size.is_positive() {
-        return Err(SheetError::EmptySheet);
-    }
-    check(sprites, padding)?;
-    fill_by(alloc, sprites, size, padding, &WAYS)
 }

@@ -1,19 +1,27 @@
-//! Sheets for sprites that are known beforehand: the places of as many of them as a sheet takes.
+//! Sheets for sprites that are known beforehand: all of them in the smallest sheet, or as many as one sheet takes.
 #![tactic(auto)]
 
 mod allowed;
+mod arrangement;
+mod changes;
+mod climbing;
 mod error;
 mod filling;
+mod options;
 mod orders;
 mod packing;
+mod placed;
 mod places;
+mod random;
 mod search;
+mod sheets;
 mod trials;
 mod ways;
 
 pub use allowed::Allowed;
 pub use error::SheetError;
-pub use filling::{Filled, fill};
+pub use options::{SheetOptions, Spacing};
 pub use orders::Key;
-pub use packing::{Sheet, SheetOptions, pack};
-pub use ways::{Choice, WAYS, Way};
+pub use placed::Placed;
+pub use sheets::{Filled, Sheet, fill, pack};
+pub use ways::{Choice, WAYS, Way, ways_tried};

@@ -1,56 +1,210 @@
-//! The smallest sheet that takes all sprites.
-ghost use Rattle.std.specs.Prelude.{IfErr, IfNone, IfOk, IfSome};
+//! Smaller and smaller sheets.
+ghost use Rattle.std.specs.Prelude.{◌≡◌, ◌<◌, ◌≤◌, map, All, IfNone, IfOk, IfSome, IsNone, IsOkUnless, IsSome};
+ghost use Rattle.guillotiere.specs.Boxes.{IsPositive};
 ghost use Rattle.guillotiere.specs.Pixels.{sides_of};
+ghost use Rattle.atlas_sheet.specs.declared.error.SheetError.TheVariants.{Memory};
 ghost use Rattle.atlas_sheet.specs.declared.ways.TheConstants.{WAYS};
-ghost use Rattle.atlas_sheet.specs.Packings.{IsLeastFound, IsPackingFault, NoneIsFound};
+ghost use Rattle.atlas_sheet.specs.Allowances.{IsAllowed, IsUsable, pixels};
+ghost use Rattle.atlas_sheet.specs.Lying.{IsArrangement};
+ghost use Rattle.atlas_sheet.specs.Packings.{IsFirstFound, IsLeastFound, IsNoLarger, NoneIsFound};
+ghost use Rattle.atlas_sheet.specs.Settings.{spacing_of};
+ghost use Rattle.atlas_sheet.specs.Sheets.{IsPackable};
 
-use crate::allowed::{Allowed, check_allowed};
+use crate::arrangement::Arrangement;
+use crate::climbing::{asked_in, improve, is_whole};
 use crate::error::SheetError;
-use crate::filling::check;
-use crate::search::smallest;
-use crate::trials::trials_of;
+use crate::options::SheetOptions;
+use crate::orders::greatest_first;
+use crate::random::Random;
+use crate::search::{greatest_sheet, smaller_sheet, smallest};
+use crate::trials::{Packing, trials_of};
 use crate::ways::WAYS;
 use guillotiere::{Rectangle, Size};
-use std::alloc::{Allocator, Global};
+use std::alloc::Allocator;
 
-/// What a sheet keeps to.
-#[derive(Clone, Copy, Debug, PartialEq, Eq)]
-pub struct SheetOptions {
-    /// Which sheets are allowed.
-    pub allowed: Allowed,
-    /// How many pixels at least lie between two sprites, and between a sprite and the border.
-    pub padding: u16,
+// Places that are there.
+fn somes<A: Allocator + Copy>(
+    alloc: A,
+    places: &[Rectangle],
+) -> Result<Vec<Option<Rectangle>, A>, SheetError>
+    ensures places { IfOk result (λ all. all.items ≡ map Some places.now) }
+    ensures unless { IsOkUnless result Memory }
+{
+    Ok(places.iter().map(|area| Some(*area)).collect(alloc)?)
 }
 
-/// A sheet that takes all sprites.
-#[derive(Drop)]
-pub struct Sheet<A: Allocator = Global> {
-    /// The size of the sheet, in pixels.
-    pub size: Size,
-    /// A place for each sprite, in the order of the sprites.
-    pub places: Vec<Rectangle, A>,
-}
-
-/// Places all sprites in a sheet that is as small as the search finds: one of `WAYS` packs them into it, and none does
-/// into the allowed sheet that is a pixel lower (among powers of two: into any with fewer pixels). None only where no
-/// way packs them into the greatest sheet that is allowed.
-///
-/// `EmptySheet` if the least allowed side is below 1, `EmptyRange` if the greatest is less than the least; `EmptySprite`
-/// and `GreatSprite` name a sprite that can't be placed in any sheet; `Memory` if memory is refused.
-pub fn pack<A: Allocator + Copy>(
+// What a way packs, as an arrangement.
+fn arrangement_of<A: Allocator + Copy>(
     alloc: A,
     sprites: &[Size],
     options: &SheetOptions,
-) -> Result<Option<Sheet<A>>, SheetError>
-    ensures least { IfOk result (λ found. IfSome found (λ sheet. IsLeastFound WAYS options.now.allowed
-        options.now.padding sprites.now (sides_of sheet.size) sheet.places.items)) }
-    ensures none { IfOk result (λ found. IfNone found
-        (NoneIsFound WAYS options.now.allowed options.now.padding sprites.now)) }
-    ensures fault { IfErr result (λ e. IsPackingFault options.now.allowed options.now.padding sprites.now e) }
+    packing: Packing<A>,
+) -> Result<Arrangement<A>, SheetError>
+    requires { IsLeastFound WAYS options.now.allowed (spacing_of options.now) sprites.now (sides_of packing.size)
+        (record { way = packing.way; order = packing.order.items; places = packing.places.items }) }
+    ensures arranged { IfOk result (λ a. IsArrangement (sides_of a.size) (spacing_of options.now) options.now.turn
+        sprites.now a.choice a.lying.items a.order.items a.places.items) }
+    ensures allowed { IfOk result (λ a. IsAllowed options.now.allowed (sides_of a.size)) }
+    ensures whole { IfOk result (λ a. All IsSome a.places.items) }
+    ensures first { IfOk result (λ a. IsFirstFound WAYS options.now.allowed (spacing_of options.now) sprites.now
+        (sides_of a.size) (map (λ s. s.0) a.order.items) a.places.items) }
+    ensures larger { IfOk result (λ a. IsNoLarger WAYS options.now.allowed (spacing_of options.now) sprites.now
+        (sides_of a.size)) }
+    ensures unless { IsOkUnless result Memory }
 {
-    let allowed = options.allowed;
-    check_allowed(allowed)?;
-    check(sprites, options.padding)?;
+    let lying = Vec::from_slice(alloc, sprites)?;
+    let places = somes(alloc, &packing.places)?;
+    Ok(Arrangement {
+        size: packing.size,
+        choice: packing.way.choice,
+        lying,
+        order: packing.order,
+        places,
+    })
+}
+
+// Sprites in smaller and smaller sheets, as long as there are tries: the last one that took all.
+fn descend<A: Allocator + Copy>(
+    alloc: A,
+    options: &SheetOptions,
+    random: &mut Random,
+    tries: &mut u32,
+    first: Arrangement<A>,
+) -> Result<Arrangement<A>, SheetError>
+    requires usable { IsUsable options.now.allowed }
+    requires aligned { IsPositive (sides_of options.now.alignment) }
+    requires packable { All (IsPackable (spacing_of options.now)) first.lying.items }
+    requires arranged { IsArrangement (sides_of first.size) (spacing_of options.now) options.now.turn
+        first.lying.items first.choice first.lying.items first.order.items first.places.items }
+    requires allowed { IsAllowed options.now.allowed (sides_of first.size) }
+    requires whole { All IsSome first.places.items }
+    ensures arranged { IfOk result (λ best. IsArrangement (sides_of best.size) (spacing_of options.now) options.now.turn
+        first.lying.items best.choice best.lying.items best.order.items best.places.items) }
+    ensures allowed { IfOk result (λ best. IsAllowed options.now.allowed (sides_of best.size)) }
+    ensures whole { IfOk result (λ best. All IsSome best.places.items) }
+    ensures smaller { IfOk result (λ best. pixels (sides_of best.size) ≤ pixels (sides_of first.size)) }
+    ensures unless { IsOkUnless result Memory }
+{
+    let mut best = first;
+    while *tries > 0 {
+        let Some(size) = smaller_sheet(options.allowed, best.size) else {
+            break;
+        };
+        *tries -= 1;
+        let moved = asked_in(alloc, options, size, best.choice, &best.lying, &best.order)?;
+        let found = improve(alloc, options, random, tries, moved)?;
+        if !is_whole(&found) {
+            break;
+        }
+        best = found;
+    }
+    Ok(best)
+}
+
+// Sprites that none of the ways packs, in the greatest sheet by the first way, and the changes of its order.
+fn squeeze<A: Allocator + Copy>(
+    alloc: A,
+    sprites: &[Size],
+    options: &SheetOptions,
+    random: &mut Random,
+    tries: &mut u32,
+) -> Result<Option<Arrangement<A>>, SheetError>
+    requires none { NoneIsFound WAYS options.now.allowed (spacing_of options.now) sprites.now }
+    requires usable { IsUsable options.now.allowed }
+    requires aligned { IsPositive (sides_of options.now.alignment) }
+    requires packable { All (IsPackable (spacing_of options.now)) sprites.now }
+    ensures arranged { IfOk result (λ found. IfSome found (λ a. IsArrangement (sides_of a.size) (spacing_of options.now) options.now.turn
+        sprites.now a.choice a.lying.items a.order.items a.places.items)) }
+    ensures allowed { IfOk result (λ found. IfSome found (λ a. IsAllowed options.now.allowed (sides_of a.size))) }
+    ensures whole { IfOk result (λ found. IfSome found (λ a. All IsSome a.places.items)) }
+    ensures plain { tries.old ≡ 0 → IfOk result (λ found. IsNone found) }
+    ensures larger { IfOk result (λ found. IfSome found (λ a. IsNoLarger WAYS options.now.allowed
+        (spacing_of options.now) sprites.now (sides_of a.size))) }
+    ensures unless { IsOkUnless result Memory }
+{
+    if *tries == 0 {
+        return Ok(None);
+    }
+    let size = greatest_sheet(options.allowed);
+    let way = WAYS[0];
+    let order = greatest_first(alloc, sprites, way.key)?;
+    let asked = asked_in(alloc, options, size, way.choice, sprites, &order)?;
+    let found = improve(alloc, options, random, tries, asked)?;
+    if !is_whole(&found) {
+        return Ok(None);
+    }
+    Ok(Some(found))
+}
+
+// The first arrangement of all sprites: in the smallest sheet that a way finds, or else squeezed into the greatest one.
+fn first_whole<A: Allocator + Copy>(
+    alloc: A,
+    sprites: &[Size],
+    options: &SheetOptions,
+    random: &mut Random,
+    tries: &mut u32,
+) -> Result<Option<Arrangement<A>>, SheetError>
+    requires usable { IsUsable options.now.allowed }
+    requires aligned { IsPositive (sides_of options.now.alignment) }
+    requires packable { All (IsPackable (spacing_of options.now)) sprites.now }
+    ensures arranged { IfOk result (λ found. IfSome found (λ a. IsArrangement (sides_of a.size) (spacing_of options.now) options.now.turn
+        sprites.now a.choice a.lying.items a.order.items a.places.items)) }
+    ensures allowed { IfOk result (λ found. IfSome found (λ a. IsAllowed options.now.allowed (sides_of a.size))) }
+    ensures whole { IfOk result (λ found. IfSome found (λ a. All IsSome a.places.items)) }
+    ensures first { tries.old ≡ 0 → IfOk result (λ found. IfSome found (λ a. IsFirstFound WAYS options.now.allowed
+        (spacing_of options.now) sprites.now (sides_of a.size) (map (λ s. s.0) a.order.items) a.places.items)) }
+    ensures larger { IfOk result (λ found. IfSome found (λ a. IsNoLarger WAYS options.now.allowed
+        (spacing_of options.now) sprites.now (sides_of a.size))) }
+    ensures none { IfOk result (λ found. IfNone found
+        (NoneIsFound WAYS options.now.allowed (spacing_of options.now) sprites.now)) }
+    ensures unless { IsOkUnless result Memory }
+{
     let trials = trials_of(alloc, sprites, &WAYS)?;
-    smallest(alloc, sprites, &trials, allowed, options.padding)
+    let found = smallest(alloc, sprites, &trials, options.allowed, options.spacing())?;
+    match found {
+        None => {
+            let squeezed = squeeze(alloc, sprites, options, random, tries)?;
+            Ok(squeezed)
+        }
+        Some(packing) => {
+            let first = arrangement_of(alloc, sprites, options, packing)?;
+            Ok(Some(first))
+        }
+    }
+}
+
+/// All sprites in the smallest sheet that the ways and the changes of the order find. None only where no way packs them
+/// into the greatest one.
+pub fn packed<A: Allocator + Copy>(
+    alloc: A,
+    sprites: &[Size],
+    options: &SheetOptions,
+) -> Result<Option<Arrangement<A>>, SheetError>
+    requires usable { IsUsable options.now.allowed }
+    requires aligned { IsPositive (sides_of options.now.alignment) }
+    requires packable { All (IsPackable (spacing_of options.now)) sprites.now }
+    ensures arranged { IfOk result (λ found. IfSome found (λ a. IsArrangement (sides_of a.size) (spacing_of options.now) options.now.turn
+        sprites.now a.choice a.lying.items a.order.items a.places.items)) }
+    ensures allowed { IfOk result (λ found. IfSome found (λ a. IsAllowed options.now.allowed (sides_of a.size))) }
+    ensures whole { IfOk result (λ found. IfSome found (λ a. All IsSome a.places.items)) }
+    ensures first { options.now.effort ≡ 0 → IfOk result (λ found. IfSome found (λ a. IsFirstFound WAYS
+        options.now.allowed (spacing_of options.now) sprites.now (sides_of a.size) (map (λ s. s.0) a.order.items)
+        a.places.items)) }
+    ensures larger { IfOk result (λ found. IfSome found (λ a. IsNoLarger WAYS options.now.allowed
+        (spacing_of options.now) sprites.now (sides_of a.size))) }
+    ensures none { IfOk result (λ found. IfNone found
+        (NoneIsFound WAYS options.now.allowed (spacing_of options.now) sprites.now)) }
+    ensures unless { IsOkUnless result Memory }
+{
+    let mut random = Random::new(options.seed);
+    let mut tries = options.effort;
+    let found = first_whole(alloc, sprites, options, &mut random, &mut tries)?;
+    let Some(first) = found else {
+        return Ok(None);
+    };
+    if options.effort == 0 {
+        return Ok(Some(first));
+    }
+    let best = descend(alloc, options, &mut random, &mut tries, first)?;
+    Ok(Some(best))
 }

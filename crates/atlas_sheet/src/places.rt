@@ -1,19 +1,20 @@
 //! Places for sprites, one after another.
-ghost use Rattle.std.specs.Prelude.{◌≡◌, ◌+◌, ◌-◌, ◌<◌, ◌≤◌, max, length, All, IfNone, IfOk, IfSome, IsOkUnless};
-ghost use Rattle.std.specs.Prelude.{IsPermutation};
+ghost use Rattle.std.specs.Prelude.{◌≡◌, ◌+◌, ◌-◌, ◌<◌, ◌≤◌, max, length, pos, All, IfNone, IfOk, IfSome, IsOkUnless};
+ghost use Rattle.std.specs.Prelude.{IsPermutation, OnOk};
 ghost use Rattle.std.specs.List.{enumerate_from};
-ghost use Rattle.guillotiere.specs.Boxes.{IsPositive};
+ghost use Rattle.guillotiere.specs.Boxes.{IsPositive, box_at};
 ghost use Rattle.guillotiere.specs.Pixels.{box_of, natural, sides_of};
 ghost use Rattle.guillotiere.specs.Simple.{simple_start};
 ghost use Rattle.guillotiere.specs.SimpleStored.{simple_state_of};
 ghost use Rattle.atlas_sheet.specs.declared.error.SheetError.TheVariants.{Memory};
-ghost use Rattle.atlas_sheet.specs.Orders.{choice_options};
+ghost use Rattle.atlas_sheet.specs.Orders.{AreNumberedOnce, choice_options};
 ghost use Rattle.atlas_sheet.specs.Packings.{AllFindPlaces, LeavesOne};
 ghost use Rattle.atlas_sheet.specs.Sheets.{AreFoundBy, ArePlaces, FindPlaces, FindsPlace, GivesBox, IsPackable};
 ghost use Rattle.atlas_sheet.specs.Sheets.{asked_sides, inner_sides, padded, with_places};
 ghost use Rattle.guillotiere.specs.Replies.{IsExact};
 
 use crate::error::SheetError;
+use crate::options::Spacing;
 use crate::orders::greatest_first;
 use crate::ways::{Choice, Way};
 use guillotiere::{Point, Rectangle, SimpleAtlasAllocator, Size, point2, size2};
@@ -35,14 +36,14 @@ fn inner_side(side: i32, padding: u16) -> i32
 }
 
 // What is left of a sheet without the padding at its right and below.
-fn inner(sheet: Size, padding: u16) -> Size
+fn inner(sheet: Size, spacing: Spacing) -> Size
     requires { IsPositive (sides_of sheet) }
-    ensures sides { sides_of result ≡ inner_sides padding (sides_of sheet) }
+    ensures sides { sides_of result ≡ inner_sides spacing (sides_of sheet) }
     ensures positive { IsPositive (sides_of result) }
 {
     size2(
-        inner_side(sheet.width, padding),
-        inner_side(sheet.height, padding),
+        inner_side(sheet.width, spacing.padding),
+        inner_side(sheet.height, spacing.padding),
     )
 }
 
@@ -50,40 +51,57 @@ fn inner(sheet: Size, padding: u16) -> Size
 fn start<A: Allocator + Copy>(
     alloc: A,
     sheet: Size,
-    padding: u16,
+    spacing: Spacing,
     choice: Choice,
 ) -> Result<SimpleAtlasAllocator<A>, SheetError>
-    requires { IsPositive (sides_of sheet) }
+    requires positive { IsPositive (sides_of sheet) }
+    requires aligned { IsPositive (sides_of spacing.alignment) }
     ensures start { IfOk result (λ packer. simple_state_of packer
-        ≡ simple_start (inner_sides padding (sides_of sheet)) (choice_options choice)) }
+        ≡ simple_start (inner_sides spacing (sides_of sheet)) (choice_options spacing choice)) }
     ensures unless { IsOkUnless result Memory }
 {
-    Ok(SimpleAtlasAllocator::with_options(alloc, inner(sheet, padding), &choice.options())?)
+    Ok(SimpleAtlasAllocator::with_options(alloc, inner(sheet, spacing), &choice.options(spacing))?)
 }
 
 // What a sprite asks for: its sides with the padding.
 fn asked(sprite: Size, padding: u16) -> Size
-    requires { IsPackable padding sprite }
+    requires positive { IsPositive (sides_of sprite) }
+    requires wide { (sides_of sprite).width + padding ≤ 2147483647 }
+    requires high { (sides_of sprite).height + padding ≤ 2147483647 }
     ensures { sides_of result ≡ asked_sides padding sprite }
 {
     let border = i32::from(padding);
     size2(sprite.width + border, sprite.height + border)
 }
 
-// A box without the padding at its left and above.
-fn inset(area: Rectangle, padding: u16) -> Rectangle
+// A part of a box's side behind the padding.
+fn inset_side(low: i32, padding: u16, side: i32) -> (i32, i32)
+    requires low { pos (natural low) ≡ low }
+    requires side { 0 < natural side }
+    requires small { natural low + (natural side + padding) ≤ 2147483647 }
+    ensures from { result.0 ≡ pos (natural low + padding) }
+    ensures to { result.1 ≡ pos (natural low + (natural side + padding)) }
+{
+    let from = low + i32::from(padding);
+    (from, from + side)
+}
+
+// The place of a sprite in the corner of a box, without the padding at its left and above.
+fn inset(area: Rectangle, sprite: Size, padding: u16) -> Rectangle
+    requires positive { IsPositive (sides_of sprite) }
     requires exact { IsExact area }
-    requires wide { (box_of area).min.x + padding ≤ (box_of area).max.x }
-    requires high { (box_of area).min.y + padding ≤ (box_of area).max.y }
+    requires wide { (box_of area).min.x + ((sides_of sprite).width + padding) ≤ (box_of area).max.x }
+    requires high { (box_of area).min.y + ((sides_of sprite).height + padding) ≤ (box_of area).max.y }
     ensures exact { IsExact result }
-    ensures padded { padded padding result ≡ box_of area }
+    ensures padded { padded padding result ≡ box_at (box_of area).min (asked_sides padding sprite) }
     ensures left { padding ≤ (box_of result).min.x }
     ensures above { padding ≤ (box_of result).min.y }
 {
-    let border = i32::from(padding);
+    let across = inset_side(area.min.x, padding, sprite.width);
+    let down = inset_side(area.min.y, padding, sprite.height);
     Rectangle {
-        min: point2(area.min.x + border, area.min.y + border),
-        max: area.max,
+        min: point2(across.0, down.0),
+        max: point2(across.1, down.1),
     }
 }
 
@@ -103,43 +121,63 @@ fn request<A: Allocator + Copy>(
 fn place<A: Allocator + Copy>(
     packer: &mut SimpleAtlasAllocator<A>,
     sprite: Size,
-    padding: u16,
+    spacing: Spacing,
 ) -> Result<Option<Rectangle>, SheetError>
-    requires packable { IsPackable padding sprite }
-    requires alignment { (simple_state_of packer.old).options.alignment ≡ record { width = 1; height = 1 } }
+    requires packable { IsPackable spacing sprite }
+    requires aligned { IsPositive (simple_state_of packer.old).options.alignment }
     ensures step { IfOk result (λ found.
-        FindsPlace padding (simple_state_of packer.old) sprite found (simple_state_of packer.new)) }
+        FindsPlace spacing (simple_state_of packer.old) sprite found (simple_state_of packer.new)) }
     ensures unless { IsOkUnless result Memory }
 {
-    let Some(area) = request(packer, asked(sprite, padding))? else {
+    let Some(area) = request(packer, asked(sprite, spacing.padding))? else {
         return Ok(None);
     };
-    Ok(Some(inset(area, padding)))
+    Ok(Some(inset(area, sprite, spacing.padding)))
 }
 
-// What each of the numbered sprites finds in a new sheet, in the order of the numbers.
-fn find_places<A: Allocator + Copy>(
+// Numbered sprites ask one after another; what each finds is written at its number.
+fn find_in<A: Allocator + Copy>(
+    packer: &mut SimpleAtlasAllocator<A>,
+    order: &[(usize, Size)],
+    spacing: Spacing,
+    places: &mut [Option<Rectangle>],
+) -> Result<(), SheetError>
+    requires aligned { IsPositive (simple_state_of packer.old).options.alignment }
+    requires packable { All (λ s. IsPackable spacing s.1) order.now }
+    requires numbers { All (λ s. s.0 < length places.old) order.now }
+    requires once { AreNumberedOnce order.now }
+    ensures found { OnOk result
+        (FindPlaces spacing (simple_state_of packer.old) (with_places places.new order.now)) }
+    ensures unless { IsOkUnless result Memory }
+{
+    for sprite in order {
+        places[sprite.0] = place(packer, sprite.1, spacing)?;
+    }
+    Ok(())
+}
+
+/// What each of the numbered sprites finds in a new sheet, in the order of the numbers.
+pub fn find_places<A: Allocator + Copy>(
     alloc: A,
     sprites: &[Size],
     order: &[(usize, Size)],
     sheet: Size,
-    padding: u16,
+    spacing: Spacing,
     choice: Choice,
 ) -> Result<Vec<Option<Rectangle>, A>, SheetError>
     requires positive { IsPositive (sides_of sheet) }
-    requires packable { All (IsPackable padding) sprites.now }
+    requires aligned { IsPositive (sides_of spacing.alignment) }
+    requires packable { All (IsPackable spacing) sprites.now }
     requires permuted { IsPermutation (enumerate_from 0 sprites.now) order.now }
     ensures count { IfOk result (λ places. length places.items ≡ length sprites.now) }
     ensures found { IfOk result (λ places.
-        FindPlaces padding (simple_start (inner_sides padding (sides_of sheet)) (choice_options choice))
+        FindPlaces spacing (simple_start (inner_sides spacing (sides_of sheet)) (choice_options spacing choice))
         (with_places places.items order.now)) }
     ensures unless { IsOkUnless result Memory }
 {
     let mut places = vec![in alloc; None; sprites.len()]?;
-    let mut packer = start(alloc, sheet, padding, choice)?;
-    for sprite in order {
-        places[sprite.0] = place(&mut packer, sprite.1, padding)?;
-    }
+    let mut packer = start(alloc, sheet, spacing, choice)?;
+    find_in(&mut packer, order, spacing, &mut places)?;
     Ok(places)
 }
 
@@ -149,22 +187,23 @@ pub fn find_all<A: Allocator + Copy>(
     sprites: &[Size],
     order: &[(usize, Size)],
     sheet: Size,
-    padding: u16,
+    spacing: Spacing,
     choice: Choice,
 ) -> Result<Option<Vec<Rectangle, A>>, SheetError>
     requires positive { IsPositive (sides_of sheet) }
-    requires packable { All (IsPackable padding) sprites.now }
+    requires aligned { IsPositive (sides_of spacing.alignment) }
+    requires packable { All (IsPackable spacing) sprites.now }
     requires permuted { IsPermutation (enumerate_from 0 sprites.now) order.now }
     ensures count { IfOk result (λ found. IfSome found (λ places. length places.items ≡ length sprites.now)) }
     ensures found { IfOk result (λ found. IfSome found (λ places.
-        AllFindPlaces (sides_of sheet) padding choice order.now places.items)) }
-    ensures left { IfOk result (λ found. IfNone found (LeavesOne (sides_of sheet) padding choice order.now)) }
+        AllFindPlaces (sides_of sheet) spacing choice order.now places.items)) }
+    ensures left { IfOk result (λ found. IfNone found (LeavesOne (sides_of sheet) spacing choice order.now)) }
     ensures unless { IsOkUnless result Memory }
 {
     let mut places = vec![in alloc; NOWHERE; sprites.len()]?;
-    let mut packer = start(alloc, sheet, padding, choice)?;
+    let mut packer = start(alloc, sheet, spacing, choice)?;
     for sprite in order {
-        match place(&mut packer, sprite.1, padding)? {
+        match place(&mut packer, sprite.1, spacing)? {
             Some(found) => places[sprite.0] = found,
             None => return Ok(None),
         }
@@ -172,23 +211,33 @@ pub fn find_all<A: Allocator + Copy>(
     Ok(Some(places))
 }
 
-/// What each sprite finds in a new sheet in this way, in the order of the sprites.
+/// What sprites find in a new sheet by one way.
+#[derive(Drop)]
+pub struct Found<A: Allocator> {
+    /// The numbered sprites in the order in which they ask.
+    pub order: Vec<(usize, Size), A>,
+    /// A place or none for each sprite, in the order of the sprites.
+    pub places: Vec<Option<Rectangle>, A>,
+}
+
+/// What each sprite finds in a new sheet in this way.
 pub fn try_way<A: Allocator + Copy>(
     alloc: A,
     sprites: &[Size],
     sheet: Size,
-    padding: u16,
+    spacing: Spacing,
     way: Way,
-) -> Result<Vec<Option<Rectangle>, A>, SheetError>
+) -> Result<Found<A>, SheetError>
     requires positive { IsPositive (sides_of sheet) }
-    requires packable { All (IsPackable padding) sprites.now }
-    ensures places { IfOk result (λ places.
-        ArePlaces (sides_of sheet) padding sprites.now places.items) }
-    ensures found { IfOk result (λ places.
-        AreFoundBy (sides_of sheet) padding sprites.now way places.items) }
+    requires aligned { IsPositive (sides_of spacing.alignment) }
+    requires packable { All (IsPackable spacing) sprites.now }
+    ensures places { IfOk result (λ found.
+        ArePlaces (sides_of sheet) spacing sprites.now found.places.items) }
+    ensures found { IfOk result (λ found.
+        AreFoundBy (sides_of sheet) spacing sprites.now way found.order.items found.places.items) }
     ensures unless { IsOkUnless result Memory }
 {
     let order = greatest_first(alloc, sprites, way.key)?;
-    let places = find_places(alloc, sprites, &order, sheet, padding, way.choice)?;
-    Ok(places)
+    let places = find_places(alloc, sprites, &order, sheet, spacing, way.choice)?;
+    Ok(Found { order, places })
 }

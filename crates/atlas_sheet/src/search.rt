@@ -1,17 +1,18 @@
 //! The search for the smallest sheet.
-ghost use Rattle.std.specs.Prelude.{◌≡◌, ◌*◌, ◌^◌, ◌<◌, ◌≤◌, map, All, IfNone, IfOk, IfSome, IsOkUnless};
+ghost use Rattle.std.specs.Prelude.{◌≡◌, ◌+◌, ◌*◌, ◌/◌, ◌^◌, ◌<◌, ◌≤◌, map, All, IfNone, IfOk, IfSome, IsOkUnless};
 ghost use Rattle.guillotiere.specs.Boxes.{IsPositive};
 ghost use Rattle.guillotiere.specs.Pixels.{natural, sides_of};
 ghost use Rattle.atlas_sheet.specs.declared.error.SheetError.TheVariants.{Memory};
-ghost use Rattle.atlas_sheet.specs.Allowances.{IsRow, IsUsable, power_sides, row_length};
+ghost use Rattle.atlas_sheet.specs.Allowances.{HasHalfOf, IsAllowed, IsGreatest, IsRow, IsUsable, pixels, power_sides};
+ghost use Rattle.atlas_sheet.specs.Allowances.{row_length};
 ghost use Rattle.atlas_sheet.specs.Packings.{ArePacked, IsLeastFound, IsOrderBy, NoWayPacks, NoneIsFound};
 ghost use Rattle.atlas_sheet.specs.Packings.{IsPowerPacked, NoShapePacks};
 ghost use Rattle.atlas_sheet.specs.Sheets.{IsPackable};
 
 use crate::allowed::Allowed;
 use crate::error::SheetError;
-use crate::packing::Sheet;
-use crate::trials::{Trial, try_all};
+use crate::options::Spacing;
+use crate::trials::{Packing, Trial, try_size};
 use guillotiere::{Size, size2};
 use std::alloc::Allocator;
 
@@ -76,20 +77,22 @@ fn bisect<A: Allocator + Copy>(
     sprites: &[Size],
     trials: &[Trial<A>],
     allowed: Allowed,
-    padding: u16,
-) -> Result<Option<Sheet<A>>, SheetError>
+    spacing: Spacing,
+) -> Result<Option<Packing<A>>, SheetError>
     requires usable { IsUsable allowed }
     requires row { IsRow allowed }
-    requires packable { All (IsPackable padding) sprites.now }
+    requires aligned { IsPositive (sides_of spacing.alignment) }
+    requires packable { All (IsPackable spacing) sprites.now }
     requires orders { All (λ t. IsOrderBy t.way sprites.now t.order.items) trials.now }
     ensures least { IfOk result (λ found. IfSome found (λ sheet. IsLeastFound (map (λ t. t.way) trials.now) allowed
-        padding sprites.now (sides_of sheet.size) sheet.places.items)) }
+        spacing sprites.now (sides_of sheet.size)
+        (record { way = sheet.way; order = sheet.order.items; places = sheet.places.items }))) }
     ensures none { IfOk result (λ found. IfNone found
-        (NoneIsFound (map (λ t. t.way) trials.now) allowed padding sprites.now)) }
+        (NoneIsFound (map (λ t. t.way) trials.now) allowed spacing sprites.now)) }
     ensures unless { IsOkUnless result Memory }
 {
     let count = allowed.count();
-    let first = first_guess(allowed, asked_area(sprites, padding));
+    let first = first_guess(allowed, asked_area(sprites, spacing.padding));
     let mut low = 0;
     let mut high = count;
     let mut step = first / 64 + 1;
@@ -97,7 +100,7 @@ fn bisect<A: Allocator + Copy>(
     while low < high {
         let middle = probe(low, high, count, first, step);
         let size = allowed.nth(middle);
-        let found = try_size(alloc, sprites, trials, size, padding)?;
+        let found = try_size(alloc, sprites, trials, size, spacing)?;
         if found.is_some() {
             best = found;
             high = middle;
@@ -152,30 +155,6 @@ fn exponent_in(side: i32) -> u32
     exponent_of(side as u32)
 }
 
-// A sheet of this size, if one of the ways packs all sprites into it.
-fn try_size<A: Allocator + Copy>(
-    alloc: A,
-    sprites: &[Size],
-    trials: &[Trial<A>],
-    size: Size,
-    padding: u16,
-) -> Result<Option<Sheet<A>>, SheetError>
-    requires positive { IsPositive (sides_of size) }
-    requires packable { All (IsPackable padding) sprites.now }
-    requires orders { All (λ t. IsOrderBy t.way sprites.now t.order.items) trials.now }
-    ensures size { IfOk result (λ found. IfSome found (λ sheet. sheet.size ≡ size)) }
-    ensures packed { IfOk result (λ found. IfSome found (λ sheet.
-        ArePacked (map (λ t. t.way) trials.now) (sides_of size) padding sprites.now sheet.places.items)) }
-    ensures none { IfOk result (λ found. IfNone found
-        (NoWayPacks (map (λ t. t.way) trials.now) (sides_of size) padding sprites.now)) }
-    ensures unless { IsOkUnless result Memory }
-{
-    let Some(places) = try_all(alloc, sprites, trials, size, padding)? else {
-        return Ok(None);
-    };
-    Ok(Some(Sheet { size, places }))
-}
-
 // The sheets of 2 ^ sum pixels, those that are nearest to a square first.
 fn try_shapes<A: Allocator + Copy>(
     alloc: A,
@@ -183,16 +162,18 @@ fn try_shapes<A: Allocator + Copy>(
     trials: &[Trial<A>],
     sum: u32,
     most: u32,
-    padding: u16,
-) -> Result<Option<Sheet<A>>, SheetError>
+    spacing: Spacing,
+) -> Result<Option<Packing<A>>, SheetError>
     requires most { most < 31 }
     requires sum { sum ≤ 2 * most }
-    requires packable { All (IsPackable padding) sprites.now }
+    requires aligned { IsPositive (sides_of spacing.alignment) }
+    requires packable { All (IsPackable spacing) sprites.now }
     requires orders { All (λ t. IsOrderBy t.way sprites.now t.order.items) trials.now }
     ensures packed { IfOk result (λ found. IfSome found (λ sheet. IsPowerPacked (map (λ t. t.way) trials.now) most sum
-        padding sprites.now (sides_of sheet.size) sheet.places.items)) }
+        spacing sprites.now (sides_of sheet.size)
+        (record { way = sheet.way; order = sheet.order.items; places = sheet.places.items }))) }
     ensures none { IfOk result (λ found. IfNone found
-        (NoShapePacks (map (λ t. t.way) trials.now) most sum padding sprites.now)) }
+        (NoShapePacks (map (λ t. t.way) trials.now) most sum spacing sprites.now)) }
     ensures unless { IsOkUnless result Memory }
 {
     for flat in 0..sum / 2 + 1 {
@@ -201,11 +182,11 @@ fn try_shapes<A: Allocator + Copy>(
         if more > most {
             return Ok(None);
         }
-        let wide = try_size(alloc, sprites, trials, power_size(more, less), padding)?;
+        let wide = try_size(alloc, sprites, trials, power_size(more, less), spacing)?;
         if wide.is_some() {
             return Ok(wide);
         }
-        let high = try_size(alloc, sprites, trials, power_size(less, more), padding)?;
+        let high = try_size(alloc, sprites, trials, power_size(less, more), spacing)?;
         if high.is_some() {
             return Ok(high);
         }
@@ -219,20 +200,22 @@ fn scan<A: Allocator + Copy>(
     sprites: &[Size],
     trials: &[Trial<A>],
     greatest: i32,
-    padding: u16,
-) -> Result<Option<Sheet<A>>, SheetError>
+    spacing: Spacing,
+) -> Result<Option<Packing<A>>, SheetError>
     requires positive { 0 < natural greatest }
-    requires packable { All (IsPackable padding) sprites.now }
+    requires aligned { IsPositive (sides_of spacing.alignment) }
+    requires packable { All (IsPackable spacing) sprites.now }
     requires orders { All (λ t. IsOrderBy t.way sprites.now t.order.items) trials.now }
     ensures least { IfOk result (λ found. IfSome found (λ sheet. IsLeastFound (map (λ t. t.way) trials.now)
-        (Allowed.Powers greatest) padding sprites.now (sides_of sheet.size) sheet.places.items)) }
+        (Allowed.Powers greatest) spacing sprites.now (sides_of sheet.size)
+        (record { way = sheet.way; order = sheet.order.items; places = sheet.places.items }))) }
     ensures none { IfOk result (λ found. IfNone found
-        (NoneIsFound (map (λ t. t.way) trials.now) (Allowed.Powers greatest) padding sprites.now)) }
+        (NoneIsFound (map (λ t. t.way) trials.now) (Allowed.Powers greatest) spacing sprites.now)) }
     ensures unless { IsOkUnless result Memory }
 {
     let most = exponent_in(greatest);
     for sum in 0..2 * most + 1 {
-        let found = try_shapes(alloc, sprites, trials, sum, most, padding)?;
+        let found = try_shapes(alloc, sprites, trials, sum, most, spacing)?;
         if found.is_some() {
             return Ok(found);
         }
@@ -246,19 +229,110 @@ pub fn smallest<A: Allocator + Copy>(
     sprites: &[Size],
     trials: &[Trial<A>],
     allowed: Allowed,
-    padding: u16,
-) -> Result<Option<Sheet<A>>, SheetError>
+    spacing: Spacing,
+) -> Result<Option<Packing<A>>, SheetError>
     requires usable { IsUsable allowed }
-    requires packable { All (IsPackable padding) sprites.now }
+    requires aligned { IsPositive (sides_of spacing.alignment) }
+    requires packable { All (IsPackable spacing) sprites.now }
     requires orders { All (λ t. IsOrderBy t.way sprites.now t.order.items) trials.now }
     ensures least { IfOk result (λ found. IfSome found (λ sheet. IsLeastFound (map (λ t. t.way) trials.now) allowed
-        padding sprites.now (sides_of sheet.size) sheet.places.items)) }
+        spacing sprites.now (sides_of sheet.size)
+        (record { way = sheet.way; order = sheet.order.items; places = sheet.places.items }))) }
     ensures none { IfOk result (λ found. IfNone found
-        (NoneIsFound (map (λ t. t.way) trials.now) allowed padding sprites.now)) }
+        (NoneIsFound (map (λ t. t.way) trials.now) allowed spacing sprites.now)) }
     ensures unless { IsOkUnless result Memory }
 {
     match allowed {
-        Allowed::Powers { greatest } => scan(alloc, sprites, trials, greatest, padding),
-        _ => bisect(alloc, sprites, trials, allowed, padding),
+        Allowed::Powers { greatest } => scan(alloc, sprites, trials, greatest, spacing),
+        _ => bisect(alloc, sprites, trials, allowed, spacing),
+    }
+}
+
+// The greatest sheet whose sides are powers of two.
+fn greatest_power(greatest: i32) -> Size
+    requires { 0 < natural greatest }
+    ensures { IsGreatest (Allowed.Powers greatest) (sides_of result) }
+{
+    let most = exponent_in(greatest);
+    power_size(most, most)
+}
+
+/// The allowed sheet whose sides no other passes.
+pub fn greatest_sheet(allowed: Allowed) -> Size
+    requires { IsUsable allowed }
+    ensures { IsGreatest allowed (sides_of result) }
+{
+    match allowed {
+        Allowed::Powers { greatest } => greatest_power(greatest),
+        _ => allowed.greatest(),
+    }
+}
+
+// One pixel less.
+fn less_one(side: i32) -> i32
+    requires { 0 < natural side }
+    ensures { natural result + 1 ≡ natural side }
+{
+    side - 1
+}
+
+// Half of a side.
+fn half(side: i32) -> i32
+    requires { 0 < natural side }
+    ensures { natural result ≡ natural side / 2 }
+{
+    (side as u32 / 2) as i32
+}
+
+// A square that is a pixel smaller.
+fn smaller_square(size: Size, least: Size) -> Option<Size>
+    requires { IsPositive (sides_of size) }
+    ensures { IfSome result (λ t. ((sides_of least).width < (sides_of size).width)
+        × ((sides_of t).width + 1 ≡ (sides_of size).width) × ((sides_of t).height + 1 ≡ (sides_of size).height)) }
+{
+    if size.width <= least.width {
+        return None;
+    }
+    Some(size2(less_one(size.width), less_one(size.height)))
+}
+
+// A sheet that is a pixel lower.
+fn lower(size: Size) -> Option<Size>
+    requires { IsPositive (sides_of size) }
+    ensures { IfSome result (λ t. (1 < (sides_of size).height) × ((sides_of t).width ≡ (sides_of size).width)
+        × ((sides_of t).height + 1 ≡ (sides_of size).height)) }
+{
+    if size.height <= 1 {
+        return None;
+    }
+    Some(size2(size.width, less_one(size.height)))
+}
+
+// A sheet with half of the longer side.
+fn smaller_power(size: Size) -> Option<Size>
+    requires { IsPositive (sides_of size) }
+    ensures { IfSome result (λ t. HasHalfOf (sides_of t) (sides_of size)) }
+{
+    if size.width > 1 && size.width >= size.height {
+        return Some(size2(half(size.width), size.height));
+    }
+    if size.height > 1 {
+        return Some(size2(size.width, half(size.height)));
+    }
+    None
+}
+
+/// The allowed sheet that is one step smaller: a pixel lower, or with half of the longer side among powers of two.
+pub fn smaller_sheet(allowed: Allowed, size: Size) -> Option<Size>
+    requires usable { IsUsable allowed }
+    requires allowed { IsAllowed allowed (sides_of size) }
+    requires positive { IsPositive (sides_of size) }
+    ensures { IfSome result (λ s. IsAllowed allowed (sides_of s) × (pixels (sides_of s) < pixels (sides_of size))) }
+{
+    match allowed {
+        Allowed::One(_) => None,
+        Allowed::Squares { .. } => smaller_square(size, allowed.least()),
+        Allowed::Heights { .. } => lower(size),
+        Allowed::Powers { .. } => smaller_power(size),
     }
 }

@@ -1,12 +1,14 @@
 //! All ways to place sprites, each with its order.
-ghost use Rattle.std.specs.Prelude.{◌≡◌, map, All, IfNone, IfOk, IfSome, IsOkUnless};
+ghost use Rattle.std.specs.Prelude.{◌≡◌, map, All, Contains, IfNone, IfOk, IfSome, IsOkUnless, List};
 ghost use Rattle.guillotiere.specs.Boxes.{IsPositive};
 ghost use Rattle.guillotiere.specs.Pixels.{sides_of};
 ghost use Rattle.atlas_sheet.specs.declared.error.SheetError.TheVariants.{Memory};
-ghost use Rattle.atlas_sheet.specs.Packings.{ArePacked, IsOrderBy, NoWayPacks};
+ghost use Rattle.atlas_sheet.specs.Packings.{ArePacked, IsOrderBy, LeavesSprite, NoWayPacks};
+ghost use Rattle.atlas_sheet.specs.declared.ways.Way.{Way};
 ghost use Rattle.atlas_sheet.specs.Sheets.{IsPackable};
 
 use crate::error::SheetError;
+use crate::options::Spacing;
 use crate::orders::greatest_first;
 use crate::places::find_all;
 use crate::ways::Way;
@@ -38,32 +40,71 @@ pub fn trials_of<A: Allocator + Copy>(
     Ok(trials)
 }
 
-// The places that the first way finds for all sprites, if one does.
-pub fn try_all<A: Allocator + Copy>(
+/// A sheet that takes all sprites, and the way that packs them.
+#[derive(Drop)]
+pub struct Packing<A: Allocator> {
+    pub size: Size,
+    pub way: Way,
+    pub order: Vec<(usize, Size), A>,
+    pub places: Vec<Rectangle, A>,
+}
+
+// All sprites in a sheet of this size by one way, if it packs them.
+fn try_trial<A: Allocator + Copy>(
+    alloc: A,
+    sprites: &[Size],
+    trial: &Trial<A>,
+    size: Size,
+    spacing: Spacing,
+) -> Result<Option<Packing<A>>, SheetError>
+    requires positive { IsPositive (sides_of size) }
+    requires aligned { IsPositive (sides_of spacing.alignment) }
+    requires packable { All (IsPackable spacing) sprites.now }
+    requires order { IsOrderBy trial.now.way sprites.now trial.now.order.items }
+    ensures size { IfOk result (λ found. IfSome found (λ p. p.size ≡ size)) }
+    ensures packed { IfOk result (λ found. IfSome found (λ p. (ways : List Way) → Contains ways trial.now.way
+        → ArePacked ways (sides_of size) spacing sprites.now
+        (record { way = p.way; order = p.order.items; places = p.places.items }))) }
+    ensures left { IfOk result (λ found. IfNone found
+        (LeavesSprite (sides_of size) spacing sprites.now trial.now.way)) }
+    ensures unless { IsOkUnless result Memory }
+{
+    let way = trial.way;
+    let found = find_all(alloc, sprites, &trial.order, size, spacing, way.choice)?;
+    let Some(places) = found else {
+        return Ok(None);
+    };
+    let order = Vec::from_slice(alloc, &trial.order)?;
+    Ok(Some(Packing {
+        size,
+        way,
+        order,
+        places,
+    }))
+}
+
+// All sprites in a sheet of this size by the first way that packs them, if one does.
+pub fn try_size<A: Allocator + Copy>(
     alloc: A,
     sprites: &[Size],
     trials: &[Trial<A>],
-    sheet: Size,
-    padding: u16,
-) -> Result<Option<Vec<Rectangle, A>>, SheetError>
-    requires positive { IsPositive (sides_of sheet) }
-    requires packable { All (IsPackable padding) sprites.now }
+    size: Size,
+    spacing: Spacing,
+) -> Result<Option<Packing<A>>, SheetError>
+    requires positive { IsPositive (sides_of size) }
+    requires aligned { IsPositive (sides_of spacing.alignment) }
+    requires packable { All (IsPackable spacing) sprites.now }
     requires orders { All (λ t. IsOrderBy t.way sprites.now t.order.items) trials.now }
-    ensures packed { IfOk result (λ found. IfSome found (λ places.
-        ArePacked (map (λ t. t.way) trials.now) (sides_of sheet) padding sprites.now places.items)) }
+    ensures size { IfOk result (λ found. IfSome found (λ p. p.size ≡ size)) }
+    ensures packed { IfOk result (λ found. IfSome found (λ p.
+        ArePacked (map (λ t. t.way) trials.now) (sides_of size) spacing sprites.now
+        (record { way = p.way; order = p.order.items; places = p.places.items }))) }
     ensures none { IfOk result (λ found. IfNone found
-        (NoWayPacks (map (λ t. t.way) trials.now) (sides_of sheet) padding sprites.now)) }
+        (NoWayPacks (map (λ t. t.way) trials.now) (sides_of size) spacing sprites.now)) }
     ensures unless { IsOkUnless result Memory }
 {
     for trial in trials {
-        let found = find_all(
-            alloc,
-            sprites,
-            &trial.order,
-            sheet,
-            padding,
-            trial.way.choice,
-        )?;
+        let found = try_trial(alloc, sprites, trial, size, spacing)?;
         if found.is_some() {
             return Ok(found);
         }

@@ -1,32 +1,35 @@
 //! The ways to place sprites that are tried.
-ghost use Rattle.std.specs.Prelude.{◌≡◌};
+ghost use Rattle.std.specs.Prelude.{◌≡◌, ◌<◌, ◌≤◌};
+ghost use Rattle.atlas_sheet.specs.Fillings.{ways_tried};
 ghost use Rattle.guillotiere.specs.Pixels.{options_of};
 ghost use Rattle.atlas_sheet.specs.Orders.{choice_options};
 
+use crate::options::Spacing;
 use crate::orders::Key;
-use guillotiere::{AllocatorOptions, DEFAULT_OPTIONS};
+use guillotiere::AllocatorOptions;
 
 /// Which free box a sprite takes.
 #[derive(Clone, Copy, Debug, PartialEq, Eq)]
 pub enum Choice {
-    /// As an atlas with the usual thresholds chooses: small sprites take what fits them best.
-    Usual,
-    /// The box that leaves the greatest least margin: both thresholds are 0.
+    /// The box that leaves the greatest least margin: every size counts as large.
     Roomiest,
+    /// The box that leaves the smallest least margin: every size counts as medium.
+    Tightest,
 }
 
 impl Choice {
     /// The options of an allocator that chooses so.
-    pub fn options(self) -> AllocatorOptions
-        ensures { options_of result ≡ choice_options self }
+    pub fn options(self, spacing: Spacing) -> AllocatorOptions
+        ensures { options_of result ≡ choice_options spacing self }
     {
-        match self {
-            Choice::Usual => DEFAULT_OPTIONS,
-            Choice::Roomiest => AllocatorOptions {
-                small_size_threshold: 0,
-                large_size_threshold: 0,
-                ..DEFAULT_OPTIONS
-            },
+        let large_size_threshold = match self {
+            Choice::Roomiest => 0,
+            Choice::Tightest => i32::MAX,
+        };
+        AllocatorOptions {
+            alignment: spacing.alignment,
+            small_size_threshold: 0,
+            large_size_threshold,
         }
     }
 }
@@ -48,38 +51,48 @@ pub const WAYS: [Way; 10] = [
     },
     Way {
         key: Key::Area,
-        choice: Choice::Usual,
+        choice: Choice::Tightest,
+    },
+    Way {
+        key: Key::Height,
+        choice: Choice::Tightest,
+    },
+    Way {
+        key: Key::LesserSide,
+        choice: Choice::Tightest,
+    },
+    Way {
+        key: Key::GreaterSide,
+        choice: Choice::Tightest,
+    },
+    Way {
+        key: Key::HeightTimesGreaterSide,
+        choice: Choice::Tightest,
     },
     Way {
         key: Key::Height,
         choice: Choice::Roomiest,
     },
     Way {
-        key: Key::Height,
-        choice: Choice::Usual,
-    },
-    Way {
         key: Key::LesserSide,
         choice: Choice::Roomiest,
-    },
-    Way {
-        key: Key::LesserSide,
-        choice: Choice::Usual,
     },
     Way {
         key: Key::GreaterSide,
         choice: Choice::Roomiest,
     },
     Way {
-        key: Key::GreaterSide,
-        choice: Choice::Usual,
-    },
-    Way {
         key: Key::HeightTimesGreaterSide,
         choice: Choice::Roomiest,
-    },
-    Way {
-        key: Key::HeightTimesGreaterSide,
-        choice: Choice::Usual,
     },
 ];
+
+/// How many of `WAYS` a sheet with so many sprites is filled by: all ten up to 1,200 sprites, fewer for more, so that
+/// they ask for some 12,000 places together; at least the first.
+pub fn ways_tried(sprites: usize) -> usize
+    ensures tried { result ≡ ways_tried sprites }
+    ensures some { 0 < result }
+    ensures few { result ≤ 10 }
+{
+    (12000 / sprites.max(1)).clamp(1, 10)
+}

@@ -1,7 +1,7 @@
 //! Filled sheets.
 ghost use Rattle.std.specs.Prelude.{◌<◌};
 
-use atlas_sheet::{SheetError, fill};
+use atlas_sheet::{Allowed, Placed, SheetError, SheetOptions, fill};
 use guillotiere::{Rectangle, Size, point2, size2};
 use std::alloc::{AllocError, Global};
 use std::process::Abort;
@@ -14,16 +14,32 @@ pub fn rectangle(left: i32, top: i32, right: i32, bottom: i32) -> Rectangle {
     }
 }
 
+// A sheet of this size alone.
+pub fn sheet_options(size: Size, padding: u16) -> SheetOptions {
+    SheetOptions {
+        padding,
+        ..SheetOptions::new(Allowed::One(size))
+    }
+}
+
+// A place that isn't turned.
+pub fn upright(left: i32, top: i32, right: i32, bottom: i32) -> Placed {
+    Placed {
+        area: rectangle(left, top, right, bottom),
+        turned: false,
+    }
+}
+
 // One place or none, the border of 1 at each side.
 #[test]
 fn one_sprite(rt: HostRuntime) {
     let sprites = [size2(10, 5)];
-    let filled = fill(rt.alloc(), &sprites, size2(12, 7), 1).expect(&rt, "memory");
-    assert!(&rt; filled.places.get(0).copied() == Some(Some(rectangle(1, 1, 11, 6))));
+    let filled = fill(rt.alloc(), &sprites, &sheet_options(size2(12, 7), 1)).expect(&rt, "memory");
+    assert!(&rt; filled.places.get(0).copied() == Some(Some(upright(1, 1, 11, 6))));
     assert!(&rt; filled.used_area == 50);
-    let narrow = fill(rt.alloc(), &sprites, size2(11, 7), 1).expect(&rt, "memory");
+    let narrow = fill(rt.alloc(), &sprites, &sheet_options(size2(11, 7), 1)).expect(&rt, "memory");
     assert!(&rt; narrow.places.get(0).copied() == Some(None));
-    let low = fill(rt.alloc(), &sprites, size2(12, 6), 1).expect(&rt, "memory");
+    let low = fill(rt.alloc(), &sprites, &sheet_options(size2(12, 6), 1)).expect(&rt, "memory");
     assert!(&rt; low.places.get(0).copied() == Some(None) && low.used_area == 0);
 }
 
@@ -31,11 +47,11 @@ fn one_sprite(rt: HostRuntime) {
 #[test]
 fn two_sprites(rt: HostRuntime) {
     let sprites = [size2(4, 4), size2(4, 4)];
-    let both = fill(rt.alloc(), &sprites, size2(11, 6), 1).expect(&rt, "memory");
-    assert!(&rt; both.places.get(0).copied() == Some(Some(rectangle(1, 1, 5, 5))));
-    assert!(&rt; both.places.get(1).copied() == Some(Some(rectangle(6, 1, 10, 5))));
+    let both = fill(rt.alloc(), &sprites, &sheet_options(size2(11, 6), 1)).expect(&rt, "memory");
+    assert!(&rt; both.places.get(0).copied() == Some(Some(upright(1, 1, 5, 5))));
+    assert!(&rt; both.places.get(1).copied() == Some(Some(upright(6, 1, 10, 5))));
     assert!(&rt; both.used_area == 32);
-    let one = fill(rt.alloc(), &sprites, size2(10, 6), 1).expect(&rt, "memory");
+    let one = fill(rt.alloc(), &sprites, &sheet_options(size2(10, 6), 1)).expect(&rt, "memory");
     assert!(&rt; one.places.len() == 2 && one.used_area == 16);
 }
 
@@ -43,18 +59,18 @@ fn two_sprites(rt: HostRuntime) {
 #[test]
 fn most_pixels(rt: HostRuntime) {
     let sprites = [size2(8, 1), size2(2, 3)];
-    let filled = fill(rt.alloc(), &sprites, size2(8, 3), 0).expect(&rt, "memory");
+    let filled = fill(rt.alloc(), &sprites, &sheet_options(size2(8, 3), 0)).expect(&rt, "memory");
     assert!(&rt; filled.used_area == 8);
-    assert!(&rt; filled.places.get(0).copied() == Some(Some(rectangle(0, 0, 8, 1))));
+    assert!(&rt; filled.places.get(0).copied() == Some(Some(upright(0, 0, 8, 1))));
     assert!(&rt; filled.places.get(1).copied() == Some(None));
 }
 
 // A padding wider than the sheet, and no sprites.
 #[test]
 fn nothing_placed(rt: HostRuntime) {
-    let wide = fill(rt.alloc(), &[size2(1, 1)], size2(3, 3), 65535).expect(&rt, "memory");
+    let wide = fill(rt.alloc(), &[size2(1, 1)], &sheet_options(size2(3, 3), 65535)).expect(&rt, "memory");
     assert!(&rt; wide.places.get(0).copied() == Some(None) && wide.used_area == 0);
-    let none = fill(rt.alloc(), &[], size2(3, 3), 0).expect(&rt, "memory");
+    let none = fill(rt.alloc(), &[], &sheet_options(size2(3, 3), 0)).expect(&rt, "memory");
     assert!(&rt; none.places.is_empty() && none.used_area == 0);
 }
 
@@ -137,7 +153,7 @@ const REFUSED: [(&[Size], Size, SheetError); 6] = [
 #[test]
 fn refused(rt: HostRuntime) {
     for (row, (sprites, size, error)) in REFUSED.iter().enumerate() {
-        let found = fill(rt.alloc(), *sprites, *size, 3);
+        let found = fill(rt.alloc(), *sprites, &sheet_options(*size, 3));
         assert!(&rt; found.err() == Some(*error), "row {row}");
     }
 }
@@ -187,16 +203,16 @@ pub fn are_apart(a: Rectangle, b: Rectangle, padding: i32) -> bool {
 }
 
 // Whether each place is good and apart from those after it.
-fn are_good(sprites: &[Size], places: &[Option<Rectangle>], sheet: Size, padding: i32) -> bool {
+fn are_good(sprites: &[Size], places: &[Option<Placed>], sheet: Size, padding: i32) -> bool {
     for (number, (sprite, found)) in sprites.iter().zip(places).enumerate() {
         let Some(place) = found else {
             continue;
         };
-        if !is_good(*sprite, *place, sheet, padding) {
+        if !is_good(*sprite, place.area, sheet, padding) {
             return false;
         }
         for other in places.iter().skip(number).skip(1).flatten() {
-            if !are_apart(*place, *other, padding) {
+            if !are_apart(place.area, other.area, padding) {
                 return false;
             }
         }
@@ -210,13 +226,13 @@ fn random_sprites(rt: HostRuntime) {
     for (seed, padding) in [(1, 0), (2, 1), (3, 2), (4, 7)] {
         let sprites = sprites_of(rt.alloc(), seed, 90, 40).expect(&rt, "sprites");
         let sheet = size2(200, 150);
-        let first = fill(rt.alloc(), &sprites, sheet, padding).expect(&rt, "a sheet");
+        let first = fill(rt.alloc(), &sprites, &sheet_options(sheet, padding)).expect(&rt, "a sheet");
         assert!(&rt; first.places.len() == sprites.len());
         assert!(&rt;
             are_good(&sprites, &first.places, sheet, i32::from(padding)),
             "seed {seed}"
         );
-        let again = fill(rt.alloc(), &sprites, sheet, padding).expect(&rt, "a sheet");
+        let again = fill(rt.alloc(), &sprites, &sheet_options(sheet, padding)).expect(&rt, "a sheet");
         assert!(&rt; again.places == first.places && again.used_area == first.used_area);
     }
 }

@@ -1,9 +1,9 @@
 //! Packed sheets.
 ghost use Rattle.std.specs.Prelude.{◌<◌};
 
-use crate::filling::{are_apart, is_good, rectangle, sprites_of};
-use atlas_sheet::{Allowed, SheetError, SheetOptions, pack};
-use guillotiere::{Rectangle, Size, size2};
+use crate::filling::{are_apart, is_good, sprites_of, upright};
+use atlas_sheet::{Allowed, Placed, SheetError, SheetOptions, pack};
+use guillotiere::{Size, size2};
 use std::process::Abort;
 
 const NO_SIZE: Size = Size {
@@ -17,8 +17,8 @@ fn four_sprites(rt: HostRuntime) {
     let sprites = [size2(5, 5), size2(5, 5), size2(5, 5), size2(5, 5)];
     for (least, greatest, side) in [(1, 100, 13), (20, 100, 20), (1, 13, 13), (1, 12, 0)] {
         let options = SheetOptions {
-            allowed: Allowed::Squares { least, greatest },
             padding: 1,
+            ..SheetOptions::new(Allowed::Squares { least, greatest })
         };
         let found = pack(rt.alloc(), &sprites, &options).expect(&rt, "memory");
         let size = found.map(|sheet| sheet.size);
@@ -63,10 +63,7 @@ fn kinds_of_sheets(rt: HostRuntime) {
         ),
     ];
     for (row, (allowed, size)) in rows.iter().enumerate() {
-        let options = SheetOptions {
-            allowed: *allowed,
-            padding: 0,
-        };
+        let options = SheetOptions::new(*allowed);
         let found = pack(rt.alloc(), &[size2(4, 3), size2(4, 3)], &options).expect(&rt, "memory");
         assert!(&rt; found.map(|sheet| sheet.size) == *size, "row {row}");
     }
@@ -75,15 +72,12 @@ fn kinds_of_sheets(rt: HostRuntime) {
 // Places stand in the order of the sprites: the great one, which is placed first, is the second.
 #[test]
 fn order_of_places(rt: HostRuntime) {
-    let options = SheetOptions {
-        allowed: Allowed::One(size2(8, 6)),
-        padding: 0,
-    };
+    let options = SheetOptions::new(Allowed::One(size2(8, 6)));
     let found = pack(rt.alloc(), &[size2(2, 6), size2(6, 6)], &options).expect(&rt, "memory");
     let sheet = found.expect(&rt, "a sheet");
     assert!(&rt; sheet.places.len() == 2);
-    assert!(&rt; sheet.places.get(0).copied() == Some(rectangle(6, 0, 8, 6)));
-    assert!(&rt; sheet.places.get(1).copied() == Some(rectangle(0, 0, 6, 6)));
+    assert!(&rt; sheet.places.get(0).copied() == Some(upright(6, 0, 8, 6)));
+    assert!(&rt; sheet.places.get(1).copied() == Some(upright(0, 0, 6, 6)));
 }
 
 // What `pack` refuses.
@@ -123,23 +117,20 @@ fn refused_options(rt: HostRuntime) {
         (Allowed::Powers { greatest: 8 }, SheetError::EmptySprite(1)),
     ];
     for (row, (allowed, error)) in rows.iter().enumerate() {
-        let options = SheetOptions {
-            allowed: *allowed,
-            padding: 0,
-        };
+        let options = SheetOptions::new(*allowed);
         let found = pack(rt.alloc(), &[size2(1, 1), NO_SIZE], &options);
         assert!(&rt; found.err() == Some(*error), "row {row}");
     }
 }
 
 // Whether each place is good and apart from those after it.
-fn all_good(sprites: &[Size], places: &[Rectangle], sheet: Size, padding: i32) -> bool {
+fn all_good(sprites: &[Size], places: &[Placed], sheet: Size, padding: i32) -> bool {
     for (number, (sprite, place)) in sprites.iter().zip(places).enumerate() {
-        if !is_good(*sprite, *place, sheet, padding) {
+        if !is_good(*sprite, place.area, sheet, padding) {
             return false;
         }
         for other in places.iter().skip(number).skip(1) {
-            if !are_apart(*place, *other, padding) {
+            if !are_apart(place.area, other.area, padding) {
                 return false;
             }
         }
@@ -193,7 +184,10 @@ const INPUTS: [(u32, usize, u16, Allowed); 5] = [
 fn random_sprites(rt: HostRuntime) {
     for (seed, count, padding, allowed) in INPUTS {
         let sprites = sprites_of(rt.alloc(), seed, count, 40).expect(&rt, "sprites");
-        let options = SheetOptions { allowed, padding };
+        let options = SheetOptions {
+            padding,
+            ..SheetOptions::new(allowed)
+        };
         let first = pack(rt.alloc(), &sprites, &options).expect(&rt, "memory");
         let sheet = first.expect(&rt, "a sheet");
         assert!(&rt; sheet.places.len() == sprites.len());

@@ -6,7 +6,7 @@ use Rattle.atlas_sheet.proofs.filling.fill_by.Goals as goal
 use Rattle.atlas_sheet.proofs.filling.fill_by.Goals.{then-most-area, else-most-area}
 
 pub loop-way-init : goal.loop-way-init
-loop-way-init g c = begin (sides_of c.args.size) c.args.padding c.args.sprites.now c.args.ways.now _ c.new-places.ensures.items
+loop-way-init g c = begin (sides_of c.args.size) c.args.spacing c.args.sprites.now c.args.ways.now _ _ _ c.new-2.ensures.items
 
 pub loop-way-preserved : goal.loop-way-preserved
 loop-way-preserved g c =
@@ -14,15 +14,17 @@ loop-way-preserved g c =
     elim c.if-most-area.branch [
       | then-most-area w ↦
           let le : c.loop-way.most ≤ c.used_area-area.result = search (rules, w.if-most-area) in
-          rw (add-one, w.places-is, w.most-is)
-          (better (sides_of c.args.size) c.args.padding c.args.sprites.now c.args.ways.now c.loop-way.way-index _ c.loop-way.places.items
-          c.in_ok-found.found.items c.loop-way.most c.used_area-area.result c.loop-way-test.true is c.in_ok-found.ensures.found c.loop-way.invariant
+          rw (add-one, w.best-is, w.best_way-is, w.most-is)
+          (better (sides_of c.args.size) c.args.spacing c.args.sprites.now c.args.ways.now c.loop-way.way-index _ c.loop-way.best_way
+          c.loop-way.best.order.items c.in_ok-found.found.order.items c.loop-way.best.places.items c.in_ok-found.found.places.items
+          c.loop-way.most c.used_area-area.result c.loop-way-test.true is c.in_ok-found.ensures.found c.loop-way.invariant
           c.in_ok-found.ensures.places le)
       | else-most-area w ↦
           let less : c.used_area-area.result < c.loop-way.most = search (rules, w.if-most-area) in
-          rw (add-one, w.places-is, w.most-is)
-          (kept (sides_of c.args.size) c.args.padding c.args.sprites.now c.args.ways.now c.loop-way.way-index _ c.loop-way.places.items
-          c.in_ok-found.found.items c.loop-way.most c.used_area-area.result c.loop-way-test.true is c.in_ok-found.ensures.found c.loop-way.invariant
+          rw (add-one, w.best-is, w.best_way-is, w.most-is)
+          (kept (sides_of c.args.size) c.args.spacing c.args.sprites.now c.args.ways.now c.loop-way.way-index _ c.loop-way.best_way
+          c.loop-way.best.order.items c.in_ok-found.found.order.items c.loop-way.best.places.items c.in_ok-found.found.places.items
+          c.loop-way.most c.used_area-area.result c.loop-way-test.true is c.in_ok-found.ensures.found c.loop-way.invariant
           less)
     ]
 
@@ -31,5 +33,5 @@ returns-clause-places g c = c.loop-way.invariant.good (omega (arith, c.loop-way-
 
 pub returns-clause-best : goal.returns-clause-best
 returns-clause-best g c =
-    all_tried (sides_of c.args.size) c.args.padding c.args.sprites.now c.args.ways.now c.loop-way.way-index c.loop-way.places.items
-    c.loop-way.most c.loop-way-test.false c.requires.ways c.loop-way.invariant
+    all_tried (sides_of c.args.size) c.args.spacing c.args.sprites.now c.args.ways.now c.loop-way.way-index c.loop-way.best_way
+    c.loop-way.best.order.items c.loop-way.best.places.items c.loop-way.most c.loop-way-test.false c.requires.ways c.loop-way.invariant

@@ -3,7 +3,7 @@ use Rattle.std.proofs.lemmas.List.{length-set}
 use Rattle.std.proofs.lemmas.List.Elements.{All-get_or}
 use Rattle.guillotiere.specs.SimpleStored.{simple_state_of}
 use Rattle.atlas_sheet.specs.Sheets.{FindPlaces, IsPackable, with_places}
-use Rattle.atlas_sheet.proofs.Asking.{keeps_alignment}
+use Rattle.atlas_sheet.proofs.Asking.{keeps_positive}
 use Rattle.atlas_sheet.proofs.Finding.{no_sprite, all_found}
 use Rattle.atlas_sheet.proofs.Numbering.{order_all, order_below, order_once}
 use Rattle.atlas_sheet.proofs.Taking.{one_left, one_more}
@@ -11,8 +11,8 @@ use Rattle.atlas_sheet.proofs.places.find_all.Goals as goal
 
 pub place-requires-clause-packable : goal.place-requires-clause-packable
 place-requires-clause-packable g c =
-    All-get_or (λ s. IsPackable c.args.padding s.1) c.args.order.now c.loop-sprite.sprite-index no_sprite c.loop-sprite-test.true
-    (order_all c.args.sprites.now c.args.order.now c.requires.permuted (IsPackable c.args.padding) c.requires.packable)
+    All-get_or (λ s. IsPackable c.args.spacing s.1) c.args.order.now c.loop-sprite.sprite-index no_sprite c.loop-sprite-test.true
+    (order_all c.args.sprites.now c.args.order.now c.requires.permuted (IsPackable c.args.spacing) c.requires.packable)
 
 pub index_mut-requires : goal.index_mut-requires
 index_mut-requires g c =
@@ -28,7 +28,7 @@ returns-in-None-clause-left g c =
     let s = get_or order k no_sprite in
     let room = All-get_or (λ s. s.0 < length c.args.sprites.now) order k no_sprite c.loop-sprite-test.true
     (order_below c.args.sprites.now order c.requires.permuted (length c.args.sprites.now) (omega arith)) in
-    one_left c.args.padding (simple_state_of c.in_ok-packer.packer) (simple_state_of c.loop-sprite.packer) (simple_state_of c.place.new.packer)
+    one_left c.args.spacing (simple_state_of c.in_ok-packer.packer) (simple_state_of c.loop-sprite.packer) (simple_state_of c.place.new.packer)
     order k c.loop-sprite.places.items s no_sprite (order_once c.args.sprites.now order c.requires.permuted) c.loop-sprite-test.true refl
     (rw (← before.long) at room) before.going _ c.args.choice c.in_ok-packer.ensures.start
     (rw c.in-None.is at c.in_ok-found.ensures.step)
@@ -36,7 +36,7 @@ returns-in-None-clause-left g c =
 pub loop-sprite-preserved : goal.loop-sprite-preserved
 loop-sprite-preserved g c =
     let before = c.loop-sprite.invariant in
-    let padding = c.args.padding in
+    let spacing = c.args.spacing in
     let sprites = c.args.sprites.now in
     let order = c.args.order.now in
     let k = c.loop-sprite.sprite-index in
@@ -52,13 +52,13 @@ loop-sprite-preserved g c =
     rw add-one
     (record {
       long = length-set places s.0 found ∙ before.long;
-      alignment = keeps_alignment padding now next s.1 (Some found) step before.alignment;
-      going = one_more padding start now next order k places s no_sprite (order_once sprites order c.requires.permuted) c.loop-sprite-test.true refl
+      aligned = keeps_positive spacing now next s.1 (Some found) step before.aligned;
+      going = one_more spacing start now next order k places s no_sprite (order_once sprites order c.requires.permuted) c.loop-sprite-test.true refl
           (rw (← before.long) at room) before.going found step;
     })
 
 pub returns-clause-found : goal.returns-clause-found
 returns-clause-found g c =
-    subst (λ s. FindPlaces c.args.padding s (with_places (map Some c.loop-sprite.places.items) c.args.order.now)) c.in_ok-packer.ensures.start
-    (all_found c.args.padding _ _ c.args.order.now c.loop-sprite.sprite-index (map Some c.loop-sprite.places.items) c.loop-sprite-test.false
+    subst (λ s. FindPlaces c.args.spacing s (with_places (map Some c.loop-sprite.places.items) c.args.order.now)) c.in_ok-packer.ensures.start
+    (all_found c.args.spacing _ _ c.args.order.now c.loop-sprite.sprite-index (map Some c.loop-sprite.places.items) c.loop-sprite-test.false
     c.loop-sprite.invariant.going)

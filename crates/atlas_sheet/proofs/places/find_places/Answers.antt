@@ -1,49 +1,17 @@
-use Rattle.std.proofs.Common.{rules, ◌<◌, ◌∙◌, length, get_or, subst, refl, arith, add-one}
-use Rattle.std.proofs.lemmas.List.{length-set}
-use Rattle.std.proofs.lemmas.List.Elements.{All-get_or}
-use Rattle.guillotiere.specs.SimpleStored.{simple_state_of}
-use Rattle.atlas_sheet.specs.Sheets.{FindPlaces, IsPackable, with_places}
-use Rattle.atlas_sheet.proofs.Asking.{keeps_alignment}
-use Rattle.atlas_sheet.proofs.Finding.{no_sprite, more, all_found}
+use Rattle.std.proofs.Common.{◌≡◌, length, ap, arith, rules}
+use Rattle.atlas_sheet.specs.Sheets.{IsPackable}
 use Rattle.atlas_sheet.proofs.Numbering.{order_all, order_below, order_once}
 use Rattle.atlas_sheet.proofs.places.find_places.Goals as goal
 
-pub place-requires-clause-packable : goal.place-requires-clause-packable
-place-requires-clause-packable g c =
-    All-get_or (λ s. IsPackable c.args.padding s.1) c.args.order.now c.loop-sprite.sprite-index no_sprite c.loop-sprite-test.true
-    (order_all c.args.sprites.now c.args.order.now c.requires.permuted (IsPackable c.args.padding) c.requires.packable)
+pub find_in-requires-clause-packable : goal.find_in-requires-clause-packable
+find_in-requires-clause-packable g c =
+    order_all c.args.sprites.now c.args.order.now c.requires.permuted (IsPackable c.args.spacing) c.requires.packable
 
-pub index_mut-requires : goal.index_mut-requires
-index_mut-requires g c =
-    let room = All-get_or (λ s. s.0 < length c.args.sprites.now) c.args.order.now c.loop-sprite.sprite-index no_sprite c.loop-sprite-test.true
-    (order_below c.args.sprites.now c.args.order.now c.requires.permuted (length c.args.sprites.now) (omega arith)) in
-    search (rules, room, c.loop-sprite.invariant.long)
+pub find_in-requires-clause-numbers : goal.find_in-requires-clause-numbers
+find_in-requires-clause-numbers g c =
+    let long : length c.in_ok-places.places.items ≡ length c.args.sprites.now = search rules in
+    let slice : length c.deref_mut.result.now ≡ length c.in_ok-places.places.items = ap length c.deref_mut.ensures.value in
+    order_below c.args.sprites.now c.args.order.now c.requires.permuted (length c.deref_mut.result.now) (omega arith)
 
-pub loop-sprite-preserved : goal.loop-sprite-preserved
-loop-sprite-preserved g c =
-    let before = c.loop-sprite.invariant in
-    let padding = c.args.padding in
-    let sprites = c.args.sprites.now in
-    let order = c.args.order.now in
-    let k = c.loop-sprite.sprite-index in
-    let s = get_or order k no_sprite in
-    let places = c.loop-sprite.places.items in
-    let found = c.in_ok-places-2.field-0 in
-    let start = simple_state_of c.in_ok-packer.packer in
-    let now = simple_state_of c.loop-sprite.packer in
-    let next = simple_state_of c.place.new.packer in
-    let step = c.in_ok-places-2.ensures.step in
-    let room = All-get_or (λ s. s.0 < length sprites) order k no_sprite c.loop-sprite-test.true
-    (order_below sprites order c.requires.permuted (length sprites) (omega arith)) in
-    rw add-one
-    (record {
-      long = length-set places s.0 found ∙ before.long;
-      alignment = keeps_alignment padding now next s.1 found step before.alignment;
-      going = more padding start now next order k places s no_sprite found (order_once sprites order c.requires.permuted)
-          c.loop-sprite-test.true refl (rw (← before.long) at room) step before.going;
-    })
-
-pub returns-clause-found : goal.returns-clause-found
-returns-clause-found g c =
-    subst (λ s. FindPlaces c.args.padding s (with_places c.loop-sprite.places.items c.args.order.now)) c.in_ok-packer.ensures.start
-    (all_found c.args.padding _ _ c.args.order.now c.loop-sprite.sprite-index c.loop-sprite.places.items c.loop-sprite-test.false c.loop-sprite.invariant.going)
+pub find_in-requires-clause-once : goal.find_in-requires-clause-once
+find_in-requires-clause-once g c = order_once c.args.sprites.now c.args.order.now c.requires.permuted

@@ -1,0 +1,18 @@
+use Rattle.std.proofs.Common.{◌≡◌, ◌≤◌, All, IsSome}
+use Rattle.guillotiere.specs.Pixels.{sides_of}
+use Rattle.atlas_sheet.specs.Allowances.{IsAllowed, pixels}
+use Rattle.atlas_sheet.specs.Lying.{IsArrangement}
+use Rattle.atlas_sheet.specs.Settings.{spacing_of}
+use Rattle.atlas_sheet.proofs.packing.descend.Given as goal
+
+abbrev pub invariant-loop-tries : goal.invariant-loop-tries
+invariant-loop-tries g l = record {
+  arranged : IsArrangement (sides_of l.best.size) (spacing_of l.options) l.options.turn l.fn.first.lying.items l.best.choice
+      l.best.lying.items l.best.order.items l.best.places.items;
+  allowed : IsAllowed l.options.allowed (sides_of l.best.size);
+  whole : All IsSome l.best.places.items;
+  smaller : pixels (sides_of l.best.size) ≤ pixels (sides_of l.fn.first.size);
+}
+
+abbrev pub decreases-loop-tries : goal.decreases-loop-tries
+decreases-loop-tries g l = l.tries

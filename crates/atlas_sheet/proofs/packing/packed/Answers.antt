@@ -1,0 +1,33 @@
+use Rattle.std.proofs.Common.{◌≡◌, ◌≤◌, ◌∙◌, ap, refl, inl, rules, arith, subst, sym}
+use Rattle.guillotiere.specs.declared.Size.{Size}
+use Rattle.guillotiere.specs.Pixels.{sides_of}
+use Rattle.atlas_sheet.specs.Allowances.{IsAllowed, pixels}
+use Rattle.atlas_sheet.specs.Settings.{spacing_of}
+use Rattle.atlas_sheet.specs.declared.ways.TheConstants.{WAYS}
+use Rattle.atlas_sheet.proofs.Arranging.{no_larger, own, rebased}
+use Rattle.atlas_sheet.proofs.Turning.{lie_packable}
+use Rattle.atlas_sheet.proofs.packing.packed.Goals as goal
+
+pub descend-requires-clause-packable : goal.descend-requires-clause-packable
+descend-requires-clause-packable g c =
+    let arranged = rw c.in-Some.is at c.in_ok-found.ensures.arranged in
+    lie_packable (spacing_of c.args.options.now) c.args.options.now.turn c.args.sprites.now c.in-Some.first.lying.items arranged.lies c.requires.packable
+
+pub descend-requires-clause-arranged : goal.descend-requires-clause-arranged
+descend-requires-clause-arranged g c =
+    let a = c.in-Some.first in
+    own (sides_of a.size) (spacing_of c.args.options.now) c.args.options.now.turn c.args.sprites.now a.lying.items a.choice a.order.items
+    a.places.items (rw c.in-Some.is at c.in_ok-found.ensures.arranged)
+
+pub returns-clause-arranged : goal.returns-clause-arranged
+returns-clause-arranged g c =
+    let a = c.in-Some.first in
+    let b = c.in_ok-best.best in
+    let arranged = rw c.in-Some.is at c.in_ok-found.ensures.arranged in
+    rebased (sides_of b.size) (spacing_of c.args.options.now) c.args.options.now.turn c.args.sprites.now a.lying.items b.lying.items
+    b.choice b.order.items b.places.items arranged.lies c.in_ok-best.ensures.arranged
+
+pub returns-clause-larger : goal.returns-clause-larger
+returns-clause-larger g c =
+    no_larger WAYS c.args.options.now.allowed (spacing_of c.args.options.now) c.args.sprites.now (sides_of c.in-Some.first.size)
+    (sides_of c.in_ok-best.best.size) c.in_ok-best.ensures.smaller (rw c.in-Some.is at c.in_ok-found.ensures.larger)

@@ -1,0 +1,19 @@
+use Rattle.std.proofs.Common.{◌≡◌, ◌≤◌, ◌∙◌, ℕ, List, map, take, length, ap, refl, subst, sym, All, Option, IsSome, Some, arith, rules}
+use Rattle.guillotiere.specs.declared.Size.{Size}
+use Rattle.guillotiere.specs.Pixels.{sides_of}
+use Rattle.atlas_sheet.specs.declared.ways.TheConstants.{WAYS}
+use Rattle.atlas_sheet.specs.Fillings.{IsNoBetter, ways_tried}
+use Rattle.atlas_sheet.specs.Lying.{IsArrangement, areas_of}
+use Rattle.atlas_sheet.specs.Settings.{spacing_of}
+use Rattle.atlas_sheet.specs.Sheets.{used_area}
+use Rattle.atlas_sheet.proofs.sheets.fill.Goals as goal
+
+pub returns-clause-best : goal.returns-clause-best
+returns-clause-best g c =
+    let best = c.in_ok-best.best in
+    let filled = c.in_ok-filled.filled in
+    let ways = take (ways_tried (length c.args.sprites.now)) WAYS in
+    let used : filled.used_area ≡ used_area best.places.items = c.in_ok-filled.ensures.area ∙ ap used_area c.in_ok-filled.ensures.areas in
+    subst (λ (s : Size). All (IsNoBetter (sides_of s) (spacing_of c.args.options.now) c.args.sprites.now filled.used_area) ways)
+    (sym c.in_ok-filled.ensures.size)
+    (subst (λ n. All (IsNoBetter (sides_of best.size) (spacing_of c.args.options.now) c.args.sprites.now n) ways) (sym used) c.in_ok-best.ensures.best)

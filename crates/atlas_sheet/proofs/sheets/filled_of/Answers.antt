@@ -1,0 +1,30 @@
+use Rattle.std.proofs.Common.{◌≡◌, ◌≤◌, ◌∙◌, ℕ, List, map, take, length, ap, refl, subst, sym, All, Option, IsSome, Some, arith, rules}
+use Rattle.guillotiere.specs.declared.Size.{Size}
+use Rattle.guillotiere.specs.declared.Rectangle.{Rectangle}
+use Rattle.guillotiere.specs.Pixels.{sides_of}
+use Rattle.atlas_sheet.specs.declared.ways.TheConstants.{WAYS}
+use Rattle.atlas_sheet.specs.Fillings.{IsBestFound, IsNoBetter, ways_tried}
+use Rattle.atlas_sheet.specs.Lying.{IsArrangement, IsShown, areas_of}
+use Rattle.atlas_sheet.specs.Settings.{spacing_of}
+use Rattle.atlas_sheet.specs.Sheets.{used_area}
+use Rattle.atlas_sheet.proofs.sheets.filled_of.Goals as goal
+
+pub returns-clause-shown : goal.returns-clause-shown
+returns-clause-shown g c =
+    let a = c.args.arrangement.now in
+    record {
+      each = c.in_ok-places.ensures.each;
+      lying = a.lying.items;
+      numbered = a.order.items;
+      numbers = sym (c.in_ok-order.ensures.numbers ∙ ap (map (λ s. s.0)) c.deref-2.ensures.value);
+      choice = a.choice;
+      arranged = subst (IsArrangement (sides_of a.size) (spacing_of c.args.options.now) c.args.options.now.turn c.args.sprites.now a.choice
+          a.lying.items a.order.items) (sym c.in_ok-places.ensures.areas) c.requires;
+    }
+
+pub returns-clause-order : goal.returns-clause-order
+returns-clause-order g c = c.in_ok-order.ensures.numbers ∙ ap (map (λ s. s.0)) c.deref-2.ensures.value
+
+pub returns-clause-area : goal.returns-clause-area
+returns-clause-area g c =
+    c.used_area-used.ensures ∙ ap used_area (c.deref.ensures.value ∙ sym c.in_ok-places.ensures.areas)

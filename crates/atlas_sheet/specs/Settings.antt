@@ -1,0 +1,23 @@
+-- What is read out of the options, and what is wrong with what was asked.
+use Rattle.std.specs.Prelude.{⊤, List}
+use Rattle.guillotiere.specs.declared.Size.{Size}
+use Rattle.guillotiere.specs.Boxes.{IsPositive}
+use Rattle.guillotiere.specs.Pixels.{sides_of}
+use Rattle.atlas_sheet.specs.declared.error.SheetError.{SheetError}
+use Rattle.atlas_sheet.specs.declared.error.SheetError.TheVariants as error
+use Rattle.atlas_sheet.specs.declared.options.SheetOptions.{SheetOptions}
+use Rattle.atlas_sheet.specs.declared.options.Spacing.{Spacing}
+use Rattle.atlas_sheet.specs.Allowances.{IsAllowanceFault}
+use Rattle.atlas_sheet.specs.Fillings.{HasFault}
+
+-- The padding and the alignment.
+abbrev pub spacing_of : SheetOptions → Spacing
+spacing_of o = record { padding = o.padding; alignment = o.alignment }
+
+-- What an error says of the options or of a sprite.
+abbrev pub IsSheetFault : SheetOptions → List Size → SheetError → Type 0
+IsSheetFault o sprites error.Memory = ⊤
+IsSheetFault o sprites error.EmptySheet = IsAllowanceFault o.allowed error.EmptySheet
+IsSheetFault o sprites error.EmptyRange = IsAllowanceFault o.allowed error.EmptyRange
+IsSheetFault o sprites error.EmptyAlignment = IsPositive (sides_of o.alignment) → ⊥
+IsSheetFault o sprites e = HasFault (spacing_of o) sprites e

@@ -1,0 +1,65 @@
+//! What a sheet keeps to.
+ghost use Rattle.std.specs.Prelude.{◌≡◌, false};
+ghost use Rattle.guillotiere.specs.Pixels.{sides_of};
+ghost use Rattle.atlas_sheet.specs.Settings.{spacing_of};
+
+use crate::allowed::Allowed;
+use guillotiere::{Size, size2};
+
+/// How far apart sprites lie, and on what their places begin.
+#[derive(Clone, Copy, Debug, PartialEq, Eq)]
+pub struct Spacing {
+    /// How many pixels at least lie between two sprites, and between a sprite and the border.
+    pub padding: u16,
+    /// Each place, with the padding at its left and above, begins on multiples of these sides.
+    pub alignment: Size,
+}
+
+/// What a sheet keeps to, and how long better places are looked for.
+#[derive(Clone, Copy, Debug, PartialEq, Eq)]
+pub struct SheetOptions {
+    /// Which sheets are allowed. `fill` takes the greatest of them.
+    pub allowed: Allowed,
+    /// How many pixels at least lie between two sprites, and between a sprite and the border.
+    pub padding: u16,
+    /// Each sprite's place, with the padding at its left and above, begins on multiples of these sides, in pixels. Each
+    /// side is at least 1.
+    pub alignment: Size,
+    /// Whether a sprite may lie turned by 90 degrees.
+    pub turn: bool,
+    /// How many changes of the order are tried.
+    pub effort: u32,
+    /// Where the row of random changes begins. The same input has the same sheet on every machine.
+    pub seed: u64,
+}
+
+impl SheetOptions {
+    /// These sheets, no padding, alignment 1 in both directions, no turning, no changes of the order.
+    pub fn new(allowed: Allowed) -> SheetOptions
+        ensures allowed { result.allowed ≡ allowed }
+        ensures padding { result.padding ≡ 0 }
+        ensures turn { result.turn ≡ false }
+        ensures effort { result.effort ≡ 0 }
+        ensures seed { result.seed ≡ 0 }
+        ensures alignment { sides_of result.alignment ≡ record { width = 1; height = 1 } }
+    {
+        SheetOptions {
+            allowed,
+            padding: 0,
+            alignment: size2(1, 1),
+            turn: false,
+            effort: 0,
+            seed: 0,
+        }
+    }
+
+    /// The padding and the alignment.
+    pub fn spacing(&self) -> Spacing
+        ensures { result ≡ spacing_of self.now }
+    {
+        Spacing {
+            padding: self.padding,
+            alignment: self.alignment,
+        }
+    }
+}

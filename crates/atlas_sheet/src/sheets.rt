@@ -1,0 +1,250 @@
+//! Sheets as callers see them.
+ghost use Rattle.std.specs.Prelude.{◌≡◌, length, map, take, All, IfErr, IfNone, IfOk, IfSome, IsOkUnless, IsSome, OnOk, Some};
+ghost use Rattle.guillotiere.specs.Boxes.{IsPositive};
+ghost use Rattle.guillotiere.specs.Pixels.{sides_of};
+ghost use Rattle.atlas_sheet.specs.declared.error.SheetError.TheVariants.{Memory};
+ghost use Rattle.atlas_sheet.specs.declared.ways.TheConstants.{WAYS};
+ghost use Rattle.atlas_sheet.specs.Allowances.{IsAllowed, IsGreatest, IsUsable};
+ghost use Rattle.atlas_sheet.specs.Fillings.{IsBestFound, IsNoBetter, ways_tried};
+ghost use Rattle.atlas_sheet.specs.Lying.{IsArrangement, IsShown, areas_of};
+ghost use Rattle.atlas_sheet.specs.Packings.{IsFirstFound, IsNoLarger, NoneIsFound};
+ghost use Rattle.atlas_sheet.specs.Settings.{IsSheetFault, spacing_of};
+ghost use Rattle.atlas_sheet.specs.Sheets.{IsPackable, used_area};
+
+use crate::allowed::check_allowed;
+use crate::arrangement::Arrangement;
+use crate::climbing::improve;
+use crate::error::SheetError;
+use crate::filling::{check, fill_by, used_area};
+use crate::options::SheetOptions;
+use crate::packing::packed;
+use crate::placed::{Placed, placed_all, whole};
+use crate::random::Random;
+use crate::search::greatest_sheet;
+use crate::ways::{WAYS, ways_tried};
+use guillotiere::Size;
+use std::alloc::{Allocator, Global};
+
+/// A sheet that takes all sprites.
+#[derive(Drop)]
+pub struct Sheet<A: Allocator = Global> {
+    /// The size of the sheet, in pixels.
+    pub size: Size,
+    /// A place for each sprite, in the order of the sprites.
+    pub places: Vec<Placed, A>,
+    /// How many pixels these places have together.
+    pub used_area: u128,
+    /// The numbers of the sprites, counted from 0, in the order in which they asked for places.
+    pub order: Vec<usize, A>,
+}
+
+/// A filled sheet.
+#[derive(Drop)]
+pub struct Filled<A: Allocator = Global> {
+    /// The size of the sheet, in pixels.
+    pub size: Size,
+    /// A place or none for each sprite, in the order of the sprites.
+    pub places: Vec<Option<Placed>, A>,
+    /// How many pixels these places have together.
+    pub used_area: u128,
+    /// The numbers of the sprites, counted from 0, in the order in which they asked for places.
+    pub order: Vec<usize, A>,
+}
+
+// Whether the options and all sprites are good.
+fn check_all(sprites: &[Size], options: &SheetOptions) -> Result<(), SheetError>
+    ensures usable { OnOk result (IsUsable options.now.allowed) }
+    ensures aligned { OnOk result (IsPositive (sides_of options.now.alignment)) }
+    ensures packable { OnOk result (All (IsPackable (spacing_of options.now)) sprites.now) }
+    ensures fault { IfErr result (λ e. IsSheetFault options.now sprites.now e) }
+{
+    check_allowed(options.allowed)?;
+    if !options.alignment.is_positive() {
+        return Err(SheetError::EmptyAlignment);
+    }
+    check(sprites, options.spacing())
+}
+
+// The numbers of numbered sprites.
+fn numbers_of<A: Allocator>(alloc: A, order: &[(usize, Size)]) -> Result<Vec<usize, A>, SheetError>
+    ensures numbers { IfOk result (λ numbers. numbers.items ≡ map (λ s. s.0) order.now) }
+    ensures unless { IsOkUnless result Memory }
+{
+    Ok(order.iter().map(|sprite| sprite.0).collect(alloc)?)
+}
+
+// An arrangement as a filled sheet.
+fn filled_of<A: Allocator + Copy>(
+    alloc: A,
+    sprites: &[Size],
+    options: &SheetOptions,
+    arrangement: &Arrangement<A>,
+) -> Result<Filled<A>, SheetError>
+    requires { IsArrangement (sides_of arrangement.now.size) (spacing_of options.now) options.now.turn
+        sprites.now arrangement.now.choice arrangement.now.lying.items arrangement.now.order.items arrangement.now.places.items }
+    ensures size { IfOk result (λ filled. filled.size ≡ arrangement.now.size) }
+    ensures shown { IfOk result (λ filled. IsShown (sides_of filled.size) (spacing_of options.now) options.now.turn
+        sprites.now filled.order.items filled.places.items) }
+    ensures areas { IfOk result (λ filled. areas_of filled.places.items ≡ arrangement.now.places.items) }
+    ensures order { IfOk result (λ filled. filled.order.items ≡ map (λ s. s.0) arrangement.now.order.items) }
+    ensures area { IfOk result (λ filled. filled.used_area ≡ used_area (areas_of filled.places.items)) }
+    ensures unless { IsOkUnless result Memory }
+{
+    let used = used_area(&arrangement.places);
+    let order = numbers_of(alloc, &arrangement.order)?;
+    let places = placed_all(alloc, sprites, options, arrangement)?;
+    Ok(Filled {
+        size: arrangement.size,
+        places,
+        used_area: used,
+        order,
+    })
+}
+
+// What the best of the first ways finds.
+fn first_filled<A: Allocator + Copy>(
+    alloc: A,
+    sprites: &[Size],
+    options: &SheetOptions,
+) -> Result<Arrangement<A>, SheetError>
+    requires usable { IsUsable options.now.allowed }
+    requires aligned { IsPositive (sides_of options.now.alignment) }
+    requires packable { All (IsPackable (spacing_of options.now)) sprites.now }
+    ensures arranged { IfOk result (λ a. IsArrangement (sides_of a.size) (spacing_of options.now) options.now.turn
+        sprites.now a.choice a.lying.items a.order.items a.places.items) }
+    ensures size { IfOk result (λ a. IsGreatest options.now.allowed (sides_of a.size)) }
+    ensures lying { IfOk result (λ a. a.lying.items ≡ sprites.now) }
+    ensures found { IfOk result (λ a. IsBestFound
+        (take (ways_tried (length sprites.now)) WAYS) (sides_of a.size) (spacing_of options.now) sprites.now
+        (map (λ s. s.0) a.order.items) a.places.items) }
+    ensures unless { IsOkUnless result Memory }
+{
+    let size = greatest_sheet(options.allowed);
+    let ways = ways_tried(sprites.len());
+    let filling = fill_by(alloc, sprites, size, options.spacing(), &WAYS[..ways])?;
+    let lying = Vec::from_slice(alloc, sprites)?;
+    Ok(Arrangement {
+        size,
+        choice: filling.way.choice,
+        lying,
+        order: filling.found.order,
+        places: filling.found.places,
+    })
+}
+
+// What the first ways find, and no fewer pixels by changes of the order.
+fn best_filled<A: Allocator + Copy>(
+    alloc: A,
+    sprites: &[Size],
+    options: &SheetOptions,
+) -> Result<Arrangement<A>, SheetError>
+    requires usable { IsUsable options.now.allowed }
+    requires aligned { IsPositive (sides_of options.now.alignment) }
+    requires packable { All (IsPackable (spacing_of options.now)) sprites.now }
+    ensures arranged { IfOk result (λ a. IsArrangement (sides_of a.size) (spacing_of options.now) options.now.turn
+        sprites.now a.choice a.lying.items a.order.items a.places.items) }
+    ensures size { IfOk result (λ a. IsGreatest options.now.allowed (sides_of a.size)) }
+    ensures best { IfOk result (λ a. All
+        (IsNoBetter (sides_of a.size) (spacing_of options.now) sprites.now (used_area a.places.items))
+        (take (ways_tried (length sprites.now)) WAYS)) }
+    ensures plain { options.now.effort ≡ 0 → IfOk result (λ a. IsBestFound
+        (take (ways_tried (length sprites.now)) WAYS) (sides_of a.size) (spacing_of options.now) sprites.now
+        (map (λ s. s.0) a.order.items) a.places.items) }
+    ensures unless { IsOkUnless result Memory }
+{
+    let first = first_filled(alloc, sprites, options)?;
+    if options.effort == 0 {
+        return Ok(first);
+    }
+    let mut tries = options.effort;
+    let mut random = Random::new(options.seed);
+    let best = improve(alloc, options, &mut random, &mut tries, first)?;
+    Ok(best)
+}
+
+/// Places sprites in the greatest sheet that is allowed. The places have no fewer pixels than those that any of the first
+/// `ways_tried` of `WAYS` finds; without effort they are those of the best of these ways. With effort the order is
+/// changed so many times, and a change stays if it leaves no more pixels of sprites without a place. A sprite that found
+/// no room has no place.
+///
+/// `EmptySheet` if the least allowed side is below 1, `EmptyRange` if the greatest is less than the least,
+/// `EmptyAlignment` if a side of the alignment is below 1; `EmptySprite` and `GreatSprite` name a sprite that can't be
+/// placed in any sheet; `Memory` if memory is refused.
+pub fn fill<A: Allocator + Copy>(
+    alloc: A,
+    sprites: &[Size],
+    options: &SheetOptions,
+) -> Result<Filled<A>, SheetError>
+    ensures size { IfOk result (λ filled. IsGreatest options.now.allowed (sides_of filled.size)) }
+    ensures shown { IfOk result (λ filled. IsShown (sides_of filled.size) (spacing_of options.now) options.now.turn
+        sprites.now filled.order.items filled.places.items) }
+    ensures area { IfOk result (λ filled. filled.used_area ≡ used_area (areas_of filled.places.items)) }
+    ensures best { IfOk result (λ filled. All
+        (IsNoBetter (sides_of filled.size) (spacing_of options.now) sprites.now filled.used_area)
+        (take (ways_tried (length sprites.now)) WAYS)) }
+    ensures plain { options.now.effort ≡ 0 → IfOk result (λ filled. IsBestFound
+        (take (ways_tried (length sprites.now)) WAYS) (sides_of filled.size) (spacing_of options.now) sprites.now
+        filled.order.items (areas_of filled.places.items)) }
+    ensures fault { IfErr result (λ e. IsSheetFault options.now sprites.now e) }
+{
+    check_all(sprites, options)?;
+    let best = best_filled(alloc, sprites, options)?;
+    let filled = filled_of(alloc, sprites, options, &best)?;
+    Ok(filled)
+}
+
+// A filled sheet in which each sprite has a place.
+fn sheet_of<A: Allocator + Copy>(alloc: A, filled: Filled<A>) -> Result<Sheet<A>, SheetError>
+    requires { All IsSome filled.places.items }
+    ensures size { IfOk result (λ sheet. sheet.size ≡ filled.size) }
+    ensures places { IfOk result (λ sheet. map Some sheet.places.items ≡ filled.places.items) }
+    ensures area { IfOk result (λ sheet. sheet.used_area ≡ filled.used_area) }
+    ensures order { IfOk result (λ sheet. sheet.order.items ≡ filled.order.items) }
+    ensures unless { IsOkUnless result Memory }
+{
+    Ok(Sheet {
+        size: filled.size,
+        places: whole(alloc, &filled.places)?,
+        used_area: filled.used_area,
+        order: filled.order,
+    })
+}
+
+/// Places all sprites in a sheet that is as small as the search finds. Without effort one of `WAYS` packs them into it,
+/// and none does into the allowed sheet that is a pixel lower (among powers of two: into any with fewer pixels). With
+/// effort so many more orders are tried, each a small change of the one before, on a sheet that is one step smaller than
+/// the best; the sheet is never larger than without effort. None only where no way, and no order that was tried, packs
+/// all sprites into the greatest sheet that is allowed.
+///
+/// `EmptySheet` if the least allowed side is below 1, `EmptyRange` if the greatest is less than the least,
+/// `EmptyAlignment` if a side of the alignment is below 1; `EmptySprite` and `GreatSprite` name a sprite that can't be
+/// placed in any sheet; `Memory` if memory is refused.
+pub fn pack<A: Allocator + Copy>(
+    alloc: A,
+    sprites: &[Size],
+    options: &SheetOptions,
+) -> Result<Option<Sheet<A>>, SheetError>
+    ensures allowed { IfOk result (λ found. IfSome found (λ sheet.
+        IsAllowed options.now.allowed (sides_of sheet.size))) }
+    ensures shown { IfOk result (λ found. IfSome found (λ sheet. IsShown (sides_of sheet.size)
+        (spacing_of options.now) options.now.turn sprites.now sheet.order.items (map Some sheet.places.items))) }
+    ensures area { IfOk result (λ found. IfSome found (λ sheet.
+        sheet.used_area ≡ used_area (areas_of (map Some sheet.places.items)))) }
+    ensures first { options.now.effort ≡ 0 → IfOk result (λ found. IfSome found (λ sheet. IsFirstFound WAYS
+        options.now.allowed (spacing_of options.now) sprites.now (sides_of sheet.size) sheet.order.items
+        (areas_of (map Some sheet.places.items)))) }
+    ensures larger { IfOk result (λ found. IfSome found (λ sheet. IsNoLarger WAYS options.now.allowed
+        (spacing_of options.now) sprites.now (sides_of sheet.size))) }
+    ensures none { IfOk result (λ found. IfNone found
+        (NoneIsFound WAYS options.now.allowed (spacing_of options.now) sprites.now)) }
+    ensures fault { IfErr result (λ e. IsSheetFault options.now sprites.now e) }
+{
+    check_all(sprites, options)?;
+    let found = packed(alloc, sprites, options)?;
+    let Some(best) = found else {
+        return Ok(None);
+    };
+    let filled = filled_of(alloc, sprites, options, &best)?;
+    let sheet = sheet_of(alloc, filled)?;
+    Ok(Some(sheet))
+}
