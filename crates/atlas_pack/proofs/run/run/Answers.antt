@@ -1,0 +1,24 @@
+use Rattle.std.proofs.Common.{List, ℕ, ◌∙◌, subst}
+use Rattle.std.specs.Io.KnownBytes.{Appends}
+use Rattle.atlas_pack.proofs.Inputs.{read_all, same_text}
+use Rattle.atlas_pack.proofs.run.run.Goals as goal
+
+pub returns : goal.returns
+returns g c =
+    let job = c.in_ok-job.job in
+    let pairs = c.in_ok-pairs.ensures in
+    let text = same_text job.settings.json c.in_ok-sheet.sheet _ _ _ _ _ _ _ _ _ _ c.in_ok-frames.ensures.0 c.in_ok-frames.ensures.1
+    c.deref-4.ensures.value pairs c.deref-2.ensures.value c.deref-3.ensures.value c.deref-5.ensures.value c.deref-6.ensures.value in
+    record {
+      input = c.deref.result.now;
+      before = job.before;
+      settings = job.settings;
+      sprites = job.sprites.items;
+      sheet = c.in_ok-sheet.sheet;
+      places = c.in_ok-sheet.places.items;
+      read = read_all _ c.new-text.result.items c.read_to_end.new.buf.items _ c.in_ok-read_to_end.ensures.bytes c.new-text.ensures.items c.deref.ensures.value;
+      asked = c.in_ok-job.ensures.asks;
+      answered = c.in_ok-sheet.ensures;
+      told = subst (λ (bytes : List ℕ). Appends (g.W.Write.contents c.args.output.now) (g.W.Write.contents c.write_all.new.self) bytes)
+          (c.deref-7.ensures.value ∙ c.in_ok-told.ensures ∙ text) c.in_ok-write_all.ensures.bytes;
+    }

@@ -1,0 +1,100 @@
+-- From the lines that are read to the text that is written.
+use Rattle.std.specs.Prelude.{◌≡◌, ℕ, Bool, true, false, if◌then◌else◌, Option, Some, None, List, [], ◌∷◌, map, flat_map}
+use Rattle.std.specs.List.{zip}
+use Rattle.std.specs.Io.KnownBytes.{Appends}
+use Rattle.atlas_model.specs.declared.geometry.Size.{Size}
+use Rattle.atlas_model.specs.Pixels.{sides_of}
+use Rattle.atlas_sheet.specs.declared.allowed.Allowed.{Allowed}
+use Rattle.atlas_sheet.specs.declared.allowed.Allowed.TheVariants as allowed
+use Rattle.atlas_sheet.specs.declared.options.SheetOptions.{SheetOptions}
+use Rattle.atlas_sheet.specs.declared.placed.Placed.{Placed}
+use Rattle.atlas_sheet.specs.declared.ways.TheConstants.{WAYS}
+use Rattle.atlas_sheet.specs.Allowances.{IsAllowed, IsGreatest}
+use Rattle.atlas_sheet.specs.Lying.{IsShown}
+use Rattle.atlas_sheet.specs.Packings.{IsNoLarger}
+use Rattle.atlas_sheet.specs.Settings.{spacing_of}
+use Rattle.atlas_words.specs.Devices.{HoldsBytes}
+use Rattle.pack_lines.specs.declared.frames.Frame.{Frame}
+use Rattle.pack_lines.specs.declared.settings.Settings.{Settings}
+use Rattle.pack_lines.specs.declared.settings.Sheets.{Sheets}
+use Rattle.pack_lines.specs.declared.settings.Sheets.TheVariants as sheets
+use Rattle.pack_lines.specs.declared.sprites.Sprite.{Sprite}
+use Rattle.pack_lines.specs.Jobs.{AsksFor}
+use Rattle.pack_lines.specs.Json.{json_of}
+use Rattle.pack_lines.specs.Texts.{text_of}
+
+abbrev pub allowed_of : Sheets → Allowed
+allowed_of (sheets.One size) = allowed.One size
+allowed_of (sheets.Squares least greatest) = allowed.Squares least greatest
+allowed_of (sheets.Powers greatest) = allowed.Powers greatest
+allowed_of (sheets.Heights width greatest) = allowed.Heights width greatest
+
+-- The library's options for these settings.
+abbrev pub options_of : Settings → SheetOptions
+options_of s =
+    record {
+      allowed = allowed_of s.sheets;
+      padding = s.padding;
+      alignment = s.alignment;
+      turn = s.turn;
+      effort = s.effort;
+      seed = s.seed;
+    }
+
+-- A sprite in its place.
+abbrev pub frame_of : Sprite → Placed → Frame
+frame_of sprite placed = record { sprite = sprite; corner = placed.area.min; turned = placed.turned }
+
+abbrev pub frame_in : Sprite × Option Placed → List Frame
+frame_in (sprite, Some placed) = frame_of sprite placed ∷ []
+frame_in (sprite, None) = []
+
+abbrev pub left_in : Sprite × Option Placed → List Sprite
+left_in (sprite, Some placed) = []
+left_in (sprite, None) = sprite ∷ []
+
+-- The sprites that have places, in them, in order.
+abbrev pub frames_of : List Sprite → List (Option Placed) → List Frame
+frames_of sprites places = flat_map frame_in (zip sprites places)
+
+-- The sprites that have none, in order.
+abbrev pub left_of : List Sprite → List (Option Placed) → List Sprite
+left_of sprites places = flat_map left_in (zip sprites places)
+
+-- The text of a sheet, as JSON or as lines.
+abbrev pub written : (json : Bool) → Size → List Frame → (left : List Sprite) → List ℕ
+written json sheet frames left = if json then json_of sheet frames else text_of sheet frames left
+
+-- What `pack` answers: an allowed sheet with a place for each sprite, no larger than what the ways find.
+pub record IsFound (o : SheetOptions) (sizes : List Size) (sheet : Size) (places : List (Option Placed)) : Type 0 where
+  pub allowed : IsAllowed o.allowed (sides_of sheet)
+  pub all : List Placed
+  pub whole : places ≡ map Some all
+  pub order : List ℕ
+  pub shown : IsShown (sides_of sheet) (spacing_of o) o.turn sizes order places
+  pub larger : IsNoLarger WAYS o.allowed (spacing_of o) sizes (sides_of sheet)
+
+-- What `fill` answers: the greatest sheet that is allowed, with a place or none for each sprite.
+pub record IsFilled (o : SheetOptions) (sizes : List Size) (sheet : Size) (places : List (Option Placed)) : Type 0 where
+  pub greatest : IsGreatest o.allowed (sides_of sheet)
+  pub order : List ℕ
+  pub shown : IsShown (sides_of sheet) (spacing_of o) o.turn sizes order places
+
+-- What the library answers to these options, where it is to fill a sheet or not.
+abbrev pub Answers : (fill : Bool) → SheetOptions → List Size → (sheet : Size) → List (Option Placed) → Type 0
+Answers true options sizes sheet places = IsFilled options sizes sheet places
+Answers false options sizes sheet places = IsFound options sizes sheet places
+
+-- The lines that were read ask for a sheet, the library answered with one, and its text was written.
+pub record Packs (in_old out_old out_new : Option (List ℕ)) : Type 0 where
+  pub input : List ℕ
+  pub before : ℕ
+  pub settings : Settings
+  pub sprites : List Sprite
+  pub sheet : Size
+  pub places : List (Option Placed)
+  pub read : HoldsBytes in_old input
+  pub asked : AsksFor input before settings sprites
+  pub answered : Answers settings.fill (options_of settings) (map (λ sprite. sprite.size) sprites) sheet places
+  pub told : Appends out_old out_new
+      (written settings.json sheet (frames_of sprites places) (left_of sprites places))

@@ -1,0 +1,28 @@
+//! Packs the sprites that lines name into one sheet, and writes where each lies (docs/PACK.md).
+#![tactic(auto)]
+
+mod packing;
+mod run;
+
+use pack_lines::PackError;
+use run::run;
+use std::process::ExitCode;
+
+fn main(rt: HostRuntime) -> ExitCode {
+    match run(
+        rt.alloc(),
+        &mut rt.stdin(),
+        &mut rt.stdout(),
+        &mut rt.stderr(),
+    ) {
+        Ok(()) => ExitCode::SUCCESS,
+        Err(error) => {
+            let _ = eprintln!(rt; "{error}");
+            match error {
+                PackError::Memory | PackError::Device(_) => ExitCode::FAILURE,
+                PackError::NoSheet => ExitCode::from(3),
+                _ => ExitCode::from(2),
+            }
+        }
+    }
+}

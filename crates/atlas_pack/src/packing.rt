@@ -1,0 +1,145 @@
+//! What the library is asked, and what it answers.
+ghost use Rattle.std.specs.Prelude.{◌≡◌, map, flat_map, IfOk, Some};
+ghost use Rattle.std.specs.List.{zip};
+ghost use Rattle.atlas_pack.specs.Runs.{IsFilled, IsFound, allowed_of, frame_in, frame_of, left_in, options_of};
+
+use atlas_model::Size;
+use atlas_sheet::{Allowed, Placed, SheetError, SheetOptions, fill, pack};
+use pack_lines::{Frame, PackError, Settings, Sheets, Sprite};
+use std::alloc::{AllocError, Global};
+
+// The sheets that are allowed.
+fn allowed_of(sheets: Sheets) -> Allowed
+    ensures { result ≡ allowed_of sheets }
+{
+    match sheets {
+        Sheets::One(size) => Allowed::One(size),
+        Sheets::Squares { least, greatest } => Allowed::Squares { least, greatest },
+        Sheets::Powers { greatest } => Allowed::Powers { greatest },
+        Sheets::Heights { width, greatest } => Allowed::Heights { width, greatest },
+    }
+}
+
+/// The library's options for these settings.
+pub fn options_of(settings: Settings) -> SheetOptions
+    ensures { result ≡ options_of settings }
+{
+    SheetOptions {
+        allowed: allowed_of(settings.sheets),
+        padding: settings.padding,
+        alignment: settings.alignment,
+        turn: settings.turn,
+        effort: settings.effort,
+        seed: u64::from(settings.seed),
+    }
+}
+
+// A sprite in its place.
+fn frame_of<'a>(sprite: Sprite<'a>, placed: Placed) -> Frame<'a>
+    ensures { result ≡ frame_of sprite.entry placed }
+{
+    Frame {
+        sprite,
+        corner: placed.area.min,
+        turned: placed.turned,
+    }
+}
+
+/// The sizes of the sprites, in order.
+pub fn sizes_of(alloc: Global, sprites: &[Sprite<'_>]) -> Result<Vec<Size>, AllocError>
+    ensures { IfOk result (λ sizes. sizes.items ≡ map (λ sprite. sprite.size) sprites.now) }
+{
+    sprites.iter().map(|sprite| sprite.size).collect(alloc)
+}
+
+/// Each sprite beside its place or none, in order.
+pub fn beside<'a>(
+    alloc: Global,
+    sprites: &[Sprite<'a>],
+    places: &[Option<Placed>],
+) -> Result<Vec<(Sprite<'a>, Option<Placed>)>, AllocError>
+    ensures { IfOk result (λ pairs. pairs.items ≡ zip sprites.now places.now) }
+{
+    sprites
+        .iter()
+        .copied()
+        .zip(places.iter().copied())
+        .collect(alloc)
+}
+
+/// The sprites that have places, in them, and those that have none, each in order.
+pub fn parted<'a>(
+    alloc: Global,
+    pairs: &[(Sprite<'a>, Option<Placed>)],
+) -> Result<(Vec<Frame<'a>>, Vec<Sprite<'a>>), AllocError>
+    ensures { IfOk result (λ both. (both.0.items ≡ flat_map frame_in pairs.now)
+        × (both.1.items ≡ flat_map left_in pairs.now)) }
+{
+    let mut frames = Vec::new(alloc);
+    let mut left = Vec::new(alloc);
+    for pair in pairs {
+        match pair.1 {
+            Some(placed) => frames.push(frame_of(pair.0, placed))?,
+            None => left.push(pair.0)?,
+        }
+    }
+    Ok((frames, left))
+}
+
+// Places that all are there.
+fn all_of(alloc: Global, places: &[Placed]) -> Result<Vec<Option<Placed>>, AllocError>
+    ensures { IfOk result (λ all. all.items ≡ map Some places.now) }
+{
+    places.iter().map(|placed| Some(*placed)).collect(alloc)
+}
+
+// The error of a program that read `before` lines before those of the sprites.
+fn fault_of(error: SheetError, before: usize) -> PackError {
+    match error {
+        SheetError::Memory => PackError::Memory,
+        SheetError::EmptySheet => PackError::EmptySheet,
+        SheetError::EmptyRange => PackError::EmptyRange,
+        SheetError::EmptyAlignment => PackError::EmptyAlignment,
+        SheetError::EmptySprite(number) => PackError::EmptySprite(line_of(number, before)),
+        SheetError::GreatSprite(number) => PackError::GreatSprite(line_of(number, before)),
+    }
+}
+
+// The line of the sprite with this number.
+fn line_of(number: usize, before: usize) -> usize {
+    number.saturating_add(before).saturating_add(1)
+}
+
+/// A sheet that takes all sprites, and their places. `NoSheet` where none is found.
+pub fn pack_all(
+    alloc: Global,
+    sizes: &[Size],
+    options: &SheetOptions,
+    before: usize,
+) -> Result<(Size, Vec<Option<Placed>>), PackError>
+    ensures { IfOk result (λ found. IsFound options.now sizes.now found.0 found.1.items) }
+{
+    match pack(alloc, sizes, options) {
+        Ok(Some(sheet)) => {
+            let places = all_of(alloc, &sheet.places)?;
+            Ok((sheet.size, places))
+        }
+        Ok(None) => Err(PackError::NoSheet),
+        Err(error) => Err(fault_of(error, before)),
+    }
+}
+
+/// The greatest sheet that is allowed, and a place or none for each sprite.
+pub fn fill_one(
+    alloc: Global,
+    sizes: &[Size],
+    options: &SheetOptions,
+    before: usize,
+) -> Result<(Size, Vec<Option<Placed>>), PackError>
+    ensures { IfOk result (λ found. IsFilled options.now sizes.now found.0 found.1.items) }
+{
+    match fill(alloc, sizes, options) {
+        Ok(filled) => Ok((filled.size, filled.places)),
+        Err(error) => Err(fault_of(error, before)),
+    }
+}

@@ -1,0 +1,187 @@
+//! A run of the program, from the bytes of a reader to the bytes of a writer.
+ghost use Rattle.std.specs.Prelude.{◌≡◌, map, IfOk, OnOk};
+ghost use Rattle.atlas_pack.specs.Runs.{Answers, IsFound, Packs, options_of, written};
+
+use crate::packing::{beside, fill_one, options_of, pack_all, parted, sizes_of};
+use atlas_model::Size;
+use atlas_sheet::{Placed, SheetOptions};
+use pack_lines::{Frame, Job, PackError, Sprite, read_job, sheet_json, sheet_lines};
+use std::alloc::{AllocError, Global};
+use std::io::{Read, Write};
+
+// Tells a person how large the sheet is. A failure is passed over.
+fn tell<P: Write>(
+    alloc: Global,
+    progress: &mut P,
+    size: Size,
+    what: &str,
+) -> Result<(), AllocError> {
+    let line = format!(in alloc; "sheet {} {} {what}\n", size.width, size.height)?;
+    let _ = progress.write_all(line.as_bytes());
+    Ok(())
+}
+
+// Packs all sprites. Where changes of the order are tried, it tells the size that is found without them, and that
+// with them.
+fn pack_and_tell<P: Write>(
+    alloc: Global,
+    sizes: &[Size],
+    options: &SheetOptions,
+    before: usize,
+    progress: &mut P,
+) -> Result<(Size, Vec<Option<Placed>>), PackError>
+    ensures { IfOk result (λ found. IsFound options.now sizes.now found.0 found.1.items) }
+{
+    if options.effort > 0 {
+        let quick = SheetOptions {
+            effort: 0,
+            ..*options
+        };
+        let (size, _places) = pack_all(alloc, sizes, &quick, before)?;
+        tell(alloc, progress, size, "without changes of the order")?;
+    }
+    let (size, places) = pack_all(alloc, sizes, options, before)?;
+    if options.effort > 0 {
+        tell(alloc, progress, size, "with them")?;
+    }
+    Ok((size, places))
+}
+
+// The sheet that a job asks for, and a place or none for each of its sprites.
+fn answer<P: Write>(
+    alloc: Global,
+    job: &Job<'_>,
+    progress: &mut P,
+) -> Result<(Size, Vec<Option<Placed>>), PackError>
+    ensures { IfOk result (λ found. Answers job.now.settings.fill
+        (options_of job.now.settings) (map (λ sprite. sprite.size) job.now.sprites.items) found.0 found.1.items) }
+{
+    let sizes = sizes_of(alloc, &job.sprites)?;
+    let options = options_of(job.settings);
+    if job.settings.fill {
+        return fill_one(alloc, &sizes, &options, job.before);
+    }
+    pack_and_tell(alloc, &sizes, &options, job.before, progress)
+}
+
+// The text of a sheet.
+fn written(
+    alloc: Global,
+    json: bool,
+    sheet: Size,
+    frames: &[Frame<'_>],
+    left: &[Sprite<'_>],
+) -> Result<Vec<u8>, AllocError>
+    ensures { IfOk result (λ text. text.items ≡ written json sheet frames.now left.now) }
+{
+    if json {
+        return sheet_json(alloc, sheet, frames);
+    }
+    let lines = sheet_lines(alloc, sheet, frames, left)?;
+    Vec::from_slice(alloc, lines.as_bytes())
+}
+
+/// Reads lines to their end, packs the sprites that they name, and writes the sheet. Nothing is written where a line is
+/// bad or no sheet is found.
+pub fn run<R: Read, W: Write, P: Write>(
+    alloc: Global,
+    input: &mut R,
+    output: &mut W,
+    progress: &mut P,
+) -> Result<(), PackError>
+    ensures { OnOk result (Packs (R.remaining input.old) (W.contents output.old) (W.contents output.new)) }
+{
+    let mut text = Vec::new(alloc);
+    input.read_to_end(&mut text)?;
+    let job = read_job(alloc, &text)?;
+    let (sheet, places) = answer(alloc, &job, progress)?;
+    let pairs = beside(alloc, &job.sprites, &places)?;
+    let (frames, left) = parted(alloc, &pairs)?;
+    let told = written(alloc, job.settings.json, sheet, &frames, &left)?;
+    output.write_all(&told)?;
+    Ok(())
+}
+
+#[cfg(test)]
+mod tests {
+    use super::*;
+    use std::process::Abort;
+
+    // Each row: the lines in, and the lines out or what stops them.
+    const ROWS: [(&str, &str); 11] = [
+        (
+            "a 4 3\nb 4 3\n",
+            "sheet 8 4\na 0 0 4 3\nb 4 0 4 3\nfull 750\n",
+        ),
+        (
+            "sheet one 8 6\na 2 6\nb 6 6\n",
+            "sheet 8 6\na 6 0 2 6\nb 0 0 6 6\nfull 1000\n",
+        ),
+        (
+            "sheet json one 4 4\nq\" 4 4\n",
+            "{\"frames\":{\n\"q\\\"\":{\"frame\":{\"x\":0,\"y\":0,\"w\":4,\"h\":4},\"rotated\":false}
+},\"meta\":{\"size\":{\"w\":4,\"h\":4}}}\n",
+        ),
+        (
+            "sheet one 4 4 fill\na 4 4\nb 4 4\n",
+            "sheet 4 4\na 0 0 4 4\nb none\nfull 1000\n",
+        ),
+        (
+            "sheet one 4 4\na 4 4\nb 4 4\n",
+            "no sheet that is allowed takes all sprites",
+        ),
+        ("a 1 1\nb 0 1\n", "line 2: a side is below 1"),
+        ("sheet json\na 1 1\nb 1 0\n", "line 3: a side is below 1"),
+        (
+            "sheet padding 1\na 2147483647 1\n",
+            "line 2: the sprite is too large",
+        ),
+        ("sheet one 0 4\n", "line 1: a side of the sheet is below 1"),
+        (
+            "sheet powers 0\n",
+            "line 1: the greatest side is below the least",
+        ),
+        (
+            "sheet align 0 1\n",
+            "line 1: a side of the alignment is below 1",
+        ),
+    ];
+
+    // What is written, or what is told where nothing is.
+    fn outcome(alloc: Global, lines: &str, rt: &impl Abort) -> Vec<u8> {
+        let mut output = Vec::new(alloc);
+        let mut progress = Vec::new(alloc);
+        match run(alloc, &mut lines.as_bytes(), &mut output, &mut progress) {
+            Ok(()) => output,
+            Err(error) => {
+                let told = format!(in alloc; "{error}").expect(rt, "memory");
+                Vec::from_slice(alloc, told.as_bytes()).expect(rt, "memory")
+            }
+        }
+    }
+
+    #[test]
+    fn runs(rt: HostRuntime) {
+        for (row, (lines, told)) in ROWS.iter().enumerate() {
+            assert!(&rt;
+                outcome(rt.alloc(), lines, &rt).as_slice() == told.as_bytes(),
+                "row {row}"
+            );
+        }
+    }
+
+    // What a person sees where changes of the order are tried.
+    fn progress(alloc: Global, rt: &impl Abort) -> Vec<u8> {
+        let mut output = Vec::new(alloc);
+        let mut progress = Vec::new(alloc);
+        let lines = b"sheet effort 5\na 4 3\nb 4 3\n";
+        run(alloc, &mut lines.as_slice(), &mut output, &mut progress).expect(rt, "a sheet");
+        progress
+    }
+
+    #[test]
+    fn tells_progress(rt: HostRuntime) {
+        let told = b"sheet 8 4 without changes of the order\nsheet 8 4 with them\n";
+        assert!(&rt; progress(rt.alloc(), &rt).as_slice() == told.as_slice());
+    }
+}

@@ -1,0 +1,36 @@
+use Rattle.std.proofs.Common.{◌≡◌, ◌≢◌, [], ◌∷◌, ◌++◌, length, rules, ap, subst, List, ℕ}
+use Rattle.std.proofs.lemmas.List.{nil_from_length}
+use Rattle.pack_lines.specs.Sprites.{BeginsWithSprites}
+use Rattle.atlas_words.proofs.FirstLines.{rest_shorter}
+use Rattle.pack_lines.proofs.SpriteLines.{one_more_of}
+use Rattle.pack_lines.proofs.reading.read_sprites.Goals as goal
+
+pub returns-clause-named : goal.returns-clause-named
+returns-clause-named c =
+    let end : c.loop-rest.rest.now ≡ [] = nil_from_length _ (search rules) in
+    subst (λ (rest : List ℕ). BeginsWithSprites c.loop-rest.sprites.items c.args.text.now rest) end c.loop-rest.invariant
+
+pub loop-rest-smaller : goal.loop-rest-smaller
+loop-rest-smaller c =
+    let some : c.loop-rest.rest.now ≢ [] = (λ f. let none : length c.loop-rest.rest.now ≡ 0 = ap length f in absurd (search rules)) in
+    rest_shorter _ _ _ some c.first_line.ensures
+
+pub loop-rest-preserved : goal.loop-rest-preserved
+loop-rest-preserved c =
+    let pushed : c.push.new.self.items ≡ c.loop-rest.sprites.items ++ c.in-Some.sprite ∷ [] = search rules in
+    one_more_of _ _ _ _ _ _ _ pushed c.loop-rest.invariant c.first_line.ensures c.in-Some.ensures.found
+
+pub returns-in_default-clause-fault : goal.returns-in_default-clause-fault
+returns-in_default-clause-fault c =
+    let some : c.loop-rest.rest.now ≢ [] = (λ f. let none : length c.loop-rest.rest.now ≡ 0 = ap length f in absurd (search rules)) in
+    record {
+      sprites = c.loop-rest.sprites.items;
+      rest = c.loop-rest.rest.now;
+      read = c.loop-rest.invariant;
+      some = some;
+      line = _;
+      after = _;
+      next = c.first_line.ensures;
+      bad = λ name size spells. c.in_default.ensures.all name size spells;
+      numbered = search rules;
+    }

@@ -1,0 +1,52 @@
+-- A sheet as JSON, in the form that sprite engines read.
+use Rattle.std.specs.Prelude.{ℕ, Bool, ◌==◌, ◌||◌, if◌then◌else◌, List, [], ◌∷◌, ◌++◌, codes, flat_map}
+use Rattle.std.specs.Fmt.{signed_decimal}
+use Rattle.atlas_model.specs.declared.geometry.Point.{Point}
+use Rattle.atlas_model.specs.declared.geometry.Size.{Size}
+use Rattle.pack_lines.specs.declared.frames.Frame.{Frame}
+
+-- A byte of a name: a quotation mark and a backslash have a backslash before them.
+abbrev pub escaped_byte : ℕ → List ℕ
+escaped_byte byte = if (byte == 34) || (byte == 92) then 92 ∷ byte ∷ [] else byte ∷ []
+
+-- A name as a JSON string.
+abbrev pub quoted : List ℕ → List ℕ
+quoted name = codes "\"" ++ (flat_map escaped_byte name ++ codes "\"")
+
+abbrev pub rotated_text : Bool → List ℕ
+rotated_text turned = if turned then codes "true" else codes "false"
+
+-- Where a sprite lies.
+abbrev pub corner_text : Point → List ℕ
+corner_text at = codes ":{\"frame\":{\"x\":" ++ (signed_decimal at.x ++ (codes ",\"y\":" ++ signed_decimal at.y))
+
+-- The size of a sprite, and whether it is turned.
+abbrev pub sides_text : Size → Bool → List ℕ
+sides_text size turned =
+    codes ",\"w\":"
+    ++ (signed_decimal size.width
+    ++ (codes ",\"h\":"
+    ++ (signed_decimal size.height ++ (codes "},\"rotated\":" ++ (rotated_text turned ++ codes "}")))))
+
+-- A sprite: its name and its frame.
+abbrev pub frame_text : Frame → List ℕ
+frame_text p = quoted p.sprite.name.now ++ (corner_text p.corner ++ sides_text p.sprite.size p.turned)
+
+-- A frame after another.
+abbrev pub next_frame_text : Frame → List ℕ
+next_frame_text p = codes ",\n" ++ frame_text p
+
+-- The frames in order, with a comma between two.
+abbrev pub frames_text : List Frame → List ℕ
+frames_text [] = []
+frames_text (p ∷ others) = frame_text p ++ flat_map next_frame_text others
+
+-- The size of the sheet.
+abbrev pub meta_text : Size → List ℕ
+meta_text sheet =
+    codes "\n},\"meta\":{\"size\":{\"w\":"
+    ++ (signed_decimal sheet.width ++ (codes ",\"h\":" ++ (signed_decimal sheet.height ++ codes "}}}\n")))
+
+-- One object: the frames by name, and the sheet.
+abbrev pub json_of : Size → List Frame → List ℕ
+json_of sheet frames = codes "{\"frames\":{\n" ++ (frames_text frames ++ meta_text sheet)

@@ -1,0 +1,63 @@
+//! Why there is no sheet.
+ghost use Rattle.std.specs.Prelude.{◌≡◌};
+ghost use Rattle.pack_lines.specs.declared.error.PackError.TheVariants.{Memory};
+
+use std::alloc::{AllocError, AllocFailed};
+use std::io;
+use thiserror::Error;
+
+/// Why there is no sheet. Lines are counted from 1.
+#[derive(Debug, Drop, Error)]
+pub enum PackError {
+    /// The words after `sheet` on the first line are no settings.
+    #[error("line 1: not a setting, or not its numbers")]
+    BadSettings,
+    /// This line is no sprite.
+    #[error("line {0}: not a sprite, which is NAME WIDTH HEIGHT")]
+    BadLine(usize),
+    /// The name on this line stands on an earlier one.
+    #[error("line {0}: this name stands on an earlier line")]
+    Twice(usize),
+    /// The sprite on this line has a side below 1.
+    #[error("line {0}: a side is below 1")]
+    EmptySprite(usize),
+    /// The sprite on this line passes 2147483647 pixels with the padding at both its sides.
+    #[error("line {0}: the sprite is too large")]
+    GreatSprite(usize),
+    /// A side of the sheet, or the least that is allowed, is below 1.
+    #[error("line 1: a side of the sheet is below 1")]
+    EmptySheet,
+    /// No sheet is allowed: the greatest side is below the least.
+    #[error("line 1: the greatest side is below the least")]
+    EmptyRange,
+    /// A side of the alignment is below 1.
+    #[error("line 1: a side of the alignment is below 1")]
+    EmptyAlignment,
+    /// No sheet that is allowed takes all sprites.
+    #[error("no sheet that is allowed takes all sprites")]
+    NoSheet,
+    /// A request for memory was refused.
+    #[error("no memory")]
+    Memory,
+    /// A device failed.
+    #[error("{0}")]
+    Device(#[from] io::Error),
+}
+
+impl From<AllocError> for PackError {
+    ghost from_gives = { λ _ e. e ≡ Memory };
+
+    /// `Memory`, whatever was asked for.
+    fn from(_error: AllocError) -> PackError {
+        PackError::Memory
+    }
+}
+
+impl<T: Drop> From<AllocFailed<T>> for PackError {
+    ghost from_gives = { λ _ e. e ≡ Memory };
+
+    /// `Memory`; what couldn't be stored is dropped.
+    fn from(_error: AllocFailed<T>) -> PackError {
+        PackError::Memory
+    }
+}
