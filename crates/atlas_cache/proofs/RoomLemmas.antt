@@ -1,4 +1,5 @@
 -- What the steps make of the pages of a cache.
 pub mod Growing
 pub mod Paging
+pub mod Repacking
 pub mod Standing

@@ -5,6 +5,7 @@ pub mod Counting
 pub mod Entries
 pub mod Orders
 pub mod Rings
+pub mod Repacking
 pub mod Rooms
 pub mod Tables
 pub mod Telling

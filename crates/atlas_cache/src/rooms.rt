@@ -14,6 +14,8 @@ ghost use Rattle.atlas_cache.specs.Rooms.{grown_sides, growth_left, page_sizes, 
 ghost use Rattle.atlas_cache.specs.Rooms.{rooms_of, IsAtLeast, IsFirstToGrow, IsNothingLive, IsRefusal, KeepsRooms};
 ghost use Rattle.atlas_cache.specs.Rooms.{LargestHasRoom};
 
+mod repacking;
+
 use crate::error::CacheError;
 use crate::options::CacheOptions;
 use guillotiere::pages::{page_with_room, prove_page};

@@ -52,6 +52,26 @@ fn place_and_free<A: Allocator + Copy>(
     Ok(true)
 }
 
+// How many rectangles of the first page a repacking moves, where to the first of them, and how many it gives up.
+fn repack_first<A: Allocator + Copy>(
+    rooms: &mut Rooms<A>,
+) -> Result<(usize, Option<Rectangle>, usize), CacheError> {
+    if rooms.len() == 0 {
+        return Ok((0, None, 0));
+    }
+    let list = rooms.repack(0)?;
+    let first = list.changes.first().map(|change| change.new.rectangle);
+    Ok((list.changes.len(), first, list.failures.len()))
+}
+
+// The areas of the first page that are live and free.
+fn areas_of_first<A: Allocator + Copy>(rooms: &Rooms<A>) -> (u64, u64) {
+    if rooms.len() == 0 {
+        return (0, 0);
+    }
+    (rooms.live_area(0), rooms.free_area(0))
+}
+
 fn at(x: i32, y: i32, right: i32, bottom: i32) -> Rectangle {
     Rectangle {
         min: point2(x, y),
@@ -121,6 +141,17 @@ fn a_cleared_page_has_room(rt: HostRuntime) -> Result<(), Fail> {
         place(&mut rooms, size2(32, 16))?,
         Some((0, at(0, 0, 32, 16)))
     );
+    Ok(())
+}
+
+#[test]
+fn the_largest_is_packed_first(rt: HostRuntime) -> Result<(), Fail> {
+    let mut rooms = two_pages(rt.alloc())?;
+    assert_eq!(rt; place(&mut rooms, size2(12, 16))?, Some((0, at(0, 0, 12, 16))));
+    assert_eq!(rt; place(&mut rooms, size2(16, 16))?, Some((0, at(12, 0, 28, 16))));
+    assert_eq!(rt; areas_of_first(&rooms), (448, 64));
+    assert_eq!(rt; repack_first(&mut rooms)?, (2, Some(at(0, 0, 16, 16)), 0));
+    assert_eq!(rt; areas_of_first(&rooms), (448, 64));
     Ok(())
 }
 
