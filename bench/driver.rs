@@ -6,6 +6,8 @@
 extern crate alloc;
 
 mod allocator;
+#[path = "cache.rs"]
+mod texture_cache;
 
 use allocator::{AllocId, Allocation, AtlasAllocator, ChangeList, SimpleAtlasAllocator};
 use euclid::size2;
@@ -311,6 +313,7 @@ fn main() {
             "glyph-8192" => cache(Kind::Glyphs, 8192, size, false),
             "glyph-16384" => cache(Kind::Glyphs, 16384, size, false),
             "mixed-4096" => cache(Kind::Sprites, 4096, size, false),
+            "cache" => texture_cache::run(size),
             "tiles" => tiles(size),
             "record" => cache(Kind::Glyphs, 2048, size, true),
             "sprite" => sprite(size, false),

@@ -48,6 +48,7 @@ def build(folder):
     write(os.path.join(here, 'euclid', 'src', 'lib.rs'), EUCLID)
     write(os.path.join(here, 'src', 'allocator.rs'), ALLOCATOR)
     shutil.copy(os.path.join(ROOT, 'bench', 'driver.rs'), os.path.join(here, 'src', 'main.rs'))
+    shutil.copy(os.path.join(ROOT, 'bench', 'cache.rs'), os.path.join(here, 'src', 'cache.rs'))
     call(['cargo', '--offline', '--config', 'source.crates-io.replace-with="debian"',
           '--config', 'source.debian.directory="%s"' % REGISTRY, 'build', '--release'], 'cargo build of bench/driver.rs',
          cwd=here, env=dict(os.environ, GUILLOTIERE_LIB=os.path.join(prefix, 'lib'), CARGO_TARGET_DIR='target'))

@@ -176,7 +176,8 @@ impl<K: Copy + Eq + Hash, S: BuildHasher, A: Allocator + Copy> Entries<K, S, A> 
         ensures { self.new ≡ touched number frame self.old }
     {
         self.recency.touch(number);
-        self.items[number as usize].frame = frame;
+        let entry = &mut self.items[number as usize];
+        entry.frame = frame;
     }
 
     /// An entry with a new key joins, the most recently used from now on: its number, which was none's. `Numbers` if all
@@ -221,6 +222,7 @@ impl<K: Copy + Eq + Hash, S: BuildHasher, A: Allocator + Copy> Entries<K, S, A> 
     {
         self.map.reserve(additional)?;
         self.items.reserve(additional)?;
+        self.recency.reserve(additional)?;
         Ok(())
     }
 

@@ -198,6 +198,14 @@ impl<A: Allocator> Recency<A> {
         self.count -= 1;
     }
 
+    /// Asks for room for so many more entries. Nothing else changes. `Memory` if memory is refused.
+    pub fn reserve(&mut self, additional: usize) -> Result<(), CacheError>
+        ensures { self.new ≡ self.old }
+    {
+        self.links.reserve(additional)?;
+        Ok(())
+    }
+
     /// All entries go, and the numbers begin again at 0. Keeps its memory.
     pub fn clear(&mut self)
         ensures entries { self.new.entries ≡ [] }

@@ -1,16 +1,16 @@
 -- What grants and freeings make of the glyphs that a cache holds.
-use Rattle.std.proofs.Common.{◌≡◌, ◌↔◌, ℕ, ◌*◌, ◌<◌, ◌≤◌, ap, subst, sym, ◌∙◌, arith, inl, inr, IsPermutation, Some}
+use Rattle.std.proofs.Common.{◌≡◌, ◌↔◌, ℕ, pos, ◌*◌, ◌<◌, ◌≤◌, ◌≤ℤ◌, ap, sym, ◌∙◌, arith, inl, inr, IsPermutation, Some}
 use Rattle.std.proofs.Common.{List, [], ◌∷◌, ◌++◌, map, length, get_or, remove, count_by, find}
 use Rattle.std.proofs.lemmas.{Bool.{eq-eqb, cases_lt}, Int.{ints}, Simd.{map-map}}
 use Rattle.std.proofs.lemmas.List.{length-map, nil_from_length, Elements.{All-cons, All-tail}}
 use Rattle.std.proofs.lemmas.List.Sorted.{IsPermutation-append_comm, IsPermutation-map, IsPermutation-remove}
 use Rattle.std.proofs.lemmas.List.Sorted.{IsPermutation-trans, All-permutation, length_permutation}
-use Rattle.guillotiere.specs.{Boxes.{Sides, whole_box, Fits, IsPositive}, Choice.{HasNoRoom}, Pixels.{box_of}}
-use Rattle.guillotiere.specs.{Trees.{Grant, grant}, Replies.{IsExact}, States.{State, live_in, free_in, IsLive}}
+use Rattle.guillotiere.specs.declared.Size.{Size}
+use Rattle.guillotiere.specs.{Boxes.{Sides, Fits, IsPositive}, Callers.{IsGranted, KeepsFrame}, Choice.{HasNoRoom}, Pixels.{box_of, sides_of}}
+use Rattle.guillotiere.specs.{Trees.{Grant, grant}, States.{State, live_in, free_in, IsLive, IsSound}}
 use Rattle.guillotiere.specs.Steps.{Step, AtlasCall.{Allocate, Deallocate}, AtlasReply.{Allocated, Done}}
-use Rattle.guillotiere.proofs.{TreeLemmas.TreeIds.{Contains-first}, ListLemmas.Counting.{count_by-cons}, StepLemmas.LiveBoxes.{sound_is_tiled}}
-use Rattle.guillotiere.proofs.ListLemmas.CallerLemmas.{count_by-permutation, find-counted_once, find-permutation}
-use Rattle.guillotiere.proofs.{StepLemmas.StepKeeping.{steps_keep}, StepLemmas.StepEffects.{grants_lie_inside, freeings_remove_one}}
+use Rattle.guillotiere.proofs.ListLemmas.{Counting.{count_by-cons}, CallerLemmas.{count_by-permutation, find-counted_once, find-permutation}}
+use Rattle.guillotiere.proofs.StepLemmas.{CallerGrants.{idle_has_room}, StepEffects.{grants_lie_inside, freeings_remove_one}}
 use Rattle.uses.specs.declared.glyph_cache.Glyph.{Glyph}
 use Rattle.uses.specs.Glyphs.{Cache, has_number, square, HasBorder, IsKept, NeverOverlap}
 use Rattle.uses.proofs.{Holding.{first_live, granted_live, live_apart, others_live}, Keyed.{once_more}}
@@ -32,26 +32,27 @@ ordered c hs order kept =
     }
 
 -- A new glyph comes last.
-pub joined : (c : Cache) (g : Glyph) (s : Sides) (new : State) → IsKept c → count_by (has_number g.number) c.glyphs ≡ 0
-    → Step c.atlas (Allocate s) (Allocated (held g)) new → IsExact g.area → 2 * c.padding ≤ s.width
-    → 2 * c.padding ≤ s.height → IsKept (record c { atlas = new; glyphs = c.glyphs ++ g ∷ [] })
-joined c g s new kept absent step exact wide high =
-    let does = grants_lie_inside c.atlas new s (held g) kept.sound step in
+pub joined : (c : Cache) (g : Glyph) (size : Size) (new : State) → IsKept c → count_by (has_number g.number) c.glyphs ≡ 0
+    → Step c.atlas (Allocate (sides_of size)) (Allocated (held g)) new → IsSound new → KeepsFrame c.atlas new
+    → IsGranted c.atlas size g.area → pos (2 * c.padding) ≤ℤ size.width → pos (2 * c.padding) ≤ℤ size.height
+    → IsKept (record c { atlas = new; glyphs = c.glyphs ++ g ∷ [] })
+joined c g size new kept absent step sound frame is wide high =
+    let does = grants_lie_inside c.atlas new (sides_of size) (held g) kept.sound step in
     ordered (record c { atlas = new; glyphs = g ∷ c.glyphs }) _ (IsPermutation-append_comm (g ∷ []) c.glyphs)
     (record {
-      sound = steps_keep c.atlas new (Allocate s) (Allocated (held g)) kept.sound step;
-      live = granted_live c.atlas new s (held g) (map held c.glyphs) does kept.live;
+      sound = sound;
+      live = granted_live c.atlas new (sides_of size) (held g) (map held c.glyphs) does kept.live;
       once = once_more (λ k. k.number) g c.glyphs absent kept.once;
       borders = All-cons (λ k. HasBorder c.padding k.area) g c.glyphs
-          (subst (HasBorder c.padding) (sym exact) (record {
-            left = omega (arith, ints);
-            top = omega (arith, ints);
-            wide = omega (arith, ints, does.width.0, wide);
-            high = omega (arith, ints, does.height.0, high);
-          }))
+          (record {
+            left = is.left;
+            top = is.top;
+            wide = omega (arith, ints, is.wide, wide);
+            high = omega (arith, ints, is.high, high);
+          })
           kept.borders;
-      options = rw step.1.state kept.options;
-      size = rw step.1.state kept.size;
+      options = frame.options ∙ kept.options;
+      size = rw frame.size kept.size;
     })
 
 -- A glyph is taken out.
@@ -82,17 +83,16 @@ module _ (c : Cache) (at : ℕ) (g : Glyph) (was : IsKept c) (below : at < lengt
   pub is_live : IsLive c.atlas g.id
   is_live = first_live c.atlas (held g) (map held rest) kept.live
 
-  pub left : (new : State) → Step c.atlas (Deallocate g.id) Done new → IsKept (record c { atlas = new; glyphs = rest })
-  left new step =
-      let does = freeings_remove_one c.atlas new g.id kept.sound step in
-      record {
-        sound = steps_keep c.atlas new (Deallocate g.id) Done kept.sound step;
-        live = others_live c.atlas (held g) (map held rest) kept.live new does;
-        once = λ n. omega (arith, count_by-cons (has_number n) g rest, kept.once n);
-        borders = All-tail (λ k. HasBorder c.padding k.area) g rest kept.borders;
-        options = rw step.1 kept.options;
-        size = rw step.1 kept.size;
-      }
+  pub left : (new : State) → Step c.atlas (Deallocate g.id) Done new → IsSound new → KeepsFrame c.atlas new
+      → IsKept (record c { atlas = new; glyphs = rest })
+  left new step sound frame = record {
+    sound = sound;
+    live = others_live c.atlas (held g) (map held rest) kept.live new (freeings_remove_one c.atlas new g.id was.sound step);
+    once = λ n. omega (arith, count_by-cons (has_number n) g rest, kept.once n);
+    borders = All-tail (λ k. HasBorder c.padding k.area) g rest kept.borders;
+    options = frame.options ∙ was.options;
+    size = rw frame.size was.size;
+  }
 
 -- Nothing is live exactly where no glyph is held.
 pub nothing : (c : Cache) → IsKept c → (c.glyphs ≡ []) ↔ (live_in c.atlas ≡ [])
@@ -109,14 +109,8 @@ pub some_held : (c : Cache) (s : Sides) → IsKept c → c.atlas.size ≡ square
     → HasNoRoom (free_in c.atlas) c.atlas.options s → 1 ≤ length c.glyphs
 some_held c s kept full positive fits none = elim (cases_lt (length c.glyphs) 1) [
   | inl few ↦
-      let empty = (nothing c kept).0 (nil_from_length c.glyphs (omega (arith, few))) in
-      absurd (none (record {
-        positive = positive;
-        box = whole_box c.atlas.size;
-        fitting = record {
-          is_free = rw ((sound_is_tiled c.atlas kept.sound).alone empty) (Contains-first (whole_box c.atlas.size) []);
-          fits = rw (kept.options, full) (omega (arith, fits.0), omega (arith, fits.1));
-        };
-      }))
+      let idle = (nothing c kept).0 (nil_from_length c.glyphs (omega (arith, few))) in
+      absurd (none (idle_has_room c.atlas s kept.sound idle positive
+      (rw (kept.options, full) (omega (arith, fits.0), omega (arith, fits.1)))))
   | inr some ↦ some
 ]

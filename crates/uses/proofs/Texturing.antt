@@ -1,5 +1,5 @@
 -- What grants and freeings make of the glyphs of a texture array.
-use Rattle.std.proofs.Common.{◌≡◌, ◌≢◌, ◌<◌, ◌+◌, ◌⊎◌, ℕ, List, [], ◌∷◌, ◌++◌, Option, Some, None, option_map, Result, Ok, Err, IfErr, cond, nat_eq, length}
+use Rattle.std.proofs.Common.{◌≡◌, ◌≢◌, ◌<◌, ◌+◌, ◌⊎◌, ℕ, List, [], ◌∷◌, ◌++◌, Option, Some, None, option_map, Result, Ok, Err, IfErr, IfOk, IfSome, cond, nat_eq, length}
 use Rattle.std.proofs.Common.{slice_get, slice_set, refl, sym, ◌∙◌, inl, inr, arith}
 use Rattle.std.proofs.lemmas.{Bool.Decides.{eqb_tells}, Map.{update_apart, update_here}, Option.{slice_get_cases}}
 use Rattle.guillotiere.specs.declared.{Allocation.{Allocation}, AtlasError.{AtlasError}, Rectangle.{Rectangle}, Size.{Size}}
@@ -7,7 +7,7 @@ use Rattle.guillotiere.specs.{Callers.{IsAnswer, IsShortage}, States.{live_in}, 
 use Rattle.guillotiere.specs.Pages.{rectangle_on, AddsBoxOn, HasRoomFor, HasRoomOn, HasSameRectangles, IsAnswerOn, LeavesNoBoxOn}
 use Rattle.guillotiere.proofs.ListLemmas.CallerLemmas.{slice_get-set_here, slice_get-set_other}
 use Rattle.uses.specs.declared.texture_array.PagedGlyph.{PagedGlyph}
-use Rattle.uses.specs.TextureArrays.{glyph_for, shown_glyph, HasMargin, HoldsGlyphs, IsOfGlyph, Keyed}
+use Rattle.uses.specs.TextureArrays.{glyph_for, shown_glyph, HasMargin, HasPlaceFor, HoldsGlyphs, IsOfGlyph, Keyed}
 
 -- Two ids of pages are the same, or not.
 same_id : (p q i j : ℕ) → ((p ≡ q) × (i ≡ j)) ⊎ (p ≡ q → i ≢ j)
@@ -130,20 +130,24 @@ on_page pages page id r is_r = elim (slice_get_cases pages page).1 [
   | inr past ↦ let none = rw past.1 at is_r in cc
 ]
 
--- What a page answers.
+-- What a page answers: the rectangle that it grants takes the request, and the error is a shortage.
 pub answered : (pages : List AtlasValue) (page : ℕ) (size : Size) (result : Result (Option Allocation) AtlasError)
     → page < length pages → IsAnswerOn pages page size result
-    → IfErr result IsShortage × (HasRoomOn size pages page → result ≢ Ok None)
+    → IfOk result (λ granted. IfSome granted (λ a. HasPlaceFor size a.rectangle)) × IfErr result IsShortage
+    × (HasRoomOn size pages page → result ≢ Ok None)
 answered pages page size result within answer = elim (slice_get_cases pages page).1 [
   | inl one ↦ on_it one.0 result (answer one.0 one.2) (λ room. room one.0 one.2)
   | inr past ↦ absurd (omega arith)
 ]
   where
     on_it : (s : AtlasValue) (result : Result (Option Allocation) AtlasError) → IsAnswer (state_of s) size result
-        → (HasRoomOn size pages page → HasRoomFor size s) → IfErr result IsShortage × (HasRoomOn size pages page → result ≢ Ok None)
-    on_it s (Ok (Some a)) answer has = (tt, λ room none. cc)
-    on_it s (Ok None) answer has = (tt, λ room none. answer (has room))
-    on_it s (Err error) answer has = (answer.0, λ room none. cc)
+        → (HasRoomOn size pages page → HasRoomFor size s)
+        → IfOk result (λ granted. IfSome granted (λ a. HasPlaceFor size a.rectangle)) × IfErr result IsShortage
+        × (HasRoomOn size pages page → result ≢ Ok None)
+    on_it s (Ok (Some a)) answer has =
+        (record { left = answer.left; top = answer.top; wide = answer.wide; high = answer.high }, tt, λ room none. cc)
+    on_it s (Ok None) answer has = (tt, tt, λ room none. answer (has room))
+    on_it s (Err error) answer has = (tt, answer.0, λ room none. cc)
 
 -- A page that is cleared, after others.
 pub one_more_idle : (pages : List AtlasValue) (n : ℕ) (b : AtlasValue) → n < length pages → live_in (state_of b) ≡ []

@@ -11,17 +11,17 @@ use Rattle.guillotiere.specs.Pixels.{box_of, options_of, sides_of}
 use Rattle.guillotiere.specs.Replies.{IsExact}
 use Rattle.guillotiere.specs.Simple.{SimpleState, SimplyGrants, simple_start}
 
--- The sides of a sheet_sides.
+-- The sides of a square sheet.
 abbrev pub sheet_sides : ℕ → Sides
 sheet_sides side = record { width = side; height = side }
 
--- A place in a sheet_sides sheet: it has its sprite's sides, and doesn't pass the sheet.
+-- A place in a square sheet: it has its sprite's sides, and doesn't pass the sheet.
 pub record IsPlaceFor (side : ℕ) (sprite : Size) (place : Rectangle) : Type 0 where
   pub sides : box_sides (box_of place) ≡ sides_of sprite
   pub within : IsWithin (sheet_sides side) (box_of place)
   pub exact : IsExact place
 
--- One place a sprite, in the order of the sprites; no unit sheet_sides lies in two of them.
+-- One place a sprite, in the order of the sprites; no unit square lies in two of them.
 pub record ArePlaces (side : ℕ) (sprites : List Size) (places : List Rectangle) : Type 0 where
   pub each : AllZip (IsPlaceFor side) sprites places
   pub apart : AreDisjoint (map box_of places)

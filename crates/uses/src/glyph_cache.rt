@@ -1,7 +1,7 @@
 //! A cache of glyphs in an atlas: the least recently used glyph is the first to go.
 ghost use Rattle.std.specs.Prelude.{◌≡◌, ◌<◌, ◌≤◌, ◌+◌, ◌-◌, ◌*◌, ◌↔◌, [], count_by, drop, length, false, None};
 ghost use Rattle.std.specs.Prelude.{Some, Ok, option_map, IsTrue, IfErr, IfOk, IfSome, IfNone, OnSome, OnErr, OnOk};
-ghost use Rattle.std.specs.Prelude.{IsOkUnless, All, ◌+ℤ◌, ◌-ℤ◌, pos, FitsSigned};
+ghost use Rattle.std.specs.Prelude.{IsOkUnless, All, ◌+ℤ◌, ◌-ℤ◌, ◌≤ℤ◌, pos, FitsSigned};
 ghost use Rattle.std.specs.Int.{w32};
 ghost use Rattle.std.specs.List.{HoldsAt};
 ghost use Rattle.guillotiere.specs.Boxes.{box_sides, Fits, IsPositive};
@@ -246,8 +246,8 @@ impl<A: Allocator + Copy> GlyphCache<A> {
     // Places a new glyph without letting any go; None where the atlas has no room.
     fn place(&mut self, number: u32, size: Size) -> Result<Option<Rectangle>, AtlasError>
         requires new { count_by (has_number number) self.old.glyphs ≡ 0 }
-        requires wide { 2 * self.old.padding ≤ (sides_of size).width }
-        requires high { 2 * self.old.padding ≤ (sides_of size).height }
+        requires wide { pos (2 * self.old.padding) ≤ℤ size.width }
+        requires high { pos (2 * self.old.padding) ≤ℤ size.height }
         ensures placed { IfOk result (λ placed. IfSome placed (λ area.
             IsGlyphPlaced self.old number (sides_of size) area self.new)) }
         ensures here { IfOk result (λ placed. IfSome placed (λ area. area_in self.new number ≡ Some area)) }
