@@ -6,9 +6,9 @@ pub mod RingLemmas
 pub mod RoomLemmas
 pub mod SpareLemmas
 pub mod ListLemmas
+pub mod ApartLemmas
+pub mod CacheLemmas
 pub mod HoldingLemmas
 pub mod KeyLemmas
-pub mod PictureLemmas
-pub mod CacheLemmas
 pub mod LoopLemmas
-pub mod ApartLemmas
+pub mod PictureLemmas
