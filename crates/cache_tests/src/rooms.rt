@@ -147,8 +147,14 @@ fn a_cleared_page_has_room(rt: HostRuntime) -> Result<(), Fail> {
 #[test]
 fn the_largest_is_packed_first(rt: HostRuntime) -> Result<(), Fail> {
     let mut rooms = two_pages(rt.alloc())?;
-    assert_eq!(rt; place(&mut rooms, size2(12, 16))?, Some((0, at(0, 0, 12, 16))));
-    assert_eq!(rt; place(&mut rooms, size2(16, 16))?, Some((0, at(12, 0, 28, 16))));
+    assert_eq!(rt;
+        place(&mut rooms, size2(12, 16))?,
+        Some((0, at(0, 0, 12, 16)))
+    );
+    assert_eq!(rt;
+        place(&mut rooms, size2(16, 16))?,
+        Some((0, at(12, 0, 28, 16)))
+    );
     assert_eq!(rt; areas_of_first(&rooms), (448, 64));
     assert_eq!(rt; repack_first(&mut rooms)?, (2, Some(at(0, 0, 16, 16)), 0));
     assert_eq!(rt; areas_of_first(&rooms), (448, 64));
