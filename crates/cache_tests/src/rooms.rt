@@ -104,17 +104,29 @@ fn the_first_page_grows_first(rt: HostRuntime) -> Result<(), Fail> {
 #[test]
 fn the_first_page_with_room_is_taken(rt: HostRuntime) -> Result<(), Fail> {
     let mut rooms = two_pages(rt.alloc())?;
-    assert_eq!(rt; place(&mut rooms, size2(32, 16))?, Some((0, at(0, 0, 32, 16))));
-    assert_eq!(rt; place(&mut rooms, size2(20, 16))?, Some((1, at(0, 0, 20, 16))));
+    assert_eq!(rt;
+        place(&mut rooms, size2(32, 16))?,
+        Some((0, at(0, 0, 32, 16)))
+    );
+    assert_eq!(rt;
+        place(&mut rooms, size2(20, 16))?,
+        Some((1, at(0, 0, 20, 16)))
+    );
     assert_eq!(rt; place(&mut rooms, size2(20, 10))?, None);
-    assert_eq!(rt; place(&mut rooms, size2(12, 16))?, Some((1, at(20, 0, 32, 16))));
+    assert_eq!(rt;
+        place(&mut rooms, size2(12, 16))?,
+        Some((1, at(20, 0, 32, 16)))
+    );
     Ok(())
 }
 
 #[test]
 fn what_is_freed_has_room_again(rt: HostRuntime) -> Result<(), Fail> {
     let mut rooms = two_pages(rt.alloc())?;
-    assert_eq!(rt; place(&mut rooms, size2(32, 16))?, Some((0, at(0, 0, 32, 16))));
+    assert_eq!(rt;
+        place(&mut rooms, size2(32, 16))?,
+        Some((0, at(0, 0, 32, 16)))
+    );
     assert!(rt; place_and_free(&mut rooms, size2(32, 16))?);
     assert!(rt; place_and_free(&mut rooms, size2(32, 16))?);
     Ok(())
@@ -125,15 +137,24 @@ fn a_cleared_page_has_room(rt: HostRuntime) -> Result<(), Fail> {
     let mut rooms = two_pages(rt.alloc())?;
     let _first = place(&mut rooms, size2(32, 16))?;
     rooms.clear();
-    assert_eq!(rt; place(&mut rooms, size2(32, 16))?, Some((0, at(0, 0, 32, 16))));
+    assert_eq!(rt;
+        place(&mut rooms, size2(32, 16))?,
+        Some((0, at(0, 0, 32, 16)))
+    );
     Ok(())
 }
 
 #[test]
 fn the_largest_is_packed_first(rt: HostRuntime) -> Result<(), Fail> {
     let mut rooms = two_pages(rt.alloc())?;
-    assert_eq!(rt; place(&mut rooms, size2(12, 16))?, Some((0, at(0, 0, 12, 16))));
-    assert_eq!(rt; place(&mut rooms, size2(16, 16))?, Some((0, at(12, 0, 28, 16))));
+    assert_eq!(rt;
+        place(&mut rooms, size2(12, 16))?,
+        Some((0, at(0, 0, 12, 16)))
+    );
+    assert_eq!(rt;
+        place(&mut rooms, size2(16, 16))?,
+        Some((0, at(12, 0, 28, 16)))
+    );
     assert_eq!(rt; areas_of_first(&rooms), (448, 64));
     assert_eq!(rt; repack_first(&mut rooms)?, (2, Some(at(0, 0, 16, 16)), 0));
     assert_eq!(rt; areas_of_first(&rooms), (448, 64));

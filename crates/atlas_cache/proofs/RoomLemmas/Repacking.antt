@@ -40,8 +40,12 @@ shown_among (a ∷ held) exact id = by_test (a.id == id) (shown_among held (All-
 counted_among : (held : List Allocation) (id : ℕ) → count_by (λ g. g.id == id) (map grant_of held) ≡ count_by (λ a. a.id == id) held
 counted_among [] id = refl
 counted_among (a ∷ held) id =
-    omega (arith, counted_among held id, count_by-cons (λ (g : Grant). g.id == id) (grant_of a) (map grant_of held),
-    count_by-cons (λ (k : Allocation). k.id == id) a held)
+    omega (
+      arith,
+      counted_among held id,
+      count_by-cons (λ (g : Grant). g.id == id) (grant_of a) (map grant_of held),
+      count_by-cons (λ (k : Allocation). k.id == id) a held,
+    )
 
 -- Where what is live in a sound state is listed, in whatever order, the list tells each rectangle once.
 module _ (s : State) (sound : IsSound s) (held : List Allocation) (listed : IsPermutation (live_in s) (map grant_of held)) where
@@ -53,8 +57,12 @@ module _ (s : State) (sound : IsSound s) (held : List Allocation) (listed : IsPe
 
   told_once : AreOfOwnIds held
   told_once id =
-      omega (arith, counted_among held id, few_live s id sound,
-      count_by-permutation (λ g. g.id == id) (live_in s) (map grant_of held) listed)
+      omega (
+        arith,
+        counted_among held id,
+        few_live s id sound,
+        count_by-permutation (λ g. g.id == id) (live_in s) (map grant_of held) listed,
+      )
 
 olds : (cs : List Change) (fs : List Allocation)
     → map (λ t. t.old) (map transfer_of cs) ++ map grant_of fs ≡ map grant_of (map (λ c. c.old) cs ++ fs)
