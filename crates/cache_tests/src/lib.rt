@@ -2,6 +2,8 @@
 #![tactic(auto)]
 
 #[cfg(test)]
+mod cache;
+#[cfg(test)]
 mod entries;
 #[cfg(test)]
 mod options;
