@@ -68,7 +68,12 @@ fn most_pixels(rt: HostRuntime) {
 // A padding wider than the sheet, and no sprites.
 #[test]
 fn nothing_placed(rt: HostRuntime) {
-    let wide = fill(rt.alloc(), &[size2(1, 1)], &sheet_options(size2(3, 3), 65535)).expect(&rt, "memory");
+    let wide = fill(
+        rt.alloc(),
+        &[size2(1, 1)],
+        &sheet_options(size2(3, 3), 65535),
+    )
+    .expect(&rt, "memory");
     assert!(&rt; wide.places.get(0).copied() == Some(None) && wide.used_area == 0);
     let none = fill(rt.alloc(), &[], &sheet_options(size2(3, 3), 0)).expect(&rt, "memory");
     assert!(&rt; none.places.is_empty() && none.used_area == 0);
@@ -226,13 +231,17 @@ fn random_sprites(rt: HostRuntime) {
     for (seed, padding) in [(1, 0), (2, 1), (3, 2), (4, 7)] {
         let sprites = sprites_of(rt.alloc(), seed, 90, 40).expect(&rt, "sprites");
         let sheet = size2(200, 150);
-        let first = fill(rt.alloc(), &sprites, &sheet_options(sheet, padding)).expect(&rt, "a sheet");
+        let first = fill(rt.alloc(), &sprites, &sheet_options(sheet, padding)).expect(
+            &rt, "a sheet",
+        );
         assert!(&rt; first.places.len() == sprites.len());
         assert!(&rt;
             are_good(&sprites, &first.places, sheet, i32::from(padding)),
             "seed {seed}"
         );
-        let again = fill(rt.alloc(), &sprites, &sheet_options(sheet, padding)).expect(&rt, "a sheet");
+        let again = fill(rt.alloc(), &sprites, &sheet_options(sheet, padding)).expect(
+            &rt, "a sheet",
+        );
         assert!(&rt; again.places == first.places && again.used_area == first.used_area);
     }
 }
