@@ -2,6 +2,8 @@
 #![tactic(auto)]
 
 #[cfg(test)]
+mod climbing;
+#[cfg(test)]
 mod filling;
 #[cfg(test)]
 mod packing;
