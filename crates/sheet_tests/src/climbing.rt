@@ -169,18 +169,19 @@ fn aligned(rt: HostRuntime) -> Result<(), Fail> {
     Ok(())
 }
 
-// Each request for memory refused in turn: the error, until there are no more requests.
+// Each request for memory refused in turn, until there are no more requests: the error, or a sheet where the request
+// can be done without.
 fn refuses(alloc: Global, sprites: &[Size], options: &SheetOptions) -> bool {
     let heap = Refusing::new(alloc);
     for number in 1..10_000 {
         heap.refuse_nth(number);
         let packed = pack(&heap, sprites, options);
-        if heap.is_done() {
-            if !matches!(&packed, Err(SheetError::Memory)) {
-                return false;
-            }
-        } else {
-            return matches!(&packed, Ok(Some(_)));
+        let is_packed = matches!(&packed, Ok(Some(_)));
+        if !heap.is_done() {
+            return is_packed && number > 1;
+        }
+        if !is_packed && !matches!(&packed, Err(SheetError::Memory)) {
+            return false;
         }
     }
     false
