@@ -1,0 +1,75 @@
+"""The crates of this repository as the kit's `rattle` is told of them, for what is run over the libraries that `rt ci` has just proved
+and left in each crate's out/: it keeps nothing else, and `rt` itself would prove them once more.
+"""
+import os
+import pathlib
+import subprocess
+
+TOP = pathlib.Path(__file__).resolve().parent.parent
+CRATES = TOP / "crates"
+
+
+def kit():
+    """The folder of the Rattle kit."""
+    return os.path.dirname(subprocess.run(["rt", "doc"], capture_output=True, text=True, check=True).stdout.split()[0])
+
+
+class Crate:
+    """A crate of crates.txt, with what its check is told."""
+
+    all = {}
+
+    def __init__(self, name, words):
+        self.name, self.folder = name, CRATES / name
+        self.is_static = "staticlib" in words[0]
+        self.deps = words[1].split()
+        self.root = "src/main.rt" if (self.folder / "src/main.rt").is_file() else "src/lib.rt"
+        Crate.all[name] = self
+
+    def below(self):
+        """The repository's libraries below it, lowest first."""
+        found = {}
+        for dep in self.deps:
+            if dep in Crate.all:
+                found.update(Crate.all[dep].below())
+                found[dep] = Crate.all[dep]
+        return found
+
+    def rlib(self):
+        return self.folder / "out" / "rlib" / f"{self.name}.rlib"
+
+    def words(self, kit):
+        words = ["--crate-name", self.name, self.root, "--extern", f"std={kit}/rlibs/std.rlib", "-L", f"dependency={kit}/rlibs"]
+        for dep in self.deps:
+            words += ["--extern", f"{dep}={Crate.all[dep].rlib() if dep in Crate.all else f'{kit}/rlibs/{dep}.rlib'}"]
+        for dep in self.below().values():
+            words += ["-L", f"dependency={dep.rlib().parent}"]
+        words += ["--antt-project", f"{kit}/rattle/logic/antt-project.json", "--logic-built", f"{kit}/logic_built"]
+        words += ["--crate-type", "staticlib"] if self.is_static else []
+        return words
+
+
+def read_crates():
+    """Reads crates.txt."""
+    for line in (TOP / "crates.txt").read_text(encoding="utf-8").splitlines():
+        head, colon, deps = line.partition("#")[0].partition(":")
+        if colon:
+            Crate(head.split()[0], (head, deps))
+
+
+def build_below(crates):
+    """Builds the libraries below these crates, lowest first, but for those that are newer than their sources, as `rt ci` leaves them."""
+    needed, stale = {}, set()
+    for crate in crates:
+        needed.update(crate.below())
+    for name in sorted(needed, key=lambda it: len(needed[it].below())):
+        library = needed[name]
+        sources = [path for part in ("src", "specs", "proofs") for path in (library.folder / part).rglob("*") if path.is_file()]
+        is_new = library.rlib().is_dir() and library.rlib().stat().st_mtime > max(path.stat().st_mtime for path in sources)
+        if is_new and not stale & {*library.below()}:
+            continue
+        print(f"proving {name}", flush=True)
+        stale.add(name)
+        ran = subprocess.run(["rt", "lib", "--jobs", str(os.cpu_count() or 1)], cwd=library.folder, capture_output=True, text=True)
+        if ran.returncode:
+            raise SystemExit(f"{name} isn't proved:\n{ran.stdout[-2000:]}{ran.stderr[-500:]}")
