@@ -1,7 +1,8 @@
 /* The atlas allocators of guillotiere, for C99.
  *
  * An atlas is one large rectangle, often a texture, that hands out boxes and takes them back. A simple allocator hands
- * out boxes and takes none back. Lengths and coordinates are in pixels, areas in unit squares; y grows downwards.
+ * out boxes and takes none back. guillotiere_pack takes sprites that all are known beforehand and packs them into one
+ * small sheet; it needs no handle. Lengths and coordinates are in pixels, areas in unit squares; y grows downwards.
  *
  * Handles. A handle is a place for an allocator, which its owner keeps:
  *
@@ -15,7 +16,8 @@
  * and guillotiere_atlas_free gives all of it back.
  *
  * Statuses. A call answers a status. It is total: sizes, options, ids and limits may be any numbers, and what is wrong
- * is answered. After each status but GUILLOTIERE_DONE all handles hold what they held, and nothing was written.
+ * is answered. After each status but GUILLOTIERE_DONE all handles hold what they held, and nothing was written, but for
+ * the number of a bad sprite (guillotiere_pack).
  *
  * What the caller owes, which nothing tests:
  * - A handle has been written by calls of this library alone, or is all zero. It isn't copied by `=` or memcpy: a copy is
@@ -45,7 +47,20 @@ enum {
     GUILLOTIERE_SLOTS = 4,    /* more slots would be used than the limit allows */
     GUILLOTIERE_MEMORY = 5,   /* memory was refused */
     GUILLOTIERE_SHORT = 6,    /* an array is too short */
-    GUILLOTIERE_EMPTY = 7     /* a handle holds nothing, or holds something where one is to be filled */
+    GUILLOTIERE_EMPTY = 7,    /* a handle holds nothing, or holds something where one is to be filled */
+    GUILLOTIERE_EMPTY_SHEET = 8,      /* a side of the sheet, or the least that is allowed, is below 1 */
+    GUILLOTIERE_EMPTY_RANGE = 9,      /* the greatest side of a sheet is below the least */
+    GUILLOTIERE_EMPTY_ALIGNMENT = 10, /* a side of the alignment is below 1 */
+    GUILLOTIERE_EMPTY_SPRITE = 11,    /* a sprite has a side below 1 */
+    GUILLOTIERE_GREAT_SPRITE = 12     /* a sprite passes 2147483647 pixels with the padding at both its sides */
+};
+
+/* Kinds of sheets. */
+enum {
+    GUILLOTIERE_ONE_SIZE = 0, /* `width` by `height` alone */
+    GUILLOTIERE_SQUARES = 1,  /* squares with a side from `least` to `greatest` */
+    GUILLOTIERE_POWERS = 2,   /* each side a power of two, at most `greatest`; the sides may differ */
+    GUILLOTIERE_HEIGHTS = 3   /* `width`, and a height from 1 to `greatest` */
 };
 
 /* The greatest limit on the slots of an atlas, and that of an atlas without a limit of its own. */
@@ -54,6 +69,9 @@ enum {
 /* A handle that holds nothing, and the default options: initializers. */
 #define GUILLOTIERE_NONE {NULL}
 #define GUILLOTIERE_DEFAULT_OPTIONS {1, 1, 32, 256}
+
+/* Squares with a side from 1 to 4096, no padding, alignment 1, no turning, no effort: an initializer. */
+#define GUILLOTIERE_DEFAULT_SHEET_OPTIONS {GUILLOTIERE_SQUARES, 0, 0, 1, 4096, 0, 1, 1, 0, 0, 0}
 
 /* Handles. */
 typedef struct guillotiere_atlas {
@@ -118,6 +136,29 @@ typedef struct guillotiere_change_count {
     size_t changes;
     size_t failures;
 } guillotiere_change_count;
+
+/* Which sheets are allowed, and how sprites lie in them. Of `width`, `height`, `least` and `greatest` those are read that
+ * the kind names, in pixels. */
+typedef struct guillotiere_sheet_options {
+    uint32_t allowed;         /* a kind of sheets */
+    int32_t width;
+    int32_t height;
+    int32_t least;
+    int32_t greatest;
+    uint32_t padding;         /* pixels between two sprites, and between a sprite and the border: at most 65535 */
+    int32_t alignment_width;  /* each place, with the padding at its left and above, begins on multiples of these sides, */
+    int32_t alignment_height; /* which are at least 1 */
+    uint32_t turn;            /* 0, or a sprite may lie turned by 90 degrees */
+    uint32_t effort;          /* how many more orders of the sprites are tried: 0 for none, 20000 for a second or so */
+    uint64_t seed;            /* for these orders; the same input has the same sheet on every machine */
+} guillotiere_sheet_options;
+
+/* Where a sprite lies: its place without the padding, and whether it is turned by 90 degrees (1 or 0): then the place is
+ * as wide as the sprite is high. */
+typedef struct guillotiere_placed {
+    guillotiere_rectangle area;
+    uint32_t turned;
+} guillotiere_placed;
 
 /* --- An atlas: its life ------------------------------------------------------------------------------------------- */
 
@@ -270,6 +311,18 @@ uint32_t guillotiere_simple_slots(guillotiere_simple *simple, guillotiere_slots 
 
 /* Whether one free box has the allocator's size; also true of a handle that holds nothing. */
 bool guillotiere_simple_is_empty(guillotiere_simple *simple);
+
+/* --- A sheet of sprites that are known beforehand ------------------------------------------------------------------- */
+
+/* Packs all sprites into the smallest sheet of those allowed that is found, by ten ways to order them and then by `effort`
+ * small changes of the order. DONE: `size` has the sheet's size, and `places` where each sprite lies, in the order of the
+ * sprites; no two places overlap, and what `places` has after them stays. Nothing is kept by the library, and nothing is
+ * to be freed. Sprites may be none: then the sheet is the least.
+ * NO_ROOM if not even the greatest sheet took all sprites; BAD_CALL if `allowed` is no kind of sheets or the padding is
+ * above 65535; SHORT if places_len is below sprites_len; EMPTY_SHEET; EMPTY_RANGE; EMPTY_ALIGNMENT; EMPTY_SPRITE and
+ * GREAT_SPRITE, and then `sprite` has the number of the sprite, counted from 0, and is else as before; MEMORY. */
+uint32_t guillotiere_pack(const guillotiere_size *sprites, size_t sprites_len, const guillotiere_sheet_options *options,
+                          guillotiere_placed *places, size_t places_len, guillotiere_size *size, size_t *sprite);
 
 #ifdef __cplusplus
 }

@@ -28,6 +28,19 @@ enum class status : std::uint32_t {
     memory = GUILLOTIERE_MEMORY,
     too_short = GUILLOTIERE_SHORT,
     empty = GUILLOTIERE_EMPTY,
+    empty_sheet = GUILLOTIERE_EMPTY_SHEET,
+    empty_range = GUILLOTIERE_EMPTY_RANGE,
+    empty_alignment = GUILLOTIERE_EMPTY_ALIGNMENT,
+    empty_sprite = GUILLOTIERE_EMPTY_SPRITE,
+    great_sprite = GUILLOTIERE_GREAT_SPRITE,
+};
+
+// Kinds of sheets.
+enum class sheets : std::uint32_t {
+    one_size = GUILLOTIERE_ONE_SIZE,
+    squares = GUILLOTIERE_SQUARES,
+    powers = GUILLOTIERE_POWERS,
+    heights = GUILLOTIERE_HEIGHTS,
 };
 
 using size = guillotiere_size;
@@ -37,8 +50,47 @@ using change = guillotiere_change;
 using options = guillotiere_options;
 using slot_count = guillotiere_slots;
 using areas = guillotiere_areas;
+using placed = guillotiere_placed;
 
 inline constexpr options default_options = GUILLOTIERE_DEFAULT_OPTIONS;
+
+// Which sheets are allowed, and how sprites lie in them: squares with a side up to 4096, unless it is said otherwise.
+struct sheet_options : guillotiere_sheet_options {
+    constexpr sheet_options() : guillotiere_sheet_options(GUILLOTIERE_DEFAULT_SHEET_OPTIONS) {}
+
+    // This size alone.
+    static constexpr sheet_options of_size(size only) {
+        sheet_options made;
+        made.allowed = static_cast<std::uint32_t>(sheets::one_size);
+        made.width = only.width;
+        made.height = only.height;
+        return made;
+    }
+    // Squares with a side from `least` to `greatest`.
+    static constexpr sheet_options of_squares(std::int32_t least, std::int32_t greatest) {
+        sheet_options made;
+        made.allowed = static_cast<std::uint32_t>(sheets::squares);
+        made.least = least;
+        made.greatest = greatest;
+        return made;
+    }
+    // Each side a power of two, at most `greatest`.
+    static constexpr sheet_options of_powers(std::int32_t greatest) {
+        sheet_options made;
+        made.allowed = static_cast<std::uint32_t>(sheets::powers);
+        made.greatest = greatest;
+        return made;
+    }
+    // This width, and a height from 1 to `greatest`.
+    static constexpr sheet_options of_heights(std::int32_t width, std::int32_t greatest) {
+        sheet_options made;
+        made.allowed = static_cast<std::uint32_t>(sheets::heights);
+        made.width = width;
+        made.greatest = greatest;
+        return made;
+    }
+};
+
 inline constexpr std::uint32_t most_slots = GUILLOTIERE_MOST_SLOTS;
 
 // A value, or the status that says why there is none, which is never status::done.
@@ -288,6 +340,35 @@ private:
 
     mutable guillotiere_simple handle_;
 };
+
+// A sheet that takes all sprites: its size, and where each of them lies, in their order.
+struct sheet {
+    guillotiere::size size;
+    std::vector<placed> places;
+};
+
+// Packs all sprites into the smallest allowed sheet that is found; nothing where not even the greatest took them all. After
+// status::empty_sprite and status::great_sprite `bad` has the number of the sprite, if it isn't null.
+inline result<std::optional<sheet>> pack(const size *sprites, std::size_t count, const sheet_options &with,
+                                         std::size_t *bad = nullptr) {
+    const size none{};
+    std::size_t number = 0;
+    sheet made{{}, std::vector<placed>(count + 1)};
+    const auto answer = guillotiere_pack(count == 0 ? &none : sprites, count, &with, made.places.data(), count, &made.size,
+                                         &number);
+    if (answer == GUILLOTIERE_DONE) {
+        made.places.resize(count);
+        return std::optional<sheet>(std::move(made));
+    }
+    if (answer == GUILLOTIERE_NO_ROOM) return std::optional<sheet>();
+    const auto error = static_cast<status>(answer);
+    if (bad != nullptr && (error == status::empty_sprite || error == status::great_sprite)) *bad = number;
+    return error;
+}
+inline result<std::optional<sheet>> pack(const std::vector<size> &sprites, const sheet_options &with,
+                                         std::size_t *bad = nullptr) {
+    return pack(sprites.data(), sprites.size(), with, bad);
+}
 
 } // namespace guillotiere
 

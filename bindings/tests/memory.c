@@ -148,8 +148,42 @@ static void reserve(void) {
     guillotiere_atlas_free(&atlas);
 }
 
+/* Each request of a packing is refused in turn: it is answered, or done without; then nothing is written, and nothing is
+ * lost. */
+static void pack(void) {
+    guillotiere_size sprites[40], size;
+    guillotiere_sheet_options options = GUILLOTIERE_DEFAULT_SHEET_OPTIONS;
+    guillotiere_placed places[40], untouched[40];
+    size_t sprite = 99;
+    long counted = 0;
+    for (int32_t i = 0; i < 40; i++) sprites[i] = (guillotiere_size){5 + 7 * i % 31, 4 + 11 * i % 23};
+    options.effort = 30;
+    for (uint32_t kind = 0; kind < 4; kind++) {
+        options.allowed = kind;
+        options.width = options.height = 256;
+        options.turn = kind % 2;
+        for (long nth = 0;; nth++) {
+            const long before = blocks, refused = refusals;
+            memset(places, 0x55, sizeof places);
+            memcpy(untouched, places, sizeof places);
+            size.width = 77;
+            left = nth;
+            const uint32_t status = guillotiere_pack(sprites, 40, &options, places, 40, &size, &sprite);
+            left = -1;
+            CHECK(blocks == before && sprite == 99);
+            CHECK(status == GUILLOTIERE_DONE || status == GUILLOTIERE_MEMORY);
+            CHECK((size.width == 77) == (status == GUILLOTIERE_MEMORY));
+            CHECK((memcmp(untouched, places, sizeof places) == 0) == (status == GUILLOTIERE_MEMORY));
+            if (refusals == refused) break;
+            counted += status == GUILLOTIERE_MEMORY;
+        }
+    }
+    CHECK(counted > 100);
+}
+
 int main(void) {
     reserve();
+    pack();
     for (long nth = 0;; nth++) {
         guillotiere_atlas atlas = GUILLOTIERE_NONE, copy = GUILLOTIERE_NONE;
         guillotiere_simple simple = GUILLOTIERE_NONE;

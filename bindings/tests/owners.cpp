@@ -91,7 +91,30 @@ static void simple_calls() {
     CHECK(simple.reset({0, 1}) == status::bad_call && simple.reset({5, 6}) == status::done && simple.extent().height == 6);
 }
 
+static void sheets_of_sprites() {
+    const std::vector<size> sprites = {{3, 5}, {3, 5}, {3, 5}};
+    auto with = sheet_options::of_heights(9, 100);
+    auto made = pack(sprites, with);
+    CHECK(made && *made && (*made)->size.width == 9 && (*made)->size.height == 5 && (*made)->places.size() == 3);
+    for (std::size_t i = 0; i < 3; i++)
+        for (std::size_t k = 0; k < i; k++) CHECK(are_apart(&(*made)->places[i].area, &(*made)->places[k].area));
+    made = pack(sprites, sheet_options::of_size({8, 8}));
+    CHECK(made && !*made);
+    made = pack(sprites, sheet_options::of_powers(64));
+    CHECK(made && *made && (*made)->size.width * (*made)->size.height == 64);
+    made = pack(std::vector<size>(), sheet_options::of_squares(2, 9));
+    CHECK(made && *made && (*made)->size.width == 2 && (*made)->places.empty());
+    made = pack(nullptr, 0, sheet_options());
+    CHECK(made && *made && (*made)->size.height == 1);
+    std::size_t bad = 77;
+    CHECK(pack(sprites, sheet_options::of_squares(9, 8), &bad).error() == status::empty_range && bad == 77);
+    CHECK(pack({{3, 5}, {0, 5}}, with, &bad).error() == status::empty_sprite && bad == 1);
+    with.padding = 70000;
+    CHECK(pack(sprites, with).error() == status::bad_call);
+}
+
 int main() {
+    sheets_of_sprites();
     makes();
     moves();
     calls();

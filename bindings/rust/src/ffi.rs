@@ -18,6 +18,15 @@ pub const SLOTS: u32 = 4;
 pub const MEMORY: u32 = 5;
 pub const SHORT: u32 = 6;
 pub const EMPTY: u32 = 7;
+pub const EMPTY_SHEET: u32 = 8;
+pub const EMPTY_RANGE: u32 = 9;
+pub const EMPTY_ALIGNMENT: u32 = 10;
+pub const EMPTY_SPRITE: u32 = 11;
+pub const GREAT_SPRITE: u32 = 12;
+pub const ONE_SIZE: u32 = 0;
+pub const SQUARES: u32 = 1;
+pub const POWERS: u32 = 2;
+pub const HEIGHTS: u32 = 3;
 pub const MOST_SLOTS: u32 = 16777216;
 
 // The low bits of an id have the number of its slot.
@@ -92,6 +101,29 @@ pub struct PlainAreas {
 pub struct PlainChangeCount {
     pub changes: usize,
     pub failures: usize,
+}
+
+#[repr(C)]
+#[derive(Clone, Copy, Default)]
+pub struct PlainSheetOptions {
+    pub allowed: u32,
+    pub width: i32,
+    pub height: i32,
+    pub least: i32,
+    pub greatest: i32,
+    pub padding: u32,
+    pub alignment_width: i32,
+    pub alignment_height: i32,
+    pub turn: u32,
+    pub effort: u32,
+    pub seed: u64,
+}
+
+#[repr(C)]
+#[derive(Clone, Copy, Default)]
+pub struct PlainPlaced {
+    pub area: PlainRectangle,
+    pub turned: u32,
 }
 
 extern "C" {
@@ -194,6 +226,37 @@ extern "C" {
     fn guillotiere_simple_options(simple: *mut SimpleHandle, options: *mut PlainOptions) -> u32;
     fn guillotiere_simple_slots(simple: *mut SimpleHandle, slots: *mut PlainSlots) -> u32;
     fn guillotiere_simple_is_empty(simple: *mut SimpleHandle) -> bool;
+    fn guillotiere_pack(
+        sprites: *const PlainSize,
+        sprites_len: usize,
+        options: *const PlainSheetOptions,
+        places: *mut PlainPlaced,
+        places_len: usize,
+        size: *mut PlainSize,
+        sprite: *mut usize,
+    ) -> u32;
+}
+
+/// The size of the sheet, or a status with the number of a sprite. There is a place for each sprite, or one is refused.
+pub fn pack(
+    sprites: &[PlainSize],
+    options: &PlainSheetOptions,
+    places: &mut [PlainPlaced],
+) -> Result<PlainSize, (u32, usize)> {
+    let (mut size, mut sprite) = (PlainSize::default(), 0);
+    // SAFETY: slices with their lengths, a reference, and two places of our own.
+    let status = unsafe {
+        guillotiere_pack(
+            sprites.as_ptr(),
+            sprites.len(),
+            options,
+            places.as_mut_ptr(),
+            places.len(),
+            &mut size,
+            &mut sprite,
+        )
+    };
+    of_status(status).map(|()| size).map_err(|status| (status, sprite))
 }
 
 /// An atlas behind its handle. It isn't `Sync`: calls by `&self` hand on a pointer to write by.

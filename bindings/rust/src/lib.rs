@@ -13,11 +13,13 @@ mod error;
 #[allow(unsafe_code)]
 mod ffi;
 mod plain;
+mod sheet;
 mod simple;
 mod values;
 
 pub use crate::atlas::AtlasAllocator;
 pub use crate::error::AtlasError;
+pub use crate::sheet::{pack, Allowed, Placed, Sheet, SheetError, SheetOptions};
 pub use crate::simple::SimpleAtlasAllocator;
 pub use crate::values::{
     AllocId, Allocation, AllocatorOptions, Areas, Change, ChangeList, Point, Rectangle, Size, SlotCount,

@@ -1,1 +1,2 @@
 pub mod LiveCounts
+pub mod Packings

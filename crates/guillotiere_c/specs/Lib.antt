@@ -1,7 +1,9 @@
 pub mod Calls
 pub mod Keeping
 pub mod Numbers
+pub mod Packing
 pub mod Rearrangings
+pub mod SheetNumbers
 pub mod SimpleCalls
 pub mod SimpleStatuses
 pub mod Statuses

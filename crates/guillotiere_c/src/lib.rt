@@ -11,6 +11,8 @@ mod atlas_lists;
 mod held;
 mod lifetimes;
 mod plain;
+mod plain_sheet;
+mod sheet;
 mod simple;
 mod simple_handle;
 mod writing;

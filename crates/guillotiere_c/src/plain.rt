@@ -41,6 +41,33 @@ pub const SHORT: u32 = 6;
 /// A handle that is to hold an allocator holds nothing; or one that is to hold nothing holds one.
 pub const EMPTY: u32 = 7;
 
+/// A side of the sheet, or the least that is allowed, is below 1.
+pub const EMPTY_SHEET: u32 = 8;
+
+/// No sheet is allowed: the greatest side is below the least.
+pub const EMPTY_RANGE: u32 = 9;
+
+/// A side of the alignment is below 1.
+pub const EMPTY_ALIGNMENT: u32 = 10;
+
+/// A sprite has a side below 1.
+pub const EMPTY_SPRITE: u32 = 11;
+
+/// A sprite passes 2147483647 pixels with the padding at both its sides.
+pub const GREAT_SPRITE: u32 = 12;
+
+/// A kind of sheets: this size alone.
+pub const ONE_SIZE: u32 = 0;
+
+/// A kind of sheets: squares.
+pub const SQUARES: u32 = 1;
+
+/// A kind of sheets: each side a power of two.
+pub const POWERS: u32 = 2;
+
+/// A kind of sheets: one width, and heights from 1 on.
+pub const HEIGHTS: u32 = 3;
+
 /// The greatest limit on the slots of an atlas, which is also that of an atlas without a limit of its own.
 pub const MOST_SLOTS: u32 = 16_777_216;
 

@@ -1,10 +1,13 @@
 //! Lists, written into arrays of the caller's: as much as there is room for.
 ghost use Rattle.guillotiere_c.specs.Numbers.{allocation_in, change_in, corners_in};
+ghost use Rattle.guillotiere_c.specs.SheetNumbers.{placed_in};
 ghost use Rattle.guillotiere_c.specs.Writing.{IsWritten};
 
 use crate::plain::{
     PlainAllocation, PlainChange, PlainRectangle, plain_allocation, plain_change, plain_rectangle,
 };
+use crate::plain_sheet::{PlainPlaced, plain_placed};
+use atlas_sheet::Placed;
 use guillotiere::{Allocation, Change, Rectangle};
 
 /// Writes ids with their rectangles.
@@ -31,5 +34,14 @@ pub fn write_changes(list: &[Change], array: &mut [PlainChange])
 {
     for i in 0..list.len().min(array.len()) {
         array[i] = plain_change(list[i]);
+    }
+}
+
+/// Writes the places of sprites.
+pub fn write_placed(list: &[Placed], array: &mut [PlainPlaced])
+    ensures { IsWritten placed_in list.now array.old array.new }
+{
+    for i in 0..list.len().min(array.len()) {
+        array[i] = plain_placed(list[i]);
     }
 }

@@ -1,0 +1,249 @@
+/* Sheets: worked by hand, checked by plain code, and asked for carelessly. */
+#include "check.h"
+
+#include <string.h>
+
+enum { ROOM = 200 };
+
+/* What a packing writes, with as much room as `room` says. */
+typedef struct {
+    guillotiere_placed places[ROOM];
+    guillotiere_size size;
+    size_t sprite;
+} written;
+
+static guillotiere_sheet_options options_of(uint32_t allowed) {
+    guillotiere_sheet_options options = GUILLOTIERE_DEFAULT_SHEET_OPTIONS;
+    options.allowed = allowed;
+    return options;
+}
+
+static uint32_t pack(const guillotiere_size *sprites, size_t count, const guillotiere_sheet_options *options, size_t room,
+                     written *into) {
+    return guillotiere_pack(sprites, count, options, into->places, room, &into->size, &into->sprite);
+}
+
+static bool is_at(const guillotiere_placed *placed, int32_t x, int32_t y, int32_t width, int32_t height) {
+    const guillotiere_rectangle wanted = {x, y, x + width, y + height};
+    return are_same(&placed->area, &wanted);
+}
+
+/* One sprite of 3 x 5: with a pixel round it the least square has sides of 7, and it lies in the corner. */
+static void one_sprite(void) {
+    const guillotiere_size sprite = {3, 5};
+    guillotiere_sheet_options options = options_of(GUILLOTIERE_SQUARES);
+    written into;
+    options.padding = 1;
+    CHECK(pack(&sprite, 1, &options, 1, &into) == GUILLOTIERE_DONE);
+    CHECK(into.size.width == 7 && into.size.height == 7);
+    CHECK(is_at(&into.places[0], 1, 1, 3, 5) && into.places[0].turned == 0);
+    options.allowed = GUILLOTIERE_POWERS;
+    CHECK(pack(&sprite, 1, &options, 1, &into) == GUILLOTIERE_DONE);
+    CHECK(into.size.width == 8 && into.size.height == 8 && is_at(&into.places[0], 1, 1, 3, 5));
+    options.allowed = GUILLOTIERE_HEIGHTS;
+    options.width = 20;
+    CHECK(pack(&sprite, 1, &options, 1, &into) == GUILLOTIERE_DONE);
+    CHECK(into.size.width == 20 && into.size.height == 7 && is_at(&into.places[0], 1, 1, 3, 5));
+}
+
+/* A sheet of one size: with two pixels to each border 14 x 14 takes 10 x 10, and 13 x 14 doesn't. */
+static void one_size(void) {
+    const guillotiere_size sprite = {10, 10};
+    guillotiere_sheet_options options = options_of(GUILLOTIERE_ONE_SIZE);
+    written into;
+    options.padding = 2;
+    options.width = options.height = 14;
+    CHECK(pack(&sprite, 1, &options, 1, &into) == GUILLOTIERE_DONE);
+    CHECK(into.size.width == 14 && into.size.height == 14 && is_at(&into.places[0], 2, 2, 10, 10));
+    options.width = 13;
+    memset(&into, 0x55, sizeof into);
+    const written before = into;
+    CHECK(pack(&sprite, 1, &options, 1, &into) == GUILLOTIERE_NO_ROOM);
+    CHECK(memcmp(&before, &into, sizeof into) == 0);
+}
+
+/* Two sprites of 4 x 4 fill 8 x 4, beside one another. */
+static void two_sprites(void) {
+    const guillotiere_size sprites[] = {{4, 4}, {4, 4}};
+    guillotiere_sheet_options options = options_of(GUILLOTIERE_HEIGHTS);
+    written into;
+    options.width = 8;
+    CHECK(pack(sprites, 2, &options, 2, &into) == GUILLOTIERE_DONE && into.size.width == 8 && into.size.height == 4);
+    const int second = is_at(&into.places[0], 0, 0, 4, 4);
+    CHECK(is_at(&into.places[!second], 0, 0, 4, 4) && is_at(&into.places[second], 4, 0, 4, 4));
+}
+
+/* A sprite of 4 x 8 lies in 8 x 4 only if it is turned. */
+static void turned_sprite(void) {
+    const guillotiere_size sprite = {4, 8};
+    guillotiere_sheet_options options = options_of(GUILLOTIERE_ONE_SIZE);
+    written into;
+    options.width = 8;
+    options.height = 4;
+    options.effort = 100;
+    CHECK(pack(&sprite, 1, &options, 1, &into) == GUILLOTIERE_NO_ROOM);
+    for (uint32_t yes = 1; yes != 0; yes <<= 1) {
+        options.turn = yes;
+        CHECK(pack(&sprite, 1, &options, 1, &into) == GUILLOTIERE_DONE);
+        CHECK(into.places[0].turned == 1 && is_at(&into.places[0], 0, 0, 8, 4));
+    }
+}
+
+/* A sheet of the kind that is allowed, which has sides from 1 to 2000. */
+static void check_size(const guillotiere_sheet_options *options, guillotiere_size size) {
+    CHECK(size.width >= 1 && size.height >= 1 && size.width <= 2048 && size.height <= 2048);
+    if (options->allowed == GUILLOTIERE_ONE_SIZE) CHECK(size.width == options->width && size.height == options->height);
+    if (options->allowed == GUILLOTIERE_SQUARES) CHECK(size.width == size.height && size.height >= options->least);
+    if (options->allowed == GUILLOTIERE_HEIGHTS) CHECK(size.width == options->width);
+    if (options->allowed == GUILLOTIERE_POWERS)
+        CHECK((size.width & (size.width - 1)) == 0 && (size.height & (size.height - 1)) == 0);
+}
+
+/* Each place has its sprite's sides, and keeps padding and alignment; with the padding at its right and below no two
+ * overlap. */
+static void check_places(const guillotiere_size *sprites, size_t count, const guillotiere_sheet_options *options,
+                         const written *into) {
+    const int32_t padding = (int32_t)options->padding;
+    for (size_t i = 0; i < count; i++) {
+        const guillotiere_placed *const placed = &into->places[i];
+        const guillotiere_rectangle *const area = &placed->area;
+        const int32_t width = area->max_x - area->min_x, height = area->max_y - area->min_y;
+        CHECK(placed->turned <= (options->turn != 0));
+        CHECK(width == (placed->turned ? sprites[i].height : sprites[i].width));
+        CHECK(height == (placed->turned ? sprites[i].width : sprites[i].height));
+        CHECK(area->min_x >= padding && area->max_x + padding <= into->size.width);
+        CHECK(area->min_y >= padding && area->max_y + padding <= into->size.height);
+        CHECK((area->min_x - padding) % options->alignment_width == 0);
+        CHECK((area->min_y - padding) % options->alignment_height == 0);
+        for (size_t k = 0; k < i; k++) {
+            guillotiere_rectangle one = *area, other = into->places[k].area;
+            one.max_x += padding, one.max_y += padding, other.max_x += padding, other.max_y += padding;
+            CHECK(are_apart(&one, &other));
+        }
+    }
+}
+
+static uint32_t next(uint32_t *state) {
+    *state = *state * 1664525u + 1013904223u;
+    return *state >> 16;
+}
+
+/* Random sprites and options of every kind: checked by plain code, with the same answer twice, and nothing after it. */
+static void random_sheets(void) {
+    uint32_t state = 7;
+    for (uint32_t round = 0; round < 64; round++) {
+        guillotiere_size sprites[ROOM];
+        guillotiere_sheet_options options = options_of(round % 4);
+        const size_t count = next(&state) % (ROOM - 1);
+        written into, again;
+        for (size_t i = 0; i < count; i++) {
+            sprites[i].width = 1 + (int32_t)(next(&state) % 40);
+            sprites[i].height = 1 + (int32_t)(next(&state) % 60);
+        }
+        options.width = options.height = 1024;
+        options.greatest = 2048;
+        options.padding = round / 4 % 4;
+        options.alignment_width = 1 + (int32_t)(round / 16 % 3);
+        options.turn = round / 8 % 2;
+        options.effort = round % 5 * 20;
+        options.seed = round;
+        memset(&into, 0x55, sizeof into);
+        memset(&again, 0x55, sizeof again);
+        const guillotiere_placed untouched = into.places[count];
+        CHECK(pack(sprites, count, &options, ROOM, &into) == GUILLOTIERE_DONE);
+        check_size(&options, into.size);
+        check_places(sprites, count, &options, &into);
+        CHECK(memcmp(&untouched, &into.places[count], sizeof untouched) == 0);
+        CHECK(pack(sprites, count, &options, count, &again) == GUILLOTIERE_DONE);
+        CHECK(memcmp(&into, &again, sizeof into) == 0);
+    }
+}
+
+/* A refusal: this status, and nothing written but the number of a sprite. */
+static void refused(uint32_t wanted, const guillotiere_size *sprites, size_t count, const guillotiere_sheet_options *options,
+                    size_t room, size_t sprite) {
+    written into, before;
+    memset(&into, 0x55, sizeof into);
+    before = into;
+    if (sprite != SIZE_MAX) before.sprite = sprite;
+    CHECK(pack(sprites, count, options, room, &into) == wanted);
+    CHECK(memcmp(&before, &into, sizeof into) == 0);
+}
+
+static void bad_options(void) {
+    const guillotiere_size sprite = {3, 5};
+    const int32_t empty[] = {0, -1, INT32_MIN};
+    guillotiere_sheet_options options;
+    for (uint32_t kind = 4; kind != 0; kind = kind < 9 ? kind + 1 : kind << 1) {
+        options = options_of(kind);
+        refused(GUILLOTIERE_BAD_CALL, &sprite, 1, &options, 1, SIZE_MAX);
+    }
+    options = options_of(GUILLOTIERE_SQUARES);
+    options.padding = 65536;
+    refused(GUILLOTIERE_BAD_CALL, &sprite, 1, &options, 1, SIZE_MAX);
+    options.padding = (uint32_t)-1;
+    refused(GUILLOTIERE_BAD_CALL, &sprite, 1, &options, 1, SIZE_MAX);
+    for (int i = 0; i < 3; i++) {
+        options = options_of(GUILLOTIERE_SQUARES);
+        options.alignment_height = empty[i];
+        refused(GUILLOTIERE_EMPTY_ALIGNMENT, &sprite, 1, &options, 1, SIZE_MAX);
+        options.least = empty[i];
+        refused(GUILLOTIERE_EMPTY_SHEET, &sprite, 1, &options, 1, SIZE_MAX);
+        options = options_of(GUILLOTIERE_ONE_SIZE);
+        options.width = 9;
+        options.height = empty[i];
+        refused(GUILLOTIERE_EMPTY_SHEET, &sprite, 1, &options, 1, SIZE_MAX);
+        options = options_of(GUILLOTIERE_POWERS);
+        options.greatest = empty[i];
+        refused(GUILLOTIERE_EMPTY_RANGE, &sprite, 1, &options, 1, SIZE_MAX);
+        options = options_of(GUILLOTIERE_HEIGHTS);
+        options.width = empty[i];
+        refused(GUILLOTIERE_EMPTY_SHEET, &sprite, 1, &options, 1, SIZE_MAX);
+    }
+    options = options_of(GUILLOTIERE_SQUARES);
+    options.least = 9;
+    options.greatest = 8;
+    refused(GUILLOTIERE_EMPTY_RANGE, &sprite, 1, &options, 1, SIZE_MAX);
+}
+
+static void bad_sprites(void) {
+    const guillotiere_size empty[] = {{3, 5}, {4, 0}, {3, 5}}, below[] = {{3, 5}, {4, 6}, {INT32_MIN, 5}};
+    const guillotiere_size great[] = {{3, 5}, {4, INT32_MAX}};
+    guillotiere_sheet_options options = options_of(GUILLOTIERE_SQUARES);
+    refused(GUILLOTIERE_EMPTY_SPRITE, empty, 3, &options, 3, 1);
+    refused(GUILLOTIERE_EMPTY_SPRITE, below, 3, &options, 3, 2);
+    refused(GUILLOTIERE_SHORT, great, 2, &options, 1, SIZE_MAX);
+    refused(GUILLOTIERE_SHORT, great, 1, &options, 0, SIZE_MAX);
+    refused(GUILLOTIERE_NO_ROOM, great, 2, &options, 2, SIZE_MAX);
+    options.padding = 1;
+    refused(GUILLOTIERE_GREAT_SPRITE, great, 2, &options, 2, 1);
+}
+
+/* No sprites: the least sheet. The greatest numbers: a sprite as large as its sheet. */
+static void ends_of_ranges(void) {
+    const guillotiere_size great = {INT32_MAX, INT32_MAX};
+    guillotiere_sheet_options options = options_of(GUILLOTIERE_SQUARES);
+    written into;
+    options.least = 3;
+    CHECK(pack(&great, 0, &options, 0, &into) == GUILLOTIERE_DONE && into.size.width == 3 && into.size.height == 3);
+    options.greatest = INT32_MAX;
+    CHECK(pack(&great, 1, &options, 1, &into) == GUILLOTIERE_DONE && into.size.width == INT32_MAX);
+    CHECK(is_at(&into.places[0], 0, 0, INT32_MAX, INT32_MAX));
+    options = options_of(GUILLOTIERE_ONE_SIZE);
+    options.width = options.height = INT32_MAX;
+    options.padding = 65535;
+    CHECK(pack(&(guillotiere_size){INT32_MAX - 131070, 1}, 1, &options, 1, &into) == GUILLOTIERE_DONE);
+    CHECK(is_at(&into.places[0], 65535, 65535, INT32_MAX - 131070, 1));
+}
+
+int main(void) {
+    one_sprite();
+    one_size();
+    two_sprites();
+    turned_sprite();
+    random_sheets();
+    bad_options();
+    bad_sprites();
+    ends_of_ranges();
+    return 0;
+}
