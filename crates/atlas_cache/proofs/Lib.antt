@@ -12,3 +12,4 @@ pub mod HoldingLemmas
 pub mod KeyLemmas
 pub mod LoopLemmas
 pub mod PictureLemmas
+pub mod TrimLemmas
