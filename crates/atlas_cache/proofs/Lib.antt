@@ -13,3 +13,4 @@ pub mod KeyLemmas
 pub mod LoopLemmas
 pub mod PictureLemmas
 pub mod TrimLemmas
+pub mod WalkLemmas

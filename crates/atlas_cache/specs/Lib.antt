@@ -11,3 +11,4 @@ pub mod Repacking
 pub mod Rooms
 pub mod Tables
 pub mod Telling
+pub mod Walking

@@ -146,3 +146,24 @@ fn room_changes_nothing(rt: HostRuntime) -> Result<(), Fail> {
     assert_eq!(rt; cache.peek(&2), Some(whole(1)));
     Ok(())
 }
+
+#[test]
+fn keys_come_in_the_order_of_use(rt: HostRuntime) -> Result<(), Fail> {
+    let mut cache = three(rt.alloc())?;
+    let _used = cache.get(&1);
+    assert_eq!(rt; cache.newest(), Some((1, whole(0))));
+    assert_eq!(rt; cache.older(&1), Some((3, whole(2))));
+    assert_eq!(rt; cache.older(&3), Some((2, whole(1))));
+    assert_eq!(rt; cache.older(&2), None);
+    assert_eq!(rt; cache.oldest(), Some((2, whole(1))));
+    Ok(())
+}
+
+#[test]
+fn an_empty_cache_has_no_first_key(rt: HostRuntime) -> Result<(), Fail> {
+    let cache = empty(rt.alloc())?;
+    assert!(rt; cache.newest().is_none());
+    assert!(rt; cache.oldest().is_none());
+    assert!(rt; cache.older(&1).is_none());
+    Ok(())
+}
