@@ -12,3 +12,5 @@ pub mod HoldingLemmas
 pub mod KeyLemmas
 pub mod LoopLemmas
 pub mod PictureLemmas
+pub mod TrimLemmas
+pub mod WalkLemmas

@@ -177,3 +177,11 @@ last-entry links ends (x ∷ xs) h ne =
 pub next-entry : (links : List Link) (ends : Link) (i : ℕ) (xs : List ℕ) → IsRing links ends xs → 0 < occurs i xs → (next_at links ends i ≡ 4294967295 → ⊥) → 0 < occurs (next_at links ends i) xs
 next-entry links ends i xs h l ne =
     elim (next-in_chain (next_at links ends) (previous_at links ends) no_entry i xs h.chain l) [ inl e ↦ absurd (ne e) | inr m ↦ m ]
+
+-- Where no number is spare and no more can be made, all are in use.
+pub all-used : (links : List Link) (ends : Link) (u : ℕ) (xs : List ℕ) → HasSpare links ends u xs → u ≡ no_entry → length links ≡ no_entry → length xs ≡ no_entry
+all-used links ends u xs h e m = go h.spare h.line h.inside h.all
+  where
+    go : (spare : List ℕ) → Line (next_at links ends) u spare → ((k : ℕ) → 0 < occurs k xs + occurs k spare → k < length links) → length xs + length spare ≡ length links → length xs ≡ no_entry
+    go [] l inside all = omega (arith, all, m)
+    go (x ∷ rest) l inside all = let i = inside x (omega (arith, same-self x)) in absurd (omega (arith, i, l.0, e, m))

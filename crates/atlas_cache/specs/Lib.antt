@@ -1,11 +1,14 @@
 pub mod Asking
 pub mod Caches
 pub mod Changes
+pub mod Clearing
 pub mod Counting
 pub mod Entries
 pub mod Orders
 pub mod Rings
+pub mod Refusals
 pub mod Repacking
 pub mod Rooms
 pub mod Tables
 pub mod Telling
+pub mod Walking

@@ -4,9 +4,13 @@ ghost use Rattle.std.specs.Prelude.{None, Ok, OnErr, vec_capacity, vec_len};
 ghost use Rattle.guillotiere.specs.Pixels.{size_of};
 ghost use Rattle.atlas_cache.specs.Asking.{bordered, AreUsable, CanStand, IsFaultIn};
 ghost use Rattle.atlas_cache.specs.Counting.{one_more};
-ghost use Rattle.atlas_cache.specs.Rooms.{page_sizes};
+ghost use Rattle.atlas_cache.specs.Refusals.{IsRefusedNew};
+ghost use Rattle.atlas_cache.specs.Rooms.{page_sizes, IsRefusal};
 
+mod clearing;
+mod figures;
 pub mod holding;
+mod walking;
 
 use crate::cache::holding::{grant, look_up, oldest, place_of, take_out};
 use crate::changes::{CacheChange, Changes};
@@ -182,7 +186,8 @@ impl<K: Copy + Eq + Hash, S: BuildHasher, A: Allocator + Copy> TextureCache<K, S
     /// pixels, with the padding. Where none has, a page grows; where none can, one is added; and where all are there, the
     /// least recently used entry goes that this frame didn't use; and so on. None if the size is empty or doesn't fit
     /// the largest page, and then nothing changes, or if all entries are in use and no page has room. What was done is
-    /// added to the changes, also after an error, `Memory`, `Slots` or `Numbers`.
+    /// added to the changes, also after an error: `Memory`, `Slots` if those of a page don't suffice, or `Numbers` only where
+    /// 4,294,967,295 entries are left.
     pub fn insert(
         &mut self,
         key: K,
@@ -197,6 +202,8 @@ impl<K: Copy + Eq + Hash, S: BuildHasher, A: Allocator + Copy> TextureCache<K, S
             → Inserts (size_of (bordered self.old.options size)) key size result changes.old.items changes.new.items
             self.old self.new }
         ensures told { Tells K.eq key result changes.old.items changes.new.items self.old self.new }
+        ensures errors { entry_for K.eq key self.old.entries ≡ None
+            → IfErr result (IsRefusedNew (length self.new.entries)) }
     {
         self.entries.prove_kept();
         if let Some((known, entry)) = look_up(&self.entries, &key) {
@@ -236,7 +243,8 @@ impl<K: Copy + Eq + Hash, S: BuildHasher, A: Allocator + Copy> TextureCache<K, S
         requires absent { entry_for K.eq key self.old.entries ≡ None }
         requires stands { CanStand self.old.options size }
         requires asked { asked ≡ size_of (bordered self.old.options size) }
-        ensures { Inserts asked key size result changes.old.items changes.new.items self.old self.new }
+        ensures inserts { Inserts asked key size result changes.old.items changes.new.items self.old self.new }
+        ensures errors { IfErr result (IsRefusedNew (length self.new.entries)) }
     {
         loop {
             if let Some(place) = self.add(key, size, asked)? {
@@ -258,6 +266,7 @@ impl<K: Copy + Eq + Hash, S: BuildHasher, A: Allocator + Copy> TextureCache<K, S
         ensures none { result ≡ Ok None → self.new ≡ self.old }
         ensures full { result ≡ Ok None → HasNoPageFor asked self.old }
         ensures refused { OnErr result (LooksSame self.old self.new) }
+        ensures errors { IfErr result (IsRefusedNew (length self.new.entries)) }
     {
         let granted = grant(
             &mut self.rooms,
@@ -282,6 +291,7 @@ impl<K: Copy + Eq + Hash, S: BuildHasher, A: Allocator + Copy> TextureCache<K, S
         ensures stops { result ≡ Ok false → IsExhausted asked self.old }
         ensures stays { result ≡ Ok false → (self.new ≡ self.old) × (changes.new.items ≡ changes.old.items) }
         ensures refused { OnErr result ((self.new ≡ self.old) × (changes.new.items ≡ changes.old.items)) }
+        ensures errors { IfErr result IsRefusal }
     {
         changes.reserve(1)?;
         if let Some((page, size)) = self.rooms.grow_page()? {

@@ -1,10 +1,11 @@
 //! Entries under their keys, in the order of their use: each call takes a few steps and at most one look-up by a hash,
 //! however many entries there are.
 ghost use Rattle.std.specs.Prelude.{◌≡◌, ◌≢◌, ◌↔◌, ◌+◌, ◌<◌, ◌≤◌, max, None, Some, [], ◌∷◌, ◌++◌, ℕ, List, length};
-ghost use Rattle.std.specs.Prelude.{IfOk, IfSome, IsNone, IsTrue, OnErr, nat_eq, slice_get, vec_capacity, vec_len};
+ghost use Rattle.std.specs.Prelude.{IfErr, IfOk, IfSome, IsNone, IsOkUnless, IsTrue, OnErr, nat_eq, slice_get, vec_capacity, vec_len};
 ghost use Rattle.std.specs.HashMap.{Updates, spare};
 ghost use Rattle.std.specs.List.{IsDistinct};
 ghost use Rattle.atlas_cache.specs.Orders.{first_of, last_of};
+ghost use Rattle.atlas_cache.specs.Refusals.{IsWithoutNumber};
 
 use crate::error::CacheError;
 use crate::recency::Recency;
@@ -180,13 +181,14 @@ impl<K: Copy + Eq + Hash, S: BuildHasher, A: Allocator + Copy> Entries<K, S, A> 
         entry.frame = frame;
     }
 
-    /// An entry with a new key joins, the most recently used from now on: its number, which was none's. `Numbers` if all
-    /// are in use, and `Memory` if memory is refused; then nothing changes.
+    /// An entry with a new key joins, the most recently used from now on: its number, which was none's. `Numbers` only if
+    /// all are in use, and `Memory` if memory is refused; then nothing changes.
     pub fn push(&mut self, entry: Entry<K>) -> Result<u32, CacheError>
         requires { IsNone (number_of K.eq entry.key self.old) }
         ensures new { IfOk result (λ number. IsNone (entry_at number self.old)) }
         ensures joined { IfOk result (λ number. self.new ≡ (number, entry) ∷ self.old) }
         ensures refused { OnErr result (self.new ≡ self.old) }
+        ensures errors { IfErr result (IsWithoutNumber (length self.old)) }
     {
         self.map.reserve(1)?;
         self.items.reserve(1)?;
@@ -218,7 +220,8 @@ impl<K: Copy + Eq + Hash, S: BuildHasher, A: Allocator + Copy> Entries<K, S, A> 
 
     /// Asks for room for so many more entries. Nothing else changes. `Memory` if memory is refused.
     pub fn reserve(&mut self, additional: usize) -> Result<(), CacheError>
-        ensures { self.new ≡ self.old }
+        ensures same { self.new ≡ self.old }
+        ensures unless { IsOkUnless result CacheError.Memory }
     {
         self.map.reserve(additional)?;
         self.items.reserve(additional)?;

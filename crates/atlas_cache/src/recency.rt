@@ -1,8 +1,10 @@
 //! Entries in the order of their use, by links between them: each call takes a few steps, however many entries there
 //! are.
-ghost use Rattle.std.specs.Prelude.{◌≡◌, ◌⊎◌, ◌+◌, ◌<◌, ◌≤◌, max, ℕ, List, [], ◌∷◌, ◌++◌, length, IsTrue, ◌↔◌, IfOk, IfSome, OnErr};
+ghost use Rattle.std.specs.Prelude.{◌≡◌, ◌⊎◌, ◌+◌, ◌<◌, ◌≤◌, max, ℕ, List, [], ◌∷◌, ◌++◌, length, IsTrue, ◌↔◌, IfErr, IfOk, IfSome, IsOkUnless, OnErr};
 ghost use Rattle.atlas_cache.specs.Orders.{IsEntry, IsNew, first_of, gone, joined, last_of, occurs, used, without};
+ghost use Rattle.atlas_cache.specs.Refusals.{IsWithoutNumber};
 ghost use Rattle.atlas_cache.specs.Rings.{HasSpare, IsListed, IsRing, next_at, no_entry};
+ghost use Rattle.atlas_cache.specs.declared.error.CacheError.TheVariants.{Memory, Numbers};
 
 pub mod links;
 
@@ -80,6 +82,8 @@ fn take_number<A: Allocator>(links: &mut Vec<Link, A>, unused: &mut u32) -> Resu
     ensures made { IfOk result (λ n. length links.new.items ≡ max (length links.old.items) (n + 1)) }
     ensures short { length links.new.items ≤ no_entry }
     ensures refused { OnErr result ((links.new.items ≡ links.old.items) × (unused.new ≡ unused.old)) }
+    ensures errors { IfErr result (λ e. (e ≡ Memory)
+        ⊎ ((e ≡ Numbers) × (unused.old ≡ no_entry) × (length links.old.items ≡ no_entry))) }
 {
     let number = *unused;
     if number != NO_ENTRY {
@@ -168,11 +172,12 @@ impl<A: Allocator> Recency<A> {
     }
 
     /// A new entry, the most recently used from now on: its number. That is one that belongs to no entry, or else the
-    /// next one. `Numbers` if all are in use, and `Memory` if memory is refused; then nothing changes.
+    /// next one. `Numbers` only if all are in use, and `Memory` if memory is refused; then nothing changes.
     pub fn push(&mut self) -> Result<u32, CacheError>
         ensures new { IfOk result (λ number. IsNew number self.old) }
         ensures joined { IfOk result (λ number. self.new ≡ joined number self.old) }
         ensures refused { OnErr result (self.new ≡ self.old) }
+        ensures errors { IfErr result (IsWithoutNumber (length self.old.entries)) }
     {
         let number = take_number(&mut self.links, &mut self.unused)?;
         push_front(&mut self.links, &mut self.ends, number);
@@ -200,7 +205,8 @@ impl<A: Allocator> Recency<A> {
 
     /// Asks for room for so many more entries. Nothing else changes. `Memory` if memory is refused.
     pub fn reserve(&mut self, additional: usize) -> Result<(), CacheError>
-        ensures { self.new ≡ self.old }
+        ensures same { self.new ≡ self.old }
+        ensures unless { IsOkUnless result CacheError.Memory }
     {
         self.links.reserve(additional)?;
         Ok(())

@@ -4,6 +4,8 @@
 #[cfg(test)]
 mod cache;
 #[cfg(test)]
+mod calls;
+#[cfg(test)]
 mod entries;
 #[cfg(test)]
 mod options;

@@ -1,10 +1,11 @@
 //! Steps over the pages and the entries of a cache: what is live on the pages stays what the entries hold, each once.
-ghost use Rattle.std.specs.Prelude.{◌≡◌, [], ◌∷◌, ◌++◌, length, IfNone, IfOk, IfSome, IsNone, None, Ok, OnErr, Some};
+ghost use Rattle.std.specs.Prelude.{◌≡◌, [], ◌∷◌, ◌++◌, length, IfErr, IfNone, IfOk, IfSome, IsNone, None, Ok, OnErr, Some};
 ghost use Rattle.guillotiere.specs.Pages.{HasSameRectangles, LeavesNoBoxOn, NoneHasRoomBelow};
 ghost use Rattle.atlas_cache.specs.Asking.{IsBorderedBy};
 ghost use Rattle.atlas_cache.specs.Caches.{entries_of, entry_for, shown, HoldsEntries, IsFound};
 ghost use Rattle.atlas_cache.specs.Changes.{IsPlaced};
 ghost use Rattle.atlas_cache.specs.Entries.{entry_at, number_of, without_number};
+ghost use Rattle.atlas_cache.specs.Refusals.{IsRefusedNew};
 ghost use Rattle.atlas_cache.specs.Rooms.{page_sizes};
 
 use crate::entries::{Entries, Entry};
@@ -74,6 +75,7 @@ pub fn grant<K: Copy + Eq + Hash, S: BuildHasher, A: Allocator + Copy>(
     ensures full { result ≡ Ok None → NoneHasRoomBelow asked rooms.old.pages (length rooms.old.pages) }
     ensures refused { OnErr result (HasSameRectangles rooms.old.pages rooms.new.pages
         × (entries.new ≡ entries.old)) }
+    ensures errors { IfErr result (IsRefusedNew (length entries.old)) }
 {
     let Some((page, granted)) = rooms.place(asked)? else {
         return Ok(None);

@@ -116,4 +116,4 @@ returns-clause-told g c =
     let own = own_keys g.K.PartialEq.eq c.self.inside.entries c.prove_kept.ensures.keys in
     inserts_tell g.K.PartialEq.eq g.met.K.Eq.laws c.in-Some-asked.asked c.args.key c.args.size c.insert_new.result
     c.args.changes.now.items c.insert_new.new.changes.items c.args.self.now c.insert_new.new.self (rw (← c.self.view_is) own)
-    c.insert_new.ensures
+    c.insert_new.ensures.inserts

@@ -1,6 +1,7 @@
-use Rattle.std.proofs.Common.{◌∙◌, ◌∷◌, ap, subst, sym}
+use Rattle.std.proofs.Common.{◌≡◌, ◌∙◌, ◌∷◌, ap, inl, inr, length, subst, sym, Err, rules}
 use Rattle.atlas_cache.specs.Tables.{AreKept, numbered}
 use Rattle.atlas_cache.proofs.EntryKeeping.{absent-is, joined-is, kept-alike, kept-joined, new-none}
+use Rattle.atlas_cache.proofs.EntryLemmas.{length-numbered}
 use Rattle.atlas_cache.proofs.entries.Entries.push.Goals as goal
 
 pub invariant_of-self : goal.invariant_of-self
@@ -52,3 +53,13 @@ returns-clause-joined g c =
     joined-is eq map s.recency items kept n e c.store.new.items.items c.in_ok-number.ensures.new c.store.ensures.stored c.store.ensures.others ∙
     ap (λ xs. (n, e) ∷ numbered xs s.recency.entries) c.in_ok-reserve-2.ensures.items ∙
     ap (λ es. (n, e) ∷ es) c.self.view_is
+
+pub returns-in_err-number-clause-errors : goal.returns-in_err-number-clause-errors
+returns-in_err-number-clause-errors g c =
+    let s = c.self.inside in
+    let same : c.from_residual-in_err-number.result ≡ Err c.in_err-number.field-0.0 = search rules in
+    let long = sym (length-numbered s.items.items s.recency.entries c.self.invariant.inside) in
+    rw same (rw (← c.self.view_is) (elim c.in_err-number.ensures.errors [
+      | inl memory ↦ inl memory
+      | inr none ↦ inr (none.0, sym long ∙ none.1)
+    ]))

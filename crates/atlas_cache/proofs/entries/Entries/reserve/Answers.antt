@@ -19,11 +19,11 @@ invariant_of-self-in_err-reserve-3 g c =
     let s = c.self.inside in
     let eq = g.K.PartialEq.eq in
     let kept : AreKept eq c.reserve.new.self s.recency c.reserve-2.new.self.items = subst (λ xs. AreKept eq c.reserve.new.self s.recency xs) (sym c.in_ok-reserve-2.ensures.items) (kept-alike eq s.map s.recency s.items.items c.self.invariant c.reserve.new.self c.in_ok-reserve.ensures.entries.2) in
-    subst (λ o. AreKept eq c.reserve.new.self o c.reserve-2.new.self.items) (sym c.reserve-3.ensures) kept
+    subst (λ o. AreKept eq c.reserve.new.self o c.reserve-2.new.self.items) (sym c.reserve-3.ensures.same) kept
 
 pub invariant_of-self-2 : goal.invariant_of-self-2
 invariant_of-self-2 g c =
     let s = c.self.inside in
     let eq = g.K.PartialEq.eq in
     let kept : AreKept eq c.reserve.new.self s.recency c.reserve-2.new.self.items = subst (λ xs. AreKept eq c.reserve.new.self s.recency xs) (sym c.in_ok-reserve-2.ensures.items) (kept-alike eq s.map s.recency s.items.items c.self.invariant c.reserve.new.self c.in_ok-reserve.ensures.entries.2) in
-    subst (λ o. AreKept eq c.reserve.new.self o c.reserve-2.new.self.items) (sym c.reserve-3.ensures) kept
+    subst (λ o. AreKept eq c.reserve.new.self o c.reserve-2.new.self.items) (sym c.reserve-3.ensures.same) kept

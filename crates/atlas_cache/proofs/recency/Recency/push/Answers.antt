@@ -1,8 +1,8 @@
-use Rattle.std.proofs.Common.{◌∙◌, ◌+◌, ap, sym, subst, length, ◌∷◌, arith}
+use Rattle.std.proofs.Common.{◌∙◌, ◌+◌, ap, sym, subst, inl, inr, length, ◌≡◌, ◌∷◌, Err, arith, rules}
 use Rattle.std.proofs.lemmas.List.{with_items_is}
 use Rattle.atlas_cache.specs.Orders.{IsNew, joined}
 use Rattle.atlas_cache.specs.Rings.{HasSpare, IsRecency, IsRing, run}
-use Rattle.atlas_cache.proofs.SpareLemmas.{unused-inside, new-free}
+use Rattle.atlas_cache.proofs.SpareLemmas.{all-used, unused-inside, new-free}
 use Rattle.atlas_cache.proofs.Moves.{IsJoined, IsRecency-joined, joined-is, joined-new, stored, count-fits}
 use Rattle.atlas_cache.proofs.recency.Recency.push.Goals as goal
 
@@ -58,3 +58,14 @@ returns-clause-joined g c =
     let w : IsJoined r.links.items mid.items r.ends new last r.unused c.take_number.new.unused i = subst (λ l. IsJoined r.links.items l r.ends new last r.unused c.take_number.new.unused i) c.deref_mut.ensures.value (record { ring = λ xs h. subst (λ l. IsRing l r.ends xs) (sym c.deref_mut.ensures.value) (c.in_ok-number.ensures.ring r.ends xs h); rest = λ xs h. subst (λ l. HasSpare l r.ends c.take_number.new.unused (i ∷ xs)) (sym c.deref_mut.ensures.value) (c.in_ok-number.ensures.rest r.ends xs h); made = ap length c.deref_mut.ensures.value ∙ c.in_ok-number.ensures.made; short = rw c.deref_mut.ensures.value c.in_ok-number.ensures.short; pushed = c.push_front.ensures.ring; others = c.push_front.ensures.others; size = c.push_front.ensures.size }) in
     let e = with_items_is mid new (w.size ∙ sym mid.ok.0) in
     ap (λ l. stored l last (r.count + 1)) e ∙ joined-is r.links.items mid.items new r.ends last r.unused c.take_number.new.unused r.count i c.self.invariant w ∙ ap (joined i) c.self.view_is
+
+pub returns-in_err-number-clause-errors : goal.returns-in_err-number-clause-errors
+returns-in_err-number-clause-errors g c =
+    let r = c.self.inside in
+    let xs = run r.links.items r.ends r.count in
+    let all = all-used r.links.items r.ends r.unused xs c.self.invariant.rest in
+    let same : c.from_residual.result ≡ Err c.in_err-number.field-0.0 = search rules in
+    rw same (rw (← c.self.view_is) (elim c.in_err-number.ensures.errors [
+      | inl memory ↦ inl memory
+      | inr none ↦ inr (none.0, all none.1 none.2)
+    ]))

@@ -1,0 +1,7 @@
+use Rattle.std.proofs.Common.{refl}
+use Rattle.atlas_cache.proofs.HoldingLemmas.{none_held}
+use Rattle.atlas_cache.proofs.cache.TextureCache.clear.Goals as goal
+
+pub invariant_of-self : goal.invariant_of-self
+invariant_of-self g c =
+    rw c.clear.ensures (record { held = none_held _ c.clear-2.ensures.nothing; bordered = tt; frames = tt })

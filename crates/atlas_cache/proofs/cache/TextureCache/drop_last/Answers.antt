@@ -1,0 +1,74 @@
+use Rattle.std.proofs.Common.{◌≡◌, ◌++◌, ◌∷◌, [], refl, arith, ap}
+use Rattle.atlas_cache.specs.Caches.{entries_of}
+use Rattle.atlas_cache.specs.Entries.{without_number}
+use Rattle.atlas_cache.proofs.CacheLemmas.{bordered-at, rest_bordered, rest_falls}
+use Rattle.atlas_cache.proofs.ListLemmas.{falls-last, length-last, parts}
+use Rattle.atlas_cache.proofs.TrimLemmas.{used-all}
+use Rattle.atlas_cache.proofs.cache.TextureCache.drop_last.Goals as goal
+
+pub overflow_sub-self-inside : goal.overflow_sub-self-inside
+overflow_sub-self-inside g c =
+    let it = c.self.inside in
+    let last = rw c.in-Some.is at c.oldest.ensures.last in
+    let falls = rw last at c.self.invariant.frames in
+    let least = falls-last it.frame (entries_of (without_number c.in-Some.number it.entries)) c.in-Some.entry falls in
+    omega arith
+
+pub returns-in_default-clause-stops : goal.returns-in_default-clause-stops
+returns-in_default-clause-stops g c = λ _.
+    let none = c.in_default.ensures.none in rw (← c.self.view_is, none) tt
+
+pub returns-then-self-entry-clause-stops : goal.returns-then-self-entry-clause-stops
+returns-then-self-entry-clause-stops g c = λ _.
+    let it = c.self.inside in
+    let last = rw c.in-Some.is at c.oldest.ensures.last in
+    let falls = rw last at c.self.invariant.frames in
+    let least = falls-last it.frame (entries_of (without_number c.in-Some.number it.entries)) c.in-Some.entry falls in
+    rw (← c.self.view_is, last)
+    (used-all it.frame it.frame c.args.frames (entries_of (without_number c.in-Some.number it.entries)) c.in-Some.entry falls
+    (omega arith))
+
+pub take_out-requires-clause-here : goal.take_out-requires-clause-here
+take_out-requires-clause-here g c = rw c.in-Some.is at c.oldest.ensures.here
+
+pub place_of-place-requires : goal.place_of-place-requires
+place_of-place-requires g c =
+    let here = rw c.in-Some.is at c.oldest.ensures.here in
+    rw (c.options.ensures.options, c.take_out.ensures.options)
+    (bordered-at _ _ c.self.inside.entries c.in-Some.entry c.self.invariant.bordered here)
+
+pub invariant_of-self : goal.invariant_of-self
+invariant_of-self g c =
+    let here = rw c.in-Some.is at c.oldest.ensures.here in
+    let it = c.self.inside in
+    let n = c.in-Some.number in
+    let e = c.in-Some.entry in
+    let was = c.self.invariant in
+    let es = entries_of it.entries in
+    let rest = entries_of (without_number n it.entries) in
+    let p = parts n it.entries e here in
+    record {
+      held = c.take_out.ensures.held;
+      bordered = rw (c.take_out.ensures.options, c.take_out.ensures.without)
+          (rest_bordered it.rooms.pages it.rooms.options.padding it.frame e es rest p was.bordered);
+      frames = rw c.take_out.ensures.without
+          (rest_falls it.rooms.pages it.rooms.options.padding it.frame e es rest p was.frames);
+    }
+
+pub returns-clause-drops : goal.returns-clause-drops
+returns-clause-drops g c = λ _.
+    let it = c.self.inside in
+    let e = c.in-Some.entry in
+    let last = rw c.in-Some.is at c.oldest.ensures.last in
+    let falls = rw last at c.self.invariant.frames in
+    let least = falls-last it.frame (entries_of (without_number c.in-Some.number it.entries)) e falls in
+    rw (← c.self.view_is) (record {
+      entry = e;
+      last = rw c.take_out.ensures.without last;
+      unused = omega arith;
+      listed = rw (c.place_of-place.ensures, c.options.ensures.options, c.take_out.ensures.options) at c.push_reserved.ensures.items;
+      sizes = c.take_out.ensures.sizes;
+      options = c.take_out.ensures.options;
+      frame = refl;
+      counts = rw c.count-self-inside.ensures refl;
+    })

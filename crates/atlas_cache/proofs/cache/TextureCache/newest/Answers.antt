@@ -1,0 +1,13 @@
+use Rattle.std.proofs.Common.{ap, refl, sym, ◌∙◌, Some}
+use Rattle.atlas_cache.proofs.CacheLemmas.{bordered-at}
+use Rattle.atlas_cache.proofs.cache.TextureCache.newest.Goals as goal
+
+pub place_of-requires : goal.place_of-requires
+place_of-requires g c =
+    let here = rw c.in-Some.is at c.newest.ensures.here in
+    rw c.options.ensures.options (bordered-at _ _ c.self.inside.entries c.in-Some.entry c.self.invariant.bordered here)
+
+pub returns : goal.returns
+returns g c =
+    let first = rw c.in-Some.is at c.newest.ensures.first in
+    rw (← c.self.view_is, first, c.place_of.ensures, c.options.ensures.options) refl

@@ -1,0 +1,85 @@
+//! What goes without another entry that comes, and room that is asked for beforehand.
+ghost use Rattle.std.specs.Prelude.{◌≡◌, ◌+◌, ◌≤◌, false, length, IsOk, IsOkUnless, IsTrue, OnErr, OnOk};
+ghost use Rattle.std.specs.Prelude.{vec_capacity, vec_len};
+ghost use Rattle.std.specs.List.{AllByRecursion};
+ghost use Rattle.atlas_cache.specs.Clearing.{Clears, DropsLast, IsUsedSince, TellsChanges, Trims};
+
+use crate::cache::TextureCache;
+use crate::cache::holding::{oldest, place_of, take_out};
+use crate::changes::{CacheChange, Changes};
+use crate::counts::count;
+use crate::error::CacheError;
+use std::alloc::Allocator;
+use std::hash::{BuildHasher, Hash};
+
+impl<K: Copy + Eq + Hash, S: BuildHasher, A: Allocator + Copy> TextureCache<K, S, A> {
+    /// All keys go. The pages stay, with their sizes and with nothing on them, and so do the frame and the counts. No
+    /// change tells it: the caller forgets all places. Takes no memory.
+    pub fn clear(&mut self)
+        ensures { Clears self.old self.new }
+    {
+        self.entries.clear();
+        self.rooms.clear();
+    }
+
+    /// The entries that weren't used for at least so many frames go: with 1, what this frame didn't use; with 0, all. Each
+    /// is added to the changes as `Evicted`, the least recently used first. The others stay. The list of changes is asked
+    /// for room for as many as there are entries; with `Memory`, if that is refused, nothing changes.
+    pub fn trim(&mut self, frames: u64, changes: &mut Changes<K, A>) -> Result<(), CacheError>
+        ensures trims { OnOk result (Trims frames changes.old.items changes.new.items self.old self.new) }
+        ensures told { TellsChanges K.eq changes.old.items changes.new.items self.old self.new }
+        ensures refused { OnErr result ((self.new ≡ self.old) × (changes.new.items ≡ changes.old.items)) }
+        ensures unless { IsOkUnless result CacheError.Memory }
+        ensures room { vec_len changes.old + length self.old.entries ≤ vec_capacity changes.old → IsOk result }
+    {
+        changes.reserve(self.entries.len())?;
+        self.drop_unused(frames, changes);
+        Ok(())
+    }
+
+    /// Asks for room for so many more entries: until there are so many more, an insert asks for no memory for them, but
+    /// only for pages and for changes. Nothing that a caller sees changes. `Memory` if memory is refused.
+    pub fn reserve(&mut self, additional: usize) -> Result<(), CacheError>
+        ensures same { self.new ≡ self.old }
+        ensures unless { IsOkUnless result CacheError.Memory }
+    {
+        self.entries.reserve(additional)
+    }
+
+    // The entries that weren't used for so many frames go.
+    fn drop_unused(&mut self, frames: u64, changes: &mut Changes<K, A>)
+        requires { vec_len changes.old + length self.old.entries ≤ vec_capacity changes.old }
+        ensures trims { Trims frames changes.old.items changes.new.items self.old self.new }
+        ensures told { TellsChanges K.eq changes.old.items changes.new.items self.old self.new }
+    {
+        self.entries.prove_kept();
+        'each: loop {
+            if !self.drop_last(frames, changes) {
+                return;
+            }
+        }
+    }
+
+    // The least recently used entry goes, if it wasn't used for so many frames; whether it did.
+    fn drop_last(&mut self, frames: u64, changes: &mut Changes<K, A>) -> bool
+        requires { vec_len changes.old + length self.old.entries ≤ vec_capacity changes.old }
+        ensures drops { IsTrue result → DropsLast frames changes.old.items changes.new.items self.old self.new }
+        ensures room { vec_len changes.new + length self.new.entries ≤ vec_capacity changes.new }
+        ensures stops { result ≡ false
+            → AllByRecursion (IsUsedSince frames self.old.frame) self.old.entries }
+        ensures stays { result ≡ false → (self.new ≡ self.old) × (changes.new.items ≡ changes.old.items) }
+    {
+        let Some((number, entry)) = oldest(&self.entries) else {
+            return false;
+        };
+        if self.frame - entry.frame < frames {
+            return false;
+        }
+        take_out(&mut self.rooms, &mut self.entries, number, entry);
+        self.counts.evictions = count(self.counts.evictions);
+        let place = place_of(entry, &self.rooms.options());
+        let key = entry.key;
+        changes.push_reserved(CacheChange::Evicted { key, place });
+        true
+    }
+}

@@ -1,0 +1,52 @@
+//! What a cache tells of itself: how it was made, how it was used, and the areas of its pages.
+ghost use Rattle.std.specs.Prelude.{◌≡◌, slice_get};
+ghost use Rattle.atlas_cache.specs.Asking.{AreUsable};
+ghost use Rattle.atlas_cache.specs.Repacking.{free_areas, live_areas};
+
+use crate::cache::TextureCache;
+use crate::counts::Counts;
+use crate::options::CacheOptions;
+use std::alloc::Allocator;
+use std::hash::{BuildHasher, Hash};
+
+impl<K: Copy + Eq + Hash, S: BuildHasher, A: Allocator + Copy> TextureCache<K, S, A> {
+    /// How the cache was made.
+    pub fn options(&self) -> CacheOptions
+        ensures options { result ≡ self.now.options }
+        ensures usable { AreUsable result }
+    {
+        self.rooms.options()
+    }
+
+    /// How often `get` found its key and how often it didn't, and how many entries were evicted, since the cache was
+    /// made.
+    pub fn statistics(&self) -> Counts
+        ensures { result ≡ self.now.counts }
+    {
+        self.counts
+    }
+
+    /// The area of all entries of a page together, with their padding and what alignment added, in pixels; None if there
+    /// is no such page. Takes no memory, and one pass over the slots of the page.
+    pub fn live_area(&self, page: u32) -> Option<u64>
+        ensures { result ≡ slice_get (live_areas self.now.pages) page }
+    {
+        if page < self.rooms.len() {
+            Some(self.rooms.live_area(page))
+        } else {
+            None
+        }
+    }
+
+    /// The area of a page that no entry takes, in pixels; None if there is no such page. Takes no memory, and one pass
+    /// over the slots of the page.
+    pub fn free_area(&self, page: u32) -> Option<u64>
+        ensures { result ≡ slice_get (free_areas self.now.pages) page }
+    {
+        if page < self.rooms.len() {
+            Some(self.rooms.free_area(page))
+        } else {
+            None
+        }
+    }
+}

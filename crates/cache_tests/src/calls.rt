@@ -1,0 +1,169 @@
+//! Calls that tell what a cache does, or take from it: small traces worked by hand.
+use atlas_cache::{CacheChange, CacheError, CacheOptions, Counts, Place, TextureCache};
+use guillotiere::{DEFAULT_OPTIONS, Rectangle, point2, size2};
+use std::alloc::Global;
+use std::test::Fail;
+
+// Pages of 16 by 16 pixels that don't grow, at most four, with no padding.
+fn options() -> CacheOptions {
+    CacheOptions {
+        page: size2(16, 16),
+        largest_page: size2(16, 16),
+        pages: 4,
+        padding: 0,
+        atlas: DEFAULT_OPTIONS,
+    }
+}
+
+fn empty(alloc: Global) -> Result<TextureCache<u32>, Fail> {
+    let cache = TextureCache::new(alloc, options())?;
+    Ok(cache)
+}
+
+// Keys 1, 2 and 3, each used in a frame of its own, 1, 2 and 3, and each with a page of its own.
+fn three(alloc: Global) -> Result<TextureCache<u32>, Fail> {
+    let mut cache = TextureCache::new(alloc, options())?;
+    let mut changes = Vec::new(alloc);
+    for key in 1..4u32 {
+        cache.begin_frame();
+        let _place = cache.insert(key, size2(16, 16), &mut changes)?;
+    }
+    Ok(cache)
+}
+
+// The whole of a page.
+fn whole(page: u32) -> Place {
+    let whole = Rectangle {
+        min: point2(0, 0),
+        max: point2(16, 16),
+    };
+    Place {
+        page,
+        rectangle: whole,
+        inner: whole,
+    }
+}
+
+#[test]
+fn another_size_is_refused(rt: HostRuntime) -> Result<(), Fail> {
+    let mut cache = three(rt.alloc())?;
+    let mut changes = Vec::new(rt.alloc());
+    let refused = cache.insert(1, size2(8, 8), &mut changes);
+    assert!(rt; matches!(refused, Err(CacheError::OtherSize)));
+    assert_eq!(rt; cache.peek(&1), Some(whole(0)));
+    Ok(())
+}
+
+#[test]
+fn the_options_are_told(rt: HostRuntime) -> Result<(), Fail> {
+    let cache = three(rt.alloc())?;
+    assert_eq!(rt; cache.options(), options());
+    Ok(())
+}
+
+#[test]
+fn uses_are_counted(rt: HostRuntime) -> Result<(), Fail> {
+    let mut cache = three(rt.alloc())?;
+    let _hit = cache.get(&1);
+    let _again = cache.get(&1);
+    let _miss = cache.get(&4);
+    let counts = Counts {
+        hits: 2,
+        misses: 1,
+        evictions: 0,
+    };
+    assert_eq!(rt; cache.statistics(), counts);
+    Ok(())
+}
+
+#[test]
+fn areas_are_told(rt: HostRuntime) -> Result<(), Fail> {
+    let mut cache = empty(rt.alloc())?;
+    let mut changes = Vec::new(rt.alloc());
+    let _place = cache.insert(1, size2(16, 4), &mut changes)?;
+    assert_eq!(rt; cache.live_area(0), Some(64));
+    assert_eq!(rt; cache.free_area(0), Some(192));
+    assert_eq!(rt; cache.live_area(1), None);
+    assert_eq!(rt; cache.free_area(1), None);
+    Ok(())
+}
+
+#[test]
+fn all_keys_go(rt: HostRuntime) -> Result<(), Fail> {
+    let mut cache = three(rt.alloc())?;
+    cache.clear();
+    assert_eq!(rt; cache.len(), 0);
+    assert!(rt; cache.peek(&1).is_none());
+    assert_eq!(rt; cache.pages(), 3);
+    assert_eq!(rt; cache.live_area(2), Some(0));
+    Ok(())
+}
+
+#[test]
+fn what_was_not_used_goes(rt: HostRuntime) -> Result<(), Fail> {
+    let mut cache = three(rt.alloc())?;
+    let mut changes = Vec::new(rt.alloc());
+    cache.trim(1, &mut changes)?;
+    let first = CacheChange::Evicted {
+        key: 1,
+        place: whole(0),
+    };
+    let second = CacheChange::Evicted {
+        key: 2,
+        place: whole(1),
+    };
+    assert_eq!(rt; changes.as_slice(), [first, second].as_slice());
+    assert_eq!(rt; cache.peek(&3), Some(whole(2)));
+    Ok(())
+}
+
+#[test]
+fn what_was_used_since_stays(rt: HostRuntime) -> Result<(), Fail> {
+    let mut cache = three(rt.alloc())?;
+    let mut changes = Vec::new(rt.alloc());
+    cache.trim(2, &mut changes)?;
+    assert_eq!(rt; changes.len(), 1);
+    assert_eq!(rt; cache.peek(&2), Some(whole(1)));
+    assert_eq!(rt; cache.statistics().evictions, 1);
+    Ok(())
+}
+
+#[test]
+fn all_go_with_0_frames(rt: HostRuntime) -> Result<(), Fail> {
+    let mut cache = three(rt.alloc())?;
+    let mut changes = Vec::new(rt.alloc());
+    cache.trim(0, &mut changes)?;
+    assert_eq!(rt; changes.len(), 3);
+    assert!(rt; cache.is_empty());
+    Ok(())
+}
+
+#[test]
+fn room_changes_nothing(rt: HostRuntime) -> Result<(), Fail> {
+    let mut cache = three(rt.alloc())?;
+    cache.reserve(100)?;
+    assert_eq!(rt; cache.len(), 3);
+    assert_eq!(rt; cache.peek(&2), Some(whole(1)));
+    Ok(())
+}
+
+#[test]
+fn keys_come_in_the_order_of_use(rt: HostRuntime) -> Result<(), Fail> {
+    let mut cache = three(rt.alloc())?;
+    let _used = cache.get(&1);
+    assert_eq!(rt; cache.newest(), Some((1, whole(0))));
+    assert_eq!(rt; cache.older(&1), Some((3, whole(2))));
+    assert_eq!(rt; cache.older(&3), Some((2, whole(1))));
+    assert_eq!(rt; cache.older(&2), None);
+    assert_eq!(rt; cache.oldest(), Some((2, whole(1))));
+    Ok(())
+}
+
+#[test]
+fn an_empty_cache_has_no_first_key(rt: HostRuntime) -> Result<(), Fail> {
+    let cache = empty(rt.alloc())?;
+    assert!(rt; cache.newest().is_none());
+    assert!(rt; cache.oldest().is_none());
+    assert!(rt; cache.older(&1).is_none());
+    Ok(())
+}
