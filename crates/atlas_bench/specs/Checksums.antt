@@ -1,6 +1,7 @@
 -- The checksum of answers.
 use Rattle.std.specs.Prelude.{ℕ, ◌+◌, ◌*◌, ◌%◌, ◌^◌, bit_xor, List, fold}
 use Rattle.std.specs.Int.{w32, cast_unsigned}
+use Rattle.atlas_cache.specs.declared.places.Place.{Place}
 use Rattle.guillotiere.specs.declared.Allocation.{Allocation}
 use Rattle.guillotiere.specs.declared.Change.{Change}
 use Rattle.guillotiere.specs.declared.Point.{Point}
@@ -29,3 +30,11 @@ with_moved checksum c = with_grant (with_grant checksum c.old) c.new
 -- A checksum after both lists of a rearranging.
 abbrev pub with_list : (checksum : ℕ) → List Change → List Allocation → ℕ
 with_list checksum changes failures = fold with_grant (fold with_moved checksum changes) failures
+
+-- A checksum after the place of a key.
+abbrev pub with_place : (checksum : ℕ) → Place → ℕ
+with_place checksum p = with_box (with_word checksum p.page) p.rectangle
+
+-- A checksum after a key that was evicted.
+abbrev pub with_evicted : (checksum key : ℕ) → ℕ
+with_evicted checksum key = with_word checksum (2 ^ 32 + key)

@@ -1,4 +1,5 @@
 pub mod SplitMix
 pub mod Checksums
+pub mod Glyphs
 pub mod Workloads
 pub mod Reports

@@ -6,7 +6,7 @@ use Rattle.bench_jobs.specs.declared.workload.Workload.{Workload}
 use Rattle.bench_jobs.specs.declared.workload.Workload.TheVariants.{Glyph, Record, Sprite, SortedSprite, Checker}
 use Rattle.bench_jobs.specs.declared.workload.Workload.TheVariants.{Search, Growth, Rearrange, Glyph1024, Glyph4096}
 use Rattle.bench_jobs.specs.declared.workload.Workload.TheVariants.{Glyph8192, Glyph16384, Mixed4096, Tiles, Sheet}
-use Rattle.bench_jobs.specs.declared.workload.Workload.TheVariants.{Sheet16384}
+use Rattle.bench_jobs.specs.declared.workload.Workload.TheVariants.{Sheet16384, Cache}
 use Rattle.atlas_bench.specs.declared.sizes.Kind.{Kind}
 use Rattle.atlas_bench.specs.declared.sizes.Kind.TheVariants.{Glyphs, Sprites}
 
@@ -29,6 +29,7 @@ Makes Mixed4096 size calls = calls ≡ size
 Makes Tiles size calls = calls ≡ 24576 + size
 Makes Sheet size calls = calls ≡ size
 Makes Sheet16384 size calls = calls ≡ size
+Makes Cache size calls = calls ≡ size
 
 -- The size of the next sprite: of ten six have sides of 16 to 64, three of 32 to 96, one of 64 to 160.
 abbrev pub sprite_size : (state : ℕ) → Size

@@ -1,7 +1,8 @@
 //! What a workload was answered.
 ghost use Rattle.std.specs.Prelude.{◌≡◌, ◌<◌, ◌+◌, ◌^◌, fold};
-ghost use Rattle.atlas_bench.specs.Checksums.{with_word, with_box, with_grant, with_moved, with_list, point_word};
+ghost use Rattle.atlas_bench.specs.Checksums.{with_word, with_box, with_grant, with_moved, with_list, with_place, with_evicted, point_word};
 
+use atlas_cache::Place;
 use guillotiere::{Allocation, Change, ChangeList, Point, Rectangle};
 use std::marker::Model;
 
@@ -16,6 +17,9 @@ const GROWN: u64 = 0xffff_ffff_ffff_fffd;
 
 // The word that ends an answer that the atlas was rearranged.
 const REARRANGED: u64 = 0xffff_ffff_ffff_fffc;
+
+// The word of a page that is added.
+const PAGE_ADDED: u64 = 0xffff_ffff_ffff_fffb;
 
 /// How many calls of an atlas were answered, and a checksum of their answers in order.
 #[derive(Clone, Copy)]
@@ -147,5 +151,29 @@ impl Answers {
         self.add_changes(&list.changes);
         self.add_grants(&list.failures);
         self.add(REARRANGED);
+    }
+
+    /// Takes in that a key of a cache has this place.
+    pub fn shown(&mut self, place: Place)
+        requires { self.old.calls + 1 < 2 ^ 64 }
+        ensures { self.new ≡ record { calls = self.old.calls + 1; checksum = with_place self.old.checksum place } }
+    {
+        self.calls += 1;
+        self.add(u64::from(place.page));
+        self.add_box(place.rectangle);
+    }
+
+    /// Takes in that a call, which is counted later, added a page.
+    pub fn page_added(&mut self)
+        ensures { self.new ≡ record { calls = self.old.calls; checksum = with_word self.old.checksum PAGE_ADDED } }
+    {
+        self.add(PAGE_ADDED);
+    }
+
+    /// Takes in that such a call evicted a key.
+    pub fn evicted(&mut self, key: u32)
+        ensures { self.new ≡ record { calls = self.old.calls; checksum = with_evicted self.old.checksum key } }
+    {
+        self.add(0x1_0000_0000 + u64::from(key));
     }
 }

@@ -1,4 +1,5 @@
 //! Why the program ends before its last line.
+use atlas_cache::{CacheError, OptionsError};
 use guillotiere::AtlasError;
 use guillotiere_recording::RecordingError;
 use std::alloc::AllocError;
@@ -17,6 +18,12 @@ pub enum BenchError {
     /// The recording allocator refused a call.
     #[error("refused: {0}")]
     Unrecorded(#[from] RecordingError),
+    /// The cache refused a call.
+    #[error("refused: {0}")]
+    Uncached(#[from] CacheError),
+    /// The cache refused its options.
+    #[error("refused: {0}")]
+    Options(#[from] OptionsError),
     /// The atlas gave an answer that the workload rules out.
     #[error("wrong answer")]
     WrongAnswer,

@@ -13,6 +13,7 @@ mod sheets;
 mod simple_sheets;
 mod sizes;
 mod sprites;
+mod textures;
 
 use error::BenchError;
 use run::run;

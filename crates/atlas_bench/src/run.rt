@@ -14,6 +14,7 @@ use crate::sheets::rearrange;
 use crate::simple_sheets::{large_sheet, sheet};
 use crate::sizes::Kind;
 use crate::sprites::{sorted_sprite, sprite};
+use crate::textures::textures;
 use bench_jobs::jobs::{JobsError, jobs};
 use bench_jobs::workload::{Job, Workload};
 use std::alloc::{AllocError, Global};
@@ -40,6 +41,7 @@ fn run_job(alloc: Global, job: Job) -> Result<Answers, BenchError>
         Workload::Tiles => tiles(alloc, job.size),
         Workload::Sheet => sheet(alloc, job.size),
         Workload::Sheet16384 => large_sheet(alloc, job.size),
+        Workload::Cache => textures(alloc, job.size),
     }
 }
 

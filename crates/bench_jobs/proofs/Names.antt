@@ -4,7 +4,7 @@ use Rattle.atlas_words.specs.Words.{BeginsWithWord}
 use Rattle.atlas_words.proofs.Keywords.{has_no_space, no_space_by_test}
 use Rattle.atlas_words.proofs.Parting.{one_word}
 use Rattle.bench_jobs.specs.declared.workload.Workload.{Workload}
-use Rattle.bench_jobs.specs.declared.workload.Workload.TheVariants.{Glyph, Record, Sprite, SortedSprite, Checker, Search, Growth, Rearrange, Glyph1024, Glyph4096, Glyph8192, Glyph16384, Mixed4096, Tiles, Sheet, Sheet16384}
+use Rattle.bench_jobs.specs.declared.workload.Workload.TheVariants.{Glyph, Record, Sprite, SortedSprite, Checker, Search, Growth, Rearrange, Glyph1024, Glyph4096, Glyph8192, Glyph16384, Mixed4096, Tiles, Sheet, Sheet16384, Cache}
 use Rattle.bench_jobs.specs.Workloads.{name}
 
 name_test : (w : Workload) → has_no_space (name w) ≡ true
@@ -25,6 +25,7 @@ name_test Mixed4096 = refl
 name_test Tiles = refl
 name_test Sheet = refl
 name_test Sheet16384 = refl
+name_test Cache = refl
 
 -- The first word of a line that begins with a name and a space is that name.
 pub name_first : (w : Workload) (line word rest digits : List ℕ) → BeginsWithWord line word rest → line ≡ name w ++ 32 ∷ digits → (word ≡ name w) × (rest ≡ 32 ∷ digits)

@@ -4,7 +4,7 @@ use Rattle.bench_jobs.specs.declared.workload.Workload.{Workload}
 use Rattle.bench_jobs.specs.declared.workload.Workload.TheVariants.{Glyph, Record, Sprite, SortedSprite, Checker}
 use Rattle.bench_jobs.specs.declared.workload.Workload.TheVariants.{Search, Growth, Rearrange, Glyph1024, Glyph4096}
 use Rattle.bench_jobs.specs.declared.workload.Workload.TheVariants.{Glyph8192, Glyph16384, Mixed4096, Tiles, Sheet}
-use Rattle.bench_jobs.specs.declared.workload.Workload.TheVariants.{Sheet16384}
+use Rattle.bench_jobs.specs.declared.workload.Workload.TheVariants.{Sheet16384, Cache}
 
 -- The name of a workload.
 abbrev pub name : Workload → List ℕ
@@ -24,6 +24,7 @@ name Mixed4096 = codes "mixed-4096"
 name Tiles = codes "tiles"
 name Sheet = codes "sheet"
 name Sheet16384 = codes "sheet-16384"
+name Cache = codes "cache"
 
 -- Its greatest size.
 abbrev pub most_size : Workload → ℕ
@@ -43,3 +44,4 @@ most_size Mixed4096 = 1000000000
 most_size Tiles = 1000000000
 most_size Sheet = 1000000
 most_size Sheet16384 = 1000000
+most_size Cache = 1000000000

@@ -37,6 +37,8 @@ pub enum Workload {
     Sheet,
     /// `sheet-16384`: glyphs by the simple allocator; the size is their number.
     Sheet16384,
+    /// `cache`: glyphs under keys in the pages of a texture array; the size is the number of calls.
+    Cache,
 }
 
 /// A workload and its size, which is in range.
@@ -77,6 +79,7 @@ impl Workload {
             b"mixed-4096" => Some(Workload::Mixed4096),
             b"tiles" => Some(Workload::Tiles),
             b"sheet" => Some(Workload::Sheet),
+            b"cache" => Some(Workload::Cache),
             _ => None,
         }
     }
@@ -102,6 +105,7 @@ impl Workload {
             Workload::Tiles => "tiles",
             Workload::Sheet => "sheet",
             Workload::Sheet16384 => "sheet-16384",
+            Workload::Cache => "cache",
         }
     }
 
@@ -118,7 +122,8 @@ impl Workload {
             | Workload::Glyph8192
             | Workload::Glyph16384
             | Workload::Mixed4096
-            | Workload::Tiles => 1_000_000_000,
+            | Workload::Tiles
+            | Workload::Cache => 1_000_000_000,
             Workload::Record => 10_000_000,
             Workload::Sprite | Workload::SortedSprite | Workload::Sheet | Workload::Sheet16384 =>
                 1_000_000,
