@@ -1,8 +1,8 @@
 -- Arrangements: how they come about, and what a sheet shows of them.
-use Rattle.std.proofs.Common.{◌≡◌, ◌+◌, ◌<◌, ◌≤◌, ℕ, zero, suc, Bool, true, false, ◌⊎◌, inl, inr, List, [], ◌∷◌, ◌++◌, length, map, take, get_or, take_all, All, IsPermutation, Option, Some, None, IfSome, IsSome, refl, ap, sym, subst, ◌∙◌, arith}
+use Rattle.std.proofs.Common.{◌≡◌, ◌+◌, ◌<◌, ◌≤◌, ℕ, zero, suc, Bool, true, inl, inr, List, [], ◌∷◌, ◌++◌, length, map, take, get_or, take_all, All, IsPermutation, Option, Some, None, IfSome, IsSome, refl, ap, sym, subst, ◌∙◌, arith}
 use Rattle.std.specs.List.{AllZip, enumerate_from}
-use Rattle.std.proofs.lemmas.List.{length-map, map_push, take_more}
-use Rattle.std.proofs.lemmas.List.Elements.{All-nil, All-cons, All-head, All-tail, All-get_or}
+use Rattle.std.proofs.lemmas.List.{map_push, take_more}
+use Rattle.std.proofs.lemmas.List.Elements.{All-nil, All-cons, All-head, All-tail}
 use Rattle.std.proofs.lemmas.Slice.Zip.{AllZip-long, all_zipped_more}
 use Rattle.guillotiere.specs.declared.Size.{Size}
 use Rattle.guillotiere.specs.declared.Rectangle.{Rectangle}
@@ -18,7 +18,7 @@ use Rattle.atlas_sheet.specs.Allowances.{pixels}
 use Rattle.atlas_sheet.specs.Lying.{IsArrangement, IsPlacedFor, MayLie, areas_of, lie, placed_area}
 use Rattle.atlas_sheet.specs.Orders.{choice_options}
 use Rattle.atlas_sheet.specs.Packings.{ArePacked, IsNoLarger, Packed}
-use Rattle.atlas_sheet.specs.Sheets.{ArePlaces, FindPlaces, IsPackable, IsPlaceFor, inner_sides, with_places}
+use Rattle.atlas_sheet.specs.Sheets.{FindPlaces, IsPackable, IsPlaceFor, inner_sides, with_places}
 use Rattle.atlas_sheet.proofs.Turning.{lie_as_given, lie_on, lie_packable}
 use Rattle.atlas_sheet.proofs.WholeSheets.{found_places}
 

@@ -1,5 +1,5 @@
 -- One sprite that asks for a place.
-use Rattle.std.proofs.Common.{◌≡◌, ◌+◌, ◌-◌, ◌/◌, ◌%◌, ◌≤◌, ℕ, Bool, true, false, not, ◌&&◌, eqb, List, ◌∷◌, ◌++◌, All, ap, sym, subst, ◌∙◌, Option, Some, None, arith, rules}
+use Rattle.std.proofs.Common.{◌≡◌, ◌+◌, ◌-◌, ◌/◌, ◌%◌, ◌≤◌, ℕ, Bool, false, not, ◌&&◌, eqb, List, ◌∷◌, ◌++◌, All, ap, sym, subst, ◌∙◌, Option, Some, None, arith}
 use Rattle.std.specs.List.{count_by}
 use Rattle.std.proofs.Math.Nat.{add-mul-mod_self_right}
 use Rattle.std.proofs.lemmas.Bool.Decides.{nat_tests}
@@ -42,7 +42,7 @@ keeps_positive spacing old new sprite found step positive =
     subst (λ (o : Options). IsPositive o.alignment) (sym (keeps_options spacing old new sprite found step)) positive
 
 -- Where a box lies in another, it covers no unit square that the other doesn't.
-covers_inside : (small box : Box) (x y : ℕ) → IsInside small box → one_if (covers x y small) ≤ one_if (covers x y box)
+pub covers_inside : (small box : Box) (x y : ℕ) → IsInside small box → one_if (covers x y small) ≤ one_if (covers x y box)
 covers_inside small box x y inside = grind (arith, nat_tests)
 
 -- A part of a box that is held may be held in its place.

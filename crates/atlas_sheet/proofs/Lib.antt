@@ -8,6 +8,7 @@ pub mod Ordering
 pub mod Placing
 pub mod Powers
 pub mod Rows
+pub mod Showing
 pub mod Steps
 pub mod Taking
 pub mod Turning

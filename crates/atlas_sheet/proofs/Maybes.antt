@@ -1,5 +1,5 @@
 -- Values that may be absent.
-use Rattle.std.proofs.Common.{◌≡◌, Bool, true, false, Option, Some, None, IfSome, IfNone, MatchOption, is_some}
+use Rattle.std.proofs.Common.{◌≡◌, true, false, Option, Some, None, IfSome, IfNone, is_some}
 
 -- Two facts about a value make a third.
 pub both : {T : Type 0} (o : Option T) {P Q R : T → Type 0} → IfSome o P → IfSome o Q → ((x : T) → P x → Q x → R x) → IfSome o R

@@ -9,7 +9,7 @@ use Rattle.guillotiere.specs.Pixels.{natural, sides_of}
 use Rattle.atlas_sheet.specs.declared.options.Spacing.{Spacing}
 use Rattle.atlas_sheet.specs.declared.allowed.Allowed.TheVariants as allowed
 use Rattle.atlas_sheet.specs.declared.ways.Way.{Way}
-use Rattle.atlas_sheet.specs.Allowances.{IsAllowed, IsGreatest, power_sides}
+use Rattle.atlas_sheet.specs.Allowances.{IsGreatest, power_sides}
 use Rattle.atlas_sheet.specs.Packings.{ArePacked, Packed, IsLeastFound, IsPowerPacked, NoShapePacks, NoWayPacks, NoneIsFound}
 use Rattle.atlas_sheet.proofs.Maybes.{at_none}
 

@@ -1,5 +1,5 @@
 -- The sizes of a row, each a pixel higher than the one before it.
-use Rattle.std.proofs.Common.{◌≡◌, ◌+◌, ◌-◌, ◌<◌, ◌≤◌, ℕ, ℤ, true, false, List, Option, Some, None, IfNone, IfSome, MatchOption, is_some, arith, sym, subst, refl}
+use Rattle.std.proofs.Common.{◌≡◌, ◌+◌, ◌-◌, ◌<◌, ◌≤◌, ℕ, ℤ, true, List, Option, Some, None, IfNone, IfSome, MatchOption, is_some, arith, sym, subst, refl}
 use Rattle.guillotiere.specs.declared.Size.{Size}
 use Rattle.guillotiere.specs.Boxes.{Sides, Fits, IsPositive}
 use Rattle.guillotiere.specs.Pixels.{natural}

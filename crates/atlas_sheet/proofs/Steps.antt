@@ -1,7 +1,7 @@
 -- Sheets that are one step smaller.
-use Rattle.std.proofs.Common.{◌≡◌, ◌+◌, ◌-◌, ◌*◌, ◌/◌, ◌^◌, ◌<◌, ◌≤◌, ℕ, ℤ, zero, suc, ap, sym, subst, refl, ◌∙◌, inl, inr, arith}
+use Rattle.std.proofs.Common.{◌≡◌, ◌+◌, ◌*◌, ◌/◌, ◌^◌, ◌<◌, ◌≤◌, ℕ, ℤ, zero, suc, ap, sym, subst, inl, inr, arith}
 use Rattle.std.proofs.Math.Nat.{mul-le-mul_left}
-use Rattle.std.proofs.lemmas.Nat.{pow-add, pow_pos}
+use Rattle.std.proofs.lemmas.Nat.{pow-add}
 use Rattle.guillotiere.specs.Boxes.{Sides}
 use Rattle.guillotiere.specs.Pixels.{natural}
 use Rattle.atlas_sheet.specs.declared.allowed.Allowed.{Allowed}

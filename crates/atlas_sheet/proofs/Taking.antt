@@ -1,7 +1,6 @@
 -- Sprites of which all find places, or one doesn't.
-use Rattle.std.proofs.Common.{◌≡◌, ◌+◌, ◌++◌, ◌<◌, ◌≤◌, ℕ, suc, List, [], ◌∷◌, length, map, take, set, get_or, append-nil, All, Option, Some, None, IsPermutation, ap, sym, subst, ◌∙◌}
+use Rattle.std.proofs.Common.{◌≡◌, ◌+◌, ◌++◌, ◌<◌, ℕ, suc, List, [], ◌∷◌, length, map, take, set, get_or, append-nil, All, Some, None, ap, sym, subst, ◌∙◌}
 use Rattle.std.specs.Prelude.{Contains}
-use Rattle.std.specs.List.{enumerate_from}
 use Rattle.std.proofs.Math.Seq.{take-suc}
 use Rattle.std.proofs.lemmas.List.{length-map, map-append, map-set, map_more, map_push, take_more, get_or-map, get_or-set_same}
 use Rattle.std.proofs.lemmas.List.Elements.{All-push, Contains-push}

@@ -1,5 +1,5 @@
 -- Sprites that may lie turned by 90 degrees, and what a result says of them.
-use Rattle.std.specs.Prelude.{◌≡◌, ℕ, Bool, true, false, ◌⊎◌, List, length, map, Option, Some, None, IfSome, IsPermutation}
+use Rattle.std.specs.Prelude.{◌≡◌, ℕ, Bool, true, false, ◌⊎◌, List, map, Option, Some, None, IfSome, IsPermutation}
 use Rattle.std.specs.List.{AllZip, enumerate_from}
 use Rattle.guillotiere.specs.declared.Size.{Size}
 use Rattle.guillotiere.specs.declared.Rectangle.{Rectangle}

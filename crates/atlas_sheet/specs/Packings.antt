@@ -1,6 +1,6 @@
 -- Sheets that take all sprites.
-use Rattle.std.specs.Prelude.{◌≡◌, ℕ, ◌+◌, ◌≤◌, ◌⊎◌, List, length, map, take, All, Contains, Option, Some, None, IsPermutation}
-use Rattle.std.specs.List.{enumerate_from}
+use Rattle.std.specs.Prelude.{◌≡◌, ℕ, ◌+◌, ◌≤◌, ◌⊎◌, ◌++◌, List, [], ◌∷◌, map, take, All, Contains, Option, Some, None, IsPermutation}
+use Rattle.std.specs.List.{FoldsTo, enumerate_from}
 use Rattle.guillotiere.specs.declared.Size.{Size}
 use Rattle.guillotiere.specs.declared.Rectangle.{Rectangle}
 use Rattle.guillotiere.specs.Boxes.{Sides}
@@ -94,3 +94,7 @@ abbrev pub IsFirstFound : List Way → Allowed → Spacing → List Size → (sh
 IsFirstFound ways by spacing sprites sheet order places =
     (packed : Packed) × IsLeastFound ways by spacing sprites sheet packed
     × (map (λ s. s.0) packed.order ≡ order) × (map Some packed.places ≡ places)
+
+-- Steps that were taken one after another from a start, each at a size, the last at this one.
+abbrev pub IsToldLast : {F : Type 0} → (step : F → Size → F → Type 0) → (start : F) → Size → Type 0
+IsToldLast {F} step start size = (before : List Size) × (last : F) × FoldsTo step start (before ++ size ∷ []) last

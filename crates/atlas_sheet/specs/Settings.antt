@@ -1,5 +1,5 @@
 -- What is read out of the options, and what is wrong with what was asked.
-use Rattle.std.specs.Prelude.{⊤, List}
+use Rattle.std.specs.Prelude.{⊤, pos, List}
 use Rattle.guillotiere.specs.declared.Size.{Size}
 use Rattle.guillotiere.specs.Boxes.{IsPositive}
 use Rattle.guillotiere.specs.Pixels.{sides_of}
@@ -13,6 +13,10 @@ use Rattle.atlas_sheet.specs.Fillings.{HasFault}
 -- The padding and the alignment.
 abbrev pub spacing_of : SheetOptions → Spacing
 spacing_of o = record { padding = o.padding; alignment = o.alignment }
+
+-- No padding, and places that begin anywhere.
+abbrev pub plain_spacing : Spacing
+plain_spacing = record { padding = 0; alignment = record { width = pos 1; height = pos 1 } }
 
 -- What an error says of the options or of a sprite.
 abbrev pub IsSheetFault : SheetOptions → List Size → SheetError → Type 0

@@ -23,5 +23,5 @@ pub use error::SheetError;
 pub use options::{SheetOptions, Spacing};
 pub use orders::Key;
 pub use placed::Placed;
-pub use sheets::{Filled, Sheet, fill, pack};
+pub use sheets::{Filled, Sheet, fill, pack, pack_telling};
 pub use ways::{Choice, WAYS, Way, ways_tried};

@@ -1,7 +1,7 @@
 //! What a sheet keeps to.
 ghost use Rattle.std.specs.Prelude.{◌≡◌, false};
 ghost use Rattle.guillotiere.specs.Pixels.{sides_of};
-ghost use Rattle.atlas_sheet.specs.Settings.{spacing_of};
+ghost use Rattle.atlas_sheet.specs.Settings.{plain_spacing, spacing_of};
 
 use crate::allowed::Allowed;
 use guillotiere::{Size, size2};
@@ -42,6 +42,7 @@ impl SheetOptions {
         ensures effort { result.effort ≡ 0 }
         ensures seed { result.seed ≡ 0 }
         ensures alignment { sides_of result.alignment ≡ record { width = 1; height = 1 } }
+        ensures spacing { spacing_of result ≡ plain_spacing }
     {
         SheetOptions {
             allowed,

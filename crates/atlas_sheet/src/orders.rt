@@ -43,7 +43,9 @@ fn numbered<A: Allocator>(alloc: A, sprites: &[Size]) -> Result<Vec<(usize, Size
     ensures numbered { IfOk result (λ order. order.items ≡ enumerate_from 0 sprites.now) }
     ensures unless { IsOkUnless result Memory }
 {
-    Ok(sprites.iter().copied().enumerate().collect(alloc)?)
+    let mut order = Vec::with_capacity(alloc, sprites.len())?;
+    order.extend(sprites.iter().copied().enumerate())?;
+    Ok(order)
 }
 
 // The sprites with their numbers, those with the greatest key first.

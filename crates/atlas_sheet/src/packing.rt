@@ -6,7 +6,7 @@ ghost use Rattle.atlas_sheet.specs.declared.error.SheetError.TheVariants.{Memory
 ghost use Rattle.atlas_sheet.specs.declared.ways.TheConstants.{WAYS};
 ghost use Rattle.atlas_sheet.specs.Allowances.{IsAllowed, IsUsable, pixels};
 ghost use Rattle.atlas_sheet.specs.Lying.{IsArrangement};
-ghost use Rattle.atlas_sheet.specs.Packings.{IsFirstFound, IsLeastFound, IsNoLarger, NoneIsFound};
+ghost use Rattle.atlas_sheet.specs.Packings.{IsFirstFound, IsLeastFound, IsNoLarger, IsToldLast, NoneIsFound};
 ghost use Rattle.atlas_sheet.specs.Settings.{spacing_of};
 ghost use Rattle.atlas_sheet.specs.Sheets.{IsPackable};
 
@@ -30,7 +30,9 @@ fn somes<A: Allocator + Copy>(
     ensures places { IfOk result (λ all. all.items ≡ map Some places.now) }
     ensures unless { IsOkUnless result Memory }
 {
-    Ok(places.iter().map(|area| Some(*area)).collect(alloc)?)
+    let mut all = Vec::with_capacity(alloc, places.len())?;
+    all.extend(places.iter().map(|area| Some(*area)))?;
+    Ok(all)
 }
 
 // What a way packs, as an arrangement.
@@ -63,14 +65,17 @@ fn arrangement_of<A: Allocator + Copy>(
     })
 }
 
-// Sprites in smaller and smaller sheets, as long as there are tries: the last one that took all.
-fn descend<A: Allocator + Copy>(
+// Sprites in smaller and smaller sheets, as long as there are tries: the last one that took all. `told` is called with
+// the size of the first, and of each one that takes all, as soon as it is found.
+fn descend<A: Allocator + Copy, F: FnMut(Size)>(
     alloc: A,
     options: &SheetOptions,
     random: &mut Random,
     tries: &mut u32,
     first: Arrangement<A>,
+    mut told: F,
 ) -> Result<Arrangement<A>, SheetError>
+    requires callable { F.IsAlwaysCallable told }
     requires usable { IsUsable options.now.allowed }
     requires aligned { IsPositive (sides_of options.now.alignment) }
     requires packable { All (IsPackable (spacing_of options.now)) first.lying.items }
@@ -83,8 +88,10 @@ fn descend<A: Allocator + Copy>(
     ensures allowed { IfOk result (λ best. IsAllowed options.now.allowed (sides_of best.size)) }
     ensures whole { IfOk result (λ best. All IsSome best.places.items) }
     ensures smaller { IfOk result (λ best. pixels (sides_of best.size) ≤ pixels (sides_of first.size)) }
+    ensures told { IfOk result (λ best. IsToldLast (λ p size q. F.step p size tt q) told best.size) }
     ensures unless { IsOkUnless result Memory }
 {
+    told(first.size);
     let mut best = first;
     while *tries > 0 {
         let Some(size) = smaller_sheet(options.allowed, best.size) else {
@@ -96,6 +103,7 @@ fn descend<A: Allocator + Copy>(
         if !is_whole(&found) {
             break;
         }
+        told(found.size);
         best = found;
     }
     Ok(best)
@@ -173,13 +181,15 @@ fn first_whole<A: Allocator + Copy>(
     }
 }
 
-/// All sprites in the smallest sheet that the ways and the changes of the order find. None only where no way packs them
-/// into the greatest one.
-pub fn packed<A: Allocator + Copy>(
+/// All sprites in the smallest sheet that the ways and the changes of the order find, of whose size `told` is told last.
+/// None only where no way packs them into the greatest one.
+pub fn packed<A: Allocator + Copy, F: FnMut(Size)>(
     alloc: A,
     sprites: &[Size],
     options: &SheetOptions,
+    mut told: F,
 ) -> Result<Option<Arrangement<A>>, SheetError>
+    requires callable { F.IsAlwaysCallable told }
     requires usable { IsUsable options.now.allowed }
     requires aligned { IsPositive (sides_of options.now.alignment) }
     requires packable { All (IsPackable (spacing_of options.now)) sprites.now }
@@ -194,6 +204,7 @@ pub fn packed<A: Allocator + Copy>(
         (spacing_of options.now) sprites.now (sides_of a.size))) }
     ensures none { IfOk result (λ found. IfNone found
         (NoneIsFound WAYS options.now.allowed (spacing_of options.now) sprites.now)) }
+    ensures told { IfOk result (λ found. IfSome found (λ a. IsToldLast (λ p size q. F.step p size tt q) told a.size)) }
     ensures unless { IsOkUnless result Memory }
 {
     let mut random = Random::new(options.seed);
@@ -203,8 +214,9 @@ pub fn packed<A: Allocator + Copy>(
         return Ok(None);
     };
     if options.effort == 0 {
+        told(first.size);
         return Ok(Some(first));
     }
-    let best = descend(alloc, options, &mut random, &mut tries, first)?;
+    let best = descend(alloc, options, &mut random, &mut tries, first, told)?;
     Ok(Some(best))
 }

@@ -1,13 +1,14 @@
 //! Sheets as callers see them.
-ghost use Rattle.std.specs.Prelude.{◌≡◌, length, map, take, All, IfErr, IfNone, IfOk, IfSome, IsOkUnless, IsSome, OnOk, Some};
-ghost use Rattle.guillotiere.specs.Boxes.{IsPositive};
-ghost use Rattle.guillotiere.specs.Pixels.{sides_of};
+ghost use Rattle.std.specs.List.{AllZip};
+ghost use Rattle.std.specs.Prelude.{◌≡◌, false, length, map, take, All, IfErr, IfNone, IfOk, IfSome, IsOkUnless, IsSome, OnOk, Some};
+ghost use Rattle.guillotiere.specs.Boxes.{AreDisjoint, IsPositive, IsWithin, box_sides};
+ghost use Rattle.guillotiere.specs.Pixels.{box_of, sides_of};
 ghost use Rattle.atlas_sheet.specs.declared.error.SheetError.TheVariants.{Memory};
 ghost use Rattle.atlas_sheet.specs.declared.ways.TheConstants.{WAYS};
 ghost use Rattle.atlas_sheet.specs.Allowances.{IsAllowed, IsGreatest, IsUsable};
 ghost use Rattle.atlas_sheet.specs.Fillings.{IsBestFound, IsNoBetter, ways_tried};
 ghost use Rattle.atlas_sheet.specs.Lying.{IsArrangement, IsShown, areas_of};
-ghost use Rattle.atlas_sheet.specs.Packings.{IsFirstFound, IsNoLarger, NoneIsFound};
+ghost use Rattle.atlas_sheet.specs.Packings.{IsFirstFound, IsNoLarger, IsToldLast, NoneIsFound};
 ghost use Rattle.atlas_sheet.specs.Settings.{IsSheetFault, spacing_of};
 ghost use Rattle.atlas_sheet.specs.Sheets.{IsPackable, used_area};
 
@@ -70,7 +71,9 @@ fn numbers_of<A: Allocator>(alloc: A, order: &[(usize, Size)]) -> Result<Vec<usi
     ensures numbers { IfOk result (λ numbers. numbers.items ≡ map (λ s. s.0) order.now) }
     ensures unless { IsOkUnless result Memory }
 {
-    Ok(order.iter().map(|sprite| sprite.0).collect(alloc)?)
+    let mut numbers = Vec::with_capacity(alloc, order.len())?;
+    numbers.extend(order.iter().map(|sprite| sprite.0))?;
+    Ok(numbers)
 }
 
 // An arrangement as a filled sheet.
@@ -228,6 +231,12 @@ pub fn pack<A: Allocator + Copy>(
         IsAllowed options.now.allowed (sides_of sheet.size))) }
     ensures shown { IfOk result (λ found. IfSome found (λ sheet. IsShown (sides_of sheet.size)
         (spacing_of options.now) options.now.turn sprites.now sheet.order.items (map Some sheet.places.items))) }
+    ensures inside { IfOk result (λ found. IfSome found (λ sheet.
+        All (λ placed. IsWithin (sides_of sheet.size) (box_of placed.area)) sheet.places.items)) }
+    ensures apart { IfOk result (λ found. IfSome found (λ sheet.
+        AreDisjoint (map (λ placed. box_of placed.area) sheet.places.items))) }
+    ensures upright { options.now.turn ≡ false → IfOk result (λ found. IfSome found (λ sheet.
+        AllZip (λ sprite placed. box_sides (box_of placed.area) ≡ sides_of sprite) sprites.now sheet.places.items)) }
     ensures area { IfOk result (λ found. IfSome found (λ sheet.
         sheet.used_area ≡ used_area (areas_of (map Some sheet.places.items)))) }
     ensures first { options.now.effort ≡ 0 → IfOk result (λ found. IfSome found (λ sheet. IsFirstFound WAYS
@@ -239,8 +248,42 @@ pub fn pack<A: Allocator + Copy>(
         (NoneIsFound WAYS options.now.allowed (spacing_of options.now) sprites.now)) }
     ensures fault { IfErr result (λ e. IsSheetFault options.now sprites.now e) }
 {
+    pack_telling(alloc, sprites, options, |_| {})
+}
+
+/// `pack`, and calls `told` with the size of each sheet that takes all sprites as soon as it is found: first that which
+/// is found without changes of the order, then smaller and smaller ones. The last is the size of the sheet.
+pub fn pack_telling<A: Allocator + Copy, F: FnMut(Size)>(
+    alloc: A,
+    sprites: &[Size],
+    options: &SheetOptions,
+    told: F,
+) -> Result<Option<Sheet<A>>, SheetError>
+    requires { F.IsAlwaysCallable told }
+    ensures allowed { IfOk result (λ found. IfSome found (λ sheet.
+        IsAllowed options.now.allowed (sides_of sheet.size))) }
+    ensures shown { IfOk result (λ found. IfSome found (λ sheet. IsShown (sides_of sheet.size)
+        (spacing_of options.now) options.now.turn sprites.now sheet.order.items (map Some sheet.places.items))) }
+    ensures inside { IfOk result (λ found. IfSome found (λ sheet.
+        All (λ placed. IsWithin (sides_of sheet.size) (box_of placed.area)) sheet.places.items)) }
+    ensures apart { IfOk result (λ found. IfSome found (λ sheet.
+        AreDisjoint (map (λ placed. box_of placed.area) sheet.places.items))) }
+    ensures upright { options.now.turn ≡ false → IfOk result (λ found. IfSome found (λ sheet.
+        AllZip (λ sprite placed. box_sides (box_of placed.area) ≡ sides_of sprite) sprites.now sheet.places.items)) }
+    ensures area { IfOk result (λ found. IfSome found (λ sheet.
+        sheet.used_area ≡ used_area (areas_of (map Some sheet.places.items)))) }
+    ensures first { options.now.effort ≡ 0 → IfOk result (λ found. IfSome found (λ sheet. IsFirstFound WAYS
+        options.now.allowed (spacing_of options.now) sprites.now (sides_of sheet.size) sheet.order.items
+        (areas_of (map Some sheet.places.items)))) }
+    ensures larger { IfOk result (λ found. IfSome found (λ sheet. IsNoLarger WAYS options.now.allowed
+        (spacing_of options.now) sprites.now (sides_of sheet.size))) }
+    ensures none { IfOk result (λ found. IfNone found
+        (NoneIsFound WAYS options.now.allowed (spacing_of options.now) sprites.now)) }
+    ensures told { IfOk result (λ found. IfSome found (λ sheet. IsToldLast (λ p size q. F.step p size tt q) told sheet.size)) }
+    ensures fault { IfErr result (λ e. IsSheetFault options.now sprites.now e) }
+{
     check_all(sprites, options)?;
-    let found = packed(alloc, sprites, options)?;
+    let found = packed(alloc, sprites, options, told)?;
     let Some(best) = found else {
         return Ok(None);
     };

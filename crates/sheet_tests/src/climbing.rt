@@ -1,6 +1,6 @@
 //! Sheets with turning, alignment and changes of the order.
 use crate::filling::{are_apart, sprites_of};
-use atlas_sheet::{Allowed, Placed, SheetError, SheetOptions, fill, pack};
+use atlas_sheet::{Allowed, Placed, SheetError, SheetOptions, fill, pack, pack_telling};
 use guillotiere::{Size, size2};
 use refusing::Refusing;
 use std::alloc::Global;
@@ -169,18 +169,16 @@ fn aligned(rt: HostRuntime) -> Result<(), Fail> {
     Ok(())
 }
 
-// Each request for memory refused in turn, until there are no more requests: the error, or a sheet where the request
-// can be done without.
+// Each request for memory refused in turn, until there are no more: the error every time, and then a sheet.
 fn refuses(alloc: Global, sprites: &[Size], options: &SheetOptions) -> bool {
     let heap = Refusing::new(alloc);
     for number in 1..10_000 {
         heap.refuse_nth(number);
         let packed = pack(&heap, sprites, options);
-        let is_packed = matches!(&packed, Ok(Some(_)));
         if !heap.is_done() {
-            return is_packed && number > 1;
+            return matches!(&packed, Ok(Some(_))) && number > 1;
         }
-        if !is_packed && !matches!(&packed, Err(SheetError::Memory)) {
+        if !matches!(&packed, Err(SheetError::Memory)) {
             return false;
         }
     }
@@ -201,4 +199,44 @@ fn refused_memory(rt: HostRuntime) {
         };
         assert!(&rt; refuses(rt.alloc(), &sprites, &options));
     }
+}
+
+// The sizes that are told of two sprites: beside each other they need 3 + 4 pixels, and below each other 5 + 4.
+#[test]
+fn told(rt: HostRuntime) -> Result<(), Fail> {
+    let sprites = [size2(3, 5), size2(4, 4)];
+    let options = SheetOptions {
+        effort: 20,
+        ..SheetOptions::new(SQUARES)
+    };
+    let mut sizes = Vec::new(rt.alloc());
+    let found = pack_telling(rt.alloc(), &sprites, &options, |size| {
+        let _ = sizes.push(size);
+    })?;
+    assert!(rt; found.is_some() && sizes.as_slice() == [size2(7, 7)].as_slice());
+    Ok(())
+}
+
+// Whether each size has fewer pixels than the one before it.
+fn are_falling(sizes: &[Size]) -> bool {
+    sizes
+        .iter()
+        .zip(sizes.iter().skip(1))
+        .all(|(one, next)| pixels(*next) < pixels(*one))
+}
+
+// Of 24 random sprites: the sizes fall, the first is found without effort, and the last is that of the sheet.
+#[test]
+fn told_of_many(rt: HostRuntime) -> Result<(), Fail> {
+    let sprites = sprites_of(rt.alloc(), 7, 24, 40)?;
+    let mut options = SheetOptions::new(SQUARES);
+    let first = pack(rt.alloc(), &sprites, &options)?.map(|sheet| sheet.size);
+    options.effort = 60;
+    let mut sizes = Vec::new(rt.alloc());
+    let found = pack_telling(rt.alloc(), &sprites, &options, |size| {
+        let _ = sizes.push(size);
+    })?;
+    assert!(rt; are_falling(&sizes) && sizes.get(0).copied() == first);
+    assert!(rt; found.map(|sheet| sheet.size) == sizes.last().copied());
+    Ok(())
 }

@@ -1,4 +1,5 @@
-use Rattle.std.proofs.Common.{◌≡◌, ◌≤◌, ◌∙◌, ap, refl, inl, rules, arith, subst, sym}
+use Rattle.std.proofs.Common.{◌≡◌, ◌≤◌, ◌∙◌, [], ◌∷◌, ◌++◌, of_calls, rules, arith, subst, sym}
+use Rattle.std.proofs.lemmas.Fn.{FoldsTo-push}
 use Rattle.guillotiere.specs.declared.Size.{Size}
 use Rattle.guillotiere.specs.Pixels.{sides_of}
 use Rattle.atlas_sheet.specs.Allowances.{IsAllowed, pixels}
@@ -46,5 +47,10 @@ loop-tries-preserved g c =
           c.in_ok-found.ensures.arranged);
       allowed = subst (λ (s : Size). IsAllowed c.args.options.now.allowed (sides_of s)) (sym size) step.0;
       whole = search (rules, c.is_whole.ensures);
+      callable = search of_calls;
+      told = (
+        before.told.0 ++ best.size ∷ [],
+        FoldsTo-push _ _ (before.told.0 ++ best.size ∷ []) _ f.size _ before.told.1 (search (rules, c.told-in-loop-tries.ensures)),
+      );
       smaller = omega (arith, less, before.smaller);
     }

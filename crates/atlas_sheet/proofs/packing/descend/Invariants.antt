@@ -1,4 +1,6 @@
-use Rattle.std.proofs.Common.{◌≡◌, ◌≤◌, All, IsSome}
+use Rattle.std.proofs.Common.{◌≤◌, List, [], ◌∷◌, ◌++◌, All, IsSome}
+use Rattle.std.specs.List.{FoldsTo}
+use Rattle.guillotiere.specs.declared.Size.{Size}
 use Rattle.guillotiere.specs.Pixels.{sides_of}
 use Rattle.atlas_sheet.specs.Allowances.{IsAllowed, pixels}
 use Rattle.atlas_sheet.specs.Lying.{IsArrangement}
@@ -11,6 +13,8 @@ invariant-loop-tries g l = record {
       l.best.lying.items l.best.order.items l.best.places.items;
   allowed : IsAllowed l.options.allowed (sides_of l.best.size);
   whole : All IsSome l.best.places.items;
+  callable : goal.F-IsAlwaysCallable g l.told;
+  told : (before : List Size) × FoldsTo (λ p size q. goal.F-step g p size tt q) l.fn.told (before ++ l.best.size ∷ []) l.told;
   smaller : pixels (sides_of l.best.size) ≤ pixels (sides_of l.fn.first.size);
 }
 

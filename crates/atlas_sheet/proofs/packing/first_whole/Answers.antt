@@ -4,7 +4,6 @@ use Rattle.atlas_sheet.specs.declared.options.Spacing.{Spacing}
 use Rattle.atlas_sheet.specs.declared.ways.TheConstants.{WAYS}
 use Rattle.atlas_sheet.specs.declared.ways.Way.{Way}
 use Rattle.atlas_sheet.specs.Packings.{IsLeastFound, NoneIsFound}
-use Rattle.atlas_sheet.specs.Settings.{spacing_of}
 use Rattle.atlas_sheet.proofs.packing.first_whole.Goals as goal
 
 pub squeeze-requires-clause-none : goal.squeeze-requires-clause-none

@@ -1,7 +1,6 @@
-use Rattle.std.proofs.Common.{◌≡◌, ◌≤◌, ◌∙◌, ap, refl, inl, rules, arith, subst, sym}
-use Rattle.guillotiere.specs.declared.Size.{Size}
+use Rattle.std.proofs.Common.{[], refl, rules}
+use Rattle.std.proofs.lemmas.Fn.{FoldsTo-push}
 use Rattle.guillotiere.specs.Pixels.{sides_of}
-use Rattle.atlas_sheet.specs.Allowances.{IsAllowed, pixels}
 use Rattle.atlas_sheet.specs.Settings.{spacing_of}
 use Rattle.atlas_sheet.specs.declared.ways.TheConstants.{WAYS}
 use Rattle.atlas_sheet.proofs.Arranging.{no_larger, own, rebased}
@@ -31,3 +30,11 @@ pub returns-clause-larger : goal.returns-clause-larger
 returns-clause-larger g c =
     no_larger WAYS c.args.options.now.allowed (spacing_of c.args.options.now) c.args.sprites.now (sides_of c.in-Some.first.size)
     (sides_of c.in_ok-best.best.size) c.in_ok-best.ensures.smaller (rw c.in-Some.is at c.in_ok-found.ensures.larger)
+
+pub returns-then-options-eq0-clause-told : goal.returns-then-options-eq0-clause-told
+returns-then-options-eq0-clause-told g c = (
+  [],
+  c.told.new.self,
+  FoldsTo-push (λ p size q. goal.F-step g p size tt q) c.args.told [] c.args.told c.in-Some.first.size c.told.new.self refl
+      (search (rules, c.told.ensures)),
+)

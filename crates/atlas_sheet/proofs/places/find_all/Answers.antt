@@ -1,4 +1,4 @@
-use Rattle.std.proofs.Common.{rules, ◌≡◌, ◌<◌, ◌∙◌, length, map, get_or, Some, subst, refl, arith, add-one}
+use Rattle.std.proofs.Common.{rules, ◌<◌, ◌∙◌, length, map, get_or, Some, subst, refl, arith, add-one}
 use Rattle.std.proofs.lemmas.List.{length-set}
 use Rattle.std.proofs.lemmas.List.Elements.{All-get_or}
 use Rattle.guillotiere.specs.SimpleStored.{simple_state_of}

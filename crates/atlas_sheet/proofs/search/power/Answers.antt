@@ -1,4 +1,4 @@
-use Rattle.std.proofs.Common.{◌<◌, ◌≡◌, ◌*◌, ◌%◌, ◌^◌, arith, sym, subst}
+use Rattle.std.proofs.Common.{◌<◌, arith, sym, subst}
 use Rattle.std.proofs.lemmas.Nat.{one_shl, pow_below, pow_pos}
 use Rattle.atlas_sheet.proofs.search.power.Goals as goal
 

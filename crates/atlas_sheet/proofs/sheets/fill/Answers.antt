@@ -1,9 +1,8 @@
-use Rattle.std.proofs.Common.{◌≡◌, ◌≤◌, ◌∙◌, ℕ, List, map, take, length, ap, refl, subst, sym, All, Option, IsSome, Some, arith, rules}
+use Rattle.std.proofs.Common.{◌≡◌, ◌∙◌, take, length, ap, subst, sym, All}
 use Rattle.guillotiere.specs.declared.Size.{Size}
 use Rattle.guillotiere.specs.Pixels.{sides_of}
 use Rattle.atlas_sheet.specs.declared.ways.TheConstants.{WAYS}
 use Rattle.atlas_sheet.specs.Fillings.{IsNoBetter, ways_tried}
-use Rattle.atlas_sheet.specs.Lying.{IsArrangement, areas_of}
 use Rattle.atlas_sheet.specs.Settings.{spacing_of}
 use Rattle.atlas_sheet.specs.Sheets.{used_area}
 use Rattle.atlas_sheet.proofs.sheets.fill.Goals as goal

@@ -1,10 +1,6 @@
-use Rattle.std.proofs.Common.{◌≡◌, ◌≤◌, ◌∙◌, ℕ, List, map, take, length, ap, refl, subst, sym, All, Option, IsSome, Some, arith, rules}
-use Rattle.guillotiere.specs.declared.Size.{Size}
-use Rattle.guillotiere.specs.declared.Rectangle.{Rectangle}
+use Rattle.std.proofs.Common.{◌∙◌, map, ap, subst, sym}
 use Rattle.guillotiere.specs.Pixels.{sides_of}
-use Rattle.atlas_sheet.specs.declared.ways.TheConstants.{WAYS}
-use Rattle.atlas_sheet.specs.Fillings.{IsBestFound, IsNoBetter, ways_tried}
-use Rattle.atlas_sheet.specs.Lying.{IsArrangement, IsShown, areas_of}
+use Rattle.atlas_sheet.specs.Lying.{IsArrangement}
 use Rattle.atlas_sheet.specs.Settings.{spacing_of}
 use Rattle.atlas_sheet.specs.Sheets.{used_area}
 use Rattle.atlas_sheet.proofs.sheets.filled_of.Goals as goal

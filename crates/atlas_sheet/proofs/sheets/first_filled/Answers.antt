@@ -1,11 +1,6 @@
-use Rattle.std.proofs.Common.{◌≡◌, ◌≤◌, ◌∙◌, ℕ, List, map, take, length, ap, refl, subst, sym, All, Option, IsSome, Some, arith, rules}
-use Rattle.guillotiere.specs.declared.Size.{Size}
+use Rattle.std.proofs.Common.{◌≡◌}
 use Rattle.guillotiere.specs.Pixels.{sides_of}
-use Rattle.atlas_sheet.specs.declared.ways.TheConstants.{WAYS}
-use Rattle.atlas_sheet.specs.Fillings.{IsNoBetter, ways_tried}
-use Rattle.atlas_sheet.specs.Lying.{IsArrangement, areas_of}
 use Rattle.atlas_sheet.specs.Settings.{spacing_of}
-use Rattle.atlas_sheet.specs.Sheets.{used_area}
 use Rattle.atlas_sheet.proofs.Arranging.{arranged_as_given}
 use Rattle.atlas_sheet.proofs.Rows.{allowed_positive}
 use Rattle.atlas_sheet.proofs.sheets.first_filled.Goals as goal
