@@ -1,4 +1,3 @@
-pub mod Caching
 pub mod HighestFirst
 pub mod Holding
 pub mod Keyed

@@ -1,5 +1,3 @@
-pub mod GlyphCodes
-pub mod Glyphs
 pub mod Pictures
 pub mod Replaying
 pub mod Sheets

@@ -1,8 +1,7 @@
-//! Programs over the atlas as their users would write them: a cache of glyphs, a sheet of sprites, a cache that
-//! repacks, and a recorded session.
+//! Programs over the atlas as their users would write them: glyphs on the pages of a texture array, a sheet of sprites,
+//! a cache that repacks, and a recorded session.
 #![tactic(auto)]
 
-pub mod glyph_cache;
 pub mod repack;
 pub mod replayed;
 pub mod sheet;

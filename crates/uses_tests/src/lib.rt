@@ -3,8 +3,6 @@
 #![tactic(auto)]
 
 #[cfg(test)]
-mod glyph_cache;
-#[cfg(test)]
 mod repack;
 #[cfg(test)]
 mod replayed;
