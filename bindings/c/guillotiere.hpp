@@ -1,4 +1,4 @@
-// The atlas allocators of guillotiere, for C++17: guillotiere.h with owners.
+// The atlas allocators of guillotiere and its sheets of sprites, for C++17: guillotiere.h with owners.
 //
 // An atlas or a simple allocator is owned by an object that is moved and not copied, and lets it go at its end. An object
 // that was moved from holds nothing: each call of it answers status::empty. Nothing here throws but what a std::vector

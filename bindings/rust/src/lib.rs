@@ -1,7 +1,8 @@
 //! The names of the Rust crate `guillotiere` 0.7.0 over allocators whose every call is proved (libguillotiere.a).
 //!
 //! A call panics where the crate's panics, and where memory or slots are wanting. Beside it stands a `try_` call that
-//! gives the error as a value; after an error everything is as before. What differs from the crate is listed in
+//! gives the error as a value; after an error everything is as before. `pack`, which isn't the crate's, packs sprites that
+//! are known beforehand into a sheet. What differs from the crate is listed in
 //! bindings/README.md.
 #![deny(unsafe_code)]
 #![warn(unsafe_op_in_unsafe_fn)]
