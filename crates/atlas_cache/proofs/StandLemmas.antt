@@ -1,5 +1,5 @@
 -- A frame that has used nothing has room for whatever can stand on a page.
-use Rattle.std.proofs.Common.{ℕ, ◌+◌, ◌<◌, ◌≤◌, ◌≡◌, ◌⊎◌, inl, inr, List, [], ◌∷◌, ◌++◌, Option, None, Some, refl, sym, ap, subst, ◌∙◌, arith, length}
+use Rattle.std.proofs.Common.{ℕ, ◌<◌, ◌≡◌, List, [], ◌∷◌, Option, None, Some, refl, sym, ap, subst, ◌∙◌, arith}
 use Rattle.std.proofs.lemmas.List.{length-map}
 use Rattle.std.specs.List.{AllByRecursion}
 use Rattle.guillotiere.specs.declared.Rectangle.{Rectangle}
@@ -14,7 +14,7 @@ use Rattle.atlas_cache.specs.declared.options.CacheOptions.{CacheOptions}
 use Rattle.atlas_cache.specs.Asking.{bordered, AreUsable, CanStand}
 use Rattle.atlas_cache.specs.Caches.{CacheState, HoldsEntries, IsNoneInUse}
 use Rattle.atlas_cache.specs.Changes.{Does, IsExhausted, Leads}
-use Rattle.atlas_cache.specs.Rooms.{page_sizes, rooms_of, size_of_page, LargestHasRoom}
+use Rattle.atlas_cache.specs.Rooms.{rooms_of, size_of_page, LargestHasRoom}
 use Rattle.atlas_cache.proofs.ListLemmas.{each-left}
 
 module _ {K : Type 0} where

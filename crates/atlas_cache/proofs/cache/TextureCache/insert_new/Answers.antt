@@ -1,6 +1,6 @@
-use Rattle.std.proofs.Common.{ap, sym, refl, ◌∙◌, Ok, [], append-nil}
+use Rattle.std.proofs.Common.{ap, sym, refl, ◌∙◌, Ok}
 use Rattle.atlas_cache.proofs.ListLemmas.{append-none}
-use Rattle.atlas_cache.proofs.LoopLemmas.{inserted, nothing_yet, one_absent, one_more_change, one_options}
+use Rattle.atlas_cache.proofs.LoopLemmas.{nothing_yet, one_absent, one_more_change, one_options}
 use Rattle.atlas_cache.proofs.StandLemmas.{never-without}
 use Rattle.atlas_cache.specs.Caches.{entries_of}
 use Rattle.atlas_cache.proofs.cache.TextureCache.insert_new.Goals as goal
