@@ -1,9 +1,9 @@
 -- The entries of a cache lie apart, and within their pages.
-use Rattle.std.proofs.Common.{ℕ, ◌+◌, ◌<◌, ◌≤◌, ◌≡◌, ◌≢◌, ◌⊎◌, inl, inr, true, false, List, [], ◌∷◌, Option, None, Some, slice_get, refl, sym, ap, ◌∙◌, arith}
+use Rattle.std.proofs.Common.{ℕ, ◌≤◌, ◌≡◌, ◌≢◌, ◌⊎◌, inl, inr, true, false, List, [], ◌∷◌, None, Some, refl, sym, arith}
 use Rattle.std.proofs.lemmas.Option.{slice_get_cases}
 use Rattle.std.specs.List.{AllByRecursion}
 use Rattle.guillotiere.specs.Callers.{RectanglesLieApart}
-use Rattle.guillotiere.specs.Pages.{rectangle_on, AllLieApartOn, AllLieWithinOn}
+use Rattle.guillotiere.specs.Pages.{AllLieApartOn, AllLieWithinOn}
 use Rattle.guillotiere.specs.Stored.{AtlasValue}
 use Rattle.atlas_cache.specs.declared.entries.Entry.{Entry}
 use Rattle.atlas_cache.specs.Caches.{has_id, holders, EntriesLieApart, EntriesLieWithin}

@@ -1,9 +1,7 @@
 -- What a cache keeps, step by step.
-use Rattle.std.proofs.Common.{ℕ, ℤ, ◌+◌, ◌<◌, ◌≤◌, ◌≡◌, List, [], ◌∷◌, ◌++◌, Option, None, Some, IsSome, refl, sym, ap, ◌∙◌, arith, length}
-use Rattle.std.specs.Option.{option_map_or}
-use Rattle.std.specs.List.{AllByRecursion}
+use Rattle.std.proofs.Common.{ℕ, ℤ, ◌≡◌, List, ◌∷◌, ◌++◌, Some, IsSome, refl, arith}
 use Rattle.guillotiere.specs.declared.Size.{Size}
-use Rattle.guillotiere.specs.Pages.{rectangle_on, AddsBoxOn, HasSameRectangles, LeavesNoBoxOn}
+use Rattle.guillotiere.specs.Pages.{rectangle_on, LeavesNoBoxOn}
 use Rattle.guillotiere.specs.Pixels.{size_of}
 use Rattle.guillotiere.specs.Stored.{AtlasValue}
 use Rattle.atlas_cache.specs.declared.entries.Entry.{Entry}
@@ -12,8 +10,8 @@ use Rattle.atlas_cache.specs.Asking.{bordered, AreUsable, CanStand, IsBorderedBy
 use Rattle.atlas_cache.specs.Caches.{entries_of, AreBordered, FramesFall, HoldsEntries}
 use Rattle.atlas_cache.specs.Entries.{entry_at, touched, without_number, IsNumber}
 use Rattle.atlas_cache.specs.Rooms.{IsAtLeast}
-use Rattle.atlas_cache.proofs.HoldingLemmas.{joined, left, stays, to_front, used_at}
-use Rattle.atlas_cache.proofs.ListLemmas.{each-here, each-without, falls-later, falls-without, parts, Parts}
+use Rattle.atlas_cache.proofs.HoldingLemmas.{left, to_front, used_at}
+use Rattle.atlas_cache.proofs.ListLemmas.{each-here, each-without, falls-without, parts, Parts}
 
 module _ {K : Type 0} where
   -- What a cache keeps, of its parts.

@@ -12,5 +12,6 @@ pub mod HoldingLemmas
 pub mod KeyLemmas
 pub mod LoopLemmas
 pub mod PictureLemmas
+pub mod StandLemmas
 pub mod TrimLemmas
 pub mod WalkLemmas

@@ -1,10 +1,10 @@
 -- Lists of a cache's entries, with their numbers and without.
-use Rattle.std.proofs.Common.{ℕ, ◌+◌, ◌<◌, ◌≤◌, ◌≡◌, ◌≢◌, ◌⊎◌, inl, inr, Bool, true, false, eqb, List, [], ◌∷◌, ◌++◌, Option, None, Some, refl, sym, ap, ◌∙◌, arith, length}
+use Rattle.std.proofs.Common.{ℕ, ◌+◌, ◌≤◌, ◌≡◌, inl, inr, Bool, false, eqb, List, [], ◌∷◌, ◌++◌, None, Some, refl, ap, arith, length}
 use Rattle.std.proofs.lemmas.{Bool.{cases_Bool}, Bool.Decides.{eqb_tells}}
 use Rattle.std.proofs.lemmas.Map.Keys.{IsDistinct-head, IsDistinct-tail}
 use Rattle.std.specs.List.{AllByRecursion, IsDistinct}
 use Rattle.atlas_cache.specs.declared.entries.Entry.{Entry}
-use Rattle.atlas_cache.specs.Caches.{entries_of, entry_for, FramesFall, IsFound}
+use Rattle.atlas_cache.specs.Caches.{entries_of, entry_for, FramesFall}
 use Rattle.atlas_cache.specs.Entries.{entry_at, number_of, numbers, without_number}
 use Rattle.atlas_cache.specs.Orders.{last_of}
 

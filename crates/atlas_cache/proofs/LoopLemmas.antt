@@ -1,5 +1,5 @@
 -- Changes, one after another.
-use Rattle.std.proofs.Common.{ℕ, ◌≡◌, Bool, true, false, cond, List, [], ◌∷◌, ◌++◌, Option, None, Some, Result, Ok, Err, inl, inr, refl, sym, ap, subst, ◌∙◌, append_assoc, length}
+use Rattle.std.proofs.Common.{◌≡◌, Bool, List, [], ◌∷◌, ◌++◌, Option, None, Some, Result, inl, inr, refl, sym, ap, subst, ◌∙◌, append_assoc}
 use Rattle.std.proofs.lemmas.{Bool.{cases_Bool}}
 use Rattle.guillotiere.specs.declared.Size.{Size}
 use Rattle.atlas_cache.specs.declared.changes.CacheChange.{CacheChange}

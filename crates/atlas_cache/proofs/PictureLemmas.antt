@@ -1,6 +1,6 @@
 -- What a caller makes of changes.
-use Rattle.std.proofs.Common.{ℕ, ◌≡◌, Bool, true, false, cond, List, [], ◌∷◌, ◌++◌, Option, None, Some, Result, Ok, Err, option_map, refl, sym, ap, subst, ◌∙◌, slice_set}
-use Rattle.std.proofs.Common.{◌⊎◌, inl, inr}
+use Rattle.std.proofs.Common.{◌≡◌, Bool, true, false, cond, List, [], ◌∷◌, ◌++◌, Option, None, Some, Result, Ok, Err, option_map, refl, sym, ap, subst, ◌∙◌, slice_set}
+use Rattle.std.proofs.Common.{inl, inr}
 use Rattle.std.proofs.lemmas.Bool.{cases_Bool}
 use Rattle.std.specs.Cmp.{IsEquivalence}
 use Rattle.guillotiere.specs.declared.Size.{Size}
@@ -11,7 +11,7 @@ use Rattle.atlas_cache.specs.declared.error.CacheError.{CacheError}
 use Rattle.atlas_cache.specs.declared.places.Place.{Place}
 use Rattle.atlas_cache.specs.Caches.{CacheState, entry_for, place_for, shown, HaveOwnKeys}
 use Rattle.atlas_cache.specs.Changes.{Picture, all_changed, changed, picture_of, placed, Adds, Does, Inserts, Leads, LooksSame, ShowsSame, Uses}
-use Rattle.atlas_cache.specs.Telling.{with_given, Tells}
+use Rattle.atlas_cache.specs.Telling.{Tells}
 use Rattle.atlas_cache.specs.Rooms.{page_sizes}
 use Rattle.atlas_cache.proofs.KeyLemmas.{first, fronted, gone, here, own_without}
 use Rattle.atlas_cache.proofs.ListLemmas.{append-none}

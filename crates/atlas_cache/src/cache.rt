@@ -1,5 +1,5 @@
 //! The cache.
-ghost use Rattle.std.specs.Prelude.{◌≡◌, ◌↔◌, ◌<◌, [], false, length, slice_get, IfErr, IfOk, IfSome, IsOk, IsSome, IsTrue};
+ghost use Rattle.std.specs.Prelude.{◌≡◌, ◌≢◌, ◌↔◌, ◌<◌, [], false, length, slice_get, IfErr, IfOk, IfSome, IsOk, IsSome, IsTrue};
 ghost use Rattle.std.specs.Prelude.{None, Ok, OnErr, vec_capacity, vec_len};
 ghost use Rattle.guillotiere.specs.Pixels.{size_of};
 ghost use Rattle.atlas_cache.specs.Asking.{bordered, AreUsable, CanStand, IsFaultIn};
@@ -95,7 +95,7 @@ impl<K: Copy + Eq + Hash, S: BuildHasher + Drop, A: Allocator + Copy> TextureCac
 
 impl<K: Copy + Eq + Hash, S: BuildHasher, A: Allocator + Copy> TextureCache<K, S, A> {
     ghost use Rattle.atlas_cache.specs.Caches.{entry_for, place_for, steps_left, AreAllInUse, EntriesLieApart};
-    ghost use Rattle.atlas_cache.specs.Caches.{EntriesLieWithin, HasNoPageFor, HaveOwnKeys, IsFull, IsKept};
+    ghost use Rattle.atlas_cache.specs.Caches.{EntriesLieWithin, HasNoPageFor, HaveOwnKeys, IsFull, IsKept, IsNoneInUse};
     ghost use Rattle.atlas_cache.specs.Changes.{Adds, DoesOne, FindsKnown, Inserts, IsExhausted, LooksSame, Removes, Uses};
     ghost use Rattle.atlas_cache.specs.Telling.{Tells};
 
@@ -185,9 +185,9 @@ impl<K: Copy + Eq + Hash, S: BuildHasher, A: Allocator + Copy> TextureCache<K, S
     /// refused with `OtherSize`, and nothing changes. A new key comes on the first page with room for its size, in
     /// pixels, with the padding. Where none has, a page grows; where none can, one is added; and where all are there, the
     /// least recently used entry goes that this frame didn't use; and so on. None if the size is empty or doesn't fit
-    /// the largest page, and then nothing changes, or if all entries are in use and no page has room. What was done is
-    /// added to the changes, also after an error: `Memory`, `Slots` if those of a page don't suffice, or `Numbers` only where
-    /// 4,294,967,295 entries are left.
+    /// the largest page, and then nothing changes, or if all entries are in use and no page has room; so as long as this
+    /// frame has used nothing, whatever fits gets a place. What was done is added to the changes, also after an error:
+    /// `Memory`, `Slots` if those of a page don't suffice, or `Numbers` only where 4,294,967,295 entries are left.
     pub fn insert(
         &mut self,
         key: K,
@@ -204,6 +204,7 @@ impl<K: Copy + Eq + Hash, S: BuildHasher, A: Allocator + Copy> TextureCache<K, S
         ensures told { Tells K.eq key result changes.old.items changes.new.items self.old self.new }
         ensures errors { entry_for K.eq key self.old.entries ≡ None
             → IfErr result (IsRefusedNew (length self.new.entries)) }
+        ensures room { IsNoneInUse self.old → CanStand self.old.options size → result ≢ Ok None }
     {
         self.entries.prove_kept();
         if let Some((known, entry)) = look_up(&self.entries, &key) {
@@ -245,12 +246,14 @@ impl<K: Copy + Eq + Hash, S: BuildHasher, A: Allocator + Copy> TextureCache<K, S
         requires asked { asked ≡ size_of (bordered self.old.options size) }
         ensures inserts { Inserts asked key size result changes.old.items changes.new.items self.old self.new }
         ensures errors { IfErr result (IsRefusedNew (length self.new.entries)) }
+        ensures room { IsNoneInUse self.old → result ≢ Ok None }
     {
         loop {
             if let Some(place) = self.add(key, size, asked)? {
                 return Ok(Some(place));
             }
             if !self.make_room(asked, changes)? {
+                self.rooms.prove_kept();
                 return Ok(None);
             }
         }

@@ -167,3 +167,16 @@ fn an_empty_cache_has_no_first_key(rt: HostRuntime) -> Result<(), Fail> {
     assert!(rt; cache.older(&1).is_none());
     Ok(())
 }
+
+#[test]
+fn a_new_frame_has_room(rt: HostRuntime) -> Result<(), Fail> {
+    let mut cache = three(rt.alloc())?;
+    let mut changes = Vec::new(rt.alloc());
+    let _last = cache.insert(4, size2(16, 16), &mut changes)?;
+    cache.begin_frame();
+    assert_eq!(rt;
+        cache.insert(5, size2(16, 16), &mut changes)?,
+        Some(whole(0))
+    );
+    Ok(())
+}

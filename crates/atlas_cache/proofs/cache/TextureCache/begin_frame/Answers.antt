@@ -1,6 +1,5 @@
 use Rattle.std.proofs.Common.{arith}
 use Rattle.atlas_cache.proofs.ListLemmas.{falls-later}
-use Rattle.atlas_cache.proofs.HoldingLemmas.{left}
 use Rattle.atlas_cache.proofs.cache.TextureCache.begin_frame.Goals as goal
 
 pub invariant_of-self : goal.invariant_of-self

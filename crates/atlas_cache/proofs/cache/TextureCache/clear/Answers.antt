@@ -1,4 +1,3 @@
-use Rattle.std.proofs.Common.{refl}
 use Rattle.atlas_cache.proofs.HoldingLemmas.{none_held}
 use Rattle.atlas_cache.proofs.cache.TextureCache.clear.Goals as goal
 

@@ -1,8 +1,8 @@
-use Rattle.std.proofs.Common.{◌≡◌, ◌++◌, ◌∷◌, [], refl, arith, ap}
+use Rattle.std.proofs.Common.{refl, arith}
 use Rattle.atlas_cache.specs.Caches.{entries_of}
 use Rattle.atlas_cache.specs.Entries.{without_number}
 use Rattle.atlas_cache.proofs.CacheLemmas.{bordered-at, rest_bordered, rest_falls}
-use Rattle.atlas_cache.proofs.ListLemmas.{falls-last, length-last, parts}
+use Rattle.atlas_cache.proofs.ListLemmas.{falls-last, parts}
 use Rattle.atlas_cache.proofs.TrimLemmas.{used-all}
 use Rattle.atlas_cache.proofs.cache.TextureCache.drop_last.Goals as goal
 

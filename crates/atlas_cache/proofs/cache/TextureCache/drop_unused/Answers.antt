@@ -1,7 +1,6 @@
-use Rattle.std.proofs.Common.{◌∷◌, arith}
+use Rattle.std.proofs.Common.{arith}
 use Rattle.atlas_cache.proofs.KeyLemmas.{own_keys}
-use Rattle.atlas_cache.proofs.ListLemmas.{length-last}
-use Rattle.atlas_cache.proofs.TrimLemmas.{none-dropped, one-dropped, trimmed, trimmed-told}
+use Rattle.atlas_cache.proofs.TrimLemmas.{none-dropped, one-dropped}
 use Rattle.atlas_cache.proofs.cache.TextureCache.drop_unused.Goals as goal
 
 pub each-init : goal.each-init

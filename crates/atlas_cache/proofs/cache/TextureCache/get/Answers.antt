@@ -2,7 +2,7 @@ use Rattle.std.proofs.Common.{ap, refl, ◌∷◌}
 use Rattle.atlas_cache.specs.Caches.{entries_of}
 use Rattle.atlas_cache.specs.Entries.{without_number}
 use Rattle.atlas_cache.specs.declared.entries.Entry.{Entry}
-use Rattle.atlas_cache.proofs.CacheLemmas.{bordered-at, number-at, touched-is, used}
+use Rattle.atlas_cache.proofs.CacheLemmas.{bordered-at, touched-is, used}
 use Rattle.atlas_cache.proofs.ListLemmas.{parts}
 use Rattle.atlas_cache.proofs.cache.TextureCache.get.Goals as goal
 

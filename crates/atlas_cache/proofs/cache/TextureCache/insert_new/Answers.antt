@@ -1,6 +1,8 @@
-use Rattle.std.proofs.Common.{ap, sym, refl, ◌∙◌, Ok, [], append-nil}
+use Rattle.std.proofs.Common.{ap, sym, refl, ◌∙◌, Ok}
 use Rattle.atlas_cache.proofs.ListLemmas.{append-none}
-use Rattle.atlas_cache.proofs.LoopLemmas.{inserted, nothing_yet, one_absent, one_more_change, one_options}
+use Rattle.atlas_cache.proofs.LoopLemmas.{nothing_yet, one_absent, one_more_change, one_options}
+use Rattle.atlas_cache.proofs.StandLemmas.{never-without}
+use Rattle.atlas_cache.specs.Caches.{entries_of}
 use Rattle.atlas_cache.proofs.cache.TextureCache.insert_new.Goals as goal
 
 pub loop-place-init : goal.loop-place-init
@@ -25,3 +27,20 @@ loop-place-preserved g c =
       absent = one_absent g.K.PartialEq.eq c.args.key now new t u one was.absent;
       options = one_options now new t u one ∙ was.options;
     }
+
+pub returns-then-not-branch-clause-room : goal.returns-then-not-branch-clause-room
+returns-then-not-branch-clause-room g c = λ none _.
+    let was = c.loop-place.invariant in
+    let same = c.in_ok-place.ensures.none (ap Ok c.in_default.is) in
+    let no = ap Ok c.if-not-branch.true in
+    let stays = c.in_ok-make_room.ensures.stays no in
+    let done = c.in_ok-make_room.ensures.stops no in
+    never-without c.args.asked c.args.size was.reached.made c.args.self.now c.loop-place.self c.add.new.self
+    (record {
+      options = c.self.inside.rooms.options;
+      pages = c.self.inside.rooms.pages;
+      entries = entries_of c.self.inside.entries;
+      frame = c.self.inside.frame;
+      counts = c.self.inside.counts;
+    }) was.reached.leads none same done (c.self.view_is ∙ stays.0) was.options c.requires.stands c.requires.asked
+    c.prove_kept.ensures.kept.usable c.self.invariant.held c.prove_kept.ensures.room

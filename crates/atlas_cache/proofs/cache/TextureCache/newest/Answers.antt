@@ -1,4 +1,4 @@
-use Rattle.std.proofs.Common.{ap, refl, sym, ◌∙◌, Some}
+use Rattle.std.proofs.Common.{refl}
 use Rattle.atlas_cache.proofs.CacheLemmas.{bordered-at}
 use Rattle.atlas_cache.proofs.cache.TextureCache.newest.Goals as goal
 

@@ -1,5 +1,5 @@
 use Rattle.std.proofs.Common.{refl, Some}
-use Rattle.atlas_cache.proofs.CacheLemmas.{bordered-at, number-at}
+use Rattle.atlas_cache.proofs.CacheLemmas.{bordered-at}
 use Rattle.atlas_cache.proofs.cache.TextureCache.older.Goals as goal
 
 pub place_of-requires : goal.place_of-requires

@@ -1,4 +1,4 @@
-use Rattle.std.proofs.Common.{ap, refl, sym, ◌∙◌, Some}
+use Rattle.std.proofs.Common.{refl}
 use Rattle.atlas_cache.proofs.CacheLemmas.{bordered-at}
 use Rattle.atlas_cache.proofs.WalkLemmas.{last-some}
 use Rattle.atlas_cache.proofs.cache.TextureCache.oldest.Goals as goal

@@ -2,7 +2,7 @@ use Rattle.atlas_cache.specs.Caches.{entries_of}
 use Rattle.atlas_cache.specs.Entries.{without_number}
 use Rattle.atlas_cache.proofs.CacheLemmas.{number-at, rectangle-live, rest_held}
 use Rattle.atlas_cache.proofs.ListLemmas.{parts}
-use Rattle.std.proofs.Common.{ℤ, pos}
+use Rattle.std.proofs.Common.{pos}
 use Rattle.atlas_cache.proofs.cache.holding.take_out.Goals as goal
 
 pub remove-requires : goal.remove-requires

@@ -1,4 +1,4 @@
-use Rattle.std.proofs.Common.{◌≡◌, ◌∙◌, ◌∷◌, ap, inl, inr, length, subst, sym, Err, rules}
+use Rattle.std.proofs.Common.{◌≡◌, ◌∙◌, ◌∷◌, ap, inl, inr, subst, sym, Err, rules}
 use Rattle.atlas_cache.specs.Tables.{AreKept, numbered}
 use Rattle.atlas_cache.proofs.EntryKeeping.{absent-is, joined-is, kept-alike, kept-joined, new-none}
 use Rattle.atlas_cache.proofs.EntryLemmas.{length-numbered}
