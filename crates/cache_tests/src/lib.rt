@@ -8,6 +8,10 @@ mod entries;
 #[cfg(test)]
 mod options;
 #[cfg(test)]
+mod plain;
+#[cfg(test)]
 mod recency;
 #[cfg(test)]
 mod rooms;
+#[cfg(test)]
+mod traces;
