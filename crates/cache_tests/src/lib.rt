@@ -10,6 +10,10 @@ mod entries;
 #[cfg(test)]
 mod options;
 #[cfg(test)]
+mod plain;
+#[cfg(test)]
 mod recency;
 #[cfg(test)]
 mod rooms;
+#[cfg(test)]
+mod traces;
