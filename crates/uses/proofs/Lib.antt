@@ -1,10 +1,6 @@
 pub mod Caching
-pub mod HighestFirst
 pub mod Holding
 pub mod Keyed
-pub mod Numbering
-pub mod Placing
-pub mod Ranges
 pub mod Recordings
 pub mod Repacking
 pub mod Sorting

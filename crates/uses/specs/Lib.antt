@@ -2,5 +2,4 @@ pub mod GlyphCodes
 pub mod Glyphs
 pub mod Pictures
 pub mod Replaying
-pub mod Sheets
 pub mod TextureArrays
