@@ -1,25 +1,28 @@
 -- From the lines that are read to the text that is written.
-use Rattle.std.specs.Prelude.{◌≡◌, ℕ, Bool, true, false, if◌then◌else◌, Option, Some, None, List, [], ◌∷◌, map, flat_map}
+use Rattle.std.specs.Prelude.{◌≡◌, ℕ, ◌+◌, ◌⊎◌, ⊤, Bool, true, false, if◌then◌else◌, Option, Some, None, List, [], ◌∷◌, map, flat_map}
 use Rattle.std.specs.List.{zip}
 use Rattle.std.specs.Io.KnownBytes.{Appends}
 use Rattle.atlas_model.specs.declared.geometry.Size.{Size}
 use Rattle.atlas_model.specs.Pixels.{sides_of}
 use Rattle.atlas_sheet.specs.declared.allowed.Allowed.{Allowed}
 use Rattle.atlas_sheet.specs.declared.allowed.Allowed.TheVariants as allowed
+use Rattle.atlas_sheet.specs.declared.error.SheetError.TheVariants as sheet_error
 use Rattle.atlas_sheet.specs.declared.options.SheetOptions.{SheetOptions}
 use Rattle.atlas_sheet.specs.declared.placed.Placed.{Placed}
 use Rattle.atlas_sheet.specs.declared.ways.TheConstants.{WAYS}
 use Rattle.atlas_sheet.specs.Allowances.{IsAllowed, IsGreatest}
 use Rattle.atlas_sheet.specs.Lying.{IsShown}
-use Rattle.atlas_sheet.specs.Packings.{IsNoLarger}
-use Rattle.atlas_sheet.specs.Settings.{spacing_of}
+use Rattle.atlas_sheet.specs.Packings.{IsNoLarger, NoneIsFound}
+use Rattle.atlas_sheet.specs.Settings.{IsSheetFault, spacing_of}
 use Rattle.atlas_words.specs.Devices.{HoldsBytes}
+use Rattle.pack_lines.specs.declared.error.PackError.{PackError}
+use Rattle.pack_lines.specs.declared.error.PackError.TheVariants as error
 use Rattle.pack_lines.specs.declared.frames.Frame.{Frame}
 use Rattle.pack_lines.specs.declared.settings.Settings.{Settings}
 use Rattle.pack_lines.specs.declared.settings.Sheets.{Sheets}
 use Rattle.pack_lines.specs.declared.settings.Sheets.TheVariants as sheets
 use Rattle.pack_lines.specs.declared.sprites.Sprite.{Sprite}
-use Rattle.pack_lines.specs.Jobs.{AsksFor}
+use Rattle.pack_lines.specs.Jobs.{AsksFor, IsJobFault}
 use Rattle.pack_lines.specs.Json.{json_of}
 use Rattle.pack_lines.specs.Texts.{text_of}
 
@@ -98,3 +101,39 @@ pub record Packs (in_old out_old out_new : Option (List ℕ)) : Type 0 where
   pub answered : Answers settings.fill (options_of settings) (map (λ sprite. sprite.size) sprites) sheet places
   pub told : Appends out_old out_new
       (written settings.json sheet (frames_of sprites places) (left_of sprites places))
+
+-- What an error says of what the library was asked. The sprites' lines stand after `before` others.
+abbrev pub IsPackFault : (fill : Bool) → (before : ℕ) → SheetOptions → List Size → PackError → Type 0
+IsPackFault fill before o sizes error.EmptySheet = IsSheetFault o sizes sheet_error.EmptySheet
+IsPackFault fill before o sizes error.EmptyRange = IsSheetFault o sizes sheet_error.EmptyRange
+IsPackFault fill before o sizes error.EmptyAlignment = IsSheetFault o sizes sheet_error.EmptyAlignment
+IsPackFault fill before o sizes (error.EmptySprite line) =
+    (k : ℕ) × (line ≡ before + k + 1) × IsSheetFault o sizes (sheet_error.EmptySprite k)
+IsPackFault fill before o sizes (error.GreatSprite line) =
+    (k : ℕ) × (line ≡ before + k + 1) × IsSheetFault o sizes (sheet_error.GreatSprite k)
+IsPackFault fill before o sizes error.NoSheet = (fill ≡ false) × NoneIsFound WAYS o.allowed (spacing_of o) sizes
+IsPackFault fill before o sizes error.Memory = ⊤
+IsPackFault fill before o sizes e = ⊥
+
+-- The lines ask for a sheet, and the library has none.
+pub record HasPackFault (input : List ℕ) (e : PackError) : Type 0 where
+  pub before : ℕ
+  pub settings : Settings
+  pub sprites : List Sprite
+  pub asked : AsksFor input before settings sprites
+  pub fault : IsPackFault settings.fill before (options_of settings) (map (λ sprite. sprite.size) sprites) e
+
+-- A device failed.
+abbrev pub IsDeviceFault : PackError → Type 0
+IsDeviceFault (error.Device d) = ⊤
+IsDeviceFault e = ⊥
+
+-- The lines that were read are bad.
+pub record HasInputFault (in_old : Option (List ℕ)) (e : PackError) : Type 0 where
+  pub input : List ℕ
+  pub read : HoldsBytes in_old input
+  pub fault : IsJobFault input e ⊎ HasPackFault input e
+
+-- Why there is no sheet: memory or a device failed, or the lines are bad or ask for a sheet that isn't found.
+abbrev pub IsRunFault : (in_old : Option (List ℕ)) → PackError → Type 0
+IsRunFault in_old e = (e ≡ error.Memory) ⊎ (IsDeviceFault e ⊎ HasInputFault in_old e)

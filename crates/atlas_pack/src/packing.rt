@@ -1,12 +1,14 @@
 //! What the library is asked, and what it answers.
-ghost use Rattle.std.specs.Prelude.{◌≡◌, map, flat_map, IfOk, Some};
+ghost use Rattle.std.specs.Prelude.{◌≡◌, ◌≤◌, false, map, true, flat_map, Bool, IfErr, IfOk, Some};
 ghost use Rattle.std.specs.List.{zip};
-ghost use Rattle.atlas_pack.specs.Runs.{IsFilled, IsFound, allowed_of, frame_in, frame_of, left_in, options_of};
+ghost use Rattle.atlas_pack.specs.Runs.{IsFilled, IsFound, IsPackFault, allowed_of, frame_in, frame_of, left_in, options_of};
+ghost use Rattle.atlas_sheet.specs.Settings.{IsSheetFault};
 
 use atlas_model::Size;
-use atlas_sheet::{Allowed, Placed, SheetError, SheetOptions, fill, pack};
+use atlas_sheet::{Allowed, Placed, SheetError, SheetOptions, fill, pack_telling};
 use pack_lines::{Frame, PackError, Settings, Sheets, Sprite};
 use std::alloc::{AllocError, Global};
+use std::io::Write;
 
 // The sheets that are allowed.
 fn allowed_of(sheets: Sheets) -> Allowed
@@ -93,39 +95,53 @@ fn all_of(alloc: Global, places: &[Placed]) -> Result<Vec<Option<Placed>>, Alloc
     places.iter().map(|placed| Some(*placed)).collect(alloc)
 }
 
-// The error of a program that read `before` lines before those of the sprites.
-fn fault_of(error: SheetError, before: usize) -> PackError {
+// The program's error where the library refuses these sizes. The sprites' lines stand after `before` others.
+fn fault_of(error: SheetError, sizes: &[Size], options: &SheetOptions, before: usize) -> PackError
+    requires few { before ≤ 1 }
+    requires fault { IsSheetFault options.now sizes.now error }
+    ensures { (fill : Bool) → IsPackFault fill before options.now sizes.now result }
+{
     match error {
         SheetError::Memory => PackError::Memory,
         SheetError::EmptySheet => PackError::EmptySheet,
         SheetError::EmptyRange => PackError::EmptyRange,
         SheetError::EmptyAlignment => PackError::EmptyAlignment,
-        SheetError::EmptySprite(number) => PackError::EmptySprite(line_of(number, before)),
-        SheetError::GreatSprite(number) => PackError::GreatSprite(line_of(number, before)),
+        SheetError::EmptySprite(number) => PackError::EmptySprite(before + number + 1),
+        SheetError::GreatSprite(number) => PackError::GreatSprite(before + number + 1),
     }
 }
 
-// The line of the sprite with this number.
-fn line_of(number: usize, before: usize) -> usize {
-    number.saturating_add(before).saturating_add(1)
+// Tells a person the size of a sheet. A failure is passed over.
+fn tell<P: Write>(progress: &mut P, size: Size) {
+    let _ = writeln!(progress, "sheet {} {}", size.width, size.height);
 }
 
-/// A sheet that takes all sprites, and their places. `NoSheet` where none is found.
-pub fn pack_all(
+/// A sheet that takes all sprites, and their places. `NoSheet` where none is found. Where changes of the order are tried,
+/// `progress` has a line for each sheet as soon as it is found.
+pub fn pack_all<P: Write>(
     alloc: Global,
     sizes: &[Size],
     options: &SheetOptions,
     before: usize,
+    progress: &mut P,
 ) -> Result<(Size, Vec<Option<Placed>>), PackError>
-    ensures { IfOk result (λ found. IsFound options.now sizes.now found.0 found.1.items) }
+    requires { before ≤ 1 }
+    ensures found { IfOk result (λ found. IsFound options.now sizes.now found.0 found.1.items) }
+    ensures fault { IfErr result (λ e. IsPackFault false before options.now sizes.now e) }
 {
-    match pack(alloc, sizes, options) {
+    let telling = options.effort > 0;
+    let packed = pack_telling(alloc, sizes, options, |size| {
+        if telling {
+            tell(progress, size);
+        }
+    });
+    match packed {
         Ok(Some(sheet)) => {
             let places = all_of(alloc, &sheet.places)?;
             Ok((sheet.size, places))
         }
         Ok(None) => Err(PackError::NoSheet),
-        Err(error) => Err(fault_of(error, before)),
+        Err(error) => Err(fault_of(error, sizes, options, before)),
     }
 }
 
@@ -136,10 +152,12 @@ pub fn fill_one(
     options: &SheetOptions,
     before: usize,
 ) -> Result<(Size, Vec<Option<Placed>>), PackError>
-    ensures { IfOk result (λ found. IsFilled options.now sizes.now found.0 found.1.items) }
+    requires { before ≤ 1 }
+    ensures filled { IfOk result (λ found. IsFilled options.now sizes.now found.0 found.1.items) }
+    ensures fault { IfErr result (λ e. IsPackFault true before options.now sizes.now e) }
 {
     match fill(alloc, sizes, options) {
         Ok(filled) => Ok((filled.size, filled.places)),
-        Err(error) => Err(fault_of(error, before)),
+        Err(error) => Err(fault_of(error, sizes, options, before)),
     }
 }

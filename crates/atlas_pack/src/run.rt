@@ -1,51 +1,13 @@
 //! A run of the program, from the bytes of a reader to the bytes of a writer.
-ghost use Rattle.std.specs.Prelude.{◌≡◌, map, IfOk, OnOk};
-ghost use Rattle.atlas_pack.specs.Runs.{Answers, IsFound, Packs, options_of, written};
+ghost use Rattle.std.specs.Prelude.{◌≡◌, ◌≤◌, map, IfErr, IfOk, OnOk};
+ghost use Rattle.atlas_pack.specs.Runs.{Answers, IsPackFault, IsRunFault, Packs, options_of, written};
 
 use crate::packing::{beside, fill_one, options_of, pack_all, parted, sizes_of};
 use atlas_model::Size;
-use atlas_sheet::{Placed, SheetOptions};
+use atlas_sheet::Placed;
 use pack_lines::{Frame, Job, PackError, Sprite, read_job, sheet_json, sheet_lines};
 use std::alloc::{AllocError, Global};
 use std::io::{Read, Write};
-
-// Tells a person how large the sheet is. A failure is passed over.
-fn tell<P: Write>(
-    alloc: Global,
-    progress: &mut P,
-    size: Size,
-    what: &str,
-) -> Result<(), AllocError> {
-    let line = format!(in alloc; "sheet {} {} {what}\n", size.width, size.height)?;
-    let _ = progress.write_all(line.as_bytes());
-    Ok(())
-}
-
-// Packs all sprites. Where changes of the order are tried, it tells the size that is found without them, and that
-// with them.
-fn pack_and_tell<P: Write>(
-    alloc: Global,
-    sizes: &[Size],
-    options: &SheetOptions,
-    before: usize,
-    progress: &mut P,
-) -> Result<(Size, Vec<Option<Placed>>), PackError>
-    ensures { IfOk result (λ found. IsFound options.now sizes.now found.0 found.1.items) }
-{
-    if options.effort > 0 {
-        let quick = SheetOptions {
-            effort: 0,
-            ..*options
-        };
-        let (size, _places) = pack_all(alloc, sizes, &quick, before)?;
-        tell(alloc, progress, size, "without changes of the order")?;
-    }
-    let (size, places) = pack_all(alloc, sizes, options, before)?;
-    if options.effort > 0 {
-        tell(alloc, progress, size, "with them")?;
-    }
-    Ok((size, places))
-}
 
 // The sheet that a job asks for, and a place or none for each of its sprites.
 fn answer<P: Write>(
@@ -53,15 +15,18 @@ fn answer<P: Write>(
     job: &Job<'_>,
     progress: &mut P,
 ) -> Result<(Size, Vec<Option<Placed>>), PackError>
-    ensures { IfOk result (λ found. Answers job.now.settings.fill
+    requires { job.now.before ≤ 1 }
+    ensures answers { IfOk result (λ found. Answers job.now.settings.fill
         (options_of job.now.settings) (map (λ sprite. sprite.size) job.now.sprites.items) found.0 found.1.items) }
+    ensures fault { IfErr result (λ e. IsPackFault job.now.settings.fill job.now.before
+        (options_of job.now.settings) (map (λ sprite. sprite.size) job.now.sprites.items) e) }
 {
     let sizes = sizes_of(alloc, &job.sprites)?;
     let options = options_of(job.settings);
     if job.settings.fill {
         return fill_one(alloc, &sizes, &options, job.before);
     }
-    pack_and_tell(alloc, &sizes, &options, job.before, progress)
+    pack_all(alloc, &sizes, &options, job.before, progress)
 }
 
 // The text of a sheet.
@@ -89,7 +54,8 @@ pub fn run<R: Read, W: Write, P: Write>(
     output: &mut W,
     progress: &mut P,
 ) -> Result<(), PackError>
-    ensures { OnOk result (Packs (R.remaining input.old) (W.contents output.old) (W.contents output.new)) }
+    ensures packs { OnOk result (Packs (R.remaining input.old) (W.contents output.old) (W.contents output.new)) }
+    ensures fault { IfErr result (λ e. IsRunFault (R.remaining input.old) e) }
 {
     let mut text = Vec::new(alloc);
     input.read_to_end(&mut text)?;
@@ -181,7 +147,7 @@ mod tests {
 
     #[test]
     fn tells_progress(rt: HostRuntime) {
-        let told = b"sheet 8 4 without changes of the order\nsheet 8 4 with them\n";
+        let told = b"sheet 8 4\n";
         assert!(&rt; progress(rt.alloc(), &rt).as_slice() == told.as_slice());
     }
 }

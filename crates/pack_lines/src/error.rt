@@ -1,6 +1,6 @@
 //! Why there is no sheet.
 ghost use Rattle.std.specs.Prelude.{◌≡◌};
-ghost use Rattle.pack_lines.specs.declared.error.PackError.TheVariants.{Memory};
+ghost use Rattle.pack_lines.specs.declared.error.PackError.TheVariants.{Device, Memory};
 
 use std::alloc::{AllocError, AllocFailed};
 use std::io;
@@ -41,7 +41,16 @@ pub enum PackError {
     Memory,
     /// A device failed.
     #[error("{0}")]
-    Device(#[from] io::Error),
+    Device(io::Error),
+}
+
+impl From<io::Error> for PackError {
+    ghost from_gives = { λ error e. e ≡ Device error };
+
+    /// `Device` with this error.
+    fn from(error: io::Error) -> PackError {
+        PackError::Device(error)
+    }
 }
 
 impl From<AllocError> for PackError {

@@ -45,6 +45,7 @@ fn read_first(text: &[u8]) -> Result<(Settings, usize, &[u8]), PackError>
 /// first line whose name stands on an earlier one; `Memory` if memory is refused.
 pub fn read_job(alloc: Global, text: &[u8]) -> Result<Job<'_>, PackError>
     ensures asks { IfOk result (λ job. AsksFor text.now job.before job.settings job.sprites.items) }
+    ensures few { IfOk result (λ job. job.before ≤ 1) }
     ensures fault { IfErr result (λ e. IsJobFault text.now e) }
 {
     let (settings, before, rest) = read_first(text)?;

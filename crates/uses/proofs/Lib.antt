@@ -1,9 +1,5 @@
-pub mod HighestFirst
 pub mod Holding
 pub mod Keyed
-pub mod Numbering
-pub mod Placing
-pub mod Ranges
 pub mod Recordings
 pub mod Repacking
 pub mod Sorting

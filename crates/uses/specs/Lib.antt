@@ -1,4 +1,3 @@
 pub mod Pictures
 pub mod Replaying
-pub mod Sheets
 pub mod TextureArrays

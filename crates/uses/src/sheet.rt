@@ -1,95 +1,39 @@
-//! A sheet of sprites: the smallest of a range of square sheets in which each sprite finds a place.
-ghost use Rattle.std.specs.Prelude.{◌≡◌, ◌<◌, length, map, option_map, All, IsPermutation, IfOk, IfSome, IsOkUnless};
-ghost use Rattle.std.specs.Bool.{OnFalse, OnTrue};
-ghost use Rattle.std.specs.List.{enumerate_from};
-ghost use Rattle.guillotiere.specs.declared.AtlasError.TheVariants as error;
-ghost use Rattle.uses.specs.Sheets.{ArePlaced, ArePlaces, AreHighestFirst, AreNumberedOnce, CannotTake, IsSmallestFor};
+//! A sheet of sprites: a square, as small as `atlas_sheet` finds one.
+ghost use Rattle.std.specs.Prelude.{◌≡◌, ◌≤◌, map, All, IfNone, IfOk, IfSome};
+ghost use Rattle.std.specs.List.{AllZip};
+ghost use Rattle.guillotiere.specs.Boxes.{AreDisjoint, IsWithin, box_sides};
+ghost use Rattle.guillotiere.specs.Pixels.{box_of, natural, sides_of};
+ghost use Rattle.atlas_sheet.specs.declared.allowed.Allowed.TheVariants as allowed;
+ghost use Rattle.atlas_sheet.specs.declared.ways.TheConstants.{WAYS};
+ghost use Rattle.atlas_sheet.specs.Packings.{NoneIsFound};
+ghost use Rattle.atlas_sheet.specs.Settings.{plain_spacing};
 
-use guillotiere::{AtlasError, Rectangle, SimpleAtlasAllocator, Size, point2, size2};
+use atlas_sheet::{Allowed, Sheet, SheetError, SheetOptions, pack};
+use guillotiere::Size;
 use std::alloc::Global;
-use std::cmp::Reverse;
 
-/// A square sheet, `side` pixels wide and high, and a place on it for each sprite, in the order of the sprites.
-#[derive(Drop)]
-pub struct Sheet {
-    pub side: u16,
-    pub places: Vec<Rectangle>,
-}
-
-/// Packs sprites, the highest first, into the smallest square sheet of side `least`, or twice that, or four times and
-/// so on up to `most` pixels, in which each finds a place. None if in each of these some sprite finds no place, as an
-/// empty sprite never does. Asks that `least` is above 0. The only error is `Memory`.
-pub fn pack(
+/// Packs sprites into a square sheet whose side has from `least` to `greatest` pixels, and is as small as `pack` finds
+/// one. The places stand in the order of the sprites. None if none of the ways of `atlas_sheet` packs all sprites into the
+/// greatest square.
+pub fn pack_square(
     alloc: Global,
     sprites: &[Size],
-    least: u16,
-    most: u16,
-) -> Result<Option<Sheet>, AtlasError>
-    requires { 0 < least }
-    ensures places { IfOk result (λ found. IfSome found (λ sheet.
-        ArePlaces sheet.side sprites.now sheet.places.items)) }
-    ensures smallest { IfOk result (λ found.
-        IsSmallestFor least most sprites.now (option_map (λ sheet. sheet.side) found)) }
-    ensures unless { IsOkUnless result error.Memory }
+    least: i32,
+    greatest: i32,
+) -> Result<Option<Sheet>, SheetError>
+    ensures square { IfOk result (λ found. IfSome found (λ sheet.
+        (sides_of sheet.size).width ≡ (sides_of sheet.size).height)) }
+    ensures range { IfOk result (λ found. IfSome found (λ sheet.
+        (natural least ≤ (sides_of sheet.size).width) × ((sides_of sheet.size).width ≤ natural greatest))) }
+    ensures sides { IfOk result (λ found. IfSome found (λ sheet.
+        AllZip (λ sprite placed. box_sides (box_of placed.area) ≡ sides_of sprite) sprites.now sheet.places.items)) }
+    ensures inside { IfOk result (λ found. IfSome found (λ sheet.
+        All (λ placed. IsWithin (sides_of sheet.size) (box_of placed.area)) sheet.places.items)) }
+    ensures apart { IfOk result (λ found. IfSome found (λ sheet.
+        AreDisjoint (map (λ placed. box_of placed.area) sheet.places.items))) }
+    ensures none { IfOk result (λ found. IfNone found
+        (NoneIsFound WAYS (allowed.Squares least greatest) plain_spacing sprites.now)) }
 {
-    let order = highest_first(alloc, sprites)?;
-    let nowhere = Rectangle {
-        min: point2(0, 0),
-        max: point2(0, 0),
-    };
-    let mut places = vec![in alloc; nowhere; sprites.len()]?;
-    let mut tried = u32::from(least);
-    while tried <= u32::from(most) {
-        let side = tried as u16;
-        if place(alloc, &order, side, &mut places)? {
-            return Ok(Some(Sheet { side, places }));
-        }
-        tried *= 2;
-    }
-    Ok(None)
-}
-
-// The sprites with their numbers, from 0.
-fn numbered(alloc: Global, sprites: &[Size]) -> Result<Vec<(usize, Size)>, AtlasError>
-    ensures numbered { IfOk result (λ order. order.items ≡ enumerate_from 0 sprites.now) }
-    ensures unless { IsOkUnless result error.Memory }
-{
-    Ok(sprites.iter().copied().enumerate().collect(alloc)?)
-}
-
-// The sprites with their numbers, the highest first.
-fn highest_first(alloc: Global, sprites: &[Size]) -> Result<Vec<(usize, Size)>, AtlasError>
-    ensures permuted { IfOk result (λ order. IsPermutation (enumerate_from 0 sprites.now) order.items) }
-    ensures highest { IfOk result (λ order. AreHighestFirst sprites.now (map (λ s. s.1) order.items)) }
-    ensures unless { IsOkUnless result error.Memory }
-{
-    let mut order = numbered(alloc, sprites)?;
-    order.sort_by_key(|sprite| Reverse(sprite.1.height))?;
-    Ok(order)
-}
-
-// Finds a place for each numbered sprite in a sheet of this side, one after another; whether each found one.
-fn place(
-    alloc: Global,
-    order: &[(usize, Size)],
-    side: u16,
-    places: &mut Vec<Rectangle>,
-) -> Result<bool, AtlasError>
-    requires side { 0 < side }
-    requires numbers { All (λ s. s.0 < length places.old.items) order.now }
-    requires once { AreNumberedOnce order.now }
-    ensures length { length places.new.items ≡ length places.old.items }
-    ensures placed { IfOk result (λ all. OnTrue all (ArePlaced side order.now places.new.items)) }
-    ensures denied { IfOk result (λ all. OnFalse all (CannotTake side (map (λ s. s.1) order.now))) }
-    ensures unless { IsOkUnless result error.Memory }
-{
-    let size = size2(i32::from(side), i32::from(side));
-    let mut packer = SimpleAtlasAllocator::new(alloc, size)?;
-    for sprite in order {
-        match packer.allocate(sprite.1)? {
-            None => return Ok(false),
-            Some(area) => places[sprite.0] = area,
-        }
-    }
-    Ok(true)
+    let options = SheetOptions::new(Allowed::Squares { least, greatest });
+    pack(alloc, sprites, &options)
 }

@@ -1,130 +1,56 @@
-//! Sheets of sprites against what the Rust crate's simple allocator answers, asked for the sprites the highest first.
+//! Square sheets, worked by hand.
+use atlas_sheet::{Placed, SheetError};
 use guillotiere::{Rectangle, Size, point2, size2};
-use std::process::Abort;
-use std::test::Fail;
-use uses::sheet::pack;
+use std::alloc::Global;
+use uses::sheet::pack_square;
 
-const SPRITES: [(i32, i32); 7] = [
-    (64, 64),
-    (48, 64),
-    (64, 32),
-    (16, 48),
-    (32, 32),
-    (8, 8),
-    (20, 10),
-];
-
-const PLACES: [(i32, i32, i32, i32); 7] = [
-    (0, 0, 64, 64),
-    (64, 0, 112, 64),
-    (0, 64, 64, 96),
-    (112, 0, 128, 48),
-    (64, 64, 96, 96),
-    (116, 64, 124, 72),
-    (96, 64, 116, 74),
-];
-
-fn rectangle(corners: (i32, i32, i32, i32)) -> Rectangle {
-    Rectangle {
-        min: point2(corners.0, corners.1),
-        max: point2(corners.2, corners.3),
-    }
+// The side of the square that is found for these sprites.
+fn side(
+    alloc: Global,
+    sprites: &[Size],
+    least: i32,
+    greatest: i32,
+) -> Result<Option<i32>, SheetError> {
+    let found = pack_square(alloc, sprites, least, greatest)?;
+    Ok(found.map(|sheet| sheet.size.width))
 }
 
+// A single sprite lies in the corner of a square of its greater side.
 #[test]
-fn sprites_in_the_smallest_sheet(rt: HostRuntime) {
-    let mut sprites = Vec::new(rt.alloc());
-    for (width, height) in SPRITES {
-        sprites.push(size2(width, height)).expect(&rt, "a sprite");
-    }
-    let packed = pack(rt.alloc(), &sprites, 32, 512).expect(&rt, "memory");
-    let sheet = packed.expect(&rt, "a sheet");
-    assert!(&rt; sheet.side == 128);
-    assert!(&rt; sheet.places.len() == 7);
-    for (k, corners) in PLACES.iter().enumerate() {
-        assert!(&rt;
-            sheet.places.get(k).copied() == Some(rectangle(*corners)),
-            "place {k}"
-        );
-    }
+fn one_sprite(rt: HostRuntime) -> Result<(), SheetError> {
+    let corner = Placed {
+        area: Rectangle {
+            min: point2(0, 0),
+            max: point2(5, 3),
+        },
+        turned: false,
+    };
+    let found = pack_square(rt.alloc(), &[size2(5, 3)], 1, 64)?;
+    assert!(rt;
+        found.is_some_and(|sheet| sheet.size == size2(5, 5)
+            && sheet.places.as_slice() == [corner].as_slice())
+    );
+    Ok(())
 }
 
-// Sprites, a range of sides, and the side that is found.
-const ROWS: [(&[Size], u16, u16, Option<u16>); 8] = [
-    (&[], 16, 16, Some(16)),
-    (&[], 16, 15, None),
-    (
-        &[Size {
-            width: 16,
-            height: 16,
-        }],
-        16,
-        16,
-        Some(16),
-    ),
-    (
-        &[Size {
-            width: 17,
-            height: 1,
-        }],
-        16,
-        31,
-        None,
-    ),
-    (
-        &[Size {
-            width: 17,
-            height: 1,
-        }],
-        16,
-        32,
-        Some(32),
-    ),
-    (
-        &[Size {
-            width: 1,
-            height: 0,
-        }],
-        16,
-        4096,
-        None,
-    ),
-    (
-        &[Size {
-            width: 65535,
-            height: 1,
-        }],
-        65535,
-        65535,
-        Some(65535),
-    ),
-    (
-        &[
-            Size {
-                width: 16,
-                height: 8,
-            },
-            Size {
-                width: 16,
-                height: 8,
-            },
-            Size {
-                width: 1,
-                height: 1,
-            },
-        ],
-        16,
-        64,
-        Some(32),
-    ),
-];
-
+// Four of 8 x 8 fill a square of 16. Two of 5 x 8 lie beside each other in 10 x 8.
 #[test]
-fn sides_of_sheets(rt: HostRuntime) {
-    for (k, (sprites, least, most, side)) in ROWS.iter().enumerate() {
-        assert!(&rt; *least > 0);
-        let packed = pack(rt.alloc(), sprites, *least, *most).expect(&rt, "memory");
-        let found = packed.map(|sheet| sheet.side);
-        assert!(&rt; found == *side, "row {k}");
-    }
+fn sides(rt: HostRuntime) -> Result<(), SheetError> {
+    let small = size2(8, 8);
+    let high = size2(5, 8);
+    assert!(rt; side(rt.alloc(), &[small, small, small, small], 1, 64)? == Some(16));
+    assert!(rt; side(rt.alloc(), &[high, high], 1, 64)? == Some(10));
+    assert!(rt; side(rt.alloc(), &[high, high], 12, 64)? == Some(12));
+    assert!(rt; side(rt.alloc(), &[], 3, 64)? == Some(3));
+    Ok(())
+}
+
+// A greatest square that is a pixel too narrow, and what is refused.
+#[test]
+fn no_sheet(rt: HostRuntime) -> Result<(), SheetError> {
+    assert!(rt; side(rt.alloc(), &[size2(17, 1)], 1, 16)?.is_none());
+    assert!(rt; side(rt.alloc(), &[], 0, 9).err() == Some(SheetError::EmptySheet));
+    assert!(rt; side(rt.alloc(), &[], 9, 8).err() == Some(SheetError::EmptyRange));
+    assert!(rt; side(rt.alloc(), &[size2(1, 0)], 1, 8).err() == Some(SheetError::EmptySprite(0)));
+    Ok(())
 }
