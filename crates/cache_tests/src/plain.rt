@@ -223,7 +223,7 @@ impl Plain {
         Ok(is_right)
     }
 
-    /// Whether a new key may get no place: every page is there and at its largest, and this frame uses all that is held.
+    /// Whether a new key may get no place: every page is there and at its largest, and this frame uses all keys.
     pub fn is_exhausted(&self) -> bool {
         for held in &self.held {
             if held.frame != self.frame {

@@ -82,7 +82,7 @@ impl<A: Allocator + Copy> Played<A> {
         Ok(answer == Ok(place) && self.changes.is_empty())
     }
 
-    // The same with a key that isn't. The model follows what was told also where memory was refused, which is the error.
+    // The same with a key that isn't. The model follows what was told also where memory was refused, the error then.
     fn insert_new(&mut self, key: u32, size: Size) -> Result<bool, CacheError> {
         let answer = self.cache.insert(key, size, &mut self.changes);
         if !self.plain.can_stand(size) {
@@ -245,7 +245,7 @@ fn refused_once(
     Ok((withstood && has_no_rest, was_refused))
 }
 
-// Each request for memory of a short trace is refused in turn, until there are no more. Whether all was well each time,
+// Each request for memory of a short trace is refused in turn, until there are none. Whether all was well each time,
 // and all memory was given back.
 fn is_refused_in_turn(alloc: Global, seed: u64) -> Result<bool, Fail> {
     for number in 1..1_000 {
