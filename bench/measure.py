@@ -49,14 +49,14 @@ def processor_time():
     return used.ru_utime + used.ru_stime
 
 
-def run(program, lines):
+def run(program, lines, **more):
     """The seconds that a process takes over these lines, and what it writes."""
     with tempfile.TemporaryFile('w+') as source:
         source.write(''.join(line + '\n' for line in lines))
         source.flush()
         source.seek(0)
         start = processor_time()
-        done = subprocess.run([program], stdin=source, stdout=subprocess.PIPE, text=True)
+        done = subprocess.run([program], stdin=source, stdout=subprocess.PIPE, text=True, **more)
         seconds = processor_time() - start
     if done.returncode != 0:
         raise Failure('%s ended with status %d' % (program, done.returncode))
