@@ -10,7 +10,7 @@ use Rattle.atlas_cache.specs.declared.entries.Entry.{Entry}
 use Rattle.atlas_cache.specs.declared.error.CacheError.{CacheError}
 use Rattle.atlas_cache.specs.declared.places.Place.{Place}
 use Rattle.atlas_cache.specs.Caches.{CacheState, entry_for, place_for, shown, HaveOwnKeys}
-use Rattle.atlas_cache.specs.Changes.{Picture, all_changed, changed, picture_of, placed, Adds, Does, Inserts, Leads, LooksSame, ShowsSame, Uses}
+use Rattle.atlas_cache.specs.Changes.{Picture, all_changed, changed, picture_of, placed, Adds, Does, Inserts, Leads, LooksSame, Removes, ShowsSame, Uses}
 use Rattle.atlas_cache.specs.Telling.{Tells}
 use Rattle.atlas_cache.specs.Rooms.{page_sizes}
 use Rattle.atlas_cache.proofs.KeyLemmas.{first, fronted, gone, here, own_without}
@@ -120,6 +120,27 @@ module _ {K : Type 0} (eq : K → K → Bool) where
           shows = same_both _ _ _ so_far (looks ins.done t ins.ends);
         }
 
+    -- Where an entry is used, each key keeps its place.
+    places_kept : (entry : Entry K) (s t : CacheState K) → HaveOwnKeys eq s.entries → Uses entry s t → (q : K)
+        → place_for eq t q ≡ place_for eq s q
+    places_kept entry s t own uses q = rw (uses.is, uses.options, uses.was)
+        (fronted eq laws (shown s.options.padding) entry (record entry { frame = s.frame }) refl refl uses.newer uses.older
+        (rw uses.was at own) q)
+
+    pub uses_same : (entry : Entry K) (s t : CacheState K) → HaveOwnKeys eq s.entries → Uses entry s t
+        → ShowsSame (picture_of eq s) (picture_of eq t)
+    uses_same entry s t own uses =
+        record { places = λ q. sym (places_kept entry s t own uses q); pages = ap page_sizes (sym uses.pages) }
+
+    -- Where an entry is removed, its key has no place, and the others keep theirs.
+    pub removes_tell : (key : K) (entry : Entry K) (s t : CacheState K) → HaveOwnKeys eq s.entries → eq entry.key key ≡ true
+        → Removes entry s t → ShowsSame (placed eq key None (picture_of eq s)) (picture_of eq t)
+    removes_tell key entry s t own named removes = record {
+      places = λ q. ap (λ b. cond b None (place_for eq s q)) (sym (laws.congr entry.key key q named))
+          ∙ taken laws s t removes.newer entry removes.older own removes.was removes.is removes.options q;
+      pages = sym removes.sizes;
+    }
+
     -- A key that is used keeps its place, and so do the others.
     pub uses_tell : (key : K) (entry : Entry K) (s t : CacheState K) → HaveOwnKeys eq s.entries → eq entry.key key ≡ true
         → Uses entry s t
@@ -130,13 +151,8 @@ module _ {K : Type 0} (eq : K → K → Bool) where
             let at = sym (laws.congr key entry.key q (laws.symm key entry.key ∙ named)) ∙ same in
             let found : entry_for eq q s.entries ≡ Some entry =
             rw uses.was (here eq laws uses.newer entry uses.older (rw uses.was at own) q at) in
-            rw same (sym (kept q ∙ ap (option_map (shown s.options.padding)) found))
-        | inr apart ↦ rw apart (sym (kept q))
+            rw same (sym (places_kept entry s t own uses q ∙ ap (option_map (shown s.options.padding)) found))
+        | inr apart ↦ rw apart (sym (places_kept entry s t own uses q))
       ];
       pages = ap page_sizes (sym uses.pages);
     }
-      where
-        kept : (q : K) → place_for eq t q ≡ place_for eq s q
-        kept q = rw (uses.is, uses.options, uses.was)
-            (fronted eq laws (shown s.options.padding) entry (record entry { frame = s.frame }) refl refl uses.newer uses.older
-            (rw uses.was at own) q)

@@ -1,11 +1,11 @@
 -- What goes without another entry that comes: all entries, or those that were long unused.
-use Rattle.std.specs.Prelude.{◌≡◌, ◌+◌, ◌<◌, ◌≤◌, min, ℕ, ℤ, Bool, List, [], ◌∷◌, ◌++◌, length}
+use Rattle.std.specs.Prelude.{◌≡◌, ◌+◌, ◌<◌, ◌≤◌, min, ℕ, ℤ, Bool, List, [], ◌∷◌, ◌++◌, length, None}
 use Rattle.std.specs.List.{AllByRecursion}
 use Rattle.atlas_cache.specs.declared.changes.CacheChange.{CacheChange}
 use Rattle.atlas_cache.specs.declared.changes.CacheChange.TheVariants.{Evicted}
 use Rattle.atlas_cache.specs.declared.entries.Entry.{Entry}
 use Rattle.atlas_cache.specs.Caches.{CacheState, shown}
-use Rattle.atlas_cache.specs.Changes.{all_changed, picture_of, ShowsSame}
+use Rattle.atlas_cache.specs.Changes.{Picture, all_changed, picture_of, ShowsSame}
 use Rattle.atlas_cache.specs.Counting.{one_more}
 use Rattle.atlas_cache.specs.Rooms.{page_sizes, IsNothingLive}
 
@@ -18,6 +18,10 @@ module _ {K : Type 0} where
     pub options : t.options ≡ s.options
     pub frame : t.frame ≡ s.frame
     pub counts : t.counts ≡ s.counts
+
+  -- No key has a place, and the sizes of the pages stay.
+  abbrev pub all_forgotten : Picture K → Picture K
+  all_forgotten p = record p { places = λ k. None }
 
   -- In frame `now`, the entry wasn't used for at least so many frames.
   abbrev pub IsUnusedFor : (frames now : ℕ) → Entry K → Type 0

@@ -96,12 +96,15 @@ impl<K: Copy + Eq + Hash, S: BuildHasher + Drop, A: Allocator + Copy> TextureCac
 impl<K: Copy + Eq + Hash, S: BuildHasher, A: Allocator + Copy> TextureCache<K, S, A> {
     ghost use Rattle.atlas_cache.specs.Caches.{entry_for, place_for, steps_left, AreAllInUse, EntriesLieApart};
     ghost use Rattle.atlas_cache.specs.Caches.{EntriesLieWithin, HasNoPageFor, HaveOwnKeys, IsFull, IsKept, IsNoneInUse};
-    ghost use Rattle.atlas_cache.specs.Changes.{Adds, DoesOne, FindsKnown, Inserts, IsExhausted, LooksSame, Removes, Uses};
+    ghost use Rattle.atlas_cache.specs.Changes.{picture_of, placed, Adds, DoesOne, FindsKnown, Inserts, IsExhausted};
+    ghost use Rattle.atlas_cache.specs.Changes.{LooksSame, Removes, ShowsSame, Uses};
     ghost use Rattle.atlas_cache.specs.Telling.{Tells};
 
-    /// A new frame: what was used before may go from now on.
+    /// A new frame: what was used before may go from now on. Frames are counted up to
+    /// 2^64 - 1; after that one no other begins.
     pub fn begin_frame(&mut self)
-        ensures { self.new ≡ record self.old { frame = one_more self.old.frame } }
+        ensures frame { self.new ≡ record self.old { frame = one_more self.old.frame } }
+        ensures told { ShowsSame (picture_of K.eq self.old) (picture_of K.eq self.new) }
     {
         self.frame = count(self.frame);
     }
@@ -171,7 +174,9 @@ impl<K: Copy + Eq + Hash, S: BuildHasher, A: Allocator + Copy> TextureCache<K, S
           counts =
               record self.old.counts { misses = one_more self.old.counts.misses };
         } }
+        ensures told { ShowsSame (picture_of K.eq self.old) (picture_of K.eq self.new) }
     {
+        self.entries.prove_kept();
         let Some((number, entry)) = look_up(&self.entries, key) else {
             self.counts.misses = count(self.counts.misses);
             return None;
@@ -225,12 +230,14 @@ impl<K: Copy + Eq + Hash, S: BuildHasher, A: Allocator + Copy> TextureCache<K, S
         ensures place { result ≡ place_for K.eq self.old key.now }
         ensures removes { IfSome (entry_for K.eq key.now self.old.entries) (λ e. Removes e self.old self.new) }
         ensures none { result ≡ None → self.new ≡ self.old }
+        ensures told { ShowsSame (placed K.eq key.now None (picture_of K.eq self.old)) (picture_of K.eq self.new) }
     {
-        let Some((number, entry)) = look_up(&self.entries, key) else {
+        self.entries.prove_kept();
+        let Some((number, gone)) = look_up(&self.entries, key) else {
             return None;
         };
-        take_out(&mut self.rooms, &mut self.entries, number, entry);
-        Some(place_of(entry, &self.rooms.options()))
+        take_out(&mut self.rooms, &mut self.entries, number, gone);
+        Some(place_of(gone, &self.rooms.options()))
     }
 
     // Inserts a key that isn't held, of a size that can stand on a page.

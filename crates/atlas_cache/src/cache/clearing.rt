@@ -2,7 +2,8 @@
 ghost use Rattle.std.specs.Prelude.{◌≡◌, ◌+◌, ◌≤◌, false, length, IsOk, IsOkUnless, IsTrue, OnErr, OnOk};
 ghost use Rattle.std.specs.Prelude.{vec_capacity, vec_len};
 ghost use Rattle.std.specs.List.{AllByRecursion};
-ghost use Rattle.atlas_cache.specs.Clearing.{Clears, DropsLast, IsUsedSince, TellsChanges, Trims};
+ghost use Rattle.atlas_cache.specs.Changes.{picture_of, ShowsSame};
+ghost use Rattle.atlas_cache.specs.Clearing.{all_forgotten, Clears, DropsLast, IsUsedSince, TellsChanges, Trims};
 
 use crate::cache::TextureCache;
 use crate::cache::holding::{oldest, place_of, take_out};
@@ -16,7 +17,8 @@ impl<K: Copy + Eq + Hash, S: BuildHasher, A: Allocator + Copy> TextureCache<K, S
     /// All keys go. The pages stay, with their sizes and with nothing on them, and so do the frame and the counts. No
     /// change tells it: the caller forgets all places. Takes no memory.
     pub fn clear(&mut self)
-        ensures { Clears self.old self.new }
+        ensures clears { Clears self.old self.new }
+        ensures told { ShowsSame (all_forgotten (picture_of K.eq self.old)) (picture_of K.eq self.new) }
     {
         self.entries.clear();
         self.rooms.clear();

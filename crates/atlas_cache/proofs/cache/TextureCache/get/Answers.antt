@@ -1,9 +1,12 @@
 use Rattle.std.proofs.Common.{ap, refl, ◌∷◌}
-use Rattle.atlas_cache.specs.Caches.{entries_of}
+use Rattle.atlas_cache.specs.Caches.{CacheState, entries_of}
+use Rattle.atlas_cache.specs.Changes.{Uses}
 use Rattle.atlas_cache.specs.Entries.{without_number}
 use Rattle.atlas_cache.specs.declared.entries.Entry.{Entry}
 use Rattle.atlas_cache.proofs.CacheLemmas.{bordered-at, touched-is, used}
+use Rattle.atlas_cache.proofs.KeyLemmas.{own_keys}
 use Rattle.atlas_cache.proofs.ListLemmas.{parts}
+use Rattle.atlas_cache.proofs.PictureLemmas.{uses_same}
 use Rattle.atlas_cache.proofs.cache.TextureCache.get.Goals as goal
 
 pub place_of-requires : goal.place_of-requires
@@ -41,3 +44,32 @@ returns-clause-uses g c =
       options = refl;
       frame = refl;
     })
+
+pub returns-clause-told : goal.returns-clause-told
+returns-clause-told g c =
+    let found = rw c.in-Some.is at c.look_up.ensures.found in
+    let eq = g.K.PartialEq.eq in
+    let it = c.self.inside in
+    let n = c.in-Some.number in
+    let e = c.in-Some.entry in
+    let p = parts n it.entries e found.at in
+    let front : Entry g.row.K.Denot = record e { frame = it.frame } in
+    let s : CacheState g.row.K.Denot = record {
+      options = it.rooms.options;
+      pages = it.rooms.pages;
+      entries = entries_of it.entries;
+      frame = it.frame;
+      counts = it.counts;
+    } in
+    let t : CacheState g.row.K.Denot =
+    record s { entries = entries_of c.touch.new.self; counts = record it.counts { hits = c.count-self-inside-2.result } } in
+    let uses : Uses e s t = record {
+      newer = p.newer;
+      older = p.older;
+      was = p.was;
+      is = rw (c.touch.ensures, touched-is n it.frame it.entries e found.at) (ap (λ r. front ∷ r) p.rests);
+      pages = refl;
+      options = refl;
+      frame = refl;
+    } in
+    rw (← c.self.view_is) (uses_same eq g.met.K.Eq.laws e s t (own_keys eq it.entries c.prove_kept.ensures.keys) uses)

@@ -1,8 +1,11 @@
-use Rattle.std.proofs.Common.{refl}
-use Rattle.atlas_cache.specs.Caches.{entries_of}
+use Rattle.std.proofs.Common.{◌∙◌, refl}
+use Rattle.atlas_cache.specs.Caches.{CacheState, entries_of}
+use Rattle.atlas_cache.specs.Changes.{Removes}
 use Rattle.atlas_cache.specs.Entries.{without_number}
 use Rattle.atlas_cache.proofs.CacheLemmas.{bordered-at, rest_bordered, rest_falls}
+use Rattle.atlas_cache.proofs.KeyLemmas.{found_named, own_keys}
 use Rattle.atlas_cache.proofs.ListLemmas.{parts}
+use Rattle.atlas_cache.proofs.PictureLemmas.{removes_tell}
 use Rattle.atlas_cache.proofs.cache.TextureCache.remove.Goals as goal
 
 pub take_out-requires-clause-here : goal.take_out-requires-clause-here
@@ -13,14 +16,14 @@ pub place_of-requires : goal.place_of-requires
 place_of-requires g c =
     let found = rw c.in-Some.is at c.look_up.ensures.found in
     rw (c.options.ensures.options, c.take_out.ensures.options)
-    (bordered-at _ _ c.self.inside.entries c.in-Some.entry c.self.invariant.bordered found.at)
+    (bordered-at _ _ c.self.inside.entries c.in-Some.gone c.self.invariant.bordered found.at)
 
 pub invariant_of-self : goal.invariant_of-self
 invariant_of-self g c =
     let found = rw c.in-Some.is at c.look_up.ensures.found in
     let it = c.self.inside in
     let n = c.in-Some.number in
-    let e = c.in-Some.entry in
+    let e = c.in-Some.gone in
     let was = c.self.invariant in
     let es = entries_of it.entries in
     let rest = entries_of (without_number n it.entries) in
@@ -37,7 +40,7 @@ pub returns-clause-removes : goal.returns-clause-removes
 returns-clause-removes g c =
     let found = rw c.in-Some.is at c.look_up.ensures.found in
     let it = c.self.inside in
-    let p = parts c.in-Some.number it.entries c.in-Some.entry found.at in
+    let p = parts c.in-Some.number it.entries c.in-Some.gone found.at in
     rw (← c.self.view_is, found.here, c.take_out.ensures.without) (record {
       newer = p.newer;
       older = p.older;
@@ -49,3 +52,38 @@ returns-clause-removes g c =
       frame = refl;
       counts = refl;
     })
+
+pub returns-clause-told : goal.returns-clause-told
+returns-clause-told g c =
+    let found = rw c.in-Some.is at c.look_up.ensures.found in
+    let eq = g.K.PartialEq.eq in
+    let laws = g.met.K.Eq.laws in
+    let it = c.self.inside in
+    let e = c.in-Some.gone in
+    let p = parts c.in-Some.number it.entries e found.at in
+    let s : CacheState g.row.K.Denot = record {
+      options = it.rooms.options;
+      pages = it.rooms.pages;
+      entries = entries_of it.entries;
+      frame = it.frame;
+      counts = it.counts;
+    } in
+    let t : CacheState g.row.K.Denot = record s {
+      options = c.take_out.new.rooms.options;
+      pages = c.take_out.new.rooms.pages;
+      entries = entries_of c.take_out.new.entries;
+    } in
+    let removes : Removes e s t = rw c.take_out.ensures.without (record {
+      newer = p.newer;
+      older = p.older;
+      was = p.was;
+      is = p.rests;
+      leaves = c.take_out.ensures.leaves;
+      sizes = c.take_out.ensures.sizes;
+      options = c.take_out.ensures.options;
+      frame = refl;
+      counts = refl;
+    }) in
+    let own = own_keys eq it.entries c.prove_kept.ensures.keys in
+    let named = laws.symm e.key c.args.key.now ∙ found_named eq c.args.key.now e (entries_of it.entries) found.here in
+    rw (← c.self.view_is) (removes_tell eq laws c.args.key.now e s t own named removes)
