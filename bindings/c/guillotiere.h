@@ -1,7 +1,8 @@
 /* The atlas allocators of guillotiere, for C99.
  *
  * An atlas is one large rectangle, often a texture, that hands out boxes and takes them back. A simple allocator hands
- * out boxes and takes none back. guillotiere_pack takes sprites that all are known beforehand and packs them into one
+ * out boxes and takes none back. A cache keeps rectangles under keys in the pages of a texture array, and tells what its
+ * caller has to do to the textures. guillotiere_pack takes sprites that all are known beforehand and packs them into one
  * small sheet; it needs no handle. Lengths and coordinates are in pixels, areas in unit squares; y grows downwards.
  *
  * Handles. A handle is a place for an allocator, which its owner keeps:
@@ -17,7 +18,8 @@
  *
  * Statuses. A call answers a status. It is total: sizes, options, ids and limits may be any numbers, and what is wrong
  * is answered. After each status but GUILLOTIERE_DONE all handles hold what they held, and nothing was written, but for
- * the number of a bad sprite (guillotiere_pack).
+ * the number of a bad sprite (guillotiere_pack), and but for two calls of a cache: guillotiere_cache_insert may have made
+ * changes, which it tells, and guillotiere_cache_get counts a miss.
  *
  * What the caller owes, which nothing tests:
  * - A handle has been written by calls of this library alone, or is all zero. It isn't copied by `=` or memcpy: a copy is
@@ -52,7 +54,17 @@ enum {
     GUILLOTIERE_EMPTY_RANGE = 9,      /* the greatest side of a sheet is below the least */
     GUILLOTIERE_EMPTY_ALIGNMENT = 10, /* a side of the alignment is below 1 */
     GUILLOTIERE_EMPTY_SPRITE = 11,    /* a sprite has a side below 1 */
-    GUILLOTIERE_GREAT_SPRITE = 12     /* a sprite passes 2147483647 pixels with the padding at both its sides */
+    GUILLOTIERE_GREAT_SPRITE = 12,    /* a sprite passes 2147483647 pixels with the padding at both its sides */
+    GUILLOTIERE_OTHER_SIZE = 13,      /* a key is held with another size */
+    GUILLOTIERE_NUMBERS = 14,         /* a cache holds 4294967295 keys, and can hold no more */
+    GUILLOTIERE_EMPTY_PAGE = 15,      /* a side of a new page is below 1 */
+    GUILLOTIERE_LARGEST_PAGE = 16,    /* a side of the largest page is less than that of a new one */
+    GUILLOTIERE_NO_PAGES = 17,        /* no pages are allowed */
+    GUILLOTIERE_BAD_PADDING = 18,     /* the padding is below 0 */
+    GUILLOTIERE_BAD_ATLAS = 19,       /* the options of the pages' atlases aren't valid */
+    GUILLOTIERE_NOT_HELD = 20,        /* a key isn't held */
+    GUILLOTIERE_NO_CHANGE = 21,       /* each change was handed over */
+    GUILLOTIERE_NO_PAGE = 22          /* there is no such page */
 };
 
 /* Kinds of sheets. */
@@ -61,6 +73,14 @@ enum {
     GUILLOTIERE_SQUARES = 1,  /* squares with a side from `least` to `greatest` */
     GUILLOTIERE_POWERS = 2,   /* each side a power of two, at most `greatest`; the sides may differ */
     GUILLOTIERE_HEIGHTS = 3   /* `width`, and a height from 1 to `greatest` */
+};
+
+/* Kinds of changes of a cache. */
+enum {
+    GUILLOTIERE_PAGE_ADDED = 0, /* there is a new page, the last one: make a texture of `size` for `page` */
+    GUILLOTIERE_PAGE_GROWN = 1, /* `page` has this `size` now, and nothing on it moved: make its texture larger */
+    GUILLOTIERE_EVICTED = 2,    /* `key` is gone, and its place was `from` */
+    GUILLOTIERE_MOVED = 3       /* `key` moved: copy what it shows from `from` to `to` (no call of this header moves one) */
 };
 
 /* The greatest limit on the slots of an atlas, and that of an atlas without a limit of its own. */
@@ -81,6 +101,10 @@ typedef struct guillotiere_atlas {
 typedef struct guillotiere_simple {
     void *at;
 } guillotiere_simple;
+
+typedef struct guillotiere_cache {
+    void *at;
+} guillotiere_cache;
 
 typedef struct guillotiere_size {
     int32_t width;
@@ -159,6 +183,41 @@ typedef struct guillotiere_placed {
     guillotiere_rectangle area;
     uint32_t turned;
 } guillotiere_placed;
+
+/* How a cache is made. Lengths are in pixels. */
+typedef struct guillotiere_cache_options {
+    guillotiere_size page;         /* the size of a new page, which isn't empty */
+    guillotiere_size largest_page; /* pages grow up to this; neither side is less than that of `page` */
+    uint32_t pages;                /* the most pages, at least 1 */
+    int32_t padding;               /* what stays free on all four sides of an entry, at least 0 */
+    guillotiere_options atlas;     /* of the atlas of each page */
+} guillotiere_cache_options;
+
+/* Where a key lies: its page, counted from 0, its rectangle there with the padding, and the same without it, which has
+ * the sides that were asked for. */
+typedef struct guillotiere_place {
+    uint32_t page;
+    guillotiere_rectangle rectangle;
+    guillotiere_rectangle inner;
+} guillotiere_place;
+
+/* What a cache did. Its kind says which fields have a meaning; the others have none. */
+typedef struct guillotiere_cache_change {
+    uint32_t kind; /* a kind of changes */
+    uint32_t page;
+    guillotiere_size size;
+    uint64_t key;
+    guillotiere_place from;
+    guillotiere_place to;
+} guillotiere_cache_change;
+
+/* How often guillotiere_cache_get found its key and how often it didn't, and how many keys were evicted. A count that
+ * reaches 18446744073709551615 stays there. */
+typedef struct guillotiere_counts {
+    uint64_t hits;
+    uint64_t misses;
+    uint64_t evictions;
+} guillotiere_counts;
 
 /* --- An atlas: its life ------------------------------------------------------------------------------------------- */
 
@@ -311,6 +370,63 @@ uint32_t guillotiere_simple_slots(guillotiere_simple *simple, guillotiere_slots 
 
 /* Whether one free box has the allocator's size; also true of a handle that holds nothing. */
 bool guillotiere_simple_is_empty(guillotiere_simple *simple);
+
+/* --- A cache of rectangles under keys, in the pages of a texture array ------------------------------------------------ */
+
+/* Makes a cache that holds nothing and has no page yet, where the handle holds nothing. Keys are any numbers of 64 bits;
+ * they are hashed with a fixed seed.
+ * DONE; EMPTY_PAGE, LARGEST_PAGE, NO_PAGES, BAD_PADDING or BAD_ATLAS if that is wrong with the options; MEMORY; EMPTY if
+ * the handle holds a cache already. */
+uint32_t guillotiere_cache_new(const guillotiere_cache_options *options, guillotiere_cache *cache);
+
+/* Lets a cache go, with all its memory; the handle holds nothing then. */
+void guillotiere_cache_free(guillotiere_cache *cache);
+
+/* A new frame: what was used before may be evicted from now on. DONE; EMPTY. */
+uint32_t guillotiere_cache_begin_frame(guillotiere_cache *cache);
+
+/* The place of a key, which is used in this frame from now on. Counts a hit or a miss. DONE; NOT_HELD; EMPTY. */
+uint32_t guillotiere_cache_get(guillotiere_cache *cache, uint64_t key, guillotiere_place *place);
+
+/* The place of a key; it counts as no use, and as no hit or miss. DONE; NOT_HELD; EMPTY. */
+uint32_t guillotiere_cache_peek(guillotiere_cache *cache, uint64_t key, guillotiere_place *place);
+
+/* A place for a key, which is used in this frame. A key that is held keeps its place. A new key comes on the first page
+ * with room for its size with the padding. Where none has room a page grows; where none can grow one is added; and where
+ * all are there, the least recently used key goes that this frame didn't use; and so on. What was done is handed over by
+ * guillotiere_cache_next_change, also after NO_ROOM and after an error: follow it before the place is used.
+ * DONE; NO_ROOM if the size is empty or too large for the largest page, and then nothing changed, or if this frame uses
+ * all keys and no page has room; OTHER_SIZE if the key is held with another size, and then nothing changed; NUMBERS if
+ * 4294967295 keys are left; SLOTS if those of a page don't suffice; MEMORY; EMPTY. */
+uint32_t guillotiere_cache_insert(guillotiere_cache *cache, uint64_t key, int32_t width, int32_t height,
+                                  guillotiere_place *place);
+
+/* A key goes; the place that it had is written. No change tells it. Takes no memory. DONE; NOT_HELD; EMPTY. */
+uint32_t guillotiere_cache_remove(guillotiere_cache *cache, uint64_t key, guillotiere_place *place);
+
+/* Hands over the first change that wasn't handed over yet; each is handed over once, in the order in which they were
+ * made. Takes no memory. DONE; NO_CHANGE if there is none; EMPTY. */
+uint32_t guillotiere_cache_next_change(guillotiere_cache *cache, guillotiere_cache_change *change);
+
+/* All keys go. The pages stay, with their sizes and with nothing on them. No change tells it: forget all places, once the
+ * changes that weren't handed over are followed, which stay. Takes no memory. DONE; EMPTY. */
+uint32_t guillotiere_cache_clear(guillotiere_cache *cache);
+
+/* The keys that weren't used for at least so many frames go, each told by a change, the least recently used first: with 1,
+ * what this frame didn't use; with 0, all. DONE; MEMORY, and then all is as it was; EMPTY. */
+uint32_t guillotiere_cache_trim(guillotiere_cache *cache, uint64_t frames);
+
+/* How many keys are held. DONE; EMPTY. */
+uint32_t guillotiere_cache_len(guillotiere_cache *cache, size_t *len);
+
+/* How many pages there are. DONE; EMPTY. */
+uint32_t guillotiere_cache_page_count(guillotiere_cache *cache, uint32_t *pages);
+
+/* The size of a page, counted from 0. DONE; NO_PAGE; EMPTY. */
+uint32_t guillotiere_cache_page_size(guillotiere_cache *cache, uint32_t page, guillotiere_size *size);
+
+/* The counts since the cache was made. DONE; EMPTY. */
+uint32_t guillotiere_cache_statistics(guillotiere_cache *cache, guillotiere_counts *counts);
 
 /* --- A sheet of sprites that are known beforehand ------------------------------------------------------------------- */
 

@@ -1,6 +1,6 @@
 // The atlas allocators of guillotiere and its sheets of sprites, for C++17: guillotiere.h with owners.
 //
-// An atlas or a simple allocator is owned by an object that is moved and not copied, and lets it go at its end. An object
+// An atlas, a simple allocator or a cache is owned by an object that is moved and not copied, and lets it go at its end. An object
 // that was moved from holds nothing: each call of it answers status::empty. Nothing here throws but what a std::vector
 // throws where memory is wanting; it compiles without exceptions.
 //
@@ -33,6 +33,16 @@ enum class status : std::uint32_t {
     empty_alignment = GUILLOTIERE_EMPTY_ALIGNMENT,
     empty_sprite = GUILLOTIERE_EMPTY_SPRITE,
     great_sprite = GUILLOTIERE_GREAT_SPRITE,
+    other_size = GUILLOTIERE_OTHER_SIZE,
+    numbers = GUILLOTIERE_NUMBERS,
+    empty_page = GUILLOTIERE_EMPTY_PAGE,
+    largest_page = GUILLOTIERE_LARGEST_PAGE,
+    no_pages = GUILLOTIERE_NO_PAGES,
+    bad_padding = GUILLOTIERE_BAD_PADDING,
+    bad_atlas = GUILLOTIERE_BAD_ATLAS,
+    not_held = GUILLOTIERE_NOT_HELD,
+    no_change = GUILLOTIERE_NO_CHANGE,
+    no_page = GUILLOTIERE_NO_PAGE,
 };
 
 // Kinds of sheets.
@@ -43,6 +53,14 @@ enum class sheets : std::uint32_t {
     heights = GUILLOTIERE_HEIGHTS,
 };
 
+// Kinds of changes of a cache.
+enum class change_kind : std::uint32_t {
+    page_added = GUILLOTIERE_PAGE_ADDED,
+    page_grown = GUILLOTIERE_PAGE_GROWN,
+    evicted = GUILLOTIERE_EVICTED,
+    moved = GUILLOTIERE_MOVED,
+};
+
 using size = guillotiere_size;
 using rectangle = guillotiere_rectangle;
 using allocation = guillotiere_allocation;
@@ -51,6 +69,10 @@ using options = guillotiere_options;
 using slot_count = guillotiere_slots;
 using areas = guillotiere_areas;
 using placed = guillotiere_placed;
+using cache_options = guillotiere_cache_options;
+using cache_change = guillotiere_cache_change;
+using place = guillotiere_place;
+using counts = guillotiere_counts;
 
 inline constexpr options default_options = GUILLOTIERE_DEFAULT_OPTIONS;
 
@@ -339,6 +361,94 @@ private:
     simple_atlas() : handle_{} {}
 
     mutable guillotiere_simple handle_;
+};
+
+// A cache of rectangles under keys, in the pages of a texture array.
+class cache {
+public:
+    static result<cache> make(const cache_options &with) {
+        cache made;
+        const auto answer = guillotiere_cache_new(&with, &made.handle_);
+        if (answer != GUILLOTIERE_DONE) return static_cast<status>(answer);
+        return made;
+    }
+
+    cache(cache &&other) noexcept : handle_(std::exchange(other.handle_, guillotiere_cache{})) {}
+    cache &operator=(cache &&other) noexcept {
+        std::swap(handle_, other.handle_);
+        return *this;
+    }
+    cache(const cache &) = delete;
+    cache &operator=(const cache &) = delete;
+    ~cache() { guillotiere_cache_free(&handle_); }
+
+    // What was used before may be evicted from now on.
+    [[nodiscard]] status begin_frame() { return static_cast<status>(guillotiere_cache_begin_frame(&handle_)); }
+
+    // The place of a key, which is used in this frame from now on.
+    std::optional<place> get(std::uint64_t key) {
+        return found([this, key](place &at) { return guillotiere_cache_get(&handle_, key, &at); });
+    }
+    // The same, and it counts as no use.
+    std::optional<place> peek(std::uint64_t key) const {
+        return found([this, key](place &at) { return guillotiere_cache_peek(&handle_, key, &at); });
+    }
+    // A place for a key, or nothing where there is no room. Follow the changes before it is used, and also after an error.
+    result<std::optional<place>> insert(std::uint64_t key, size of) {
+        place at;
+        const auto answer = guillotiere_cache_insert(&handle_, key, of.width, of.height, &at);
+        if (answer == GUILLOTIERE_DONE) return std::optional<place>(at);
+        if (answer == GUILLOTIERE_NO_ROOM) return std::optional<place>();
+        return static_cast<status>(answer);
+    }
+    // The place that a key had, which goes.
+    std::optional<place> remove(std::uint64_t key) {
+        return found([this, key](place &at) { return guillotiere_cache_remove(&handle_, key, &at); });
+    }
+    // The first change that wasn't handed over yet.
+    std::optional<cache_change> next_change() {
+        cache_change next;
+        if (guillotiere_cache_next_change(&handle_, &next) != GUILLOTIERE_DONE) return std::nullopt;
+        return next;
+    }
+    // All keys go, and no change tells it.
+    [[nodiscard]] status clear() { return static_cast<status>(guillotiere_cache_clear(&handle_)); }
+    // What wasn't used for so many frames goes.
+    [[nodiscard]] status trim(std::uint64_t frames) { return static_cast<status>(guillotiere_cache_trim(&handle_, frames)); }
+
+    // Of a cache that was moved from: 0; and so the counts.
+    std::size_t len() const {
+        std::size_t found = 0;
+        guillotiere_cache_len(&handle_, &found);
+        return found;
+    }
+    std::uint32_t page_count() const {
+        std::uint32_t found = 0;
+        guillotiere_cache_page_count(&handle_, &found);
+        return found;
+    }
+    std::optional<size> page_size(std::uint32_t page) const {
+        size found;
+        if (guillotiere_cache_page_size(&handle_, page, &found) != GUILLOTIERE_DONE) return std::nullopt;
+        return found;
+    }
+    counts statistics() const {
+        counts found{};
+        guillotiere_cache_statistics(&handle_, &found);
+        return found;
+    }
+
+private:
+    cache() : handle_{} {}
+
+    template <class Call>
+    static std::optional<place> found(Call call) {
+        place at;
+        if (call(at) != GUILLOTIERE_DONE) return std::nullopt;
+        return at;
+    }
+
+    mutable guillotiere_cache handle_;
 };
 
 // A sheet that takes all sprites: its size, and where each of them lies, in their order.

@@ -113,7 +113,37 @@ static void sheets_of_sprites() {
     CHECK(pack(sprites, with).error() == status::bad_call);
 }
 
+static std::uint64_t evicted(cache &of) {
+    const auto change = of.next_change();
+    CHECK(change && change->kind == static_cast<std::uint32_t>(change_kind::evicted));
+    return change->key;
+}
+
+static void caches() {
+    cache_options with{{16, 16}, {16, 32}, 1, 0, default_options};
+    auto made = cache::make(with);
+    CHECK(made && made->begin_frame() == status::done);
+    const auto first = made->insert(7, {16, 32});
+    CHECK(first && *first && (*first)->inner.max_y == 32);
+    CHECK(made->page_count() == 1 && made->page_size(0)->height == 32 && !made->page_size(1));
+    const auto added = made->next_change(), grown = made->next_change();
+    CHECK(added && added->kind == static_cast<std::uint32_t>(change_kind::page_added) && added->size.height == 16);
+    CHECK(grown && grown->kind == static_cast<std::uint32_t>(change_kind::page_grown) && grown->size.height == 32);
+    CHECK(!made->next_change() && !*made->insert(8, {1, 1}));
+    CHECK(made->insert(7, {1, 1}).error() == status::other_size);
+    CHECK(made->begin_frame() == status::done && made->insert(8, {1, 1}) && evicted(*made) == 7);
+    CHECK(made->get(8) && !made->get(7) && made->peek(8)->page == 0 && made->len() == 1);
+    CHECK(made->statistics().hits == 1 && made->statistics().misses == 1 && made->statistics().evictions == 1);
+    cache taken = std::move(*made);
+    CHECK(made->insert(8, {1, 1}).error() == status::empty && !made->get(8) && made->len() == 0);
+    CHECK(taken.remove(8) && !taken.remove(8) && taken.insert(9, {2, 2}) && taken.trim(0) == status::done);
+    CHECK(evicted(taken) == 9 && taken.clear() == status::done && taken.len() == 0);
+    with.pages = 0;
+    CHECK(cache::make(with).error() == status::no_pages);
+}
+
 int main() {
+    caches();
     sheets_of_sprites();
     makes();
     moves();

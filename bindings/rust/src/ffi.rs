@@ -2,10 +2,10 @@
 //!
 //! What each block rests on (guillotiere.h, "What the caller owes"):
 //!
-//! - A handle is made as null and written by exports alone; it is never copied, as `Atlas` and `Simple` own theirs.
+//! - A handle is made as null and written by exports alone; it is never copied, as `Atlas`, `Simple` and `Cache` own theirs.
 //! - References and slices give pointers that aren't null, to as many values as are passed, and none that is written
 //!   overlaps another. A slice of length 0 has a pointer that dangles and isn't null, as the exports ask.
-//! - A handle is used by one call at a time: `Atlas` and `Simple` aren't `Sync`, and no export calls back. Where an export
+//! - A handle is used by one call at a time: `Atlas`, `Simple` and `Cache` aren't `Sync`, and no export calls back. Where an export
 //!   only reads, `&self` suffices: the handle stands in an `UnsafeCell`, and the export leaves it as it was.
 use core::cell::UnsafeCell;
 use core::ptr::null_mut;
@@ -23,10 +23,24 @@ pub const EMPTY_RANGE: u32 = 9;
 pub const EMPTY_ALIGNMENT: u32 = 10;
 pub const EMPTY_SPRITE: u32 = 11;
 pub const GREAT_SPRITE: u32 = 12;
+pub const OTHER_SIZE: u32 = 13;
+pub const NUMBERS: u32 = 14;
+pub const EMPTY_PAGE: u32 = 15;
+pub const LARGEST_PAGE: u32 = 16;
+pub const NO_PAGES: u32 = 17;
+pub const BAD_PADDING: u32 = 18;
+pub const BAD_ATLAS: u32 = 19;
+pub const NOT_HELD: u32 = 20;
+pub const NO_CHANGE: u32 = 21;
+pub const NO_PAGE: u32 = 22;
 pub const ONE_SIZE: u32 = 0;
 pub const SQUARES: u32 = 1;
 pub const POWERS: u32 = 2;
 pub const HEIGHTS: u32 = 3;
+pub const PAGE_ADDED: u32 = 0;
+pub const PAGE_GROWN: u32 = 1;
+pub const EVICTED: u32 = 2;
+pub const MOVED: u32 = 3;
 pub const MOST_SLOTS: u32 = 16777216;
 
 // The low bits of an id have the number of its slot.
@@ -39,6 +53,11 @@ pub struct AtlasHandle {
 
 #[repr(C)]
 pub struct SimpleHandle {
+    at: *mut u8,
+}
+
+#[repr(C)]
+pub struct CacheHandle {
     at: *mut u8,
 }
 
@@ -124,6 +143,43 @@ pub struct PlainSheetOptions {
 pub struct PlainPlaced {
     pub area: PlainRectangle,
     pub turned: u32,
+}
+
+#[repr(C)]
+#[derive(Clone, Copy, Default)]
+pub struct PlainCacheOptions {
+    pub page: PlainSize,
+    pub largest_page: PlainSize,
+    pub pages: u32,
+    pub padding: i32,
+    pub atlas: PlainOptions,
+}
+
+#[repr(C)]
+#[derive(Clone, Copy, Default)]
+pub struct PlainPlace {
+    pub page: u32,
+    pub rectangle: PlainRectangle,
+    pub inner: PlainRectangle,
+}
+
+#[repr(C)]
+#[derive(Clone, Copy, Default)]
+pub struct PlainCacheChange {
+    pub kind: u32,
+    pub page: u32,
+    pub size: PlainSize,
+    pub key: u64,
+    pub from: PlainPlace,
+    pub to: PlainPlace,
+}
+
+#[repr(C)]
+#[derive(Clone, Copy, Default)]
+pub struct PlainCounts {
+    pub hits: u64,
+    pub misses: u64,
+    pub evictions: u64,
 }
 
 extern "C" {
@@ -226,6 +282,26 @@ extern "C" {
     fn guillotiere_simple_options(simple: *mut SimpleHandle, options: *mut PlainOptions) -> u32;
     fn guillotiere_simple_slots(simple: *mut SimpleHandle, slots: *mut PlainSlots) -> u32;
     fn guillotiere_simple_is_empty(simple: *mut SimpleHandle) -> bool;
+    fn guillotiere_cache_new(options: *const PlainCacheOptions, cache: *mut CacheHandle) -> u32;
+    fn guillotiere_cache_free(cache: *mut CacheHandle);
+    fn guillotiere_cache_begin_frame(cache: *mut CacheHandle) -> u32;
+    fn guillotiere_cache_get(cache: *mut CacheHandle, key: u64, place: *mut PlainPlace) -> u32;
+    fn guillotiere_cache_peek(cache: *mut CacheHandle, key: u64, place: *mut PlainPlace) -> u32;
+    fn guillotiere_cache_insert(
+        cache: *mut CacheHandle,
+        key: u64,
+        width: i32,
+        height: i32,
+        place: *mut PlainPlace,
+    ) -> u32;
+    fn guillotiere_cache_remove(cache: *mut CacheHandle, key: u64, place: *mut PlainPlace) -> u32;
+    fn guillotiere_cache_next_change(cache: *mut CacheHandle, change: *mut PlainCacheChange) -> u32;
+    fn guillotiere_cache_clear(cache: *mut CacheHandle) -> u32;
+    fn guillotiere_cache_trim(cache: *mut CacheHandle, frames: u64) -> u32;
+    fn guillotiere_cache_len(cache: *mut CacheHandle, len: *mut usize) -> u32;
+    fn guillotiere_cache_page_count(cache: *mut CacheHandle, pages: *mut u32) -> u32;
+    fn guillotiere_cache_page_size(cache: *mut CacheHandle, page: u32, size: *mut PlainSize) -> u32;
+    fn guillotiere_cache_statistics(cache: *mut CacheHandle, counts: *mut PlainCounts) -> u32;
     fn guillotiere_pack(
         sprites: *const PlainSize,
         sprites_len: usize,
@@ -558,6 +634,108 @@ fn of_status(status: u32) -> Result<(), u32> {
     match status {
         DONE => Ok(()),
         refused => Err(refused),
+    }
+}
+
+/// A cache behind its handle. It isn't `Sync`, for the reason of `Atlas`.
+pub struct Cache {
+    handle: UnsafeCell<CacheHandle>,
+}
+
+// SAFETY: as for `Atlas`.
+unsafe impl Send for Cache {}
+
+impl Cache {
+    pub fn new(options: &PlainCacheOptions) -> Result<Cache, u32> {
+        let cache = Cache { handle: UnsafeCell::new(CacheHandle { at: null_mut() }) };
+        // SAFETY: a reference, and a new handle, which is null.
+        let status = unsafe { guillotiere_cache_new(options, cache.handle.get()) };
+        of_status(status).map(|()| cache)
+    }
+
+    pub fn begin_frame(&mut self) {
+        // SAFETY: this handle.
+        unsafe { guillotiere_cache_begin_frame(self.handle.get()) };
+    }
+
+    pub fn get(&mut self, key: u64) -> Option<PlainPlace> {
+        let mut place = PlainPlace::default();
+        // SAFETY: this handle, and a place of our own.
+        let status = unsafe { guillotiere_cache_get(self.handle.get(), key, &mut place) };
+        of_status(status).ok().map(|()| place)
+    }
+
+    pub fn peek(&self, key: u64) -> Option<PlainPlace> {
+        let mut place = PlainPlace::default();
+        // SAFETY: this handle, and a place of our own.
+        let status = unsafe { guillotiere_cache_peek(self.handle.get(), key, &mut place) };
+        of_status(status).ok().map(|()| place)
+    }
+
+    pub fn insert(&mut self, key: u64, width: i32, height: i32) -> Result<PlainPlace, u32> {
+        let mut place = PlainPlace::default();
+        // SAFETY: this handle, and a place of our own.
+        let status = unsafe { guillotiere_cache_insert(self.handle.get(), key, width, height, &mut place) };
+        of_status(status).map(|()| place)
+    }
+
+    pub fn remove(&mut self, key: u64) -> Option<PlainPlace> {
+        let mut place = PlainPlace::default();
+        // SAFETY: this handle, and a place of our own.
+        let status = unsafe { guillotiere_cache_remove(self.handle.get(), key, &mut place) };
+        of_status(status).ok().map(|()| place)
+    }
+
+    pub fn next_change(&mut self) -> Option<PlainCacheChange> {
+        let mut change = PlainCacheChange::default();
+        // SAFETY: this handle, and a place of our own.
+        let status = unsafe { guillotiere_cache_next_change(self.handle.get(), &mut change) };
+        of_status(status).ok().map(|()| change)
+    }
+
+    pub fn clear(&mut self) {
+        // SAFETY: this handle.
+        unsafe { guillotiere_cache_clear(self.handle.get()) };
+    }
+
+    pub fn trim(&mut self, frames: u64) -> Result<(), u32> {
+        // SAFETY: this handle.
+        of_status(unsafe { guillotiere_cache_trim(self.handle.get(), frames) })
+    }
+
+    pub fn len(&self) -> usize {
+        let mut len = 0;
+        // SAFETY: this handle, and a place of our own.
+        unsafe { guillotiere_cache_len(self.handle.get(), &mut len) };
+        len
+    }
+
+    pub fn page_count(&self) -> u32 {
+        let mut pages = 0;
+        // SAFETY: this handle, and a place of our own.
+        unsafe { guillotiere_cache_page_count(self.handle.get(), &mut pages) };
+        pages
+    }
+
+    pub fn page_size(&self, page: u32) -> Option<PlainSize> {
+        let mut size = PlainSize::default();
+        // SAFETY: this handle, and a place of our own.
+        let status = unsafe { guillotiere_cache_page_size(self.handle.get(), page, &mut size) };
+        of_status(status).ok().map(|()| size)
+    }
+
+    pub fn statistics(&self) -> PlainCounts {
+        let mut counts = PlainCounts::default();
+        // SAFETY: this handle, and a place of our own.
+        unsafe { guillotiere_cache_statistics(self.handle.get(), &mut counts) };
+        counts
+    }
+}
+
+impl Drop for Cache {
+    fn drop(&mut self) {
+        // SAFETY: this handle, for the last time.
+        unsafe { guillotiere_cache_free(self.handle.get()) };
     }
 }
 

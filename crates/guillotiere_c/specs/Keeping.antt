@@ -11,6 +11,8 @@ use Rattle.atlas_allocator.specs.contracts.atlas.AtlasAllocator
 use Rattle.guillotiere.specs.contracts.simple.SimpleAtlasAllocator
 use Rattle.guillotiere.specs.Stored.{AtlasValue}
 use Rattle.guillotiere.specs.SimpleStored.{SimpleValue}
+use Rattle.guillotiere_c.specs.contracts.followed.FollowedCache
+use Rattle.guillotiere_c.specs.Following.{Followed}
 
 -- The right to free a block of the heap; all handles of the heap are alike.
 abbrev pub token : Ty → Ptr → Fml
@@ -23,3 +25,7 @@ keeps_atlas (Some v) p = box_owns token (AtlasAllocator.the_row Global.the_row T
 abbrev pub keeps_simple : Option SimpleValue → Ptr → Fml
 keeps_simple None p = feq Ptr p null_ptr
 keeps_simple (Some v) p = box_owns token (SimpleAtlasAllocator.the_row Global.the_row TheImpl.ghosts) p v
+
+abbrev pub keeps_cache : Option Followed → Ptr → Fml
+keeps_cache None p = feq Ptr p null_ptr
+keeps_cache (Some v) p = box_owns token FollowedCache.the_row p v

@@ -1,4 +1,7 @@
+pub mod CacheCalls
+pub mod CacheNumbers
 pub mod Calls
+pub mod Following
 pub mod Keeping
 pub mod Numbers
 pub mod Packing

@@ -8,9 +8,14 @@
 mod atlas;
 mod atlas_handle;
 mod atlas_lists;
+mod cache;
+mod cache_figures;
+mod cache_handle;
+mod followed;
 mod held;
 mod lifetimes;
 mod plain;
+mod plain_cache;
 mod plain_sheet;
 mod sheet;
 mod simple;

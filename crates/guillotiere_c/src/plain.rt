@@ -56,6 +56,36 @@ pub const EMPTY_SPRITE: u32 = 11;
 /// A sprite passes 2147483647 pixels with the padding at both its sides.
 pub const GREAT_SPRITE: u32 = 12;
 
+/// A key is held with another size.
+pub const OTHER_SIZE: u32 = 13;
+
+/// All 4294967295 numbers of entries are in use.
+pub const NUMBERS: u32 = 14;
+
+/// A side of a new page is below 1.
+pub const EMPTY_PAGE: u32 = 15;
+
+/// A side of the largest page is less than that of a new one.
+pub const LARGEST_PAGE: u32 = 16;
+
+/// No pages are allowed.
+pub const NO_PAGES: u32 = 17;
+
+/// The padding is below 0.
+pub const BAD_PADDING: u32 = 18;
+
+/// The options of the pages' atlases aren't valid.
+pub const BAD_ATLAS: u32 = 19;
+
+/// A key isn't held.
+pub const NOT_HELD: u32 = 20;
+
+/// Each change was handed over.
+pub const NO_CHANGE: u32 = 21;
+
+/// There is no such page.
+pub const NO_PAGE: u32 = 22;
+
 /// A kind of sheets: this size alone.
 pub const ONE_SIZE: u32 = 0;
 
@@ -67,6 +97,18 @@ pub const POWERS: u32 = 2;
 
 /// A kind of sheets: one width, and heights from 1 on.
 pub const HEIGHTS: u32 = 3;
+
+/// A kind of changes: there is a new page.
+pub const PAGE_ADDED: u32 = 0;
+
+/// A kind of changes: a page is larger.
+pub const PAGE_GROWN: u32 = 1;
+
+/// A kind of changes: a key is gone.
+pub const EVICTED: u32 = 2;
+
+/// A kind of changes: a key has another place.
+pub const MOVED: u32 = 3;
 
 /// The greatest limit on the slots of an atlas, which is also that of an atlas without a limit of its own.
 pub const MOST_SLOTS: u32 = 16_777_216;

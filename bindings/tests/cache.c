@@ -1,0 +1,255 @@
+/* A cache of rectangles under keys: what each call answers, what it tells, and a random session beside a plain list. */
+#include "check.h"
+
+#include <string.h>
+
+/* New pages of 16 by 16, which grow to 16 by 32, two of them at most. */
+static const guillotiere_cache_options two_pages = {{16, 16}, {16, 32}, 2, 0, GUILLOTIERE_DEFAULT_OPTIONS};
+
+static void make(const guillotiere_cache_options *options, guillotiere_cache *cache) {
+    CHECK(guillotiere_cache_new(options, cache) == GUILLOTIERE_DONE);
+}
+
+static guillotiere_place inserted(guillotiere_cache *cache, uint64_t key, int32_t width, int32_t height) {
+    guillotiere_place place;
+    CHECK(guillotiere_cache_insert(cache, key, width, height, &place) == GUILLOTIERE_DONE);
+    CHECK(place.inner.max_x - place.inner.min_x == width && place.inner.max_y - place.inner.min_y == height);
+    return place;
+}
+
+static bool same_place(const guillotiere_place *a, const guillotiere_place *b) {
+    return a->page == b->page && are_same(&a->rectangle, &b->rectangle) && are_same(&a->inner, &b->inner);
+}
+
+static void told_page(guillotiere_cache *cache, uint32_t kind, uint32_t page, int32_t width, int32_t height) {
+    guillotiere_cache_change change;
+    CHECK(guillotiere_cache_next_change(cache, &change) == GUILLOTIERE_DONE);
+    CHECK(change.kind == kind && change.page == page && change.size.width == width && change.size.height == height);
+}
+
+static void told_evicted(guillotiere_cache *cache, uint64_t key, const guillotiere_place *from) {
+    guillotiere_cache_change change;
+    CHECK(guillotiere_cache_next_change(cache, &change) == GUILLOTIERE_DONE);
+    CHECK(change.kind == GUILLOTIERE_EVICTED && change.key == key && same_place(&change.from, from));
+}
+
+static void told_nothing(guillotiere_cache *cache) {
+    guillotiere_cache_change change, before;
+    memset(&change, 7, sizeof change);
+    before = change;
+    CHECK(guillotiere_cache_next_change(cache, &change) == GUILLOTIERE_NO_CHANGE);
+    CHECK(memcmp(&change, &before, sizeof change) == 0);
+}
+
+static uint32_t made_with(guillotiere_cache_options options) {
+    guillotiere_cache cache = GUILLOTIERE_NONE;
+    const uint32_t status = guillotiere_cache_new(&options, &cache);
+    CHECK((cache.at == NULL) == (status != GUILLOTIERE_DONE));
+    guillotiere_cache_free(&cache);
+    return status;
+}
+
+static void bad_options(void) {
+    guillotiere_cache_options options = two_pages;
+    CHECK(made_with(options) == GUILLOTIERE_DONE);
+    options.page.height = 0;
+    CHECK(made_with(options) == GUILLOTIERE_EMPTY_PAGE);
+    options.page.height = 33;
+    CHECK(made_with(options) == GUILLOTIERE_LARGEST_PAGE);
+    options = two_pages;
+    options.pages = 0;
+    CHECK(made_with(options) == GUILLOTIERE_NO_PAGES);
+    options = two_pages;
+    options.padding = -1;
+    CHECK(made_with(options) == GUILLOTIERE_BAD_PADDING);
+    options = two_pages;
+    options.atlas.alignment_width = 0;
+    CHECK(made_with(options) == GUILLOTIERE_BAD_ATLAS);
+}
+
+static void empty_handles(void) {
+    guillotiere_cache cache = GUILLOTIERE_NONE;
+    guillotiere_place place;
+    guillotiere_cache_change change;
+    guillotiere_size size;
+    guillotiere_counts counts;
+    size_t len = 77;
+    uint32_t pages = 77;
+    CHECK(guillotiere_cache_begin_frame(&cache) == GUILLOTIERE_EMPTY);
+    CHECK(guillotiere_cache_get(&cache, 1, &place) == GUILLOTIERE_EMPTY);
+    CHECK(guillotiere_cache_peek(&cache, 1, &place) == GUILLOTIERE_EMPTY);
+    CHECK(guillotiere_cache_insert(&cache, 1, 2, 3, &place) == GUILLOTIERE_EMPTY);
+    CHECK(guillotiere_cache_remove(&cache, 1, &place) == GUILLOTIERE_EMPTY);
+    CHECK(guillotiere_cache_next_change(&cache, &change) == GUILLOTIERE_EMPTY);
+    CHECK(guillotiere_cache_clear(&cache) == GUILLOTIERE_EMPTY);
+    CHECK(guillotiere_cache_trim(&cache, 1) == GUILLOTIERE_EMPTY);
+    CHECK(guillotiere_cache_len(&cache, &len) == GUILLOTIERE_EMPTY && len == 77);
+    CHECK(guillotiere_cache_page_count(&cache, &pages) == GUILLOTIERE_EMPTY && pages == 77);
+    CHECK(guillotiere_cache_page_size(&cache, 0, &size) == GUILLOTIERE_EMPTY);
+    CHECK(guillotiere_cache_statistics(&cache, &counts) == GUILLOTIERE_EMPTY);
+    guillotiere_cache_free(&cache);
+    make(&two_pages, &cache);
+    CHECK(guillotiere_cache_new(&two_pages, &cache) == GUILLOTIERE_EMPTY && cache.at != NULL);
+    guillotiere_cache_free(&cache);
+    guillotiere_cache_free(&cache);
+}
+
+static void check_figures(guillotiere_cache *cache, size_t keys, uint32_t pages) {
+    guillotiere_size size = {0, 0};
+    size_t len = 0;
+    uint32_t count = 0;
+    CHECK(guillotiere_cache_len(cache, &len) == GUILLOTIERE_DONE && len == keys);
+    CHECK(guillotiere_cache_page_count(cache, &count) == GUILLOTIERE_DONE && count == pages);
+    CHECK(guillotiere_cache_page_size(cache, pages, &size) == GUILLOTIERE_NO_PAGE && size.width == 0);
+    CHECK(guillotiere_cache_page_size(cache, pages - 1, &size) == GUILLOTIERE_DONE && size.width == 16 && size.height == 32);
+}
+
+/* Pages come and grow; the key that was used longest ago gives way; then what is left goes by a trim. */
+static void a_life(void) {
+    guillotiere_cache cache = GUILLOTIERE_NONE;
+    make(&two_pages, &cache);
+    guillotiere_place none = {7, {7, 7, 7, 7}, {7, 7, 7, 7}}, place = none;
+    guillotiere_counts counts;
+    CHECK(guillotiere_cache_begin_frame(&cache) == GUILLOTIERE_DONE);
+    const guillotiere_place seven = inserted(&cache, 7, 16, 16);
+    told_page(&cache, GUILLOTIERE_PAGE_ADDED, 0, 16, 16);
+    told_nothing(&cache);
+    const guillotiere_place eight = inserted(&cache, 8, 16, 16);
+    CHECK(eight.page == 0 && are_apart(&seven.rectangle, &eight.rectangle));
+    told_page(&cache, GUILLOTIERE_PAGE_GROWN, 0, 16, 32);
+    const guillotiere_place nine = inserted(&cache, 9, 16, 32);
+    told_page(&cache, GUILLOTIERE_PAGE_ADDED, 1, 16, 16);
+    told_page(&cache, GUILLOTIERE_PAGE_GROWN, 1, 16, 32);
+    check_figures(&cache, 3, 2);
+
+    /* This frame uses all of them, and so nothing gives way. */
+    CHECK(guillotiere_cache_insert(&cache, 10, 1, 1, &place) == GUILLOTIERE_NO_ROOM && same_place(&place, &none));
+    CHECK(guillotiere_cache_insert(&cache, 10, 17, 1, &place) == GUILLOTIERE_NO_ROOM);
+    CHECK(guillotiere_cache_insert(&cache, 7, 16, 15, &place) == GUILLOTIERE_OTHER_SIZE && same_place(&place, &none));
+    told_nothing(&cache);
+
+    /* 7 is used in the next frame, so 8 was used longest ago. */
+    CHECK(guillotiere_cache_begin_frame(&cache) == GUILLOTIERE_DONE);
+    CHECK(guillotiere_cache_get(&cache, 7, &place) == GUILLOTIERE_DONE && same_place(&place, &seven));
+    const guillotiere_place ten = inserted(&cache, 10, 16, 16);
+    CHECK(same_place(&ten, &eight));
+    told_evicted(&cache, 8, &eight);
+    CHECK(guillotiere_cache_get(&cache, 8, &place) == GUILLOTIERE_NOT_HELD);
+    CHECK(guillotiere_cache_statistics(&cache, &counts) == GUILLOTIERE_DONE);
+    CHECK(counts.hits == 1 && counts.misses == 1 && counts.evictions == 1);
+
+    CHECK(guillotiere_cache_remove(&cache, 9, &place) == GUILLOTIERE_DONE && same_place(&place, &nine));
+    CHECK(guillotiere_cache_remove(&cache, 9, &place) == GUILLOTIERE_NOT_HELD);
+    CHECK(guillotiere_cache_peek(&cache, 9, &place) == GUILLOTIERE_NOT_HELD);
+    CHECK(guillotiere_cache_peek(&cache, 10, &place) == GUILLOTIERE_DONE && same_place(&place, &ten));
+    CHECK(guillotiere_cache_trim(&cache, 1) == GUILLOTIERE_DONE);
+    told_nothing(&cache);
+    CHECK(guillotiere_cache_begin_frame(&cache) == GUILLOTIERE_DONE);
+    CHECK(guillotiere_cache_trim(&cache, 1) == GUILLOTIERE_DONE);
+    told_evicted(&cache, 7, &seven);
+    told_evicted(&cache, 10, &ten);
+    told_nothing(&cache);
+
+    inserted(&cache, 11, 16, 32);
+    CHECK(guillotiere_cache_clear(&cache) == GUILLOTIERE_DONE);
+    check_figures(&cache, 0, 2);
+    told_nothing(&cache);
+    guillotiere_cache_free(&cache);
+}
+
+/* Changes that wait are handed over once and in their order, also where an insert comes between. */
+static void waiting_changes(void) {
+    guillotiere_cache cache = GUILLOTIERE_NONE;
+    make(&two_pages, &cache);
+    inserted(&cache, 1, 16, 32);
+    told_page(&cache, GUILLOTIERE_PAGE_ADDED, 0, 16, 16);
+    inserted(&cache, 2, 16, 32);
+    CHECK(guillotiere_cache_clear(&cache) == GUILLOTIERE_DONE);
+    told_page(&cache, GUILLOTIERE_PAGE_GROWN, 0, 16, 32);
+    told_page(&cache, GUILLOTIERE_PAGE_ADDED, 1, 16, 16);
+    told_page(&cache, GUILLOTIERE_PAGE_GROWN, 1, 16, 32);
+    told_nothing(&cache);
+    guillotiere_cache_free(&cache);
+}
+
+enum { KEYS = 60, CALLS = 20000, MOST_PAGES = 3 };
+
+/* What a caller knows who follows the changes: the place of each key that is held, and the sizes of the pages. */
+typedef struct {
+    bool held[KEYS];
+    guillotiere_place places[KEYS];
+    guillotiere_size sizes[MOST_PAGES];
+    uint32_t pages;
+} picture;
+
+static uint32_t below(uint32_t bound) {
+    static uint32_t state = 1;
+    state = state * 1664525u + 1013904223u;
+    return (state >> 8) % bound;
+}
+
+static void follow(guillotiere_cache *cache, picture *known) {
+    guillotiere_cache_change change;
+    while (guillotiere_cache_next_change(cache, &change) == GUILLOTIERE_DONE) {
+        if (change.kind == GUILLOTIERE_EVICTED) {
+            CHECK(change.key < KEYS && known->held[change.key] && same_place(&change.from, &known->places[change.key]));
+            known->held[change.key] = false;
+        } else {
+            CHECK(change.page == known->pages - (change.kind == GUILLOTIERE_PAGE_GROWN) || change.page < known->pages);
+            if (change.kind == GUILLOTIERE_PAGE_ADDED) CHECK(change.page == known->pages++ && known->pages <= MOST_PAGES);
+            known->sizes[change.page] = change.size;
+        }
+    }
+}
+
+static void check_known(guillotiere_cache *cache, const picture *known) {
+    for (uint64_t key = 0; key < KEYS; key++) {
+        guillotiere_place place;
+        const uint32_t status = guillotiere_cache_peek(cache, key, &place);
+        CHECK(status == (known->held[key] ? GUILLOTIERE_DONE : GUILLOTIERE_NOT_HELD));
+        if (!known->held[key]) continue;
+        const guillotiere_size *const page = &known->sizes[place.page];
+        CHECK(same_place(&place, &known->places[key]) && place.page < known->pages);
+        CHECK(place.rectangle.max_x <= page->width && place.rectangle.max_y <= page->height);
+        for (uint64_t other = 0; other < key; other++)
+            CHECK(!known->held[other] || known->places[other].page != place.page ||
+                  are_apart(&place.rectangle, &known->places[other].rectangle));
+    }
+}
+
+static void random_session(void) {
+    const guillotiere_cache_options options = {{64, 64}, {128, 96}, MOST_PAGES, 1, GUILLOTIERE_DEFAULT_OPTIONS};
+    guillotiere_cache cache = GUILLOTIERE_NONE;
+    make(&options, &cache);
+    static picture known;
+    for (int i = 0; i < CALLS; i++) {
+        const uint32_t key = below(KEYS);
+        const uint32_t what = below(40);
+        guillotiere_place place;
+        uint32_t status = GUILLOTIERE_DONE;
+        if (what == 0) status = guillotiere_cache_begin_frame(&cache);
+        if (what == 1) status = guillotiere_cache_trim(&cache, below(4));
+        if (what == 2 && guillotiere_cache_remove(&cache, key, &place) == GUILLOTIERE_DONE) known.held[key] = false;
+        if (what > 2) status = guillotiere_cache_insert(&cache, key, 9 + (int32_t)key % 30, 40 - (int32_t)key % 31, &place);
+        follow(&cache, &known);
+        CHECK(status == GUILLOTIERE_DONE || (what > 2 && status == GUILLOTIERE_NO_ROOM));
+        if (what > 2 && status == GUILLOTIERE_DONE) {
+            CHECK(!known.held[key] || same_place(&place, &known.places[key]));
+            known.held[key] = true;
+            known.places[key] = place;
+        }
+        if (i % 50 == 0) check_known(&cache, &known);
+    }
+    check_known(&cache, &known);
+    CHECK(known.pages == MOST_PAGES);
+    guillotiere_cache_free(&cache);
+}
+
+int main(void) {
+    bad_options();
+    empty_handles();
+    a_life();
+    waiting_changes();
+    random_session();
+    return 0;
+}

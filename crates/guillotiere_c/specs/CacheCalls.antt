@@ -1,0 +1,47 @@
+-- What a call does with a cache that has keys of 64 bits.
+use Rattle.std.specs.Prelude.{◌≡◌, ◌≢◌, ℕ, length, IfErr, IfSome, IsSome, Option, None, Result, Ok}
+use Rattle.std.specs.Prelude.{nat_eq}
+use Rattle.guillotiere.specs.declared.Size.{Size}
+use Rattle.guillotiere.specs.Pixels.{size_of}
+use Rattle.atlas_cache.specs.declared.error.CacheError.{CacheError}
+use Rattle.atlas_cache.specs.declared.places.Place.{Place}
+use Rattle.atlas_cache.specs.Asking.{bordered, CanStand}
+use Rattle.atlas_cache.specs.Caches.{CacheState, entry_for, place_for, IsNoneInUse}
+use Rattle.atlas_cache.specs.Changes.{FindsKnown, Inserts, Removes, Uses}
+use Rattle.atlas_cache.specs.Clearing.{TellsChanges, Trims}
+use Rattle.atlas_cache.specs.Counting.{one_more}
+use Rattle.atlas_cache.specs.Refusals.{IsRefusedNew}
+use Rattle.atlas_cache.specs.Telling.{Tells}
+use Rattle.guillotiere_c.specs.Following.{Followed}
+
+-- What `TextureCache::get` does: the key is used in this frame, and counted as a hit; or it isn't held, and counted as
+-- a miss.
+pub record IsGet (key : ℕ) (found : Option Place) (s t : CacheState ℕ) : Type 0 where
+  pub place : found ≡ place_for nat_eq s key
+  pub uses : IfSome (entry_for nat_eq key s.entries) (λ e. Uses e s t)
+  pub hit : IsSome found → t.counts ≡ record s.counts { hits = one_more s.counts.hits }
+  pub miss : found ≡ None
+      → t ≡ record s { counts = record s.counts { misses = one_more s.counts.misses } }
+
+-- What `TextureCache::remove` does: the key goes with its place, or it isn't held, and nothing changes.
+pub record IsRemoval (key : ℕ) (found : Option Place) (s t : CacheState ℕ) : Type 0 where
+  pub place : found ≡ place_for nat_eq s key
+  pub removes : IfSome (entry_for nat_eq key s.entries) (λ e. Removes e s t)
+  pub none : found ≡ None → t ≡ s
+
+-- What `TextureCache::insert` does. The changes that it makes come behind those that weren't handed over.
+pub record IsInsert (key : ℕ) (size : Size) (result : Result (Option Place) CacheError) (f g : Followed) : Type 0 where
+  pub known : IfSome (entry_for nat_eq key f.cache.entries) (λ e.
+      FindsKnown e size result f.cache g.cache × (g.changes ≡ f.changes))
+  pub outside : entry_for nat_eq key f.cache.entries ≡ None → (CanStand f.cache.options size → ⊥)
+      → (result ≡ Ok None) × (g.cache ≡ f.cache) × (g.changes ≡ f.changes)
+  pub new : entry_for nat_eq key f.cache.entries ≡ None → CanStand f.cache.options size
+      → Inserts (size_of (bordered f.cache.options size)) key size result f.changes g.changes f.cache g.cache
+  pub told : Tells nat_eq key result f.changes g.changes f.cache g.cache
+  pub errors : entry_for nat_eq key f.cache.entries ≡ None → IfErr result (IsRefusedNew (length g.cache.entries))
+  pub room : IsNoneInUse f.cache → CanStand f.cache.options size → result ≢ Ok None
+
+-- What `TextureCache::trim` does. The evictions come behind the changes that weren't handed over.
+pub record IsTrim (frames : ℕ) (f g : Followed) : Type 0 where
+  pub trims : Trims frames f.changes g.changes f.cache g.cache
+  pub told : TellsChanges nat_eq f.changes g.changes f.cache g.cache

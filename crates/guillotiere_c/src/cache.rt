@@ -1,0 +1,266 @@
+//! The exports of a cache: its life, its keys and its changes.
+ghost use Rattle.std.specs.Prelude.{◌≡◌, ◌≢◌, ◌∷◌, [], IfSome, IsNone, IsSome, IsSomeAnd, None};
+ghost use Rattle.std.specs.Prelude.{nat_eq};
+ghost use Rattle.atlas_cache.specs.Asking.{AreUsable, IsFaultIn};
+ghost use Rattle.atlas_cache.specs.Caches.{place_for};
+ghost use Rattle.atlas_cache.specs.Clearing.{Clears};
+ghost use Rattle.atlas_cache.specs.Counting.{one_more};
+ghost use Rattle.guillotiere_c.specs.CacheCalls.{IsGet, IsInsert, IsRemoval, IsTrim};
+ghost use Rattle.guillotiere_c.specs.CacheNumbers.{cache_change_in, cache_options_in, found_answer, insert_answer};
+ghost use Rattle.guillotiere_c.specs.CacheNumbers.{options_fault};
+ghost use Rattle.guillotiere_c.specs.Following.{GoesOver, HoldsCache, new_cache};
+
+use crate::cache_handle::CacheHandle;
+use crate::followed::FollowedCache;
+use crate::plain::{DONE, EMPTY, MEMORY, NO_CHANGE, NO_ROOM, NOT_HELD};
+use crate::plain_cache::{
+    PlainCacheChange, PlainCacheOptions, PlainPlace, cache_options_for, plain_cache_change,
+    plain_place, status_of_cache_error, status_of_options_error,
+};
+use atlas_cache::Place;
+use guillotiere::size2;
+use std::alloc::Global;
+
+/// Makes a cache with these options, where the handle holds nothing. `DONE`; `EMPTY_PAGE`, `LARGEST_PAGE`, `NO_PAGES`,
+/// `BAD_PADDING` or `BAD_ATLAS` if that is wrong with the options; `MEMORY`; `EMPTY` if the handle holds a cache already.
+#[unsafe(no_mangle)]
+pub extern "C" fn guillotiere_cache_new(
+    alloc: Global,
+    options: &PlainCacheOptions,
+    cache: &mut CacheHandle,
+) -> u32
+    ensures new { result ≡ DONE → HoldsCache cache.new.kept (λ f. f ≡ new_cache (cache_options_in options.now)) }
+    ensures usable { result ≡ DONE → AreUsable (cache_options_in options.now) }
+    ensures fault { result ≢ DONE → result ≢ MEMORY → result ≢ EMPTY
+        → IsSomeAnd (options_fault result) (IsFaultIn (cache_options_in options.now)) }
+    ensures refused { result ≢ DONE → cache.new.kept ≡ cache.old.kept }
+    ensures full { IsSome cache.old.kept → result ≡ EMPTY }
+    ensures fresh { IsNone cache.old.kept → result ≢ EMPTY }
+{
+    if cache.holds() {
+        return EMPTY;
+    }
+    let made = match FollowedCache::new(alloc, cache_options_for(options)) {
+        Ok(made) => made,
+        Err(error) => return status_of_options_error(error),
+    };
+    match Box::new(alloc, made) {
+        Ok(held) => {
+            cache.put(held);
+            DONE
+        }
+        Err(_) => MEMORY,
+    }
+}
+
+/// Lets a cache go, with all that it takes; the handle holds nothing then.
+#[unsafe(no_mangle)]
+pub extern "C" fn guillotiere_cache_free(alloc: Global, cache: &mut CacheHandle)
+    ensures { cache.new.kept ≡ None }
+{
+    if !cache.holds() {
+        return;
+    }
+    let _held = cache.take(alloc);
+}
+
+/// A new frame: what was used before may go from now on. `DONE`.
+#[unsafe(no_mangle)]
+pub extern "C" fn guillotiere_cache_begin_frame(alloc: Global, cache: &mut CacheHandle) -> u32
+    ensures frame { IsSome cache.old.kept → GoesOver cache.old.kept cache.new.kept (λ f g.
+        (g.cache ≡ record f.cache { frame = one_more f.cache.frame }) × (g.changes ≡ f.changes)) }
+    ensures done { IsSome cache.old.kept → result ≡ DONE }
+    ensures empty { IsNone cache.old.kept → (result ≡ EMPTY) × (cache.new.kept ≡ None) }
+{
+    if !cache.holds() {
+        return EMPTY;
+    }
+    let mut held = cache.take(alloc);
+    held.begin_frame();
+    cache.put(held);
+    DONE
+}
+
+// Writes the place that a look-up found.
+fn write_found(found: Option<Place>, place: &mut PlainPlace) -> u32
+    ensures answer { found_answer result place.new ≡ Some found }
+    ensures unwritten { result ≢ DONE → place.new ≡ place.old }
+{
+    match found {
+        Some(found) => {
+            *place = plain_place(found);
+            DONE
+        }
+        None => NOT_HELD,
+    }
+}
+
+/// The place of a key, which is used in this frame from now on. Counts a hit or a miss. `DONE`; `NOT_HELD`.
+#[unsafe(no_mangle)]
+pub extern "C" fn guillotiere_cache_get(
+    alloc: Global,
+    cache: &mut CacheHandle,
+    key: u64,
+    place: &mut PlainPlace,
+) -> u32
+    ensures get { IsSome cache.old.kept → IsSomeAnd (found_answer result place.new) (λ found.
+        GoesOver cache.old.kept cache.new.kept (λ f g. IsGet key found f.cache g.cache × (g.changes ≡ f.changes))) }
+    ensures unwritten { result ≢ DONE → place.new ≡ place.old }
+    ensures empty { IsNone cache.old.kept → (result ≡ EMPTY) × (cache.new.kept ≡ None) }
+{
+    if !cache.holds() {
+        return EMPTY;
+    }
+    let mut held = cache.take(alloc);
+    let found = held.get(key);
+    cache.put(held);
+    write_found(found, place)
+}
+
+/// The place of a key; it counts as no use. `DONE`; `NOT_HELD`.
+#[unsafe(no_mangle)]
+pub extern "C" fn guillotiere_cache_peek(
+    alloc: Global,
+    cache: &mut CacheHandle,
+    key: u64,
+    place: &mut PlainPlace,
+) -> u32
+    ensures peek { IsSome cache.old.kept → IsSomeAnd (found_answer result place.new) (λ found.
+        HoldsCache cache.old.kept (λ f. found ≡ place_for nat_eq f.cache key)) }
+    ensures same { cache.new.kept ≡ cache.old.kept }
+    ensures unwritten { result ≢ DONE → place.new ≡ place.old }
+    ensures empty { IsNone cache.old.kept → result ≡ EMPTY }
+{
+    if !cache.holds() {
+        return EMPTY;
+    }
+    let held = cache.take(alloc);
+    let found = held.peek(key);
+    cache.put(held);
+    write_found(found, place)
+}
+
+/// A place for a key, which is used in this frame, as `TextureCache::insert` finds it. `DONE`; `NO_ROOM` if the size is
+/// empty or doesn't fit the largest page, or if each entry is in use and no page has room; `OTHER_SIZE` if the key is held
+/// with another size; `NUMBERS`, `SLOTS`, `MEMORY`. What was done is told by `guillotiere_cache_next_change`, also after
+/// `NO_ROOM` and after an error.
+#[unsafe(no_mangle)]
+pub extern "C" fn guillotiere_cache_insert(
+    alloc: Global,
+    cache: &mut CacheHandle,
+    key: u64,
+    width: i32,
+    height: i32,
+    place: &mut PlainPlace,
+) -> u32
+    ensures insert { IsSome cache.old.kept → IsSomeAnd (insert_answer result place.new) (λ answer.
+        GoesOver cache.old.kept cache.new.kept (IsInsert key (record { width = width; height = height }) answer)) }
+    ensures unwritten { result ≢ DONE → place.new ≡ place.old }
+    ensures empty { IsNone cache.old.kept → (result ≡ EMPTY) × (cache.new.kept ≡ None) }
+{
+    if !cache.holds() {
+        return EMPTY;
+    }
+    let mut held = cache.take(alloc);
+    let answer = held.insert(key, size2(width, height));
+    cache.put(held);
+    match answer {
+        Ok(Some(found)) => {
+            *place = plain_place(found);
+            DONE
+        }
+        Ok(None) => NO_ROOM,
+        Err(error) => status_of_cache_error(error),
+    }
+}
+
+/// A key goes, and the place that it had is written. Takes no memory. `DONE`; `NOT_HELD`.
+#[unsafe(no_mangle)]
+pub extern "C" fn guillotiere_cache_remove(
+    alloc: Global,
+    cache: &mut CacheHandle,
+    key: u64,
+    place: &mut PlainPlace,
+) -> u32
+    ensures removal { IsSome cache.old.kept → IsSomeAnd (found_answer result place.new) (λ found.
+        GoesOver cache.old.kept cache.new.kept
+        (λ f g. IsRemoval key found f.cache g.cache × (g.changes ≡ f.changes))) }
+    ensures unwritten { result ≢ DONE → place.new ≡ place.old }
+    ensures empty { IsNone cache.old.kept → (result ≡ EMPTY) × (cache.new.kept ≡ None) }
+{
+    if !cache.holds() {
+        return EMPTY;
+    }
+    let mut held = cache.take(alloc);
+    let found = held.remove(key);
+    cache.put(held);
+    write_found(found, place)
+}
+
+/// Hands over the first change that wasn't handed over yet. Takes no memory. `DONE`; `NO_CHANGE` if there is none.
+#[unsafe(no_mangle)]
+pub extern "C" fn guillotiere_cache_next_change(
+    alloc: Global,
+    cache: &mut CacheHandle,
+    change: &mut PlainCacheChange,
+) -> u32
+    ensures next { result ≡ DONE → IsSomeAnd (cache_change_in change.new) (λ c.
+        GoesOver cache.old.kept cache.new.kept (λ f g. (f.changes ≡ c ∷ g.changes) × (g.cache ≡ f.cache))) }
+    ensures none { result ≡ NO_CHANGE → HoldsCache cache.old.kept (λ f. f.changes ≡ []) }
+    ensures unless { IsSome cache.old.kept → result ≢ DONE → result ≡ NO_CHANGE }
+    ensures refused { result ≢ DONE → (cache.new.kept ≡ cache.old.kept) × (change.new ≡ change.old) }
+    ensures empty { IsNone cache.old.kept → result ≡ EMPTY }
+{
+    if !cache.holds() {
+        return EMPTY;
+    }
+    let mut held = cache.take(alloc);
+    let next = held.next_change();
+    cache.put(held);
+    match next {
+        Some(next) => {
+            *change = plain_cache_change(next);
+            DONE
+        }
+        None => NO_CHANGE,
+    }
+}
+
+/// All keys go. The pages stay, with their sizes and with nothing on them. No change tells it: the caller forgets all
+/// places. The changes that weren't handed over stay. `DONE`.
+#[unsafe(no_mangle)]
+pub extern "C" fn guillotiere_cache_clear(alloc: Global, cache: &mut CacheHandle) -> u32
+    ensures clears { IsSome cache.old.kept → GoesOver cache.old.kept cache.new.kept (λ f g.
+        Clears f.cache g.cache × (g.changes ≡ f.changes)) }
+    ensures done { IsSome cache.old.kept → result ≡ DONE }
+    ensures empty { IsNone cache.old.kept → (result ≡ EMPTY) × (cache.new.kept ≡ None) }
+{
+    if !cache.holds() {
+        return EMPTY;
+    }
+    let mut held = cache.take(alloc);
+    held.clear();
+    cache.put(held);
+    DONE
+}
+
+/// The keys that weren't used for at least so many frames go, each told as evicted, the least recently used first: with
+/// 1, what this frame didn't use; with 0, all. `DONE`; `MEMORY`.
+#[unsafe(no_mangle)]
+pub extern "C" fn guillotiere_cache_trim(alloc: Global, cache: &mut CacheHandle, frames: u64) -> u32
+    ensures trims { result ≡ DONE → GoesOver cache.old.kept cache.new.kept (IsTrim frames) }
+    ensures refused { result ≢ DONE → cache.new.kept ≡ cache.old.kept }
+    ensures unless { IsSome cache.old.kept → result ≢ DONE → result ≡ MEMORY }
+    ensures empty { IsNone cache.old.kept → result ≡ EMPTY }
+{
+    if !cache.holds() {
+        return EMPTY;
+    }
+    let mut held = cache.take(alloc);
+    let answer = held.trim(frames);
+    cache.put(held);
+    match answer {
+        Ok(()) => DONE,
+        Err(error) => status_of_cache_error(error),
+    }
+}

@@ -1,0 +1,106 @@
+//! The exports that tell of a cache: how many keys and pages it has, and how it was used.
+ghost use Rattle.std.specs.Prelude.{◌≡◌, ◌≢◌, Some, IsNone, IsSome, length, slice_get};
+ghost use Rattle.atlas_cache.specs.Rooms.{page_sizes};
+ghost use Rattle.guillotiere_c.specs.CacheNumbers.{counts_in};
+ghost use Rattle.guillotiere_c.specs.Following.{HoldsCache};
+ghost use Rattle.guillotiere_c.specs.Numbers.{size_in};
+
+use crate::cache_handle::CacheHandle;
+use crate::plain::{DONE, EMPTY, NO_PAGE, PlainSize, plain_size};
+use crate::plain_cache::{PlainCounts, plain_counts};
+use std::alloc::Global;
+
+/// How many keys are held. `DONE`.
+#[unsafe(no_mangle)]
+pub extern "C" fn guillotiere_cache_len(
+    alloc: Global,
+    cache: &mut CacheHandle,
+    len: &mut usize,
+) -> u32
+    ensures len { IsSome cache.old.kept → HoldsCache cache.old.kept (λ f. len.new ≡ length f.cache.entries) }
+    ensures done { IsSome cache.old.kept → result ≡ DONE }
+    ensures same { cache.new.kept ≡ cache.old.kept }
+    ensures empty { IsNone cache.old.kept → (result ≡ EMPTY) × (len.new ≡ len.old) }
+{
+    if !cache.holds() {
+        return EMPTY;
+    }
+    let held = cache.take(alloc);
+    *len = held.len();
+    cache.put(held);
+    DONE
+}
+
+/// How many pages there are. `DONE`.
+#[unsafe(no_mangle)]
+pub extern "C" fn guillotiere_cache_page_count(
+    alloc: Global,
+    cache: &mut CacheHandle,
+    pages: &mut u32,
+) -> u32
+    ensures pages { IsSome cache.old.kept → HoldsCache cache.old.kept (λ f. pages.new ≡ length f.cache.pages) }
+    ensures done { IsSome cache.old.kept → result ≡ DONE }
+    ensures same { cache.new.kept ≡ cache.old.kept }
+    ensures empty { IsNone cache.old.kept → (result ≡ EMPTY) × (pages.new ≡ pages.old) }
+{
+    if !cache.holds() {
+        return EMPTY;
+    }
+    let held = cache.take(alloc);
+    *pages = held.pages();
+    cache.put(held);
+    DONE
+}
+
+/// The size of a page, in pixels. Pages are counted from 0. `DONE`; `NO_PAGE`.
+#[unsafe(no_mangle)]
+pub extern "C" fn guillotiere_cache_page_size(
+    alloc: Global,
+    cache: &mut CacheHandle,
+    page: u32,
+    size: &mut PlainSize,
+) -> u32
+    ensures size { result ≡ DONE → HoldsCache cache.old.kept
+        (λ f. slice_get (page_sizes f.cache.pages) page ≡ Some (size_in size.new)) }
+    ensures none { result ≡ NO_PAGE → HoldsCache cache.old.kept
+        (λ f. slice_get (page_sizes f.cache.pages) page ≡ None) }
+    ensures unless { IsSome cache.old.kept → result ≢ DONE → result ≡ NO_PAGE }
+    ensures same { cache.new.kept ≡ cache.old.kept }
+    ensures unwritten { result ≢ DONE → size.new ≡ size.old }
+    ensures empty { IsNone cache.old.kept → result ≡ EMPTY }
+{
+    if !cache.holds() {
+        return EMPTY;
+    }
+    let held = cache.take(alloc);
+    let found = held.page_size(page);
+    cache.put(held);
+    match found {
+        Some(found) => {
+            *size = plain_size(found);
+            DONE
+        }
+        None => NO_PAGE,
+    }
+}
+
+/// How often `guillotiere_cache_get` found its key and how often it didn't, and how many keys were evicted. `DONE`.
+#[unsafe(no_mangle)]
+pub extern "C" fn guillotiere_cache_statistics(
+    alloc: Global,
+    cache: &mut CacheHandle,
+    counts: &mut PlainCounts,
+) -> u32
+    ensures counts { IsSome cache.old.kept → HoldsCache cache.old.kept (λ f. counts_in counts.new ≡ f.cache.counts) }
+    ensures done { IsSome cache.old.kept → result ≡ DONE }
+    ensures same { cache.new.kept ≡ cache.old.kept }
+    ensures empty { IsNone cache.old.kept → (result ≡ EMPTY) × (counts.new ≡ counts.old) }
+{
+    if !cache.holds() {
+        return EMPTY;
+    }
+    let held = cache.take(alloc);
+    *counts = plain_counts(held.statistics());
+    cache.put(held);
+    DONE
+}

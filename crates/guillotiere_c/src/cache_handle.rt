@@ -1,0 +1,88 @@
+//! What C holds of a cache.
+ghost use Rattle.std.specs.Prelude.{◌≡◌, is_some, Option, Some, None, IsSome};
+ghost use Rattle.guillotiere_c.specs.Following.{Followed};
+
+use crate::followed::FollowedCache;
+use crate::held::{Held, hold, release};
+use std::alloc::Global;
+use std::marker::Model;
+use std::mem::replace;
+
+/// A place for a cache: it holds one, or nothing, and then it is null.
+#[repr(C)]
+pub struct CacheHandle {
+    at: *mut u8,
+    pub ghost kept: { Option Followed },
+}
+
+impl Model for CacheHandle {
+    ghost use Rattle.guillotiere_c.specs.Keeping.{keeps_cache};
+
+    ghost also_owns = { λ h. keeps_cache h.kept h.at };
+}
+
+impl CacheHandle {
+    /// A handle that holds nothing.
+    pub fn none() -> CacheHandle
+        ensures { result.kept ≡ None }
+    {
+        CacheHandle {
+            at: std::ptr::null_mut(),
+        }
+    }
+
+    /// Lets a handle go. Asks that it holds nothing, so that nothing is lost.
+    pub fn forget(handle: CacheHandle)
+        requires { handle.kept ≡ None }
+    {
+        let CacheHandle { at: _ } = handle;
+    }
+
+    /// Whether it holds a cache.
+    pub fn holds(&mut self) -> bool
+        ensures { (self.new ≡ self.old) × (result ≡ is_some self.old.kept) }
+    {
+        !self.at.is_null()
+    }
+
+    /// A handle that holds what was taken apart.
+    pub fn close(held: Held<FollowedCache, Global>) -> CacheHandle
+        ensures { result.kept ≡ Some held.value }
+    {
+        let Held { at, alloc: _ } = held;
+        CacheHandle { at: at as *mut u8 }
+    }
+
+    /// What it holds, taken apart. Asks that it holds a cache.
+    pub fn open(alloc: Global, handle: CacheHandle) -> Held<FollowedCache, Global>
+        requires { IsSome handle.kept }
+        ensures { handle.kept ≡ Some result.value }
+    {
+        let CacheHandle { at } = handle;
+        Held {
+            at: at as *mut FollowedCache,
+            alloc,
+        }
+    }
+}
+
+impl CacheHandle {
+    /// Takes the cache out; the handle holds nothing then. Asks that it holds a cache.
+    pub fn take(&mut self, alloc: Global) -> Box<FollowedCache>
+        requires { IsSome self.old.kept }
+        ensures taken { self.old.kept ≡ Some result.value }
+        ensures none { self.new.kept ≡ None }
+    {
+        let handle = replace(self, CacheHandle::none());
+        release(CacheHandle::open(alloc, handle))
+    }
+
+    /// Puts a cache in. Asks that the handle holds nothing.
+    pub fn put(&mut self, cache: Box<FollowedCache>)
+        requires { self.old.kept ≡ None }
+        ensures put { self.new.kept ≡ Some cache.value }
+    {
+        let empty = replace(self, CacheHandle::close(hold(cache)));
+        CacheHandle::forget(empty);
+    }
+}

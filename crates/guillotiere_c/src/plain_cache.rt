@@ -1,0 +1,187 @@
+//! What crosses to C of caches: options, places, changes and counts. All lengths are in pixels.
+ghost use Rattle.std.specs.Prelude.{◌≡◌, ◌≢◌, Err, Some};
+ghost use Rattle.guillotiere_c.specs.CacheNumbers.{cache_change_in, cache_error, cache_options_in, counts_in, insert_answer};
+ghost use Rattle.guillotiere_c.specs.CacheNumbers.{options_fault, place_in};
+ghost use Rattle.guillotiere_c.specs.declared.plain_cache.PlainPlace.{PlainPlace as Written};
+
+use crate::plain::{
+    BAD_ATLAS, BAD_PADDING, DONE, EMPTY, EMPTY_PAGE, EVICTED, LARGEST_PAGE, MEMORY, MOVED,
+    NO_PAGES, NUMBERS, OTHER_SIZE, PAGE_ADDED, PAGE_GROWN, PlainOptions, PlainRectangle, PlainSize,
+    SLOTS, plain_rectangle, plain_size,
+};
+use atlas_cache::{CacheChange, CacheError, CacheOptions, Counts, OptionsError, Place};
+use guillotiere::{AllocatorOptions, size2};
+
+/// As `CacheOptions`.
+#[repr(C)]
+#[derive(Clone, Copy)]
+pub struct PlainCacheOptions {
+    pub page: PlainSize,
+    pub largest_page: PlainSize,
+    pub pages: u32,
+    pub padding: i32,
+    pub atlas: PlainOptions,
+}
+
+/// As `Place`.
+#[repr(C)]
+#[derive(Clone, Copy)]
+pub struct PlainPlace {
+    pub page: u32,
+    pub rectangle: PlainRectangle,
+    pub inner: PlainRectangle,
+}
+
+/// As `CacheChange`. What its kind doesn't name has no meaning.
+#[repr(C)]
+#[derive(Clone, Copy)]
+pub struct PlainCacheChange {
+    pub kind: u32,
+    pub page: u32,
+    pub size: PlainSize,
+    pub key: u64,
+    pub from: PlainPlace,
+    pub to: PlainPlace,
+}
+
+/// As `Counts`.
+#[repr(C)]
+#[derive(Clone, Copy)]
+pub struct PlainCounts {
+    pub hits: u64,
+    pub misses: u64,
+    pub evictions: u64,
+}
+
+// No place.
+const NO_CORNERS: PlainRectangle = PlainRectangle {
+    min_x: 0,
+    min_y: 0,
+    max_x: 0,
+    max_y: 0,
+};
+
+// No place.
+const NOWHERE: PlainPlace = PlainPlace {
+    page: 0,
+    rectangle: NO_CORNERS,
+    inner: NO_CORNERS,
+};
+
+// No change.
+const NOTHING: PlainCacheChange = PlainCacheChange {
+    kind: 0,
+    page: 0,
+    size: PlainSize {
+        width: 0,
+        height: 0,
+    },
+    key: 0,
+    from: NOWHERE,
+    to: NOWHERE,
+};
+
+/// The same for C.
+pub fn plain_place(place: Place) -> PlainPlace
+    ensures { place_in result ≡ place }
+{
+    PlainPlace {
+        page: place.page,
+        rectangle: plain_rectangle(place.rectangle),
+        inner: plain_rectangle(place.inner),
+    }
+}
+
+/// The same for C.
+pub fn plain_counts(counts: Counts) -> PlainCounts
+    ensures { counts_in result ≡ counts }
+{
+    PlainCounts {
+        hits: counts.hits,
+        misses: counts.misses,
+        evictions: counts.evictions,
+    }
+}
+
+/// The same for C.
+pub fn plain_cache_change(change: CacheChange<u64>) -> PlainCacheChange
+    ensures { cache_change_in result ≡ Some change }
+{
+    match change {
+        CacheChange::PageAdded { page, size } => PlainCacheChange {
+            kind: PAGE_ADDED,
+            page,
+            size: plain_size(size),
+            ..NOTHING
+        },
+        CacheChange::PageGrown { page, size } => PlainCacheChange {
+            kind: PAGE_GROWN,
+            page,
+            size: plain_size(size),
+            ..NOTHING
+        },
+        CacheChange::Evicted { key, place } => PlainCacheChange {
+            kind: EVICTED,
+            key,
+            from: plain_place(place),
+            ..NOTHING
+        },
+        CacheChange::Moved { key, from, to } => PlainCacheChange {
+            kind: MOVED,
+            key,
+            from: plain_place(from),
+            to: plain_place(to),
+            ..NOTHING
+        },
+    }
+}
+
+/// The same for Rattle.
+pub fn cache_options_for(options: &PlainCacheOptions) -> CacheOptions
+    ensures { result ≡ cache_options_in options.now }
+{
+    CacheOptions {
+        page: size2(options.page.width, options.page.height),
+        largest_page: size2(options.largest_page.width, options.largest_page.height),
+        pages: options.pages,
+        padding: options.padding,
+        atlas: AllocatorOptions {
+            alignment: size2(
+                options.atlas.alignment_width,
+                options.atlas.alignment_height,
+            ),
+            small_size_threshold: options.atlas.small_size_threshold,
+            large_size_threshold: options.atlas.large_size_threshold,
+        },
+    }
+}
+
+/// The status of an error of an insert.
+pub fn status_of_cache_error(error: CacheError) -> u32
+    ensures answer { (written : Written) → insert_answer result written ≡ Some (Err error) }
+    ensures told { cache_error result ≡ Some error }
+    ensures done { result ≢ DONE }
+{
+    match error {
+        CacheError::Memory => MEMORY,
+        CacheError::Numbers => NUMBERS,
+        CacheError::Slots => SLOTS,
+        CacheError::OtherSize => OTHER_SIZE,
+    }
+}
+
+/// The status of an error of options.
+pub fn status_of_options_error(error: OptionsError) -> u32
+    ensures told { options_fault result ≡ Some error }
+    ensures done { result ≢ DONE }
+    ensures memory { result ≢ MEMORY }
+    ensures empty { result ≢ EMPTY }
+{
+    match error {
+        OptionsError::EmptyPage => EMPTY_PAGE,
+        OptionsError::LargestPage => LARGEST_PAGE,
+        OptionsError::NoPages => NO_PAGES,
+        OptionsError::Padding => BAD_PADDING,
+        OptionsError::Atlas => BAD_ATLAS,
+    }
+}
