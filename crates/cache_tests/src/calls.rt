@@ -1,4 +1,6 @@
 //! Calls that tell what a cache does, or take from it: small traces worked by hand.
+ghost use Rattle.std.specs.Prelude.{◌≡◌};
+
 use atlas_cache::{CacheChange, CacheError, CacheOptions, Counts, Place, TextureCache};
 use guillotiere::{DEFAULT_OPTIONS, Rectangle, point2, size2};
 use std::alloc::Global;
@@ -42,6 +44,15 @@ fn whole(page: u32) -> Place {
         rectangle: whole,
         inner: whole,
     }
+}
+
+// Where frames have come to the end of their counter, a new one is the last one again. It is proved and not run, since no
+// test gets there.
+fn after_the_last_frame(cache: &mut TextureCache<u32>)
+    requires { cache.old.frame ≡ 18446744073709551615 }
+    ensures { cache.new ≡ cache.old }
+{
+    cache.begin_frame();
 }
 
 #[test]

@@ -123,6 +123,14 @@ fn a_used_entry_comes_first_with_its_frame(rt: HostRuntime) -> Result<(), Fail> 
 }
 
 #[test]
+fn the_last_frame_is_kept(rt: HostRuntime) -> Result<(), Fail> {
+    let mut entries = three(rt.alloc())?;
+    touch(&mut entries, 71, u64::MAX);
+    assert_eq!(rt; nth(&entries, 0), Some((71, u64::MAX)));
+    Ok(())
+}
+
+#[test]
 fn a_removed_entry_is_gone_and_its_number_comes_back(rt: HostRuntime) -> Result<(), Fail> {
     let mut entries = three(rt.alloc())?;
     remove(&mut entries, 71);

@@ -124,6 +124,34 @@ impl Plain {
         Some(gone.place)
     }
 
+    /// All keys go.
+    pub fn clear(&mut self) {
+        self.held.clear();
+    }
+
+    // Whether an entry wasn't used for so many frames.
+    fn is_unused(&self, held: Held, frames: u64) -> bool {
+        self.frame.wrapping_sub(held.frame) >= frames
+    }
+
+    /// The keys that weren't used for so many frames go. Whether these changes tell just them, the least recently used
+    /// first.
+    pub fn trim(&mut self, frames: u64, told: &[CacheChange<u32>]) -> bool {
+        for change in told {
+            let Some(last) = self.held.pop() else {
+                return false;
+            };
+            let (key, place) = (last.key, last.place);
+            if *change != (CacheChange::Evicted { key, place }) || !self.is_unused(last, frames) {
+                return false;
+            }
+        }
+        match self.held.last() {
+            Some(last) => !self.is_unused(*last, frames),
+            None => true,
+        }
+    }
+
     /// Whether a size, in pixels, fits an empty page of the largest size, padding included.
     pub fn can_stand(&self, size: Size) -> bool {
         let largest = self.options.largest_page;
@@ -245,7 +273,19 @@ impl Plain {
         cache.pages() == number && cache.page_size(number).is_none()
     }
 
-    /// Whether a cache has these pages, and holds these keys at these places and no others.
+    // Whether a cache tells these keys in this order of use.
+    fn has_order<A: Allocator + Copy>(&self, cache: &TextureCache<u32, DefaultHasher, A>) -> bool {
+        let mut next = cache.newest();
+        for held in &self.held {
+            if next != Some((held.key, held.place)) {
+                return false;
+            }
+            next = cache.older(&held.key);
+        }
+        next.is_none()
+    }
+
+    /// Whether a cache has these pages, and holds these keys at these places, in this order, and no others.
     pub fn is_picture_of<A: Allocator + Copy>(
         &self,
         cache: &TextureCache<u32, DefaultHasher, A>,
@@ -255,6 +295,6 @@ impl Plain {
                 return false;
             }
         }
-        cache.len() == self.held.len() && self.has_pages(cache)
+        cache.len() == self.held.len() && self.has_order(cache) && self.has_pages(cache)
     }
 }

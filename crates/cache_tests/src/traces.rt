@@ -108,6 +108,27 @@ impl<A: Allocator + Copy> Played<A> {
         }
     }
 
+    // What wasn't used for up to three frames goes; `false` where something else was told. Nothing goes where memory is
+    // refused, the error then.
+    fn trim(&mut self, frames: u64) -> Result<bool, CacheError> {
+        self.changes.clear();
+        self.cache.trim(frames, &mut self.changes)?;
+        Ok(self.plain.trim(frames, &self.changes))
+    }
+
+    // A call that comes seldom: of sixteen such calls once all keys go, and twice some.
+    fn turn_seldom(&mut self, key: u32, word: u64) -> Result<bool, CacheError> {
+        match (word >> 48) % 16 {
+            0 => {
+                self.cache.clear();
+                self.plain.clear();
+                Ok(true)
+            }
+            1 | 2 => self.trim(1 + (word >> 56) % 3),
+            _ => self.insert(key, asked_size(key, word)),
+        }
+    }
+
     // One call on both, by a random word; `false` where the answer was wrong.
     fn turn(&mut self, word: u64) -> Result<bool, CacheError> {
         let key = ((word >> 8) % KEYS) as u32;
@@ -116,6 +137,7 @@ impl<A: Allocator + Copy> Played<A> {
             1..=5 => return Ok(self.cache.get(&key) == self.plain.touch(key)?),
             6 => return Ok(self.cache.peek(&key) == self.plain.place_of(key)),
             7 => return Ok(self.cache.remove(&key) == self.plain.remove(key)),
+            8 => return self.turn_seldom(key, word),
             _ => return self.insert(key, asked_size(key, word)),
         }
         Ok(true)
@@ -144,39 +166,45 @@ fn options(largest: Size, pages: u32, padding: i32) -> CacheOptions {
     }
 }
 
-// Whether a trace of 20,000 calls agrees with the model.
-fn plays(alloc: Global, options: CacheOptions, seed: u64) -> Result<bool, Fail> {
+// Whether a trace of so many calls agrees with the model.
+fn plays(alloc: Global, options: CacheOptions, seed: u64, calls: u32) -> Result<bool, Fail> {
     let mut played = Played::new(alloc, alloc, options)?;
-    Ok(played.agrees(seed, 20_000)?)
+    Ok(played.agrees(seed, calls)?)
 }
 
 #[test]
 fn on_one_page(rt: HostRuntime) -> Result<(), Fail> {
-    assert!(rt; plays(rt.alloc(), options(size2(16, 12), 1, 0), 1)?);
+    assert!(rt; plays(rt.alloc(), options(size2(16, 12), 1, 0), 1, 20_000)?);
     Ok(())
 }
 
 #[test]
 fn on_a_page_that_grows(rt: HostRuntime) -> Result<(), Fail> {
-    assert!(rt; plays(rt.alloc(), options(size2(40, 40), 1, 0), 2)?);
+    assert!(rt; plays(rt.alloc(), options(size2(40, 40), 1, 0), 2, 20_000)?);
     Ok(())
 }
 
 #[test]
 fn on_two_pages_that_grow(rt: HostRuntime) -> Result<(), Fail> {
-    assert!(rt; plays(rt.alloc(), options(size2(24, 32), 2, 1), 3)?);
+    assert!(rt; plays(rt.alloc(), options(size2(24, 32), 2, 1), 3, 20_000)?);
     Ok(())
 }
 
 #[test]
 fn on_three_pages(rt: HostRuntime) -> Result<(), Fail> {
-    assert!(rt; plays(rt.alloc(), options(size2(16, 12), 3, 1), 4)?);
+    assert!(rt; plays(rt.alloc(), options(size2(16, 12), 3, 1), 4, 20_000)?);
+    Ok(())
+}
+
+#[test]
+fn a_long_trace(rt: HostRuntime) -> Result<(), Fail> {
+    assert!(rt; plays(rt.alloc(), options(size2(32, 32), 2, 1), 6, 100_000)?);
     Ok(())
 }
 
 #[test]
 fn with_wide_padding(rt: HostRuntime) -> Result<(), Fail> {
-    assert!(rt; plays(rt.alloc(), options(size2(64, 24), 2, 3), 5)?);
+    assert!(rt; plays(rt.alloc(), options(size2(64, 24), 2, 3), 5, 20_000)?);
     Ok(())
 }
 
