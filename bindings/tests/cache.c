@@ -101,7 +101,8 @@ static void check_figures(guillotiere_cache *cache, size_t keys, uint32_t pages)
     CHECK(guillotiere_cache_len(cache, &len) == GUILLOTIERE_DONE && len == keys);
     CHECK(guillotiere_cache_page_count(cache, &count) == GUILLOTIERE_DONE && count == pages);
     CHECK(guillotiere_cache_page_size(cache, pages, &size) == GUILLOTIERE_NO_PAGE && size.width == 0);
-    CHECK(guillotiere_cache_page_size(cache, pages - 1, &size) == GUILLOTIERE_DONE && size.width == 16 && size.height == 32);
+    CHECK(guillotiere_cache_page_size(cache, pages - 1, &size) == GUILLOTIERE_DONE);
+    CHECK(size.width == 16 && size.height == 32);
 }
 
 /* Pages come and grow; the key that was used longest ago gives way; then what is left goes by a trim. */
@@ -195,8 +196,9 @@ static void follow(guillotiere_cache *cache, picture *known) {
             CHECK(change.key < KEYS && known->held[change.key] && same_place(&change.from, &known->places[change.key]));
             known->held[change.key] = false;
         } else {
-            CHECK(change.page == known->pages - (change.kind == GUILLOTIERE_PAGE_GROWN) || change.page < known->pages);
-            if (change.kind == GUILLOTIERE_PAGE_ADDED) CHECK(change.page == known->pages++ && known->pages <= MOST_PAGES);
+            CHECK(change.kind == GUILLOTIERE_PAGE_ADDED || change.kind == GUILLOTIERE_PAGE_GROWN);
+            if (change.kind == GUILLOTIERE_PAGE_ADDED) CHECK(change.page == known->pages++);
+            CHECK(change.page < known->pages && known->pages <= MOST_PAGES);
             known->sizes[change.page] = change.size;
         }
     }
@@ -230,7 +232,8 @@ static void random_session(void) {
         if (what == 0) status = guillotiere_cache_begin_frame(&cache);
         if (what == 1) status = guillotiere_cache_trim(&cache, below(4));
         if (what == 2 && guillotiere_cache_remove(&cache, key, &place) == GUILLOTIERE_DONE) known.held[key] = false;
-        if (what > 2) status = guillotiere_cache_insert(&cache, key, 9 + (int32_t)key % 30, 40 - (int32_t)key % 31, &place);
+        const int32_t width = 9 + (int32_t)key % 30, height = 40 - (int32_t)key % 31;
+        if (what > 2) status = guillotiere_cache_insert(&cache, key, width, height, &place);
         follow(&cache, &known);
         CHECK(status == GUILLOTIERE_DONE || (what > 2 && status == GUILLOTIERE_NO_ROOM));
         if (what > 2 && status == GUILLOTIERE_DONE) {

@@ -181,7 +181,53 @@ static void pack(void) {
     CHECK(counted > 100);
 }
 
+static size_t keys_of(guillotiere_cache *cache) {
+    size_t len = 0;
+    CHECK(guillotiere_cache_len(cache, &len) == GUILLOTIERE_DONE);
+    return len;
+}
+
+/* A key that is refused isn't held, and the others are; a refused trim lets none go. */
+static void use_cache(guillotiere_cache *cache) {
+    const guillotiere_cache_options options = {{16, 16}, {64, 64}, 2, 0, GUILLOTIERE_DEFAULT_OPTIONS};
+    guillotiere_cache_change change;
+    guillotiere_place place;
+    size_t held = 0, told = 0;
+    uint32_t status = guillotiere_cache_new(&options, cache);
+    CHECK(status == (cache->at == NULL ? GUILLOTIERE_MEMORY : GUILLOTIERE_DONE));
+    if (status != GUILLOTIERE_DONE) return;
+    for (uint64_t key = 0; key < 40; key++) {
+        status = guillotiere_cache_insert(cache, key, 10, 10, &place);
+        CHECK(status == GUILLOTIERE_DONE || status == GUILLOTIERE_MEMORY);
+        held += status == GUILLOTIERE_DONE;
+        CHECK(keys_of(cache) == held);
+        CHECK(guillotiere_cache_peek(cache, key, &place) == (status == GUILLOTIERE_DONE ? status : GUILLOTIERE_NOT_HELD));
+    }
+    status = guillotiere_cache_trim(cache, 0);
+    CHECK(status == GUILLOTIERE_DONE || status == GUILLOTIERE_MEMORY);
+    CHECK(keys_of(cache) == (status == GUILLOTIERE_DONE ? 0 : held));
+    while (guillotiere_cache_next_change(cache, &change) == GUILLOTIERE_DONE) told += change.kind == GUILLOTIERE_EVICTED;
+    CHECK(told == (status == GUILLOTIERE_DONE ? held : 0));
+}
+
+static void caches(void) {
+    for (long nth = 0;; nth++) {
+        guillotiere_cache cache = GUILLOTIERE_NONE;
+        const long before = blocks, refused = refusals;
+        left = nth;
+        use_cache(&cache);
+        left = -1;
+        guillotiere_cache_free(&cache);
+        CHECK(blocks == before);
+        if (refusals == refused) {
+            CHECK(nth > 10);
+            return;
+        }
+    }
+}
+
 int main(void) {
+    caches();
     reserve();
     pack();
     for (long nth = 0;; nth++) {

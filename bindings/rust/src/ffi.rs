@@ -662,14 +662,14 @@ impl Cache {
         let mut place = PlainPlace::default();
         // SAFETY: this handle, and a place of our own.
         let status = unsafe { guillotiere_cache_get(self.handle.get(), key, &mut place) };
-        of_status(status).ok().map(|()| place)
+        unless(status, NOT_HELD, place)
     }
 
     pub fn peek(&self, key: u64) -> Option<PlainPlace> {
         let mut place = PlainPlace::default();
         // SAFETY: this handle, and a place of our own.
         let status = unsafe { guillotiere_cache_peek(self.handle.get(), key, &mut place) };
-        of_status(status).ok().map(|()| place)
+        unless(status, NOT_HELD, place)
     }
 
     pub fn insert(&mut self, key: u64, width: i32, height: i32) -> Result<PlainPlace, u32> {
@@ -683,14 +683,14 @@ impl Cache {
         let mut place = PlainPlace::default();
         // SAFETY: this handle, and a place of our own.
         let status = unsafe { guillotiere_cache_remove(self.handle.get(), key, &mut place) };
-        of_status(status).ok().map(|()| place)
+        unless(status, NOT_HELD, place)
     }
 
     pub fn next_change(&mut self) -> Option<PlainCacheChange> {
         let mut change = PlainCacheChange::default();
         // SAFETY: this handle, and a place of our own.
         let status = unsafe { guillotiere_cache_next_change(self.handle.get(), &mut change) };
-        of_status(status).ok().map(|()| change)
+        unless(status, NO_CHANGE, change)
     }
 
     pub fn clear(&mut self) {
@@ -721,7 +721,7 @@ impl Cache {
         let mut size = PlainSize::default();
         // SAFETY: this handle, and a place of our own.
         let status = unsafe { guillotiere_cache_page_size(self.handle.get(), page, &mut size) };
-        of_status(status).ok().map(|()| size)
+        unless(status, NO_PAGE, size)
     }
 
     pub fn statistics(&self) -> PlainCounts {
@@ -736,6 +736,15 @@ impl Drop for Cache {
     fn drop(&mut self) {
         // SAFETY: this handle, for the last time.
         unsafe { guillotiere_cache_free(self.handle.get()) };
+    }
+}
+
+// A value; None where the status says that there is none.
+fn unless<T>(status: u32, nothing: u32, value: T) -> Option<T> {
+    match status {
+        DONE => Some(value),
+        other if other == nothing => None,
+        other => unreachable!("status {}", other),
     }
 }
 
