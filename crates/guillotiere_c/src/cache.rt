@@ -33,6 +33,7 @@ pub extern "C" fn guillotiere_cache_new(
     ensures usable { result ≡ DONE → AreUsable (cache_options_in options.now) }
     ensures fault { result ≢ DONE → result ≢ MEMORY → result ≢ EMPTY
         → IsSomeAnd (options_fault result) (IsFaultIn (cache_options_in options.now)) }
+    ensures memory { result ≡ MEMORY → AreUsable (cache_options_in options.now) }
     ensures refused { result ≢ DONE → cache.new.kept ≡ cache.old.kept }
     ensures full { IsSome cache.old.kept → result ≡ EMPTY }
     ensures fresh { IsNone cache.old.kept → result ≢ EMPTY }
