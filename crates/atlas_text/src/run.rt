@@ -11,11 +11,7 @@ use std::io::{Read, Write};
 
 /// Reads a trace to its end, plays it, and writes the lines of each page. Nothing is written where a line can't be read or
 /// the cache refuses a call.
-pub fn run<R: Read, W: Write>(
-    alloc: Global,
-    input: &mut R,
-    output: &mut W,
-) -> Result<(), TextError>
+pub fn run<R: Read, W: Write>(alloc: Global, input: &mut R, output: &mut W) -> Result<(), TextError>
     ensures { OnOk result (Tells (R.remaining input.old) (W.contents output.old) (W.contents output.new)) }
 {
     let mut text = Vec::new(alloc);

@@ -1,4 +1,4 @@
-use Rattle.std.proofs.Common.{List, ℕ, ◌∙◌, subst, string_bytes}
+use Rattle.std.proofs.Common.{List, ℕ, subst, string_bytes}
 use Rattle.std.specs.Io.KnownBytes.{Appends}
 use Rattle.atlas_text.proofs.PageLemmas.{read_all}
 use Rattle.atlas_text.proofs.run.run.Goals as goal
