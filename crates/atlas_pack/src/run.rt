@@ -2,7 +2,7 @@
 ghost use Rattle.std.specs.Prelude.{◌≡◌, ◌≤◌, map, IfErr, IfOk, OnOk};
 ghost use Rattle.atlas_pack.specs.Runs.{Answers, IsPackFault, IsRunFault, Packs, sheet_options, written};
 
-use crate::packing::{beside, fill_one, sheet_options, pack_all, parted, sizes_of};
+use crate::packing::{beside, fill_one, pack_all, parted, sheet_options, sizes_of};
 use atlas_model::Size;
 use atlas_sheet::Placed;
 use pack_lines::{Frame, Job, PackError, Sprite, read_job, sheet_json, sheet_lines};
