@@ -33,8 +33,8 @@ allowed_of (sheets.Powers greatest) = allowed.Powers greatest
 allowed_of (sheets.Heights width greatest) = allowed.Heights width greatest
 
 -- The library's options for these settings.
-abbrev pub options_of : Settings → SheetOptions
-options_of s =
+abbrev pub sheet_options : Settings → SheetOptions
+sheet_options s =
     record {
       allowed = allowed_of s.sheets;
       padding = s.padding;
@@ -98,7 +98,7 @@ pub record Packs (in_old out_old out_new : Option (List ℕ)) : Type 0 where
   pub places : List (Option Placed)
   pub read : HoldsBytes in_old input
   pub asked : AsksFor input before settings sprites
-  pub answered : Answers settings.fill (options_of settings) (map (λ sprite. sprite.size) sprites) sheet places
+  pub answered : Answers settings.fill (sheet_options settings) (map (λ sprite. sprite.size) sprites) sheet places
   pub told : Appends out_old out_new
       (written settings.json sheet (frames_of sprites places) (left_of sprites places))
 
@@ -121,7 +121,7 @@ pub record HasPackFault (input : List ℕ) (e : PackError) : Type 0 where
   pub settings : Settings
   pub sprites : List Sprite
   pub asked : AsksFor input before settings sprites
-  pub fault : IsPackFault settings.fill before (options_of settings) (map (λ sprite. sprite.size) sprites) e
+  pub fault : IsPackFault settings.fill before (sheet_options settings) (map (λ sprite. sprite.size) sprites) e
 
 -- A device failed.
 abbrev pub IsDeviceFault : PackError → Type 0

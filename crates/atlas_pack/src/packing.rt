@@ -1,7 +1,7 @@
 //! What the library is asked, and what it answers.
 ghost use Rattle.std.specs.Prelude.{◌≡◌, ◌≤◌, false, map, true, flat_map, Bool, IfErr, IfOk, Some};
 ghost use Rattle.std.specs.List.{zip};
-ghost use Rattle.atlas_pack.specs.Runs.{IsFilled, IsFound, IsPackFault, allowed_of, frame_in, frame_of, left_in, options_of};
+ghost use Rattle.atlas_pack.specs.Runs.{IsFilled, IsFound, IsPackFault, allowed_of, frame_in, frame_of, left_in, sheet_options};
 ghost use Rattle.atlas_sheet.specs.Settings.{IsSheetFault};
 
 use atlas_model::Size;
@@ -23,8 +23,8 @@ fn allowed_of(sheets: Sheets) -> Allowed
 }
 
 /// The library's options for these settings.
-pub fn options_of(settings: Settings) -> SheetOptions
-    ensures { result ≡ options_of settings }
+pub fn sheet_options(settings: Settings) -> SheetOptions
+    ensures { result ≡ sheet_options settings }
 {
     SheetOptions {
         allowed: allowed_of(settings.sheets),

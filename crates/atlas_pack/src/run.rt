@@ -1,8 +1,8 @@
 //! A run of the program, from the bytes of a reader to the bytes of a writer.
 ghost use Rattle.std.specs.Prelude.{◌≡◌, ◌≤◌, map, IfErr, IfOk, OnOk};
-ghost use Rattle.atlas_pack.specs.Runs.{Answers, IsPackFault, IsRunFault, Packs, options_of, written};
+ghost use Rattle.atlas_pack.specs.Runs.{Answers, IsPackFault, IsRunFault, Packs, sheet_options, written};
 
-use crate::packing::{beside, fill_one, options_of, pack_all, parted, sizes_of};
+use crate::packing::{beside, fill_one, pack_all, parted, sheet_options, sizes_of};
 use atlas_model::Size;
 use atlas_sheet::Placed;
 use pack_lines::{Frame, Job, PackError, Sprite, read_job, sheet_json, sheet_lines};
@@ -17,12 +17,12 @@ fn answer<P: Write>(
 ) -> Result<(Size, Vec<Option<Placed>>), PackError>
     requires { job.now.before ≤ 1 }
     ensures answers { IfOk result (λ found. Answers job.now.settings.fill
-        (options_of job.now.settings) (map (λ sprite. sprite.size) job.now.sprites.items) found.0 found.1.items) }
+        (sheet_options job.now.settings) (map (λ sprite. sprite.size) job.now.sprites.items) found.0 found.1.items) }
     ensures fault { IfErr result (λ e. IsPackFault job.now.settings.fill job.now.before
-        (options_of job.now.settings) (map (λ sprite. sprite.size) job.now.sprites.items) e) }
+        (sheet_options job.now.settings) (map (λ sprite. sprite.size) job.now.sprites.items) e) }
 {
     let sizes = sizes_of(alloc, &job.sprites)?;
-    let options = options_of(job.settings);
+    let options = sheet_options(job.settings);
     if job.settings.fill {
         return fill_one(alloc, &sizes, &options, job.before);
     }

@@ -28,7 +28,7 @@ TellsNoSize (Free corners) = ⊤
 TellsNoSize Other = ⊤
 
 -- The last size that lines tell, and the boxes that those after it tell, in order.
-pub record IsShown (said : List Line) (sides : Sides) (live : List Named) (free : List Corners) : Type 0 where
+pub record IsPictured (said : List Line) (sides : Sides) (live : List Named) (free : List Corners) : Type 0 where
   pub before : List Line
   pub after : List Line
   pub whole : said ≡ before ++ Size sides ∷ after
@@ -37,6 +37,6 @@ pub record IsShown (said : List Line) (sides : Sides) (live : List Named) (free 
   pub free_are : free ≡ flat_map holes_in after
 
 -- What the lines so far show: nothing of note before the first size.
-abbrev pub IsShownSoFar : List Line → Option Sides → List Named → List Corners → Type 0
-IsShownSoFar said None live free = AllByRecursion TellsNoSize said
-IsShownSoFar said (Some sides) live free = IsShown said sides live free
+abbrev pub IsPicturedSoFar : List Line → Option Sides → List Named → List Corners → Type 0
+IsPicturedSoFar said None live free = AllByRecursion TellsNoSize said
+IsPicturedSoFar said (Some sides) live free = IsPictured said sides live free

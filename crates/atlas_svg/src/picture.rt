@@ -2,7 +2,7 @@
 ghost use Rattle.std.specs.Prelude.{◌≡◌, ℕ, List, [], ◌∷◌, ◌++◌, Err, IfOk, OnOk};
 ghost use Rattle.atlas_svg.specs.declared.lines.Line.{Line};
 ghost use Rattle.atlas_svg.specs.Lines.{SayAll};
-ghost use Rattle.atlas_svg.specs.Pictures.{IsShown, IsShownSoFar, TellsNoSize};
+ghost use Rattle.atlas_svg.specs.Pictures.{IsPictured, IsPicturedSoFar, TellsNoSize};
 ghost use Rattle.std.specs.List.{AllByRecursion};
 ghost use Rattle.atlas_svg.specs.declared.error.SvgError.{SvgError};
 
@@ -53,8 +53,8 @@ struct View {
 
 // Looks at one more line.
 fn add_line(view: &mut View, line: Line) -> Result<(), AllocError>
-    ensures { (front : List Line) → IsShownSoFar front view.old.sides view.old.live.items view.old.free.items
-        → OnOk result (IsShownSoFar (front ++ line ∷ []) view.new.sides view.new.live.items view.new.free.items) }
+    ensures { (front : List Line) → IsPicturedSoFar front view.old.sides view.old.live.items view.old.free.items
+        → OnOk result (IsPicturedSoFar (front ++ line ∷ []) view.new.sides view.new.live.items view.new.free.items) }
 {
     match line {
         Line::Size(sides) => {
@@ -78,7 +78,7 @@ fn add_line(view: &mut View, line: Line) -> Result<(), AllocError>
 
 // The picture that lines show.
 fn show(alloc: Global, said: &[Line]) -> Result<Picture, SvgError>
-    ensures shown { IfOk result (λ p. IsShown said.now p.sides p.live.items p.free.items) }
+    ensures shown { IfOk result (λ p. IsPictured said.now p.sides p.live.items p.free.items) }
     ensures none { result ≡ Err SvgError.NoSize → AllByRecursion TellsNoSize said.now }
     ensures line { (n : ℕ) → result ≡ Err (SvgError.BadLine n) → ⊥ }
 {
@@ -103,7 +103,7 @@ fn show(alloc: Global, said: &[Line]) -> Result<Picture, SvgError>
 /// tells the size, `Memory` where memory was refused.
 pub fn read_picture(alloc: Global, text: &[u8]) -> Result<Picture, SvgError>
     ensures shown { IfOk result
-        (λ p. (said : List Line) × SayAll said text.now × IsShown said p.sides p.live.items p.free.items) }
+        (λ p. (said : List Line) × SayAll said text.now × IsPictured said p.sides p.live.items p.free.items) }
     ensures bad { (n : ℕ) (all : List Line) → result ≡ Err (SvgError.BadLine n) → SayAll all text.now → ⊥ }
     ensures none { result ≡ Err SvgError.NoSize
         → (said : List Line) × SayAll said text.now × AllByRecursion TellsNoSize said }

@@ -7,9 +7,9 @@ use Rattle.atlas_words.proofs.Parting.{one_word}
 use Rattle.pack_lines.specs.declared.settings.Setting.{Setting}
 use Rattle.pack_lines.specs.declared.settings.Setting.TheVariants.{Allowed, Padding, Align, Turn, Effort, Seed, Fill, Json}
 use Rattle.pack_lines.specs.declared.settings.Sheets.TheVariants.{One, Squares, Powers, Heights}
-use Rattle.pack_lines.specs.Settings.{keyword, arguments, BeginsWithNumbers, BeginsWithSetting, IsSmall, padding_of, setting_alone, setting_with_number, setting_with_numbers}
+use Rattle.pack_lines.specs.Settings.{setting_name, arguments, BeginsWithNumbers, BeginsWithSetting, IsSmall, padding_of, setting_alone, setting_with_number, setting_with_numbers}
 
-keyword_test : (s : Setting) → has_no_space (keyword s) ≡ true
+keyword_test : (s : Setting) → has_no_space (setting_name s) ≡ true
 unfolding has_no_space
 keyword_test (Allowed (One size)) = refl
 keyword_test (Allowed (Squares least greatest)) = refl
@@ -29,11 +29,11 @@ numbers_spaced (z ∷ zs) text rest h = subst IsEmptyOrSpaced (sym h.1.whole) re
 
 -- The word after the space is the setting's, and its numbers follow.
 pub setting_word : (s : Setting) (text after word tail rest : List ℕ) (first : ℕ) → text ≡ first ∷ after → BeginsWithWord after word tail
-    → BeginsWithSetting s text rest → (word ≡ keyword s) × BeginsWithNumbers (arguments s) tail rest
+    → BeginsWithSetting s text rest → (word ≡ setting_name s) × BeginsWithNumbers (arguments s) tail rest
 setting_word s text after word tail rest first e parted begins =
-    let whole : after ≡ keyword s ++ begins.after = (let f = begins.whole in cc) in
-    let same = one_word after word tail (keyword s) begins.after parted
-    (record { whole = whole; no_space = no_space_by_test (keyword s) (keyword_test s); spaced = numbers_spaced (arguments s) begins.after rest begins.numbers }) in
+    let whole : after ≡ setting_name s ++ begins.after = (let f = begins.whole in cc) in
+    let same = one_word after word tail (setting_name s) begins.after parted
+    (record { whole = whole; no_space = no_space_by_test (setting_name s) (keyword_test s); spaced = numbers_spaced (arguments s) begins.after rest begins.numbers }) in
     (same.0, subst (λ (t : List ℕ). BeginsWithNumbers (arguments s) t rest) (sym same.1) begins.numbers)
 
 -- A setting has no number, one or two.
@@ -50,7 +50,7 @@ by_count (Seed n) = omega arith
 by_count Fill = omega arith
 by_count Json = omega arith
 
-none_alone : (s : Setting) (z : ℤ) (zs : List ℤ) → arguments s ≡ z ∷ zs → setting_alone (keyword s) ≡ None
+none_alone : (s : Setting) (z : ℤ) (zs : List ℤ) → arguments s ≡ z ∷ zs → setting_alone (setting_name s) ≡ None
 none_alone (Allowed (One size)) z zs e = refl
 none_alone (Allowed (Squares least greatest)) z zs e = refl
 none_alone (Allowed (Powers greatest)) z zs e = refl
@@ -63,7 +63,7 @@ none_alone (Seed n) z zs e = refl
 none_alone Fill z zs e = absurd (cc)
 none_alone Json z zs e = absurd (cc)
 
-some_alone : (s : Setting) → arguments s ≡ [] → setting_alone (keyword s) ≡ Some s
+some_alone : (s : Setting) → arguments s ≡ [] → setting_alone (setting_name s) ≡ Some s
 some_alone (Allowed (One size)) e = absurd (cc)
 some_alone (Allowed (Squares least greatest)) e = absurd (cc)
 some_alone (Allowed (Powers greatest)) e = absurd (cc)
@@ -79,7 +79,7 @@ some_alone Json e = refl
 small_padding : (n : ℕ) → n < 65536 → padding_of (Some n) ≡ Some (Padding n)
 small_padding n h = ap (λ (b : Bool). cond b (Some (Padding n)) None) (lt-ltb n 65536 h)
 
-some_with_number : (s : Setting) (z : ℤ) → IsSmall s → arguments s ≡ z ∷ [] → setting_with_number (keyword s) z ≡ Some s
+some_with_number : (s : Setting) (z : ℤ) → IsSmall s → arguments s ≡ z ∷ [] → setting_with_number (setting_name s) z ≡ Some s
 some_with_number (Allowed (One size)) z h e = absurd (cc)
 some_with_number (Allowed (Squares least greatest)) z h e = absurd (cc)
 some_with_number (Allowed (Powers greatest)) z h e = let same : greatest ≡ z = cc in ap (λ (n : ℤ). Some (Allowed (Powers n))) (sym same)
@@ -92,7 +92,7 @@ some_with_number (Seed n) z h e = let same : pos n ≡ z = cc in subst (λ (y : 
 some_with_number Fill z h e = absurd (cc)
 some_with_number Json z h e = absurd (cc)
 
-none_with_number : (s : Setting) (z y : ℤ) (zs : List ℤ) → arguments s ≡ z ∷ y ∷ zs → setting_with_number (keyword s) z ≡ None
+none_with_number : (s : Setting) (z y : ℤ) (zs : List ℤ) → arguments s ≡ z ∷ y ∷ zs → setting_with_number (setting_name s) z ≡ None
 none_with_number (Allowed (One size)) z y zs e = refl
 none_with_number (Allowed (Squares least greatest)) z y zs e = refl
 none_with_number (Allowed (Powers greatest)) z y zs e = absurd (cc)
@@ -105,7 +105,7 @@ none_with_number (Seed n) z y zs e = absurd (cc)
 none_with_number Fill z y zs e = absurd (cc)
 none_with_number Json z y zs e = absurd (cc)
 
-some_with_numbers : (s : Setting) (z y : ℤ) → arguments s ≡ z ∷ y ∷ [] → setting_with_numbers (keyword s) z y ≡ Some s
+some_with_numbers : (s : Setting) (z y : ℤ) → arguments s ≡ z ∷ y ∷ [] → setting_with_numbers (setting_name s) z y ≡ Some s
 some_with_numbers (Allowed (One size)) z y e = let a : size.width ≡ z = cc in let b : size.height ≡ y = cc in sym (λ k. Some (Allowed (One (record { width = a k; height = b k }))))
 some_with_numbers (Allowed (Squares least greatest)) z y e = let a : least ≡ z = cc in let b : greatest ≡ y = cc in sym (λ k. Some (Allowed (Squares (a k) (b k))))
 some_with_numbers (Allowed (Powers greatest)) z y e = absurd (cc)
@@ -141,7 +141,7 @@ pub record HasNumbers (s : Setting) (word tail rest : List ℕ) : Type 0 where
 abbrev pub IsChosen : (s : Setting) (word tail rest : List ℕ) → Type 0
 IsChosen s word tail rest = IsAlone s word tail rest ⊎ (HasNumber s word tail rest ⊎ HasNumbers s word tail rest)
 
-chosen_by : (s : Setting) (zs : List ℤ) (tail rest : List ℕ) → arguments s ≡ zs → IsSmall s → BeginsWithNumbers zs tail rest → IsChosen s (keyword s) tail rest
+chosen_by : (s : Setting) (zs : List ℤ) (tail rest : List ℕ) → arguments s ≡ zs → IsSmall s → BeginsWithNumbers zs tail rest → IsChosen s (setting_name s) tail rest
 chosen_by s [] tail rest e small h = inl (some_alone s e, h.0)
 chosen_by s (z ∷ []) tail rest e small h =
     inr (inl (record {

@@ -9,7 +9,7 @@ use Rattle.atlas_model.specs.declared.geometry.Size.{Size}
 use Rattle.atlas_words.specs.Grammar.{SpellsSize}
 use Rattle.atlas_words.specs.Words.{HasNoSpace, BeginsWithWord}
 use Rattle.atlas_words.proofs.Parting.{numbers_spaced, one_word}
-use Rattle.pack_lines.specs.Sprites.{IsName, IsPrintable, Spells}
+use Rattle.pack_lines.specs.Sprites.{IsName, IsPrintable, SpellsSprite}
 
 pub printable_ascii : (bytes : List ℕ) → AllByRecursion IsPrintable bytes → IsAscii bytes
 printable_ascii [] all i = IsAscii-nil i
@@ -21,7 +21,7 @@ printable_no_space [] all = tt
 printable_no_space (b ∷ bs) all = (λ e. let more = all.0.0 in omega (arith, more), printable_no_space bs all.1)
 
 -- The word of a line that names a sprite is its name, and its size follows.
-pub spelled_name : (name : List ℕ) (size : Size) (line word rest : List ℕ) → Spells name size line → BeginsWithWord line word rest
+pub spelled_name : (name : List ℕ) (size : Size) (line word rest : List ℕ) → SpellsSprite name size line → BeginsWithWord line word rest
     → (word ≡ name) × IsName word × SpellsSize size rest
 spelled_name name size line word rest spells begins =
     let same = one_word line word rest name spells.0 begins (record {

@@ -2,7 +2,7 @@
 use Rattle.std.proofs.Common.{◌≡◌, ◌≢◌, ℕ, List, [], ◌∷◌, refl, sym, ap, ◌∙◌, ◌<◌, ◌≤◌, length, ℤ, arith, length-append}
 use Rattle.pack_lines.specs.declared.settings.Setting.{Setting}
 use Rattle.pack_lines.specs.declared.settings.Settings.{Settings}
-use Rattle.pack_lines.specs.Settings.{BeginsWithNumbers, BeginsWithSetting, SpellsSettings, arguments, changed, changed_by, keyword}
+use Rattle.pack_lines.specs.Settings.{BeginsWithNumbers, BeginsWithSetting, SpellsSettings, arguments, changed, changed_by, setting_name}
 
 -- The first of the settings that a text spells.
 pub next_spelled : (all : List Setting) (text : List ℕ) → SpellsSettings all text → text ≢ []
@@ -32,4 +32,4 @@ pub setting_shorter : (s : Setting) (text rest : List ℕ) → BeginsWithSetting
 setting_shorter s text rest h =
     let whole = ap length h.whole in
     let more = numbers_shorter (arguments s) h.after rest h.numbers in
-    omega (arith, whole, more, length-append (keyword s) h.after)
+    omega (arith, whole, more, length-append (setting_name s) h.after)

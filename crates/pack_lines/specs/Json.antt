@@ -29,17 +29,17 @@ sides_text size turned =
     ++ (signed_decimal size.height ++ (codes "},\"rotated\":" ++ (rotated_text turned ++ codes "}")))))
 
 -- A sprite: its name and its frame.
-abbrev pub frame_text : Frame → List ℕ
-frame_text p = quoted p.sprite.name.now ++ (corner_text p.corner ++ sides_text p.sprite.size p.turned)
+abbrev pub member_text : Frame → List ℕ
+member_text p = quoted p.sprite.name.now ++ (corner_text p.corner ++ sides_text p.sprite.size p.turned)
 
 -- A frame after another.
-abbrev pub next_frame_text : Frame → List ℕ
-next_frame_text p = codes ",\n" ++ frame_text p
+abbrev pub next_member_text : Frame → List ℕ
+next_member_text p = codes ",\n" ++ member_text p
 
 -- The frames in order, with a comma between two.
-abbrev pub frames_text : List Frame → List ℕ
-frames_text [] = []
-frames_text (p ∷ others) = frame_text p ++ flat_map next_frame_text others
+abbrev pub members_text : List Frame → List ℕ
+members_text [] = []
+members_text (p ∷ others) = member_text p ++ flat_map next_member_text others
 
 -- The size of the sheet.
 abbrev pub meta_text : Size → List ℕ
@@ -49,4 +49,4 @@ meta_text sheet =
 
 -- One object: the frames by name, and the sheet.
 abbrev pub json_of : Size → List Frame → List ℕ
-json_of sheet frames = codes "{\"frames\":{\n" ++ (frames_text frames ++ meta_text sheet)
+json_of sheet frames = codes "{\"frames\":{\n" ++ (members_text frames ++ meta_text sheet)

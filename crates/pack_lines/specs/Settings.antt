@@ -8,18 +8,18 @@ use Rattle.pack_lines.specs.declared.settings.Sheets.TheVariants as sheets
 use Rattle.pack_lines.specs.declared.settings.Settings.{Settings}
 
 -- The word of a setting.
-abbrev pub keyword : Setting → List ℕ
-keyword (setting.Allowed (sheets.One size)) = codes "one"
-keyword (setting.Allowed (sheets.Squares least greatest)) = codes "squares"
-keyword (setting.Allowed (sheets.Powers greatest)) = codes "powers"
-keyword (setting.Allowed (sheets.Heights width greatest)) = codes "width"
-keyword (setting.Padding pixels) = codes "padding"
-keyword (setting.Align size) = codes "align"
-keyword setting.Turn = codes "turn"
-keyword (setting.Effort changes) = codes "effort"
-keyword (setting.Seed start) = codes "seed"
-keyword setting.Fill = codes "fill"
-keyword setting.Json = codes "json"
+abbrev pub setting_name : Setting → List ℕ
+setting_name (setting.Allowed (sheets.One size)) = codes "one"
+setting_name (setting.Allowed (sheets.Squares least greatest)) = codes "squares"
+setting_name (setting.Allowed (sheets.Powers greatest)) = codes "powers"
+setting_name (setting.Allowed (sheets.Heights width greatest)) = codes "width"
+setting_name (setting.Padding pixels) = codes "padding"
+setting_name (setting.Align size) = codes "align"
+setting_name setting.Turn = codes "turn"
+setting_name (setting.Effort changes) = codes "effort"
+setting_name (setting.Seed start) = codes "seed"
+setting_name setting.Fill = codes "fill"
+setting_name setting.Json = codes "json"
 
 -- The numbers after that word.
 abbrev pub arguments : Setting → List ℤ
@@ -48,7 +48,7 @@ IsSmall _ = ⊤
 -- A space, the word of a setting and its numbers, and what follows them.
 pub record BeginsWithSetting (s : Setting) (text rest : List ℕ) : Type 0 where
   pub after : List ℕ
-  pub whole : text ≡ 32 ∷ (keyword s ++ after)
+  pub whole : text ≡ 32 ∷ (setting_name s ++ after)
   pub numbers : BeginsWithNumbers (arguments s) after rest
   pub small : IsSmall s
 

@@ -17,14 +17,14 @@ abbrev pub IsName : List ℕ → Type 0
 IsName name = (name ≢ []) × AllByRecursion IsPrintable name
 
 -- A name, and the width and the height, each after one space.
-abbrev pub Spells : (name : List ℕ) → Size → (line : List ℕ) → Type 0
-Spells name size line = (numbers : List ℕ) × (line ≡ name ++ numbers) × IsName name × SpellsSize size numbers
+abbrev pub SpellsSprite : (name : List ℕ) → Size → (line : List ℕ) → Type 0
+SpellsSprite name size line = (numbers : List ℕ) × (line ≡ name ++ numbers) × IsName name × SpellsSize size numbers
 
 -- A text begins with lines that name these sprites, in order, and goes on.
 abbrev pub BeginsWithSprites : List Sprite → (text rest : List ℕ) → Type 0
 BeginsWithSprites [] text rest = text ≡ rest
 BeginsWithSprites (sprite ∷ sprites) text rest =
-    (line : List ℕ) × (after : List ℕ) × BeginsWithLine text line after × Spells sprite.name.now sprite.size line
+    (line : List ℕ) × (after : List ℕ) × BeginsWithLine text line after × SpellsSprite sprite.name.now sprite.size line
     × BeginsWithSprites sprites after rest
 
 -- The lines of a text name these sprites, in order.
@@ -40,7 +40,7 @@ pub record HasBadLine (text : List ℕ) (before number : ℕ) : Type 0 where
   pub line : List ℕ
   pub after : List ℕ
   pub next : BeginsWithLine rest line after
-  pub bad : (name : List ℕ) (size : Size) → Spells name size line → ⊥
+  pub bad : (name : List ℕ) (size : Size) → SpellsSprite name size line → ⊥
   pub numbered : number ≡ before + length sprites + 1
 
 -- What an error says of the lines of sprites, before which others stand.

@@ -7,16 +7,16 @@ use Rattle.pack_lines.specs.declared.sprites.Sprite.{Sprite}
 use Rattle.pack_lines.specs.Frames.{fullness}
 
 -- The size of the sheet.
-abbrev pub sheet_text : Size → List ℕ
-sheet_text sheet =
+abbrev pub sheet_line : Size → List ℕ
+sheet_line sheet =
     codes "sheet " ++ (signed_decimal sheet.width ++ (codes " " ++ (signed_decimal sheet.height ++ codes "\n")))
 
 abbrev pub turned_text : Bool → List ℕ
 turned_text turned = if turned then codes " turned" else []
 
 -- A sprite: its name, where its upper left corner lies, its size, and whether it is turned.
-abbrev pub line_text : Frame → List ℕ
-line_text p =
+abbrev pub place_line : Frame → List ℕ
+place_line p =
     p.sprite.name.now
     ++ (codes " "
     ++ (signed_decimal p.corner.x
@@ -36,4 +36,4 @@ left_text sprite = sprite.name.now ++ codes " none\n"
 -- The sheet, a line for each sprite with a place and then for each without, in order, and how full the sheet is.
 abbrev pub text_of : Size → List Frame → (left : List Sprite) → List ℕ
 text_of sheet frames left =
-    sheet_text sheet ++ (flat_map line_text frames ++ (flat_map left_text left ++ full_text (fullness sheet frames)))
+    sheet_line sheet ++ (flat_map place_line frames ++ (flat_map left_text left ++ full_text (fullness sheet frames)))

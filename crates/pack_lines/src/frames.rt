@@ -1,6 +1,6 @@
 //! Sprites in their places, and how full their sheet is.
 ghost use Rattle.std.specs.Prelude.{◌≡◌, ◌≤◌, ◌*◌};
-ghost use Rattle.pack_lines.specs.Frames.{fullness, pixels, used_pixels};
+ghost use Rattle.pack_lines.specs.Frames.{fullness, pixel_count, used_pixels};
 
 use crate::sprites::Sprite;
 use atlas_model::{Point, Size};
@@ -17,8 +17,8 @@ pub struct Frame<'a> {
 }
 
 // How many pixels a size has.
-fn pixels(size: Size) -> u64
-    ensures value { result ≡ pixels size }
+fn pixel_count(size: Size) -> u64
+    ensures value { result ≡ pixel_count size }
     ensures bound { result ≤ 2147483647 * 2147483647 }
 {
     let width = size.width.max(0) as u64;
@@ -32,7 +32,7 @@ fn used_pixels(frames: &[Frame<'_>]) -> u128
 {
     let mut used = 0;
     for frame in frames {
-        used += u128::from(pixels(frame.sprite.size));
+        used += u128::from(pixel_count(frame.sprite.size));
     }
     used
 }
@@ -41,6 +41,6 @@ fn used_pixels(frames: &[Frame<'_>]) -> u128
 pub fn fullness(sheet: Size, frames: &[Frame<'_>]) -> u128
     ensures { result ≡ fullness sheet frames.now }
 {
-    let all = u128::from(pixels(sheet));
+    let all = u128::from(pixel_count(sheet));
     1000 * used_pixels(frames).min(all) / all.max(1)
 }

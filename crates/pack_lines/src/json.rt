@@ -1,6 +1,6 @@
 //! A sheet as JSON.
 ghost use Rattle.std.specs.Prelude.{◌≡◌, ◌++◌, IfOk, codes, flat_map, string_bytes};
-ghost use Rattle.pack_lines.specs.Json.{corner_text, frame_text, frames_text, json_of, meta_text, quoted, rotated_text, sides_text};
+ghost use Rattle.pack_lines.specs.Json.{corner_text, member_text, members_text, json_of, meta_text, quoted, rotated_text, sides_text};
 
 use crate::frames::Frame;
 use atlas_model::{Point, Size};
@@ -47,7 +47,7 @@ fn sides(alloc: Global, size: Size, turned: bool) -> Result<String, AllocError>
 
 // A sprite: its name and its frame.
 fn frame_json(alloc: Global, frame: Frame<'_>) -> Result<Vec<u8>, AllocError>
-    ensures { IfOk result (λ text. text.items ≡ frame_text frame.entry) }
+    ensures { IfOk result (λ text. text.items ≡ member_text frame.entry) }
 {
     let mut text = quote(alloc, frame.sprite.name)?;
     let corner = corner(alloc, frame.corner)?;
@@ -59,7 +59,7 @@ fn frame_json(alloc: Global, frame: Frame<'_>) -> Result<Vec<u8>, AllocError>
 
 // The frames in order, with a comma between two.
 fn frames_json(alloc: Global, frames: &[Frame<'_>]) -> Result<Vec<u8>, AllocError>
-    ensures { IfOk result (λ text. text.items ≡ frames_text frames.now) }
+    ensures { IfOk result (λ text. text.items ≡ members_text frames.now) }
 {
     let Some((first, others)) = frames.split_first() else {
         return Ok(Vec::new(alloc));

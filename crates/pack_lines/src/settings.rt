@@ -1,7 +1,7 @@
 //! What the first line may set.
 ghost use Rattle.std.specs.Prelude.{◌≡◌, ℕ, List, [], ◌∷◌, Some, IfSome, IsSomeAnd};
 ghost use Rattle.pack_lines.specs.declared.settings.Setting.{Setting};
-ghost use Rattle.pack_lines.specs.Settings.{BeginsWithSetting, SpellsSettings, arguments, changed, changed_by, keyword};
+ghost use Rattle.pack_lines.specs.Settings.{BeginsWithSetting, SpellsSettings, arguments, changed, changed_by, setting_name};
 ghost use Rattle.pack_lines.specs.Settings.{from_zero, setting_alone, setting_with_number, setting_with_numbers};
 
 use atlas_model::{Size, size2};
@@ -102,7 +102,7 @@ fn from_zero(number: i32) -> Option<u32>
 
 // The setting of a word alone.
 fn alone(word: &[u8]) -> Option<Setting>
-    ensures found { IfSome result (λ s. (word.now ≡ keyword s) × (arguments s ≡ [])) }
+    ensures found { IfSome result (λ s. (word.now ≡ setting_name s) × (arguments s ≡ [])) }
     ensures value { result ≡ setting_alone word.now }
 {
     if word == b"turn".as_slice() {
@@ -119,7 +119,7 @@ fn alone(word: &[u8]) -> Option<Setting>
 
 // The setting of a word and a number.
 fn with_number(word: &[u8], number: i32) -> Option<Setting>
-    ensures found { IfSome result (λ s. (word.now ≡ keyword s) × (arguments s ≡ number ∷ [])) }
+    ensures found { IfSome result (λ s. (word.now ≡ setting_name s) × (arguments s ≡ number ∷ [])) }
     ensures value { result ≡ setting_with_number word.now number }
 {
     if word == b"powers".as_slice() {
@@ -140,7 +140,7 @@ fn with_number(word: &[u8], number: i32) -> Option<Setting>
 
 // The setting of a word and two numbers.
 fn with_numbers(word: &[u8], first: i32, second: i32) -> Option<Setting>
-    ensures found { IfSome result (λ s. (word.now ≡ keyword s) × (arguments s ≡ first ∷ second ∷ [])) }
+    ensures found { IfSome result (λ s. (word.now ≡ setting_name s) × (arguments s ≡ first ∷ second ∷ [])) }
     ensures value { result ≡ setting_with_numbers word.now first second }
 {
     if word == b"one".as_slice() {

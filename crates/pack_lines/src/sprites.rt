@@ -1,7 +1,7 @@
 //! Sprites, and the lines that name them.
 ghost use Rattle.std.specs.Prelude.{◌≡◌, ℕ, List, IfSome, IsSomeAnd, IsTrue, ◌↔◌};
 ghost use Rattle.atlas_model.specs.declared.geometry.Size.{Size};
-ghost use Rattle.pack_lines.specs.Sprites.{IsName, IsPrintable, Spells};
+ghost use Rattle.pack_lines.specs.Sprites.{IsName, IsPrintable, SpellsSprite};
 ghost use Rattle.std.specs.List.{AllByRecursion};
 
 use atlas_model::Size;
@@ -38,8 +38,8 @@ fn read_name(word: &[u8]) -> Option<&str>
 /// The sprite that the bytes of a line, without its LF, name: NAME WIDTH HEIGHT, parted by single spaces. None for every
 /// other line.
 pub fn read_sprite(line: &[u8]) -> Option<Sprite<'_>>
-    ensures found { IfSome result (λ sprite. Spells sprite.name.now sprite.size line.now) }
-    ensures all { (name : List ℕ) (size : Size) → Spells name size line.now
+    ensures found { IfSome result (λ sprite. SpellsSprite sprite.name.now sprite.size line.now) }
+    ensures all { (name : List ℕ) (size : Size) → SpellsSprite name size line.now
         → IsSomeAnd result (λ sprite. (sprite.name.now ≡ name) × (sprite.size ≡ size)) }
 {
     let (word, rest) = first_word(line);

@@ -1,6 +1,6 @@
 //! A sheet as lines.
 ghost use Rattle.std.specs.Prelude.{◌≡◌, IfOk, flat_map, string_bytes};
-ghost use Rattle.pack_lines.specs.Texts.{full_text, left_text, line_text, sheet_text, text_of};
+ghost use Rattle.pack_lines.specs.Texts.{full_text, left_text, place_line, sheet_line, text_of};
 
 use crate::frames::{Frame, fullness};
 use crate::sprites::Sprite;
@@ -9,7 +9,7 @@ use std::alloc::{AllocError, Global};
 
 // The line of the sheet.
 fn sheet_line(alloc: Global, sheet: Size) -> Result<String, AllocError>
-    ensures { IfOk result (λ text. string_bytes text ≡ sheet_text sheet) }
+    ensures { IfOk result (λ text. string_bytes text ≡ sheet_line sheet) }
 {
     let Size { width, height } = sheet;
     format!(in alloc; "sheet {width} {height}\n")
@@ -17,7 +17,7 @@ fn sheet_line(alloc: Global, sheet: Size) -> Result<String, AllocError>
 
 // The line of a sprite.
 fn sprite_line(alloc: Global, frame: Frame<'_>) -> Result<String, AllocError>
-    ensures { IfOk result (λ text. string_bytes text ≡ line_text frame.entry) }
+    ensures { IfOk result (λ text. string_bytes text ≡ place_line frame.entry) }
 {
     let name = frame.sprite.name;
     let at = frame.corner;
@@ -31,7 +31,7 @@ fn sprite_line(alloc: Global, frame: Frame<'_>) -> Result<String, AllocError>
 
 // The lines of the sprites.
 fn sprite_lines(alloc: Global, frames: &[Frame<'_>]) -> Result<String, AllocError>
-    ensures { IfOk result (λ text. string_bytes text ≡ flat_map line_text frames.now) }
+    ensures { IfOk result (λ text. string_bytes text ≡ flat_map place_line frames.now) }
 {
     let mut text = String::new(alloc);
     for frame in frames {

@@ -1,31 +1,31 @@
 use Rattle.std.proofs.Common.{Bool, true, false, IfErr, IfOk, map, rules, subst, sym}
-use Rattle.atlas_pack.specs.Runs.{Answers, IsFilled, IsFound, IsPackFault, options_of}
+use Rattle.atlas_pack.specs.Runs.{Answers, IsFilled, IsFound, IsPackFault, sheet_options}
 use Rattle.atlas_pack.proofs.run.answer.Goals as goal
 
 pub returns-then-job-clause-answers : goal.returns-then-job-clause-answers
 returns-then-job-clause-answers g c =
     let job = c.args.job.now in
-    let fact : IfOk c.fill_one.result (λ found. IsFilled (options_of job.settings) (map (λ sprite. sprite.size) job.sprites.items) found.0 found.1.items) = search rules in
-    subst (λ (b : Bool). IfOk c.fill_one.result (λ found. Answers b (options_of job.settings) (map (λ sprite. sprite.size) job.sprites.items) found.0 found.1.items))
+    let fact : IfOk c.fill_one.result (λ found. IsFilled (sheet_options job.settings) (map (λ sprite. sprite.size) job.sprites.items) found.0 found.1.items) = search rules in
+    subst (λ (b : Bool). IfOk c.fill_one.result (λ found. Answers b (sheet_options job.settings) (map (λ sprite. sprite.size) job.sprites.items) found.0 found.1.items))
     (sym c.if-job.true) fact
 
 pub returns-clause-answers : goal.returns-clause-answers
 returns-clause-answers g c =
     let job = c.args.job.now in
-    let fact : IfOk c.pack_all.result (λ found. IsFound (options_of job.settings) (map (λ sprite. sprite.size) job.sprites.items) found.0 found.1.items) = search rules in
-    subst (λ (b : Bool). IfOk c.pack_all.result (λ found. Answers b (options_of job.settings) (map (λ sprite. sprite.size) job.sprites.items) found.0 found.1.items))
+    let fact : IfOk c.pack_all.result (λ found. IsFound (sheet_options job.settings) (map (λ sprite. sprite.size) job.sprites.items) found.0 found.1.items) = search rules in
+    subst (λ (b : Bool). IfOk c.pack_all.result (λ found. Answers b (sheet_options job.settings) (map (λ sprite. sprite.size) job.sprites.items) found.0 found.1.items))
     (sym c.if-job.false) fact
 
 pub returns-then-job-clause-fault : goal.returns-then-job-clause-fault
 returns-then-job-clause-fault g c =
     let job = c.args.job.now in
-    let fact : IfErr c.fill_one.result (λ e. IsPackFault true job.before (options_of job.settings) (map (λ sprite. sprite.size) job.sprites.items) e) = search rules in
-    subst (λ (b : Bool). IfErr c.fill_one.result (λ e. IsPackFault b job.before (options_of job.settings) (map (λ sprite. sprite.size) job.sprites.items) e))
+    let fact : IfErr c.fill_one.result (λ e. IsPackFault true job.before (sheet_options job.settings) (map (λ sprite. sprite.size) job.sprites.items) e) = search rules in
+    subst (λ (b : Bool). IfErr c.fill_one.result (λ e. IsPackFault b job.before (sheet_options job.settings) (map (λ sprite. sprite.size) job.sprites.items) e))
     (sym c.if-job.true) fact
 
 pub returns-clause-fault : goal.returns-clause-fault
 returns-clause-fault g c =
     let job = c.args.job.now in
-    let fact : IfErr c.pack_all.result (λ e. IsPackFault false job.before (options_of job.settings) (map (λ sprite. sprite.size) job.sprites.items) e) = search rules in
-    subst (λ (b : Bool). IfErr c.pack_all.result (λ e. IsPackFault b job.before (options_of job.settings) (map (λ sprite. sprite.size) job.sprites.items) e))
+    let fact : IfErr c.pack_all.result (λ e. IsPackFault false job.before (sheet_options job.settings) (map (λ sprite. sprite.size) job.sprites.items) e) = search rules in
+    subst (λ (b : Bool). IfErr c.pack_all.result (λ e. IsPackFault b job.before (sheet_options job.settings) (map (λ sprite. sprite.size) job.sprites.items) e))
     (sym c.if-job.false) fact
