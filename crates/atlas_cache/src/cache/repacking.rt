@@ -45,8 +45,10 @@ fn settle<K: Copy + Eq + Hash, S: BuildHasher, A: Allocator + Copy>(
         → entries.new ≡ newer ++ cons_option (numbered_as number (renewed_by moves.now entry)) older }
     ensures told { changes.new.items
         ≡ changes.old.items ++ told_as options.now.padding entry (renewed_by moves.now entry) ∷ [] }
+    ensures longer { vec_len changes.new ≡ vec_len changes.old + 1 }
     ensures room { vec_capacity changes.old ≤ vec_capacity changes.new }
 {
+    entries.prove_kept();
     let from = place_of(entry, options);
     let key = entry.key;
     match change_for(moves, entry.id) {
@@ -89,6 +91,7 @@ fn settle_all<K: Copy + Eq + Hash, S: BuildHasher, A: Allocator + Copy>(
         let Some(number) = next else {
             return;
         };
+        entries.prove_kept();
         let entry = entries.entry(number);
         next = entries.older(number);
         if entry.page == page {
