@@ -1,24 +1,30 @@
 -- What a page's repacking makes of what a cache keeps.
-use Rattle.std.proofs.Common.{ℕ, ℤ, ◌+◌, ◌<◌, ◌≤◌, ◌≡◌, ◌≢◌, ◌==◌, ◌⊎◌, inl, inr, Bool, true, false, cond, List, [], ◌∷◌, ◌++◌, map, Option, None, Some, option_map, All, Contains, refl, sym, ap, ◌∙◌, arith}
+use Rattle.std.proofs.Common.{ℕ, ℤ, ◌+◌, ◌<◌, ◌≤◌, ◌≡◌, ◌≢◌, ◌==◌, ◌⊎◌, inl, inr, Bool, true, false, cond, List, [], ◌∷◌, ◌++◌, map, Option, None, Some, option_map, All, Contains, length, refl, sym, ap, ◌∙◌, arith}
 use Rattle.std.specs.List.{cons_option, count_by, filter_map, find, AllByRecursion}
 use Rattle.std.proofs.lemmas.{Bool.Decides.{eqb_tells}}
 use Rattle.std.proofs.lemmas.Bool.{eq-eqb, ne_eqb, eqb-true}
+use Rattle.std.proofs.lemmas.List.Elements.{All-contains}
 use Rattle.std.proofs.lemmas.Option.{same_Some}
+use Rattle.std.specs.Option.{option_and_then}
 use Rattle.guillotiere.specs.declared.Allocation.{Allocation}
 use Rattle.guillotiere.specs.declared.Change.{Change}
 use Rattle.guillotiere.specs.declared.ChangeList.{ChangeList}
 use Rattle.guillotiere.specs.declared.Rectangle.{Rectangle}
+use Rattle.guillotiere.specs.Boxes.{Sides}
+use Rattle.guillotiere.specs.Callers.{rectangle_in}
 use Rattle.guillotiere.specs.Pages.{rectangle_on}
-use Rattle.guillotiere.specs.Stored.{AtlasValue}
+use Rattle.guillotiere.specs.Rearranging.{IsExactChange, KeepsSides}
+use Rattle.guillotiere.specs.Stored.{AtlasValue, state_of}
 use Rattle.guillotiere.proofs.ListLemmas.CallerLemmas.{count_by-map, find-counted_once, Contains-find, Contains-map}
 use Rattle.guillotiere.proofs.ListLemmas.Counting.{count_by-append, counted_once}
 use Rattle.atlas_cache.specs.declared.entries.Entry.{Entry}
-use Rattle.atlas_cache.specs.Caches.{has_id, holders, FramesFall, HoldsEntries}
+use Rattle.atlas_cache.specs.Asking.{IsBorderedBy}
+use Rattle.atlas_cache.specs.Caches.{entries_of, has_id, holders, AreBordered, FramesFall, HoldsEntries}
 use Rattle.atlas_cache.specs.Relocating.{become, renewed_by}
 use Rattle.atlas_cache.specs.Repacking.{held_after, held_before, rectangle_among, RepacksPage}
 use Rattle.atlas_cache.proofs.EntryLemmas.{option_is}
 use Rattle.atlas_cache.proofs.HoldingLemmas.{id_cases, IsLiveOn}
-use Rattle.atlas_cache.proofs.ListLemmas.{falls-later}
+use Rattle.atlas_cache.proofs.ListLemmas.{falls-later, length-listed}
 
 find-new : (cs : List Change) (id : ℕ) → find (λ a. a.id == id) (map (λ c. c.new) cs) ≡ option_map (λ c. c.new) (find (λ c. c.new.id == id) cs)
 find-new [] id = refl
@@ -80,7 +86,7 @@ module _ {K A : Type 0} (old new : List AtlasValue) (page : ℕ) (list : ChangeL
   all_live [] live = tt
   all_live (e ∷ es) live = elim (eqb_tells e.page page) [
     | inl here ↦ rw here.0 (by_option here.1 (find (old_is e.id) cs) refl (all_live es live.1))
-    | inr other ↦ rw other.0 (ap (λ o. Rattle.std.specs.Option.option_and_then (λ s. Rattle.guillotiere.specs.Callers.rectangle_in (Rattle.guillotiere.specs.Stored.state_of s) e.id) o) (does.others e.page other.1) ∙ live.0, all_live es live.1)
+    | inr other ↦ rw other.0 (ap (λ o. option_and_then (λ s. rectangle_in (state_of s) e.id) o) (does.others e.page other.1) ∙ live.0, all_live es live.1)
   ]
     where
       by_option : e.page ≡ page → (o : Option Change) → find (old_is e.id) cs ≡ o → AllByRecursion (IsLiveOn new) (filter_map becomes es)
@@ -174,7 +180,7 @@ module _ {K A : Type 0} (old new : List AtlasValue) (page : ℕ) (list : ChangeL
           rw here.1 (omega (arith, one_holds id d some.1 es, held.known page d.old.id d.old.rectangle (was_old d.old.id d at)))
     ]
     | inr other ↦
-        let same = ap (λ o. Rattle.std.specs.Option.option_and_then (λ s. Rattle.guillotiere.specs.Callers.rectangle_in (Rattle.guillotiere.specs.Stored.state_of s) id) o) (does.others p other.1) in
+        let same = ap (λ o. option_and_then (λ s. rectangle_in (state_of s) id) o) (does.others p other.1) in
         omega (arith, others_hold p id other.1 es, held.known p id r (sym same ∙ is))
   ]
 
@@ -201,3 +207,66 @@ module _ {K A : Type 0} (old new : List AtlasValue) (page : ℕ) (list : ChangeL
       by_change : (o : Option Change) (f : Entry K) → option_map (λ (c : Change). record e { id = c.new.id; rectangle = c.new.rectangle }) o ≡ Some f → f.frame ≡ e.frame
       by_change None f is = absurd (cc)
       by_change (Some c) f is = ap (λ (x : Entry K). x.frame) (same_Some f (record e { id = c.new.id; rectangle = c.new.rectangle }) (sym is))
+
+  -- What moved has its sides.
+  moved_bordered : (padding : ℤ) (e : Entry K) (c : Change) → Contains cs c → c.old.rectangle ≡ e.rectangle
+      → IsBorderedBy padding e.size e.rectangle → IsBorderedBy padding e.size c.new.rectangle
+  moved_bordered padding e c at is was =
+      let sides : KeepsSides c = All-contains KeepsSides cs c does.tells.sides at in
+      let exact : IsExactChange c = All-contains IsExactChange cs c does.tells.exact at in
+      let before = rw (sym is) at was in
+      let width = ap (λ (s : Sides). s.width) sides in
+      let height = ap (λ (s : Sides). s.height) sides in
+      record {
+        exact = exact.1;
+        least = was.least;
+        positive = was.positive;
+        wide = omega (arith, width, before.wide, was.positive.0);
+        high = omega (arith, height, before.high, was.positive.1);
+      }
+
+  pub repacked_bordered : (padding : ℤ) (es : List (Entry K)) → AllByRecursion (IsLiveOn old) es → AreBordered padding es
+      → AreBordered padding (filter_map becomes es)
+  repacked_bordered padding [] live h = tt
+  repacked_bordered padding (e ∷ es) live h = elim (eqb_tells e.page page) [
+    | inl here ↦ rw here.0 (by_option here.1 (find (old_is e.id) cs) refl (repacked_bordered padding es live.1 h.1))
+    | inr other ↦ rw other.0 (h.0, repacked_bordered padding es live.1 h.1)
+  ]
+    where
+      by_option : e.page ≡ page → (o : Option Change) → find (old_is e.id) cs ≡ o → AreBordered padding (filter_map becomes es)
+          → AreBordered padding (cons_option (option_map (λ (c : Change). record e { id = c.new.id; rectangle = c.new.rectangle }) o) (filter_map becomes es))
+      by_option here None is rest = rest
+      by_option here (Some c) is rest =
+          let there = rw here at live.0 in
+          (moved_bordered padding e c (Contains-find (old_is e.id) cs c is).0
+          (same_Some c.old.rectangle e.rectangle (sym (was_old e.id c is) ∙ there)) h.0, rest)
+
+filter_map-shorter : {X Y : Type 0} (f : X → Option Y) (xs : List X) → length (filter_map f xs) ≤ length xs
+filter_map-shorter f [] = omega arith
+filter_map-shorter f (x ∷ xs) = by_option (f x) (filter_map-shorter f xs)
+  where
+    by_option : (o : Option Y) → length (filter_map f xs) ≤ length xs → length (cons_option o (filter_map f xs)) ≤ 1 + length xs
+    by_option None le = omega (arith, le)
+    by_option (Some y) le = omega (arith, le)
+
+pub shorter : {K : Type 0} (was now : List (ℕ × Entry K)) (f : Entry K → Option (Entry K)) → entries_of now ≡ filter_map f (entries_of was)
+    → length now ≤ length was
+shorter was now f is = omega (
+  arith,
+  length-listed was,
+  length-listed now,
+  ap length is,
+  filter_map-shorter f (entries_of was),
+)
+
+pub renewed_same : {K : Type 0} (cs : List Change) (e f : Entry K) → renewed_by cs e ≡ Some f
+    → f ≡ record e { id = f.id; rectangle = f.rectangle }
+renewed_same cs e f is = by_change (find (λ c. c.old.id == e.id) cs) is
+  where
+    by_change : (o : Option Change) → option_map (λ (c : Change). record e { id = c.new.id; rectangle = c.new.rectangle }) o ≡ Some f
+        → f ≡ record e { id = f.id; rectangle = f.rectangle }
+    by_change None is = absurd (cc)
+    by_change (Some c) is =
+        let g : Entry K = record e { id = c.new.id; rectangle = c.new.rectangle } in
+        let same : g ≡ f = same_Some g f is in
+        sym same ∙ ap (λ (x : Entry K). record e { id = x.id; rectangle = x.rectangle }) same
