@@ -1,6 +1,8 @@
 pub mod EntryKeeping
 pub mod EntryLemmas
 pub mod Moves
+pub mod RelocateLemmas
+pub mod RepackLemmas
 pub mod RingCalls
 pub mod RingLemmas
 pub mod RoomLemmas

@@ -59,7 +59,7 @@ module _ {K : Type 0} where
   entries-append (z ∷ xs) x ys = ap (λ es. z.1 ∷ es) (entries-append xs x ys)
 
   -- Where no number stands twice, that of an entry leads to it.
-  at-number : (xs : List (ℕ × Entry K)) (m : ℕ) (f : Entry K) (ys : List (ℕ × Entry K)) → IsDistinct eqb (numbers (xs ++ (m, f) ∷ ys))
+  pub at-number : (xs : List (ℕ × Entry K)) (m : ℕ) (f : Entry K) (ys : List (ℕ × Entry K)) → IsDistinct eqb (numbers (xs ++ (m, f) ∷ ys))
       → entry_at m (xs ++ (m, f) ∷ ys) ≡ Some f
   at-number [] m f ys apart = elim (eqb_tells m m) [
     | inl same ↦ rw same.0 refl

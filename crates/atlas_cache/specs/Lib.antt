@@ -7,6 +7,7 @@ pub mod Entries
 pub mod Orders
 pub mod Rings
 pub mod Refusals
+pub mod Relocating
 pub mod Repacking
 pub mod Rooms
 pub mod Tables

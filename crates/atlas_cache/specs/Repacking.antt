@@ -5,7 +5,7 @@ use Rattle.guillotiere.specs.declared.ChangeList.{ChangeList}
 use Rattle.guillotiere.specs.declared.Rectangle.{Rectangle}
 use Rattle.guillotiere.specs.Boxes.{area}
 use Rattle.guillotiere.specs.Pages.{rectangle_on, KeepsPages}
-use Rattle.guillotiere.specs.Rearranging.{KeepsSides}
+use Rattle.guillotiere.specs.Rearranging.{IsExactChange, KeepsSides}
 use Rattle.guillotiere.specs.States.{free_in, live_in}
 use Rattle.guillotiere.specs.Stored.{AtlasValue, state_of}
 
@@ -25,13 +25,15 @@ held_after list = map (λ c. c.new) list.changes.items
 abbrev pub AreOfOwnIds : List Allocation → Type 0
 AreOfOwnIds held = (id : ℕ) → count_by (λ a. a.id == id) held ≤ 1
 
--- Whatever had a rectangle is told once, as moved or as a failure; what has one now is what moved, with its sides.
+-- Whatever had a rectangle is told once, as moved or as a failure; what has one now is what moved, with its sides; and
+-- what is told has the coordinates of boxes.
 pub record TellsMoves {A : Type 0} (list : ChangeList A) (had has : ℕ → Option Rectangle) : Type 0 where
   pub before : (id : ℕ) → had id ≡ rectangle_among (held_before list) id
   pub after : (id : ℕ) → has id ≡ rectangle_among (held_after list) id
   pub once_before : AreOfOwnIds (held_before list)
   pub once_after : AreOfOwnIds (held_after list)
   pub sides : All KeepsSides list.changes.items
+  pub exact : All IsExactChange list.changes.items
 
 -- The rectangles of one page are placed anew or given up, and every other page stays.
 pub record RepacksPage {A : Type 0} (old new : List AtlasValue) (page : ℕ) (list : ChangeList A) : Type 0 where

@@ -10,6 +10,7 @@ ghost use Rattle.atlas_cache.specs.Rooms.{page_sizes, IsRefusal};
 mod clearing;
 mod figures;
 pub mod holding;
+mod repacking;
 mod walking;
 
 use crate::cache::holding::{grant, look_up, oldest, place_of, take_out};

@@ -14,6 +14,8 @@ mod plain;
 #[cfg(test)]
 mod recency;
 #[cfg(test)]
+mod repacking;
+#[cfg(test)]
 mod rooms;
 #[cfg(test)]
 mod traces;

@@ -89,6 +89,7 @@ rearranging_tells s t list sound_s sound_t exact sides step =
       once_before = told_once s sound_s (held_before list) before;
       once_after = told_once t sound_t (held_after list) after;
       sides = sides;
+      exact = exact.changes;
     }
 
 -- One page of a list, a, becomes b by a rearranging.
@@ -105,6 +106,7 @@ page_repacks pages page a b list is within tells =
         once_before = tells.once_before;
         once_after = tells.once_after;
         sides = tells.sides;
+        exact = tells.exact;
       };
       others = λ k differ. slice_get-set_other pages page k b differ;
     }

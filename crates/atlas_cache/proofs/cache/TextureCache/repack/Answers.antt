@@ -1,0 +1,57 @@
+use Rattle.std.proofs.Common.{◌≡◌, ◌+◌, ◌-◌, min, length, refl, arith, ap, ◌∙◌}
+use Rattle.std.specs.List.{filter_map}
+use Rattle.atlas_cache.specs.Caches.{entries_of}
+use Rattle.atlas_cache.specs.Relocating.{become, renewed_by}
+use Rattle.atlas_cache.proofs.ListLemmas.{length-listed}
+use Rattle.atlas_cache.proofs.RepackLemmas.{repacked_held, repacked_falls, repacked_bordered, renewed_same, shorter}
+use Rattle.atlas_cache.proofs.cache.TextureCache.repack.Goals as goal
+
+pub settle_all-requires-clause-is : goal.settle_all-requires-clause-is
+settle_all-requires-clause-is g c =
+    rw (c.options-options.ensures.options, c.repack.ensures.options, c.deref.ensures.value)
+    (repacked_bordered c.self.inside.rooms.pages c.repack.new.self.pages c.args.page c.in_ok-list.list c.in_ok-list.ensures.repacks
+    c.self.inside.rooms.options.padding (entries_of c.self.inside.entries) c.self.invariant.held.live c.self.invariant.bordered)
+
+pub overflow_sub-gone : goal.overflow_sub-gone
+overflow_sub-gone g c = omega (
+  arith,
+  c.len-2.ensures,
+  c.len-before.ensures,
+  shorter c.self.inside.entries c.settle_all.new.entries (become c.args.page (renewed_by c.deref.result.now)) c.settle_all.ensures.entries,
+)
+
+pub invariant_of-self-2 : goal.invariant_of-self-2
+invariant_of-self-2 g c =
+    let it = c.self.inside in
+    let does = c.in_ok-list.ensures.repacks in
+    record {
+      held = rw (c.settle_all.ensures.entries, c.deref.ensures.value)
+          (repacked_held it.rooms.pages c.repack.new.self.pages c.args.page c.in_ok-list.list does (entries_of it.entries) c.self.invariant.held);
+      bordered = rw (c.settle_all.ensures.entries, c.deref.ensures.value, c.repack.ensures.options)
+          (repacked_bordered it.rooms.pages c.repack.new.self.pages c.args.page c.in_ok-list.list does it.rooms.options.padding
+          (entries_of it.entries) c.self.invariant.held.live c.self.invariant.bordered);
+      frames = rw (c.settle_all.ensures.entries, c.deref.ensures.value)
+          (repacked_falls it.rooms.pages c.repack.new.self.pages c.args.page c.in_ok-list.list does it.frame (entries_of it.entries)
+          c.self.invariant.frames);
+    }
+
+pub returns-clause-repacks : goal.returns-clause-repacks
+returns-clause-repacks g c = λ _.
+    let it = c.self.inside in
+    let cs = c.in_ok-list.list.changes.items in
+    let does = c.in_ok-list.ensures.repacks in
+    let evictions : c.saturating_add-self-inside.result
+        ≡ min (it.counts.evictions + (length (entries_of it.entries) - length (entries_of c.settle_all.new.entries))) 18446744073709551615 =
+    omega (arith, c.saturating_add-self-inside.ensures, c.len-2.ensures, c.len-before.ensures, length-listed it.entries, length-listed c.settle_all.new.entries) in
+    rw (← c.self.view_is) (record {
+      renewed = renewed_by cs;
+      same = renewed_same cs;
+      entries = rw c.deref.ensures.value at c.settle_all.ensures.entries;
+      listed = rw (c.deref.ensures.value, c.options-options.ensures.options, c.repack.ensures.options, c.reserve.ensures.items)
+          at c.settle_all.ensures.told;
+      others = does.others;
+      sizes = c.repack.ensures.sizes;
+      options = c.repack.ensures.options;
+      frame = refl;
+      counts = ap (λ n. record it.counts { evictions = n }) evictions;
+    })

@@ -1,0 +1,48 @@
+-- What a repacking of a page makes of the entries of a cache, and what it tells.
+use Rattle.std.specs.Prelude.{◌≡◌, ◌==◌, ◌+◌, ◌-◌, ◌++◌, ℕ, ℤ, min, List, length, Option, None, Some, find, option_map, if◌then◌else◌}
+use Rattle.std.specs.List.{filter_map}
+use Rattle.guillotiere.specs.declared.Change.{Change}
+use Rattle.guillotiere.specs.Pages.{KeepsPages}
+use Rattle.atlas_cache.specs.declared.changes.CacheChange.{CacheChange}
+use Rattle.atlas_cache.specs.declared.changes.CacheChange.TheVariants.{Evicted, Moved}
+use Rattle.atlas_cache.specs.declared.entries.Entry.{Entry}
+use Rattle.atlas_cache.specs.Caches.{CacheState, shown}
+use Rattle.atlas_cache.specs.Rooms.{page_sizes}
+
+module _ {K : Type 0} where
+  -- What an entry has become, where `renewed` says it of the entries of a page: another one stays.
+  abbrev pub become : (page : ℕ) → (Entry K → Option (Entry K)) → Entry K → Option (Entry K)
+  become page renewed e = if e.page == page then renewed e else Some e
+
+  -- What is told of an entry of the page: where it moved, or that it is gone.
+  abbrev pub told_as : (padding : ℤ) → Entry K → Option (Entry K) → CacheChange K
+  told_as padding e None = Evicted e.key (shown padding e)
+  told_as padding e (Some f) = Moved e.key (shown padding e) (shown padding f)
+
+  -- And of any entry: nothing of those of other pages.
+  abbrev pub told_of : (padding : ℤ) (page : ℕ) → (Entry K → Option (Entry K)) → Entry K → Option (CacheChange K)
+  told_of padding page renewed e = if e.page == page then Some (told_as padding e (renewed e)) else None
+
+  -- The entry with the id and the rectangle of the change that names its id; None if none does.
+  abbrev pub renewed_by : List Change → Entry K → Option (Entry K)
+  renewed_by cs e =
+      option_map (λ c. record e { id = c.new.id; rectangle = c.new.rectangle }) (find (λ c. c.old.id == e.id) cs)
+
+  -- An entry under its number.
+  abbrev pub numbered_as : ℕ → Option (Entry K) → Option (ℕ × Entry K)
+  numbered_as n o = option_map (λ e. (n, e)) o
+
+  -- Each entry of a page moves or goes, which is told once of each, the most recently used first; an entry that moves
+  -- has another id and rectangle, and no other entry and no other page changes.
+  pub record Repacks (page : ℕ) (before after : List (CacheChange K)) (s t : CacheState K) : Type 0 where
+    pub renewed : Entry K → Option (Entry K)
+    pub same : (e f : Entry K) → renewed e ≡ Some f → f ≡ record e { id = f.id; rectangle = f.rectangle }
+    pub entries : t.entries ≡ filter_map (become page renewed) s.entries
+    pub listed : after ≡ before ++ filter_map (told_of s.options.padding page renewed) s.entries
+    pub others : KeepsPages s.pages t.pages page
+    pub sizes : page_sizes t.pages ≡ page_sizes s.pages
+    pub options : t.options ≡ s.options
+    pub frame : t.frame ≡ s.frame
+    pub counts : t.counts ≡ record s.counts {
+      evictions = min (s.counts.evictions + (length s.entries - length t.entries)) 18446744073709551615;
+    }

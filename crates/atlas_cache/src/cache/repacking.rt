@@ -1,0 +1,130 @@
+//! A page's entries placed anew.
+ghost use Rattle.std.specs.Prelude.{◌≡◌, ◌==◌, ◌↔◌, ◌+◌, ◌≤◌, ◌<◌, ◌++◌, [], ◌∷◌, ℕ, List, true, false, find, length};
+ghost use Rattle.std.specs.Prelude.{IfErr, IfOk, IsTrue, OnErr, Ok, Some};
+ghost use Rattle.std.specs.Prelude.{vec_capacity, vec_len};
+ghost use Rattle.std.specs.List.{cons_option, filter_map};
+ghost use Rattle.atlas_cache.specs.Asking.{IsBorderedBy};
+ghost use Rattle.atlas_cache.specs.Caches.{entries_of, AreBordered};
+ghost use Rattle.atlas_cache.specs.Entries.{entry_at};
+ghost use Rattle.atlas_cache.specs.Relocating.{become, numbered_as, renewed_by, told_as, told_of, Repacks};
+ghost use Rattle.atlas_cache.specs.Rooms.{IsRefusal};
+
+use crate::cache::TextureCache;
+use crate::cache::holding::place_of;
+use crate::changes::{CacheChange, Changes};
+use crate::entries::{Entries, Entry};
+use crate::error::CacheError;
+use crate::options::CacheOptions;
+use guillotiere::{AllocId, Change};
+use std::alloc::Allocator;
+use std::hash::{BuildHasher, Hash};
+
+// The change of an id, if there is one.
+fn change_for(changes: &[Change], id: AllocId) -> Option<Change>
+    ensures { result ≡ find (λ c. c.old.id == id) changes.now }
+{
+    changes.iter().copied().find(|change| change.old.id == id)
+}
+
+// An entry of the page is moved if a change names its id, and goes if none does. Either is told.
+fn settle<K: Copy + Eq + Hash, S: BuildHasher, A: Allocator + Copy>(
+    entries: &mut Entries<K, S, A>,
+    options: &CacheOptions,
+    moves: &[Change],
+    number: u32,
+    entry: Entry<K>,
+    changes: &mut Changes<K, A>,
+)
+    requires here { entry_at number entries.old ≡ Some entry }
+    requires was { IsBorderedBy options.now.padding entry.size entry.rectangle }
+    requires is { (f : Entry K) → renewed_by moves.now entry ≡ Some f
+        → IsBorderedBy options.now.padding f.size f.rectangle }
+    requires room { vec_len changes.old < vec_capacity changes.old }
+    ensures settled { (newer older : List (ℕ × Entry K)) → entries.old ≡ newer ++ (number, entry) ∷ older
+        → entries.new ≡ newer ++ cons_option (numbered_as number (renewed_by moves.now entry)) older }
+    ensures told { changes.new.items
+        ≡ changes.old.items ++ told_as options.now.padding entry (renewed_by moves.now entry) ∷ [] }
+    ensures longer { vec_len changes.new ≡ vec_len changes.old + 1 }
+    ensures room { vec_capacity changes.old ≤ vec_capacity changes.new }
+{
+    entries.prove_kept();
+    let from = place_of(entry, options);
+    let key = entry.key;
+    match change_for(moves, entry.id) {
+        Some(change) => {
+            let moved = Entry {
+                id: change.new.id,
+                rectangle: change.new.rectangle,
+                ..entry
+            };
+            entries.move_to(number, moved.id, moved.rectangle);
+            let to = place_of(moved, options);
+            changes.push_reserved(CacheChange::Moved { key, from, to });
+        }
+        None => {
+            entries.remove(number);
+            changes.push_reserved(CacheChange::Evicted { key, place: from });
+        }
+    }
+}
+
+// Each entry of the page is moved or goes, the most recently used first.
+fn settle_all<K: Copy + Eq + Hash, S: BuildHasher, A: Allocator + Copy>(
+    entries: &mut Entries<K, S, A>,
+    options: &CacheOptions,
+    moves: &[Change],
+    page: u32,
+    changes: &mut Changes<K, A>,
+)
+    requires was { AreBordered options.now.padding (entries_of entries.old) }
+    requires is { AreBordered options.now.padding
+        (filter_map (become page (renewed_by moves.now)) (entries_of entries.old)) }
+    requires room { vec_len changes.old + length entries.old ≤ vec_capacity changes.old }
+    ensures entries { entries_of entries.new
+        ≡ filter_map (become page (renewed_by moves.now)) (entries_of entries.old) }
+    ensures told { changes.new.items ≡ changes.old.items
+        ++ filter_map (told_of options.now.padding page (renewed_by moves.now)) (entries_of entries.old) }
+{
+    let mut next = entries.newest();
+    for _ in 0..entries.len() {
+        let Some(number) = next else {
+            return;
+        };
+        entries.prove_kept();
+        let entry = entries.entry(number);
+        next = entries.older(number);
+        if entry.page == page {
+            settle(entries, options, moves, number, entry, changes);
+        }
+    }
+}
+
+impl<K: Copy + Eq + Hash, S: BuildHasher, A: Allocator + Copy> TextureCache<K, S, A> {
+    /// Places the rectangles of a page anew, the largest first, so that what is free comes together; the page doesn't
+    /// grow. Whether there is such a page; if not, nothing changes. Each entry of the page is added to the changes once,
+    /// the most recently used first: as `Moved`, also where it stays in its place, or as `Evicted`, which is counted,
+    /// where it found no room. Every other entry stays, and so do the order of use, the frame and the options.
+    ///
+    /// A place that an entry moves to can overlap one that a later change moves from: copy all pixels from the page as
+    /// it was before the call. `Slots` if the page has too few of them, `Memory` if memory is refused; then nothing
+    /// changes. Takes as many steps as there are entries, and for each entry of the page as many as the page has.
+    pub fn repack(&mut self, page: u32, changes: &mut Changes<K, A>) -> Result<bool, CacheError>
+        ensures repacks { result ≡ Ok true → Repacks page changes.old.items changes.new.items self.old self.new }
+        ensures there { IfOk result (λ there. IsTrue there ↔ (page < length self.old.pages)) }
+        ensures none { result ≡ Ok false → (self.new ≡ self.old) × (changes.new.items ≡ changes.old.items) }
+        ensures refused { OnErr result ((self.new ≡ self.old) × (changes.new.items ≡ changes.old.items)) }
+        ensures errors { IfErr result IsRefusal }
+    {
+        if page >= self.rooms.len() {
+            return Ok(false);
+        }
+        let before = self.entries.len();
+        changes.reserve(before)?;
+        let list = self.rooms.repack(page)?;
+        let options = self.rooms.options();
+        settle_all(&mut self.entries, &options, &list.changes, page, changes);
+        let gone = (before - self.entries.len()) as u64;
+        self.counts.evictions = self.counts.evictions.saturating_add(gone);
+        Ok(true)
+    }
+}
