@@ -114,7 +114,7 @@ module _ {A : Type 0} (old new : List AtlasValue) (page : ℕ) (list : ChangeLis
     none_hold id none [] = refl
     none_hold id none (e ∷ es) = elim (eqb_tells e.page page) [
       | inl here ↦ rw here.0 (by_option (find (old_is e.id) cs) refl (none_hold id none es))
-      | inr other ↦ rw other.0 (rw other.0 (none_hold id none es))
+      | inr other ↦ rw other.0 (rw other.0 (omega (arith, none_hold id none es)))
     ]
       where
         by_option : (o : Option Change) → find (old_is e.id) cs ≡ o → holders page id (filter_map becomes es) ≡ 0
@@ -122,7 +122,7 @@ module _ {A : Type 0} (old new : List AtlasValue) (page : ℕ) (list : ChangeLis
         by_option None is rest = rest
         by_option (Some c) is rest = elim (id_cases page id (record e { id = c.new.id; rectangle = c.new.rectangle })) [
           | inl it ↦ absurd (let found = found_new c (Contains-find (old_is e.id) cs c is).0 in let gone = rw (sym it.2) at none in cc)
-          | inr off ↦ rw off.0 rest
+          | inr off ↦ rw off.0 (omega (arith, rest))
         ]
 
     -- Where one does, its holder is that of the id before.
@@ -131,7 +131,7 @@ module _ {A : Type 0} (old new : List AtlasValue) (page : ℕ) (list : ChangeLis
     one_holds id d found [] = refl
     one_holds id d found (e ∷ es) = elim (eqb_tells e.page page) [
       | inl here ↦ rw here.0 (by_option here.1 (find (old_is e.id) cs) refl (one_holds id d found es))
-      | inr other ↦ rw other.0 (rw other.0 (one_holds id d found es))
+      | inr other ↦ rw other.0 (rw other.0 (omega (arith, one_holds id d found es)))
     ]
       where
         by_option : e.page ≡ page → (o : Option Change) → find (old_is e.id) cs ≡ o → holders page id (filter_map becomes es) ≡ holders page d.old.id es
