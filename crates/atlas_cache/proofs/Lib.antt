@@ -3,6 +3,7 @@ pub mod EntryLemmas
 pub mod Moves
 pub mod RelocateLemmas
 pub mod RepackLemmas
+pub mod RepackTelling
 pub mod RingCalls
 pub mod RingLemmas
 pub mod RoomLemmas

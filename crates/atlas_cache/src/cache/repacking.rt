@@ -5,6 +5,7 @@ ghost use Rattle.std.specs.Prelude.{vec_capacity, vec_len};
 ghost use Rattle.std.specs.List.{cons_option, filter_map};
 ghost use Rattle.atlas_cache.specs.Asking.{IsBorderedBy};
 ghost use Rattle.atlas_cache.specs.Caches.{entries_of, AreBordered};
+ghost use Rattle.atlas_cache.specs.Clearing.{TellsChanges};
 ghost use Rattle.atlas_cache.specs.Entries.{entry_at};
 ghost use Rattle.atlas_cache.specs.Relocating.{become, numbered_as, renewed_by, told_as, told_of, Repacks};
 ghost use Rattle.atlas_cache.specs.Rooms.{IsRefusal};
@@ -112,12 +113,14 @@ impl<K: Copy + Eq + Hash, S: BuildHasher, A: Allocator + Copy> TextureCache<K, S
         ensures repacks { result ≡ Ok true → Repacks page changes.old.items changes.new.items self.old self.new }
         ensures there { IfOk result (λ there. IsTrue there ↔ (page < length self.old.pages)) }
         ensures none { result ≡ Ok false → (self.new ≡ self.old) × (changes.new.items ≡ changes.old.items) }
+        ensures told { TellsChanges K.eq changes.old.items changes.new.items self.old self.new }
         ensures refused { OnErr result ((self.new ≡ self.old) × (changes.new.items ≡ changes.old.items)) }
         ensures errors { IfErr result IsRefusal }
     {
         if page >= self.rooms.len() {
             return Ok(false);
         }
+        self.entries.prove_kept();
         let before = self.entries.len();
         changes.reserve(before)?;
         let list = self.rooms.repack(page)?;

@@ -2,8 +2,11 @@ use Rattle.std.proofs.Common.{◌≡◌, ◌+◌, ◌-◌, min, length, refl, ar
 use Rattle.std.specs.List.{filter_map}
 use Rattle.atlas_cache.specs.Caches.{entries_of}
 use Rattle.atlas_cache.specs.Relocating.{become, renewed_by}
+use Rattle.atlas_cache.proofs.KeyLemmas.{own_keys}
 use Rattle.atlas_cache.proofs.ListLemmas.{length-listed}
 use Rattle.atlas_cache.proofs.RepackLemmas.{repacked_held, repacked_falls, repacked_bordered, renewed_same, shorter}
+use Rattle.atlas_cache.proofs.RepackTelling.{repacks_tell}
+use Rattle.atlas_cache.proofs.TrimLemmas.{none-told}
 use Rattle.atlas_cache.proofs.cache.TextureCache.repack.Goals as goal
 
 pub settle_all-requires-clause-is : goal.settle_all-requires-clause-is
@@ -55,3 +58,18 @@ returns-clause-repacks g c = λ _.
       frame = refl;
       counts = ap (λ n. record it.counts { evictions = n }) evictions;
     })
+
+pub returns-in_err-reserve-clause-told : goal.returns-in_err-reserve-clause-told
+returns-in_err-reserve-clause-told g c =
+    rw c.in_err-reserve.ensures.items (none-told g.K.PartialEq.eq c.args.changes.now.items c.args.self.now)
+
+pub returns-in_err-list-clause-told : goal.returns-in_err-list-clause-told
+returns-in_err-list-clause-told g c =
+    rw (c.in_ok-reserve.ensures.items, c.in_err-list.ensures.refused, c.self.view_is)
+    (none-told g.K.PartialEq.eq c.args.changes.now.items c.args.self.now)
+
+pub returns-clause-told : goal.returns-clause-told
+returns-clause-told g c =
+    let own = own_keys g.K.PartialEq.eq c.self.inside.entries c.prove_kept.ensures.keys in
+    repacks_tell g.K.PartialEq.eq g.met.K.Eq.laws c.args.page c.args.changes.now.items c.settle_all.new.changes.items c.args.self.now _
+    (rw (← c.self.view_is) own) (returns-clause-repacks g c refl)
