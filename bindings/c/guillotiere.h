@@ -80,7 +80,7 @@ enum {
     GUILLOTIERE_PAGE_ADDED = 0, /* there is a new page, the last one: make a texture of `size` for `page` */
     GUILLOTIERE_PAGE_GROWN = 1, /* `page` has this `size` now, and nothing on it moved: make its texture larger */
     GUILLOTIERE_EVICTED = 2,    /* `key` is gone, and its place was `from` */
-    GUILLOTIERE_MOVED = 3       /* `key` moved: copy what it shows from `from` to `to` (no call of this header moves one) */
+    GUILLOTIERE_MOVED = 3       /* `key` moved, by a repacking: copy what it shows from `from` to `to` */
 };
 
 /* The greatest limit on the slots of an atlas, and that of an atlas without a limit of its own. */
@@ -415,6 +415,13 @@ uint32_t guillotiere_cache_clear(guillotiere_cache *cache);
 /* The keys that weren't used for at least so many frames go, each told by a change, the least recently used first: with 1,
  * what this frame didn't use; with 0, all. DONE; MEMORY, and then all is as it was; EMPTY. */
 uint32_t guillotiere_cache_trim(guillotiere_cache *cache, uint64_t frames);
+
+/* Places the keys of a page anew, the largest first, so that what is free comes together; pages are counted from 0. Each key
+ * of the page is told by a change, the most recently used first: GUILLOTIERE_MOVED, also where it stays, or
+ * GUILLOTIERE_EVICTED, where it found no room. A place that a key moves to can overlap one that a later change moves from:
+ * copy all pixels from the page as it was before the call.
+ * DONE; NO_PAGE, SLOTS or MEMORY, and then all is as it was; EMPTY. */
+uint32_t guillotiere_cache_repack(guillotiere_cache *cache, uint32_t page);
 
 /* How many keys are held. DONE; EMPTY. */
 uint32_t guillotiere_cache_len(guillotiere_cache *cache, size_t *len);

@@ -415,6 +415,8 @@ public:
     [[nodiscard]] status clear() { return static_cast<status>(guillotiere_cache_clear(&handle_)); }
     // What wasn't used for so many frames goes.
     [[nodiscard]] status trim(std::uint64_t frames) { return static_cast<status>(guillotiere_cache_trim(&handle_, frames)); }
+    // A page's keys are placed anew. Copy all pixels from the page as it was before the call.
+    [[nodiscard]] status repack(std::uint32_t page) { return static_cast<status>(guillotiere_cache_repack(&handle_, page)); }
 
     // Of a cache that was moved from: 0; and so the counts.
     std::size_t len() const {

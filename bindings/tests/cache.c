@@ -83,6 +83,7 @@ static void empty_handles(void) {
     CHECK(guillotiere_cache_next_change(&cache, &change) == GUILLOTIERE_EMPTY);
     CHECK(guillotiere_cache_clear(&cache) == GUILLOTIERE_EMPTY);
     CHECK(guillotiere_cache_trim(&cache, 1) == GUILLOTIERE_EMPTY);
+    CHECK(guillotiere_cache_repack(&cache, 0) == GUILLOTIERE_EMPTY);
     CHECK(guillotiere_cache_len(&cache, &len) == GUILLOTIERE_EMPTY && len == 77);
     CHECK(guillotiere_cache_page_count(&cache, &pages) == GUILLOTIERE_EMPTY && pages == 77);
     CHECK(guillotiere_cache_page_size(&cache, 0, &size) == GUILLOTIERE_EMPTY);
@@ -103,6 +104,27 @@ static void check_figures(guillotiere_cache *cache, size_t keys, uint32_t pages)
     CHECK(guillotiere_cache_page_size(cache, pages, &size) == GUILLOTIERE_NO_PAGE && size.width == 0);
     CHECK(guillotiere_cache_page_size(cache, pages - 1, &size) == GUILLOTIERE_DONE);
     CHECK(size.width == 16 && size.height == 32);
+}
+
+/* Of two keys on a page of 16 by 32 the upper one goes; a repacking moves the other one up, and tells it. */
+static void a_key_moves(void) {
+    guillotiere_cache cache = GUILLOTIERE_NONE;
+    make(&two_pages, &cache);
+    guillotiere_place place;
+    guillotiere_cache_change change;
+    inserted(&cache, 7, 16, 16);
+    const guillotiere_place low = inserted(&cache, 8, 16, 16);
+    told_page(&cache, GUILLOTIERE_PAGE_ADDED, 0, 16, 16);
+    told_page(&cache, GUILLOTIERE_PAGE_GROWN, 0, 16, 32);
+    CHECK(guillotiere_cache_remove(&cache, 7, &place) == GUILLOTIERE_DONE && low.rectangle.min_y == 16);
+    CHECK(guillotiere_cache_repack(&cache, 1) == GUILLOTIERE_NO_PAGE);
+    told_nothing(&cache);
+    CHECK(guillotiere_cache_repack(&cache, 0) == GUILLOTIERE_DONE);
+    CHECK(guillotiere_cache_next_change(&cache, &change) == GUILLOTIERE_DONE && change.kind == GUILLOTIERE_MOVED);
+    CHECK(change.key == 8 && same_place(&change.from, &low) && same_place(&change.to, &place));
+    CHECK(guillotiere_cache_peek(&cache, 8, &place) == GUILLOTIERE_DONE && same_place(&place, &change.to));
+    told_nothing(&cache);
+    guillotiere_cache_free(&cache);
 }
 
 /* Pages come and grow; the key that was used longest ago gives way; then what is left goes by a trim. */
@@ -192,9 +214,10 @@ static uint32_t below(uint32_t bound) {
 static void follow(guillotiere_cache *cache, picture *known) {
     guillotiere_cache_change change;
     while (guillotiere_cache_next_change(cache, &change) == GUILLOTIERE_DONE) {
-        if (change.kind == GUILLOTIERE_EVICTED) {
+        if (change.kind == GUILLOTIERE_EVICTED || change.kind == GUILLOTIERE_MOVED) {
             CHECK(change.key < KEYS && known->held[change.key] && same_place(&change.from, &known->places[change.key]));
-            known->held[change.key] = false;
+            known->held[change.key] = change.kind == GUILLOTIERE_MOVED;
+            if (change.kind == GUILLOTIERE_MOVED) known->places[change.key] = change.to;
         } else {
             CHECK(change.kind == GUILLOTIERE_PAGE_ADDED || change.kind == GUILLOTIERE_PAGE_GROWN);
             if (change.kind == GUILLOTIERE_PAGE_ADDED) CHECK(change.page == known->pages++);
@@ -231,12 +254,14 @@ static void random_session(void) {
         uint32_t status = GUILLOTIERE_DONE;
         if (what == 0) status = guillotiere_cache_begin_frame(&cache);
         if (what == 1) status = guillotiere_cache_trim(&cache, below(4));
+        if (what == 3) status = guillotiere_cache_repack(&cache, below(MOST_PAGES));
+        if (what == 3 && status == GUILLOTIERE_NO_PAGE) status = GUILLOTIERE_DONE;
         if (what == 2 && guillotiere_cache_remove(&cache, key, &place) == GUILLOTIERE_DONE) known.held[key] = false;
         const int32_t width = 9 + (int32_t)key % 30, height = 40 - (int32_t)key % 31;
-        if (what > 2) status = guillotiere_cache_insert(&cache, key, width, height, &place);
+        if (what > 3) status = guillotiere_cache_insert(&cache, key, width, height, &place);
         follow(&cache, &known);
-        CHECK(status == GUILLOTIERE_DONE || (what > 2 && status == GUILLOTIERE_NO_ROOM));
-        if (what > 2 && status == GUILLOTIERE_DONE) {
+        CHECK(status == GUILLOTIERE_DONE || (what > 3 && status == GUILLOTIERE_NO_ROOM));
+        if (what > 3 && status == GUILLOTIERE_DONE) {
             CHECK(!known.held[key] || same_place(&place, &known.places[key]));
             known.held[key] = true;
             known.places[key] = place;
@@ -252,6 +277,7 @@ int main(void) {
     bad_options();
     empty_handles();
     a_life();
+    a_key_moves();
     waiting_changes();
     random_session();
     return 0;

@@ -137,6 +137,7 @@ static void caches() {
     cache taken = std::move(*made);
     CHECK(made->insert(8, {1, 1}).error() == status::empty && !made->get(8) && made->len() == 0);
     CHECK(taken.remove(8) && !taken.remove(8) && taken.insert(9, {2, 2}) && taken.trim(0) == status::done);
+    CHECK(taken.repack(0) == status::done && taken.repack(9) == status::no_page);
     CHECK(evicted(taken) == 9 && taken.clear() == status::done && taken.len() == 0);
     with.pages = 0;
     CHECK(cache::make(with).error() == status::no_pages);

@@ -298,6 +298,7 @@ extern "C" {
     fn guillotiere_cache_next_change(cache: *mut CacheHandle, change: *mut PlainCacheChange) -> u32;
     fn guillotiere_cache_clear(cache: *mut CacheHandle) -> u32;
     fn guillotiere_cache_trim(cache: *mut CacheHandle, frames: u64) -> u32;
+    fn guillotiere_cache_repack(cache: *mut CacheHandle, page: u32) -> u32;
     fn guillotiere_cache_len(cache: *mut CacheHandle, len: *mut usize) -> u32;
     fn guillotiere_cache_page_count(cache: *mut CacheHandle, pages: *mut u32) -> u32;
     fn guillotiere_cache_page_size(cache: *mut CacheHandle, page: u32, size: *mut PlainSize) -> u32;
@@ -701,6 +702,11 @@ impl Cache {
     pub fn trim(&mut self, frames: u64) -> Result<(), u32> {
         // SAFETY: this handle.
         of_status(unsafe { guillotiere_cache_trim(self.handle.get(), frames) })
+    }
+
+    pub fn repack(&mut self, page: u32) -> Result<(), u32> {
+        // SAFETY: this handle.
+        of_status(unsafe { guillotiere_cache_repack(self.handle.get(), page) })
     }
 
     pub fn len(&self) -> usize {

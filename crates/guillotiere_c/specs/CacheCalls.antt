@@ -1,5 +1,5 @@
 -- What a call does with a cache that has keys of 64 bits.
-use Rattle.std.specs.Prelude.{◌≡◌, ◌≢◌, ℕ, length, IfErr, IfSome, IsSome, Option, None, Result, Ok}
+use Rattle.std.specs.Prelude.{◌≡◌, ◌≢◌, ◌<◌, ℕ, length, IfErr, IfSome, IsSome, Option, None, Result, Ok}
 use Rattle.std.specs.Prelude.{nat_eq}
 use Rattle.guillotiere.specs.declared.Size.{Size}
 use Rattle.guillotiere.specs.Pixels.{size_of}
@@ -11,6 +11,7 @@ use Rattle.atlas_cache.specs.Changes.{FindsKnown, Inserts, Removes, Uses}
 use Rattle.atlas_cache.specs.Clearing.{TellsChanges, Trims}
 use Rattle.atlas_cache.specs.Counting.{one_more}
 use Rattle.atlas_cache.specs.Refusals.{IsRefusedNew}
+use Rattle.atlas_cache.specs.Relocating.{Repacks}
 use Rattle.atlas_cache.specs.Telling.{Tells}
 use Rattle.guillotiere_c.specs.Following.{Followed}
 
@@ -44,4 +45,10 @@ pub record IsInsert (key : ℕ) (size : Size) (result : Result (Option Place) Ca
 -- What `TextureCache::trim` does. The evictions come behind the changes that weren't handed over.
 pub record IsTrim (frames : ℕ) (f g : Followed) : Type 0 where
   pub trims : Trims frames f.changes g.changes f.cache g.cache
+  pub told : TellsChanges nat_eq f.changes g.changes f.cache g.cache
+
+-- What `TextureCache::repack` does with a page that is there. Its changes come behind those that weren't handed over.
+pub record IsRepacking (page : ℕ) (f g : Followed) : Type 0 where
+  pub there : page < length f.cache.pages
+  pub repacks : Repacks page f.changes g.changes f.cache g.cache
   pub told : TellsChanges nat_eq f.changes g.changes f.cache g.cache

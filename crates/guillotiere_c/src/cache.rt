@@ -1,18 +1,18 @@
 //! The exports of a cache: its life, its keys and its changes.
-ghost use Rattle.std.specs.Prelude.{◌≡◌, ◌≢◌, ◌∷◌, [], IfSome, IsNone, IsSome, IsSomeAnd, None};
+ghost use Rattle.std.specs.Prelude.{◌≡◌, ◌≢◌, ◌≤◌, ◌∷◌, [], length, IfSome, IsNone, IsSome, IsSomeAnd, None};
 ghost use Rattle.std.specs.Prelude.{nat_eq};
 ghost use Rattle.atlas_cache.specs.Asking.{AreUsable, IsFaultIn};
 ghost use Rattle.atlas_cache.specs.Caches.{place_for};
 ghost use Rattle.atlas_cache.specs.Clearing.{Clears};
 ghost use Rattle.atlas_cache.specs.Counting.{one_more};
-ghost use Rattle.guillotiere_c.specs.CacheCalls.{IsGet, IsInsert, IsRemoval, IsTrim};
+ghost use Rattle.guillotiere_c.specs.CacheCalls.{IsGet, IsInsert, IsRemoval, IsRepacking, IsTrim};
 ghost use Rattle.guillotiere_c.specs.CacheNumbers.{cache_change_in, cache_options_in, found_answer, insert_answer};
 ghost use Rattle.guillotiere_c.specs.CacheNumbers.{options_fault};
 ghost use Rattle.guillotiere_c.specs.Following.{GoesOver, HoldsCache, new_cache};
 
 use crate::cache_handle::CacheHandle;
 use crate::followed::FollowedCache;
-use crate::plain::{DONE, EMPTY, MEMORY, NO_CHANGE, NO_ROOM, NOT_HELD};
+use crate::plain::{DONE, EMPTY, MEMORY, NO_CHANGE, NO_PAGE, NO_ROOM, NOT_HELD, SLOTS};
 use crate::plain_cache::{
     PlainCacheChange, PlainCacheOptions, PlainPlace, cache_options_for, plain_cache_change,
     plain_place, status_of_cache_error, status_of_options_error,
@@ -262,6 +262,30 @@ pub extern "C" fn guillotiere_cache_trim(alloc: Global, cache: &mut CacheHandle,
     cache.put(held);
     match answer {
         Ok(()) => DONE,
+        Err(error) => status_of_cache_error(error),
+    }
+}
+
+/// Places the keys of a page anew, the largest first, so that what is free comes together. Each of them is told once, as
+/// moved or, where it found no room, as evicted; no other key changes. Pages are counted from 0. `DONE`; `NO_PAGE`;
+/// `SLOTS`; `MEMORY`.
+#[unsafe(no_mangle)]
+pub extern "C" fn guillotiere_cache_repack(alloc: Global, cache: &mut CacheHandle, page: u32) -> u32
+    ensures repacks { result ≡ DONE → GoesOver cache.old.kept cache.new.kept (IsRepacking page) }
+    ensures absent { result ≡ NO_PAGE → HoldsCache cache.old.kept (λ f. length f.cache.pages ≤ page) }
+    ensures refused { result ≢ DONE → cache.new.kept ≡ cache.old.kept }
+    ensures unless { IsSome cache.old.kept → result ≢ DONE → result ≢ NO_PAGE → result ≢ SLOTS → result ≡ MEMORY }
+    ensures empty { IsNone cache.old.kept → result ≡ EMPTY }
+{
+    if !cache.holds() {
+        return EMPTY;
+    }
+    let mut held = cache.take(alloc);
+    let answer = held.repack(page);
+    cache.put(held);
+    match answer {
+        Ok(true) => DONE,
+        Ok(false) => NO_PAGE,
         Err(error) => status_of_cache_error(error),
     }
 }

@@ -1,13 +1,13 @@
 //! A cache with the list of its changes, from which its caller takes one after another.
 ghost use Rattle.std.specs.Prelude.{◌≡◌, ◌↔◌, ◌≤◌, ◌∷◌, [], drop, IfErr, IfOk, IfSome, IsOk, IsOkUnless, None, OnErr};
-ghost use Rattle.std.specs.Prelude.{OnOk, length, nat_eq, slice_get, vec_len};
+ghost use Rattle.std.specs.Prelude.{Ok, OnOk, false, length, nat_eq, slice_get, true, vec_len};
 ghost use Rattle.atlas_cache.specs.declared.error.CacheError.TheVariants.{Memory};
 ghost use Rattle.atlas_cache.specs.Asking.{AreUsable, IsFaultIn};
 ghost use Rattle.atlas_cache.specs.Caches.{place_for};
 ghost use Rattle.atlas_cache.specs.Clearing.{Clears};
 ghost use Rattle.atlas_cache.specs.Counting.{one_more};
-ghost use Rattle.atlas_cache.specs.Rooms.{page_sizes};
-ghost use Rattle.guillotiere_c.specs.CacheCalls.{IsGet, IsInsert, IsRemoval, IsTrim};
+ghost use Rattle.atlas_cache.specs.Rooms.{page_sizes, IsRefusal};
+ghost use Rattle.guillotiere_c.specs.CacheCalls.{IsGet, IsInsert, IsRemoval, IsRepacking, IsTrim};
 ghost use Rattle.guillotiere_c.specs.Following.{new_cache};
 
 use atlas_cache::{
@@ -147,6 +147,18 @@ impl FollowedCache {
     {
         drop_taken(&mut self.changes, &mut self.taken);
         self.cache.trim(frames, &mut self.changes)
+    }
+
+    /// As `TextureCache::repack`. Its changes come behind those that weren't handed over.
+    pub fn repack(&mut self, page: u32) -> Result<bool, CacheError>
+        ensures repacks { result ≡ Ok true → IsRepacking page self.old self.new }
+        ensures absent { result ≡ Ok false → length self.old.cache.pages ≤ page }
+        ensures none { result ≡ Ok false → self.new ≡ self.old }
+        ensures refused { OnErr result (self.new ≡ self.old) }
+        ensures errors { IfErr result IsRefusal }
+    {
+        drop_taken(&mut self.changes, &mut self.taken);
+        self.cache.repack(page, &mut self.changes)
     }
 
     /// How many entries there are.
