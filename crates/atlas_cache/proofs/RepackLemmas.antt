@@ -1,5 +1,5 @@
 -- What a page's repacking makes of what a cache keeps.
-use Rattle.std.proofs.Common.{ℕ, ℤ, ◌+◌, ◌<◌, ◌≤◌, ◌≡◌, ◌≢◌, ◌==◌, ◌⊎◌, inl, inr, Bool, true, false, cond, List, [], ◌∷◌, ◌++◌, map, Option, None, Some, option_map, All, Contains, length, refl, sym, ap, ◌∙◌, arith}
+use Rattle.std.proofs.Common.{ℕ, ℤ, ◌+◌, ◌<◌, ◌≤◌, ◌≡◌, ◌==◌, inl, inr, Bool, true, false, cond, List, [], ◌∷◌, ◌++◌, map, Option, None, Some, option_map, Contains, length, refl, sym, ap, ◌∙◌, arith}
 use Rattle.std.specs.List.{cons_option, count_by, filter_map, find, AllByRecursion}
 use Rattle.std.proofs.lemmas.{Bool.Decides.{eqb_tells}}
 use Rattle.std.proofs.lemmas.Bool.{eq-eqb, ne_eqb, eqb-true}
@@ -15,13 +15,13 @@ use Rattle.guillotiere.specs.Callers.{rectangle_in}
 use Rattle.guillotiere.specs.Pages.{rectangle_on}
 use Rattle.guillotiere.specs.Rearranging.{IsExactChange, KeepsSides}
 use Rattle.guillotiere.specs.Stored.{AtlasValue, state_of}
-use Rattle.guillotiere.proofs.ListLemmas.CallerLemmas.{count_by-map, find-counted_once, Contains-find, Contains-map}
+use Rattle.guillotiere.proofs.ListLemmas.CallerLemmas.{count_by-map, find-counted_once, Contains-find}
 use Rattle.guillotiere.proofs.ListLemmas.Counting.{count_by-append, counted_once}
 use Rattle.atlas_cache.specs.declared.entries.Entry.{Entry}
 use Rattle.atlas_cache.specs.Asking.{IsBorderedBy}
-use Rattle.atlas_cache.specs.Caches.{entries_of, has_id, holders, AreBordered, FramesFall, HoldsEntries}
+use Rattle.atlas_cache.specs.Caches.{entries_of, holders, AreBordered, FramesFall, HoldsEntries}
 use Rattle.atlas_cache.specs.Relocating.{become, renewed_by}
-use Rattle.atlas_cache.specs.Repacking.{held_after, held_before, rectangle_among, RepacksPage}
+use Rattle.atlas_cache.specs.Repacking.{RepacksPage}
 use Rattle.atlas_cache.proofs.EntryLemmas.{option_is}
 use Rattle.atlas_cache.proofs.HoldingLemmas.{id_cases, IsLiveOn}
 use Rattle.atlas_cache.proofs.ListLemmas.{falls-later, length-listed}
@@ -150,11 +150,11 @@ module _ {A : Type 0} (old new : List AtlasValue) (page : ℕ) (list : ChangeLis
               rw (it.0, eq-eqb e.id d.old.id ids) (omega (arith, rest))
           | inr off ↦ elim (eqb_tells e.id d.old.id) [
             | inl same ↦ absurd (
-              let in_d = Contains-find (new_is id) cs d found in
-              let at = found_old d in_d.0 in
-              let at_e : find (old_is e.id) cs ≡ Some d = ap (λ (i : ℕ). find (old_is i) cs) same.1 ∙ at in
-              let c_d : c ≡ d = same_Some c d (sym is ∙ at_e) in
-              off.1 here (ap (λ (x : Change). x.new.id) c_d ∙ eqb-true d.new.id id in_d.1))
+                let in_d = Contains-find (new_is id) cs d found in
+                let at = found_old d in_d.0 in
+                let at_e : find (old_is e.id) cs ≡ Some d = ap (λ (i : ℕ). find (old_is i) cs) same.1 ∙ at in
+                let c_d : c ≡ d = same_Some c d (sym is ∙ at_e) in
+                off.1 here (ap (λ (x : Change). x.new.id) c_d ∙ eqb-true d.new.id id in_d.1))
             | inr differ ↦ rw (off.0, differ.0) (omega (arith, rest))
           ]
         ]
@@ -173,8 +173,8 @@ module _ {A : Type 0} (old new : List AtlasValue) (page : ℕ) (list : ChangeLis
     known p id r es held is = elim (eqb_tells p page) [
       | inl here ↦ elim (option_is (find (new_is id) cs)) [
         | inl none ↦ absurd (
-          let gone = does.tells.after id ∙ ap (option_map (λ (a : Allocation). a.rectangle)) (find-new cs id ∙ ap (option_map (λ (d : Change). d.new)) none) in
-          let live = rw here.1 at is in cc)
+            let gone = does.tells.after id ∙ ap (option_map (λ (a : Allocation). a.rectangle)) (find-new cs id ∙ ap (option_map (λ (d : Change). d.new)) none) in
+            let live = rw here.1 at is in cc)
         | inr some ↦
             let d = some.0 in
             let at = found_old d (Contains-find (new_is id) cs d some.1).0 in
@@ -212,7 +212,6 @@ module _ {A : Type 0} (old new : List AtlasValue) (page : ℕ) (list : ChangeLis
         by_option None same rest = falls-later e.frame frame (filter_map becomes es) h.0 rest
         by_option (Some f) same rest = (rw (same f refl) h.0, rw (same f refl) rest)
 
-
     -- What moved has its sides.
     moved_bordered : (padding : ℤ) (e : Entry K) (c : Change) → Contains cs c → c.old.rectangle ≡ e.rectangle
         → IsBorderedBy padding e.size e.rectangle → IsBorderedBy padding e.size c.new.rectangle
@@ -242,9 +241,11 @@ module _ {A : Type 0} (old new : List AtlasValue) (page : ℕ) (list : ChangeLis
             → AreBordered padding (cons_option (option_map (λ (c : Change). record e { id = c.new.id; rectangle = c.new.rectangle }) o) (filter_map becomes es))
         by_option here None is rest = rest
         by_option here (Some c) is rest =
-            let there = rw here at live.0 in
-            (moved_bordered padding e c (Contains-find (old_is e.id) cs c is).0
-            (same_Some c.old.rectangle e.rectangle (sym (was_old e.id c is) ∙ there)) h.0, rest)
+            let there = rw here at live.0 in (
+              moved_bordered padding e c (Contains-find (old_is e.id) cs c is).0
+                  (same_Some c.old.rectangle e.rectangle (sym (was_old e.id c is) ∙ there)) h.0,
+              rest,
+            )
 
 module _ {X Y : Type 0} (f : X → Option Y) where
   filter_map-shorter : (xs : List X) → length (filter_map f xs) ≤ length xs

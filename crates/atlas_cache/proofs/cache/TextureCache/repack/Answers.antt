@@ -1,5 +1,4 @@
-use Rattle.std.proofs.Common.{◌≡◌, ◌+◌, ◌-◌, min, length, refl, arith, ap, ◌∙◌}
-use Rattle.std.specs.List.{filter_map}
+use Rattle.std.proofs.Common.{◌≡◌, ◌+◌, ◌-◌, min, length, refl, arith, ap}
 use Rattle.atlas_cache.specs.Caches.{entries_of}
 use Rattle.atlas_cache.specs.Relocating.{become, renewed_by}
 use Rattle.atlas_cache.proofs.KeyLemmas.{own_keys}
@@ -44,7 +43,7 @@ returns-clause-repacks g c = λ _.
     let cs = c.in_ok-list.list.changes.items in
     let does = c.in_ok-list.ensures.repacks in
     let evictions : c.saturating_add-self-inside.result
-        ≡ min (it.counts.evictions + (length (entries_of it.entries) - length (entries_of c.settle_all.new.entries))) 18446744073709551615 =
+    ≡ min (it.counts.evictions + (length (entries_of it.entries) - length (entries_of c.settle_all.new.entries))) 18446744073709551615 =
     omega (arith, c.saturating_add-self-inside.ensures, c.len-2.ensures, c.len-before.ensures, length-listed it.entries, length-listed c.settle_all.new.entries) in
     rw (← c.self.view_is) (record {
       renewed = renewed_by cs;
