@@ -1,5 +1,5 @@
 -- What a page's repacking makes of what a cache keeps.
-use Rattle.std.proofs.Common.{ℕ, ℤ, ◌+◌, ◌<◌, ◌≤◌, ◌≡◌, ◌≢◌, ◌==◌, ◌⊎◌, inl, inr, Bool, true, false, cond, List, [], ◌∷◌, ◌++◌, map, Option, None, Some, option_map, All, Contains, length, refl, sym, ap, ◌∙◌, arith}
+use Rattle.std.proofs.Common.{ℕ, ℤ, ◌+◌, ◌<◌, ◌≤◌, ◌≡◌, ◌==◌, inl, inr, Bool, true, false, cond, List, [], ◌∷◌, ◌++◌, map, Option, None, Some, option_map, Contains, length, refl, sym, ap, ◌∙◌, arith}
 use Rattle.std.specs.List.{cons_option, count_by, filter_map, find, AllByRecursion}
 use Rattle.std.proofs.lemmas.{Bool.Decides.{eqb_tells}}
 use Rattle.std.proofs.lemmas.Bool.{eq-eqb, ne_eqb, eqb-true}
@@ -15,13 +15,13 @@ use Rattle.guillotiere.specs.Callers.{rectangle_in}
 use Rattle.guillotiere.specs.Pages.{rectangle_on}
 use Rattle.guillotiere.specs.Rearranging.{IsExactChange, KeepsSides}
 use Rattle.guillotiere.specs.Stored.{AtlasValue, state_of}
-use Rattle.guillotiere.proofs.ListLemmas.CallerLemmas.{count_by-map, find-counted_once, Contains-find, Contains-map}
+use Rattle.guillotiere.proofs.ListLemmas.CallerLemmas.{count_by-map, find-counted_once, Contains-find}
 use Rattle.guillotiere.proofs.ListLemmas.Counting.{count_by-append, counted_once}
 use Rattle.atlas_cache.specs.declared.entries.Entry.{Entry}
 use Rattle.atlas_cache.specs.Asking.{IsBorderedBy}
-use Rattle.atlas_cache.specs.Caches.{entries_of, has_id, holders, AreBordered, FramesFall, HoldsEntries}
+use Rattle.atlas_cache.specs.Caches.{entries_of, holders, AreBordered, FramesFall, HoldsEntries}
 use Rattle.atlas_cache.specs.Relocating.{become, renewed_by}
-use Rattle.atlas_cache.specs.Repacking.{held_after, held_before, rectangle_among, RepacksPage}
+use Rattle.atlas_cache.specs.Repacking.{RepacksPage}
 use Rattle.atlas_cache.proofs.EntryLemmas.{option_is}
 use Rattle.atlas_cache.proofs.HoldingLemmas.{id_cases, IsLiveOn}
 use Rattle.atlas_cache.proofs.ListLemmas.{falls-later, length-listed}

@@ -1,5 +1,5 @@
 -- What a caller knows who follows the changes of a repacking.
-use Rattle.std.proofs.Common.{ℕ, ℤ, ◌≡◌, ◌==◌, inl, inr, Bool, true, false, cond, List, [], ◌∷◌, ◌++◌, Option, None, Some, option_map, refl, sym, ap, ◌∙◌}
+use Rattle.std.proofs.Common.{ℕ, ℤ, ◌≡◌, inl, inr, Bool, true, false, cond, List, [], ◌∷◌, Option, None, Some, option_map, refl, sym, ap, ◌∙◌}
 use Rattle.std.proofs.lemmas.{Bool.Decides.{eqb_tells}}
 use Rattle.std.proofs.lemmas.Bool.{cases_Bool}
 use Rattle.std.specs.Cmp.{IsEquivalence}
@@ -7,8 +7,8 @@ use Rattle.std.specs.List.{cons_option, filter_map, AllByRecursion}
 use Rattle.atlas_cache.specs.declared.changes.CacheChange.{CacheChange}
 use Rattle.atlas_cache.specs.declared.changes.CacheChange.TheVariants.{Evicted, Moved}
 use Rattle.atlas_cache.specs.declared.entries.Entry.{Entry}
-use Rattle.atlas_cache.specs.Caches.{CacheState, entry_for, place_for, shown, HaveOwnKeys}
-use Rattle.atlas_cache.specs.Changes.{Picture, all_changed, changed, picture_of, ShowsSame}
+use Rattle.atlas_cache.specs.Caches.{CacheState, entry_for, shown, HaveOwnKeys}
+use Rattle.atlas_cache.specs.Changes.{Picture, all_changed, changed, picture_of}
 use Rattle.atlas_cache.specs.Clearing.{TellsChanges}
 use Rattle.atlas_cache.specs.Relocating.{become, told_as, told_of, Repacks}
 
@@ -89,8 +89,9 @@ module _ {K : Type 0} (eq : K → K → Bool) (laws : IsEquivalence eq) (padding
           rw found
           (untouched k es rest (changed eq (Moved e.key (shown padding e) (shown padding f)) p)
           ∙ ap (λ b. cond b (Some (shown padding f)) (p.places k)) hit)
+
       missed : ((q : Picture K) → q.places k ≡ option_map (shown padding) (entry_for eq k es)
-              → (all_changed eq (tell es) q).places k ≡ option_map (shown padding) (entry_for eq k (later es)))
+          → (all_changed eq (tell es) q).places k ≡ option_map (shown padding) (entry_for eq k (later es)))
           → (o : Option (Entry K)) → renewed e ≡ o → eq e.key k ≡ false → p.places k ≡ option_map (shown padding) (entry_for eq k es)
           → (all_changed eq (told_as padding e o ∷ tell es) p).places k ≡ option_map (shown padding) (entry_for eq k (cons_option o (later es)))
       missed rest None is_o miss was =

@@ -45,7 +45,10 @@ fn what_fills_a_page_stays_and_is_told(rt: HostRuntime) -> Result<(), Fail> {
     assert!(rt; there);
     assert_eq!(rt; changes.len(), 1);
     let (from, to) = (whole(1), whole(1));
-    assert_eq!(rt; changes.first().copied(), Some(CacheChange::Moved { key: 2, from, to }));
+    assert_eq!(rt;
+        changes.first().copied(),
+        Some(CacheChange::Moved { key: 2, from, to })
+    );
     Ok(())
 }
 

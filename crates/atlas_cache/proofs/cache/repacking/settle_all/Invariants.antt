@@ -1,4 +1,4 @@
-use Rattle.std.proofs.Common.{◌≡◌, ◌-◌, length, vec_capacity, vec_len}
+use Rattle.std.proofs.Common.{◌-◌, vec_capacity, vec_len}
 use Rattle.atlas_cache.proofs.RelocateLemmas.{Walked}
 use Rattle.atlas_cache.proofs.cache.repacking.settle_all.Given as goal
 
