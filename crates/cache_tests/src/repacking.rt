@@ -72,3 +72,19 @@ fn a_page_that_is_not_there_changes_nothing(rt: HostRuntime) -> Result<(), Fail>
     assert_eq!(rt; changes.len(), 0);
     Ok(())
 }
+
+// On an empty page the first rectangle lies at its corner, so what is alone on a page comes there.
+#[test]
+fn what_is_alone_comes_to_the_corner(rt: HostRuntime) -> Result<(), Fail> {
+    let mut cache = TextureCache::new(rt.alloc(), options())?;
+    let mut changes = Vec::new(rt.alloc());
+    let _first = cache.insert(1, size2(8, 8), &mut changes)?;
+    let _second = cache.insert(2, size2(8, 8), &mut changes)?;
+    let _gone = cache.remove(&1);
+    let _there = cache.repack(0, &mut changes)?;
+    assert_eq!(rt;
+        cache.peek(&2).map(|place| place.rectangle.min),
+        Some(point2(0, 0))
+    );
+    Ok(())
+}
