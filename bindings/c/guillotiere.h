@@ -401,7 +401,8 @@ uint32_t guillotiere_cache_peek(guillotiere_cache *cache, uint64_t key, guilloti
 uint32_t guillotiere_cache_insert(guillotiere_cache *cache, uint64_t key, int32_t width, int32_t height,
                                   guillotiere_place *place);
 
-/* A key goes; the place that it had is written. No change tells it. Takes no memory. DONE; NOT_HELD; EMPTY. */
+/* A key goes; the place that it had is written. No change tells it: forget its place, once the changes that weren't handed
+ * over are followed. Takes no memory. DONE; NOT_HELD; EMPTY. */
 uint32_t guillotiere_cache_remove(guillotiere_cache *cache, uint64_t key, guillotiere_place *place);
 
 /* Hands over the first change that wasn't handed over yet; each is handed over once, in the order in which they were

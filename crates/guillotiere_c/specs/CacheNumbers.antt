@@ -51,7 +51,7 @@ options_fault status =
     else (if status == BAD_PADDING then Some fault.Padding
     else (if status == BAD_ATLAS then Some fault.Atlas else None))))
 
--- The error that a status tells of an insert.
+-- The error that a status tells of a cache.
 abbrev pub cache_error : ℕ → Option CacheError
 cache_error status =
     if status == MEMORY then Some error.Memory

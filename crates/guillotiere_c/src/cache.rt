@@ -175,7 +175,8 @@ pub extern "C" fn guillotiere_cache_insert(
     }
 }
 
-/// A key goes, and the place that it had is written. Takes no memory. `DONE`; `NOT_HELD`.
+/// A key goes, and the place that it had is written. No change tells it: the caller forgets its place, once the changes
+/// that weren't handed over are followed. Takes no memory. `DONE`; `NOT_HELD`.
 #[unsafe(no_mangle)]
 pub extern "C" fn guillotiere_cache_remove(
     alloc: Global,
@@ -272,7 +273,8 @@ pub extern "C" fn guillotiere_cache_trim(alloc: Global, cache: &mut CacheHandle,
 #[unsafe(no_mangle)]
 pub extern "C" fn guillotiere_cache_repack(alloc: Global, cache: &mut CacheHandle, page: u32) -> u32
     ensures repacks { result ≡ DONE → GoesOver cache.old.kept cache.new.kept (IsRepacking page) }
-    ensures absent { result ≡ NO_PAGE → HoldsCache cache.old.kept (λ f. length f.cache.pages ≤ page) }
+    ensures there { result ≡ NO_PAGE → HoldsCache cache.old.kept (λ f. length f.cache.pages ≤ page) }
+    ensures absent { HoldsCache cache.old.kept (λ f. length f.cache.pages ≤ page) → result ≡ NO_PAGE }
     ensures refused { result ≢ DONE → cache.new.kept ≡ cache.old.kept }
     ensures unless { IsSome cache.old.kept → result ≢ DONE → result ≢ NO_PAGE → result ≢ SLOTS → result ≡ MEMORY }
     ensures empty { IsNone cache.old.kept → result ≡ EMPTY }

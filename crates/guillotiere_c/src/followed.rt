@@ -18,7 +18,7 @@ use std::alloc::Global;
 use std::marker::Model;
 
 /// A cache, and the changes that weren't handed over yet. Those that were stay in the list until the last one is handed
-/// over, or the next insert or trim comes.
+/// over, or the next call comes that adds to it.
 #[derive(Drop)]
 pub struct FollowedCache {
     cache: TextureCache<u64>,
@@ -152,7 +152,8 @@ impl FollowedCache {
     /// As `TextureCache::repack`. Its changes come behind those that weren't handed over.
     pub fn repack(&mut self, page: u32) -> Result<bool, CacheError>
         ensures repacks { result ≡ Ok true → IsRepacking page self.old self.new }
-        ensures absent { result ≡ Ok false → length self.old.cache.pages ≤ page }
+        ensures there { result ≡ Ok false → length self.old.cache.pages ≤ page }
+        ensures absent { length self.old.cache.pages ≤ page → result ≡ Ok false }
         ensures none { result ≡ Ok false → self.new ≡ self.old }
         ensures refused { OnErr result (self.new ≡ self.old) }
         ensures errors { IfErr result IsRefusal }

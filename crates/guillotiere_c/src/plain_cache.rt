@@ -156,7 +156,7 @@ pub fn cache_options_for(options: &PlainCacheOptions) -> CacheOptions
     }
 }
 
-/// The status of an error of an insert.
+/// The status of an error of a cache.
 pub fn status_of_cache_error(error: CacheError) -> u32
     ensures answer { (written : Written) → insert_answer result written ≡ Some (Err error) }
     ensures told { cache_error result ≡ Some error }

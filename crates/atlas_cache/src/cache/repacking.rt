@@ -112,6 +112,7 @@ impl<K: Copy + Eq + Hash, S: BuildHasher, A: Allocator + Copy> TextureCache<K, S
     pub fn repack(&mut self, page: u32, changes: &mut Changes<K, A>) -> Result<bool, CacheError>
         ensures repacks { result ≡ Ok true → Repacks page changes.old.items changes.new.items self.old self.new }
         ensures there { IfOk result (λ there. IsTrue there ↔ (page < length self.old.pages)) }
+        ensures absent { length self.old.pages ≤ page → result ≡ Ok false }
         ensures none { result ≡ Ok false → (self.new ≡ self.old) × (changes.new.items ≡ changes.old.items) }
         ensures told { TellsChanges K.eq changes.old.items changes.new.items self.old self.new }
         ensures refused { OnErr result ((self.new ≡ self.old) × (changes.new.items ≡ changes.old.items)) }
