@@ -4,9 +4,9 @@ ghost use Rattle.atlas_store.specs.Search.Bands.{IsInWindow};
 ghost use Rattle.atlas_model.specs.Boxes.{Box, IsPositive, Sides};
 ghost use Rattle.atlas_model.specs.Choice.{IsFitting, IsPick, Options};
 ghost use Rattle.atlas_store.specs.Search.Items.{IsShowable};
-ghost use Rattle.atlas_store.specs.Search.Lookups.{AreFreeItems, AreListed, FitsNoItem, HasAdded, HasSearched};
-ghost use Rattle.atlas_store.specs.Search.Lookups.{HasShown, IsBeyond, IsFirstBest, IsInColumn, IsInRow, IsInsideWindow};
-ghost use Rattle.atlas_store.specs.Search.Lookups.{IsSearch, IsSearchFrom, IsStanding, IsWindowFrom};
+ghost use Rattle.atlas_store.specs.Search.Lookups.{AreFreeItems, AreListed, HasAdded, HasSearched};
+ghost use Rattle.atlas_store.specs.Search.Lookups.{HasShown, IsBeyond, IsInColumn, IsInRow, IsInsideWindow};
+ghost use Rattle.atlas_store.specs.Search.Lookups.{IsSearch, IsStanding, IsWindowOf};
 ghost use Rattle.atlas_store.specs.Search.Masks.{IsMarked};
 ghost use Rattle.atlas_model.specs.Pixels.{box_of, options_of, sides_of};
 ghost use Rattle.atlas_store.specs.Search.Tables.{is_used_at};
@@ -141,7 +141,6 @@ fn columns_in<A: Allocator>(table: &Table<A>, window: Window, row: usize, first:
     requires begin { window.first < BANDS }
     requires end { window.end ≤ BANDS }
     ensures only { (j : ℕ) → IsMarked result j → (first ≤ j) × IsInsideWindow window row j }
-    ensures used { (j : ℕ) → IsMarked result j → is_used_at table.now (52 * row + j) ≡ true }
     ensures each { (j : ℕ) → first ≤ j → IsInsideWindow window row j → is_used_at table.now (52 * row + j) ≡ true
         → IsMarked result j }
 {
@@ -161,7 +160,6 @@ fn rows_in<A: Allocator>(table: &Table<A>, window: Window, column: usize, first:
     requires begin { window.first < BANDS }
     requires end { window.end ≤ BANDS }
     ensures only { (i : ℕ) → IsMarked result i → (first ≤ i) × IsInsideWindow window i column }
-    ensures used { (i : ℕ) → IsMarked result i → is_used_at table.now (52 * i + column) ≡ true }
     ensures each { (i : ℕ) → first ≤ i → IsInsideWindow window i column → is_used_at table.now (52 * i + column) ≡ true
         → IsMarked result i }
 {
@@ -202,7 +200,7 @@ fn search_rows<A: Allocator, E: Entry>(
     requires end { window.end ≤ BANDS }
     requires listed { (o : Options) × AreListed o table.now (map E.item entries.now) }
     ensures { (o : Options) (class : ℕ) (r : Sides) → AreListed o table.now (map E.item entries.now) → class < 3
-        → (row : ℕ) → ((i : ℕ) → IsMarked rows i → row ≤ i) → IsWindowFrom o table.now row first class window
+        → IsWindowOf o class window
         → HasAdded o table.now (map E.item entries.now) class r (IsBeyond rows first) best.old best.new }
 {
     let mut left = rows;
@@ -212,19 +210,17 @@ fn search_rows<A: Allocator, E: Entry>(
     }
 }
 
-// A row or column that each list with a slot reaches, of those from a place on, and that isn't before the place's own.
+// A row or column that each list with a slot reaches, of those from a place on.
 #[inline(always)]
 fn least_from<A: Allocator>(table: &Table<A>, own: Place) -> usize
     requires row { own.row < BANDS }
     requires column { own.column < BANDS }
-    ensures reached { (i j : ℕ) → i < BANDS → j < BANDS → own.row ≤ i → own.column ≤ j
+    ensures { (i j : ℕ) → i < BANDS → j < BANDS → own.row ≤ i → own.column ≤ j
         → is_used_at table.now (52 * i + j) ≡ true → (result ≤ i) ⊎ (result ≤ j) }
-    ensures row { own.row ≤ result }
-    ensures column { own.column ≤ result }
 {
     let columns = table.row(own.row).from(own.column);
     let rows = table.used().from(own.row + 1);
-    columns.or(rows).first().max(own.row.max(own.column))
+    columns.or(rows).first()
 }
 
 // A search that was shown the free entries of a class: those with an equal side first, which stand in the request's row
@@ -234,18 +230,17 @@ fn search_class<A: Allocator, E: Entry>(
     entries: &[E],
     table: &Table<A>,
     request: Request,
-    window: Window,
+    number: usize,
 ) -> Best
     requires row { request.own.row < BANDS }
     requires column { request.own.column < BANDS }
-    requires begin { window.first < BANDS }
-    requires end { window.end ≤ BANDS }
-    requires search { (o : Options) × (class : ℕ) × IsSearch o table.now (map E.item entries.now) class request window }
-    ensures { (o : Options) (class : ℕ) → IsSearch o table.now (map E.item entries.now) class request window
-        → HasSearched o table.now (map E.item entries.now) class (sides_of request.size) result }
+    requires search { (o : Options) × IsSearch o table.now (map E.item entries.now) number request }
+    ensures { (o : Options) → IsSearch o table.now (map E.item entries.now) number request
+        → HasSearched o table.now (map E.item entries.now) number (sides_of request.size) result }
 {
     let mut best = Best::new(request.size, request.is_large);
     let own = request.own;
+    let window = window_for(number, request.borders);
     let columns = columns_in(table, window, own.row, own.column);
     search_row(entries, table, own.row, columns, &mut best);
     let rows = rows_in(table, window, own.column, own.row + 1);
@@ -265,31 +260,6 @@ fn search_class<A: Allocator, E: Entry>(
     best
 }
 
-// The free entry that a request takes if it fits none of a class below this one.
-#[inline(never)]
-fn pick_above<A: Allocator, E: Entry>(
-    entries: &[E],
-    table: &Table<A>,
-    request: Request,
-    first: usize,
-) -> Option<Found>
-    requires row { request.own.row < BANDS }
-    requires column { request.own.column < BANDS }
-    requires search { (o : Options) × IsSearchFrom o table.now (map E.item entries.now) first request }
-    ensures none { (o : Options) → IsSearchFrom o table.now (map E.item entries.now) first request → result ≡ None
-        → FitsNoItem (map E.item entries.now) (sides_of request.size) }
-    ensures found { (o : Options) → IsSearchFrom o table.now (map E.item entries.now) first request
-        → IfSome result (IsFirstBest o table.now (map E.item entries.now) (sides_of request.size)) }
-{
-    for number in first..3 {
-        let window = window_for(number, request.borders);
-        if let Some(found) = search_class(entries, table, request, window).best() {
-            return Some(found);
-        }
-    }
-    None
-}
-
 /// The free entry that a request of this rounded size takes.
 pub fn pick<A: Allocator, E: Entry>(
     entries: &[E],
@@ -306,25 +276,20 @@ pub fn pick<A: Allocator, E: Entry>(
         → IsPick free (options_of options.now) (sides_of size) (box_of found.rectangle)) }
     ensures standing { IfSome result (IsStanding (options_of options.now) table.now (map E.item entries.now)) }
 {
+    let own_class = class(size, options);
     let own = options.place_for(size);
     let borders = options.borders();
-    let number = class_from(least_from(table, own), borders);
-    if number >= 3 {
-        return None;
-    }
     let request = Request {
         size,
-        is_large: class(size, options) == 2,
+        is_large: own_class == 2,
         own,
         borders,
     };
-    // Each list in reach that ends before the window's end is one of the class: it needs no beginning.
-    let window = Window {
-        first: 0,
-        end: window_for(number, borders).end,
-    };
-    if let Some(found) = search_class(entries, table, request, window).best() {
-        return Some(found);
+    let first = class_from(least_from(table, own), borders).max(own_class);
+    for number in first..3 {
+        if let Some(found) = search_class(entries, table, request, number).best() {
+            return Some(found);
+        }
     }
-    pick_above(entries, table, request, number + 1)
+    None
 }

@@ -5,11 +5,11 @@ use Rattle.atlas_store.specs.declared.search.bands.Window.{Window}
 use Rattle.atlas_store.specs.declared.search.best.Best.{Best}
 use Rattle.atlas_store.specs.declared.search.masks.Mask.{Mask}
 use Rattle.atlas_store.specs.declared.search.table.ListHead.{ListHead}
-use Rattle.atlas_store.specs.Search.Bands.{IsInWindow, start_of}
+use Rattle.atlas_store.specs.Search.Bands.{IsInWindow}
 use Rattle.atlas_model.specs.Boxes.{Sides}
 use Rattle.atlas_model.specs.Choice.{Options}
 use Rattle.atlas_store.specs.Search.Items.{Item}
-use Rattle.atlas_store.specs.Search.Lookups.{AreListed, HasAdded, IsInRow, IsInColumn, IsBeyond, IsInsideWindow, IsWindowFrom, IsWindowOf}
+use Rattle.atlas_store.specs.Search.Lookups.{AreListed, HasAdded, IsInRow, IsInColumn, IsBeyond, IsInsideWindow, IsWindowOf}
 use Rattle.atlas_store.specs.Search.Masks.{has, IsMarked}
 use Rattle.atlas_store.specs.Search.Tables.{is_used_at}
 use Rattle.atlas_store.proofs.SearchLemmas.Adding.{added-nothing, added-next, added-weaker}
@@ -42,31 +42,6 @@ inside-window o class w i j is h = grind arith
 pub window-inside : (o : Options) (class : ℕ) (w : Window) (i j : ℕ) → IsWindowOf o class w → IsInWindow o class i j → IsInsideWindow w i j
 window-inside o class w i j is h = grind arith
 
-pub window-from : (o : Options) (heads : List ListHead) (row column class : ℕ) (w : Window) → IsWindowOf o class w → IsWindowFrom o heads row column class w
-window-from o heads row column class w is = record {
-  end = is.end;
-  each = λ i j h. window-inside o class w i j is h;
-  only = λ i j _ _ _ h. inside-window o class w i j is h;
-}
-
--- What is used from a place on begins no earlier than the class: its window needs no beginning.
-pub window-below : (o : Options) (heads : List ListHead) (row column least class end : ℕ)
-    → ((i j : ℕ) → i < 52 → j < 52 → row ≤ i → column ≤ j → is_used_at heads (52 * i + j) ≡ true → (least ≤ i) ⊎ (least ≤ j))
-    → start_of o class ≤ least → end ≡ start_of o (class + 1) → end ≤ 52
-    → IsWindowFrom o heads row column class (record { first = 0; end = end })
-window-below o heads row column least class end reached begins e most = record {
-  end = e;
-  each = λ i j h. record { row_ends = omega (arith, h.row_ends, e); column_ends = omega (arith, h.column_ends, e); begins = inl (omega arith) };
-  only = λ i j past under used h. record {
-    row_ends = omega (arith, h.row_ends, e);
-    column_ends = omega (arith, h.column_ends, e);
-    begins = elim (reached i j (omega (arith, h.row_ends, most)) (omega (arith, h.column_ends, most)) past under used) [
-      | inl l ↦ inl (omega (arith, l, begins))
-      | inr l ↦ inr (omega (arith, l, begins))
-    ];
-  };
-}
-
 module _ (o : Options) (heads : List ListHead) (es : List Item) (class : ℕ) (r : Sides) where
   -- Before the first.
   pub row-begins : (row : ℕ) (columns : Mask) (s : Best) → HasAdded o heads es class r (λ i j. IsInRow row columns i j × (has columns j ≡ false)) s s
@@ -95,17 +70,17 @@ module _ (o : Options) (heads : List ListHead) (es : List Item) (class : ℕ) (r
       added-next o heads es class r _ _ _ s t u (λ i j w.
       elim (rest-cases old new k i rest w.1) [ inl h ↦ inl (w.0, h) | inr e ↦ inr (e, w.0.0) ]) a b
 
-  pub rows-go_on : (row first : ℕ) (rows old new columns : Mask) (window : Window) (s t u : Best) → AreListed o heads es → class < 3
-      → ((i j : ℕ) → IsInWindow o class i j → IsInsideWindow window i j) → IsRest old new row
+  pub rows-go_on : (row first : ℕ) (rows old new columns : Mask) (window : Window) (s t u : Best) → AreListed o heads es → class < 3 → IsWindowOf o class window
+      → IsRest old new row
       → ((j : ℕ) → first ≤ j → IsInsideWindow window row j → is_used_at heads (52 * row + j) ≡ true → IsMarked columns j)
       → HasAdded o heads es class r (λ i j. IsBeyond rows first i j × (has old i ≡ false)) s t
       → HasAdded o heads es class r (IsInRow row columns) t u
       → HasAdded o heads es class r (λ i j. IsBeyond rows first i j × (has new i ≡ false)) s u
-  rows-go_on row first rows old new columns window s t u listed few within rest each a b =
+  rows-go_on row first rows old new columns window s t u listed few is rest each a b =
       added-next o heads es class r _ (λ i j. (i ≡ row) × (first ≤ j)) _ s t u
       (λ i j w. elim (rest-cases old new row i rest w.1) [ inl h ↦ inl (w.0, h) | inr e ↦ inr (e, w.0.1) ]) a
       (added-weaker o heads es class r listed (IsInRow row columns) (λ i j. (i ≡ row) × (first ≤ j)) t u few
       (λ i j hi hj used inside v. (
         v.0,
-        each j v.1 (subst (λ k. IsInsideWindow window k j) v.0 (within i j inside)) (subst (λ k. is_used_at heads (52 * k + j) ≡ true) v.0 used),
+        each j v.1 (subst (λ k. IsInsideWindow window k j) v.0 (window-inside o class window i j is inside)) (subst (λ k. is_used_at heads (52 * k + j) ≡ true) v.0 used),
       )) b)

@@ -1,31 +1,29 @@
 -- A search of a class: its own row and column first, and the rest only if no equal side was found.
-use Rattle.std.proofs.Common.{◌≡◌, ℕ, zero, suc, ◌+◌, ◌*◌, ◌<◌, ◌≤◌, ◌⊎◌, ◌==◌, ◌&&◌, ◌||◌, nat_lt, nat_le, Bool, true, false, cond, List, [], ◌∷◌, length, refl, ap, sym, ◌∙◌, subst, inl, inr, arith}
+use Rattle.std.proofs.Common.{◌≡◌, ℕ, zero, suc, ◌+◌, ◌*◌, ◌<◌, ◌≤◌, ◌⊎◌, ◌==◌, ◌&&◌, ◌||◌, nat_lt, nat_le, max, Bool, true, false, cond, List, [], ◌∷◌, length, refl, ap, sym, ◌∙◌, subst, inl, inr, arith}
 use Rattle.std.proofs.lemmas.Bool.{cases_eq, cases_lt, cond_both, eq-eqb, eqb-true, true≢false}
 use Rattle.std.proofs.lemmas.Bool.Decides.{nat_tests}
 use Rattle.atlas_store.specs.declared.search.bands.Borders.{Borders}
 use Rattle.atlas_store.specs.declared.search.bands.Place.{Place}
 use Rattle.atlas_store.specs.declared.search.bands.Window.{Window}
 use Rattle.atlas_model.specs.declared.geometry.Size.{Size}
-use Rattle.atlas_store.specs.declared.search.Request.{Request}
 use Rattle.atlas_store.specs.declared.search.best.Best.{Best}
 use Rattle.atlas_store.specs.declared.search.masks.Mask.{Mask}
 use Rattle.atlas_store.specs.declared.search.table.ListHead.{ListHead}
-use Rattle.atlas_store.specs.Search.Bands.{band_of, start_of, IsInWindow}
+use Rattle.atlas_store.specs.Search.Bands.{band_of, start_of}
 use Rattle.atlas_store.specs.Search.Bests.{HasSeen}
 use Rattle.atlas_model.specs.Boxes.{Sides, IsPositive}
 use Rattle.atlas_model.specs.Choice.{Options, AreValid, class_of, HasEqualSide}
 use Rattle.atlas_store.specs.Search.Items.{Item, item_at, item_box, item_sides, shown_item, shown_items}
 use Rattle.atlas_store.specs.Slots.Lists.{occurs}
-use Rattle.atlas_store.specs.Search.Lookups.{AreBorders, AreListed, FitsItemsFrom, FitsNoneIn, HasAdded, HasSearched, IsInRow, IsInColumn, IsBeyond, IsInsideWindow, IsRequest, IsSearch, IsSearchFrom, IsWindowOf}
+use Rattle.atlas_store.specs.Search.Lookups.{AreBorders, AreListed, FitsItemsFrom, HasAdded, HasSearched, IsInRow, IsInColumn, IsBeyond, IsInsideWindow, IsSearch, IsWindowOf}
 use Rattle.atlas_store.specs.Search.Masks.{has, IsMarked}
 use Rattle.atlas_model.specs.Pixels.{sides_of}
 use Rattle.atlas_store.specs.Search.Searches.{Shown}
 use Rattle.atlas_store.specs.Search.Tables.{is_used_at}
 use Rattle.atlas_store.proofs.SearchLemmas.Adding.{added-then, added-weaker, positive-at, row_at, column_at, used-at}
-use Rattle.atlas_store.proofs.SearchLemmas.AddingLines.{window-below, window-from}
+use Rattle.atlas_store.proofs.SearchLemmas.AddingLines.{window-inside}
 use Rattle.atlas_store.proofs.SearchLemmas.BandLaws.{band_below, band_mono, border_of-most, class_of-most, list_of-most, start_mono, window_law}
 use Rattle.atlas_store.proofs.SearchLemmas.Besting.{seen-passed}
-use Rattle.atlas_store.proofs.SearchLemmas.ItemPicks.{from-next}
 use Rattle.atlas_store.proofs.ListLemmas.Occurrences.{same-self, same-ne}
 use Rattle.atlas_store.proofs.SearchLemmas.Showing.{path-inside, shown_items-has, shown_items-in}
 
@@ -65,10 +63,6 @@ pub marked-between : (used from below : Mask) (k end i : ℕ) → ((j : ℕ) →
     → IsMarked used i → k ≤ i → i < end → IsMarked below i
 marked-between used from below k end i f b h l m = grind (arith, le_true, lt_true)
 
-pub marked-from : (used from below : Mask) (k end i : ℕ) → ((j : ℕ) → has from j ≡ (has used j && nat_le k j)) → ((j : ℕ) → has below j ≡ (has from j && nat_lt j end))
-    → IsMarked below i → k ≤ i
-marked-from used from below k end i f b h = grind (arith, nat_tests, and_both)
-
 and_of : (a b : Bool) → a ≡ true → b ≡ true → (a && b) ≡ true
 and_of a b e f = ap (λ t. t && b) e ∙ f
 
@@ -104,7 +98,7 @@ pub borders-inside : (o : Options) (b : Borders) → AreBorders o b → (b.small
 borders-inside o b is = (omega (arith, is.small, border_of-most o o.small_threshold), omega (arith, is.large, border_of-most o o.large_threshold))
 
 -- The request's own row and column lie before the end of the window.
-pub own-ends : (o : Options) (r : Sides) (class : ℕ) (w : Window) → AreValid o → IsPositive r → class < 3 → class_of o r ≤ class → w.end ≡ start_of o (class + 1)
+pub own-ends : (o : Options) (r : Sides) (class : ℕ) (w : Window) → AreValid o → IsPositive r → class < 3 → class_of o r ≤ class → IsWindowOf o class w
     → (band_of o r.width < w.end) × (band_of o r.height < w.end)
 own-ends o r class w valid positive few from is =
     grind (
@@ -158,19 +152,19 @@ module _ (o : Options) (heads : List ListHead) (es : List Item) (class : ℕ) (r
       }
 
   -- And else they are shown.
-  pub added-beyond : (window : Window) (used from below : Mask) (s t : Best) → ((i j : ℕ) → IsInWindow o class i j → IsInsideWindow window i j)
+  pub added-beyond : (window : Window) (used from below : Mask) (s t : Best) → IsWindowOf o class window
       → ((i j : ℕ) → i < 52 → column + 1 ≤ j → j < window.end → is_used_at heads (52 * i + j) ≡ true → IsMarked used i)
       → ((j : ℕ) → has from j ≡ (has used j && nat_le (row + 1) j)) → ((j : ℕ) → has below j ≡ (has from j && nat_lt j window.end))
       → HasAdded o heads es class r (IsBeyond below (column + 1)) s t → HasAdded o heads es class r IsApart s t
   added-beyond window used from below s t is each f b h =
       added-weaker o heads es class r a (IsBeyond below (column + 1)) IsApart s t few
       (λ i j hi hj full inside v.
-      let within = is i j inside in
+      let within = window-inside o class window i j is inside in
       let marked = each i j hi (omega (arith, v.1)) within.column_ends full in
       (marked-between used from below (row + 1) window.end i f b marked (omega (arith, v.0)) within.row_ends, omega (arith, v.1))) h
 
   -- All of them.
-  pub added-all : (window : Window) (columns rows : Mask) (s t u v : Best) → ((i j : ℕ) → IsInWindow o class i j → IsInsideWindow window i j)
+  pub added-all : (window : Window) (columns rows : Mask) (s t u v : Best) → IsWindowOf o class window
       → ((j : ℕ) → column ≤ j → IsInsideWindow window row j → is_used_at heads (52 * row + j) ≡ true → IsMarked columns j)
       → ((i : ℕ) → row + 1 ≤ i → IsInsideWindow window i column → is_used_at heads (52 * i + column) ≡ true → IsMarked rows i)
       → HasAdded o heads es class r (IsInRow row columns) s t → HasAdded o heads es class r (IsInColumn column rows) t u → HasAdded o heads es class r IsApart u v
@@ -179,7 +173,7 @@ module _ (o : Options) (heads : List ListHead) (es : List Item) (class : ℕ) (r
       let V : ℕ → ℕ → Type 0 = λ i j. (IsInRow row columns i j ⊎ IsInColumn column rows i j) ⊎ IsApart i j in
       added-weaker o heads es class r a V (λ i j. (row ≤ i) × (column ≤ j)) s v few
       (λ i j hi hj full inside w.
-      let within = is i j inside in
+      let within = window-inside o class window i j is inside in
       elim (cases_eq i row) [
         | inl e ↦ inl (inl (e, each_column j w.1 (subst (λ k. IsInsideWindow window k j) e within) (subst (λ k. is_used_at heads (52 * k + j) ≡ true) e full)))
         | inr ne ↦ elim (cases_eq j column) [
@@ -225,65 +219,13 @@ fits-from o heads es r a row column least first er ec reached passed i free fits
       | inr g ↦ g
     ]
 
--- The request's own class isn't above the class whose window ends after its row and column.
-pub own-below : (o : Options) (r : Sides) (row column least class : ℕ) → AreValid o → IsPositive r → row ≡ band_of o r.width → column ≡ band_of o r.height
-    → row ≤ least → column ≤ least → (class < 3 → least < start_of o (class + 1)) → class < 3 → class_of o r ≤ class
-own-below o r row column least class valid positive er ec past under ends few =
-    elim (cases_lt class (class_of o r)) [
-      | inl l ↦
-          let within = (window_law o r (class_of o r) valid positive (class_of-most o r)).0 refl in
-          let far = start_mono o (class + 1) (class_of o r) valid (omega (arith, l)) (omega (arith, class_of-most o r)) in
-          absurd (elim within.begins [
-            | inl h ↦ omega (arith, h, far, ends few, er, past)
-            | inr h ↦ omega (arith, h, far, ends few, ec, under)
-          ])
-      | inr g ↦ g
-    ]
+pub from-both : (o : Options) (es : List Item) (r : Sides) (a b : ℕ) → FitsItemsFrom o es a r → FitsItemsFrom o es b r → FitsItemsFrom o es (max a b) r
+from-both o es r a b x y i free fits = omega (arith, x i free fits, y i free fits)
 
--- A request, as the code makes it.
-pub request-of : (o : Options) (size : Size) (own_class : ℕ) (own : Place) (b : Borders)
-    → IsPositive (sides_of size) → own_class ≡ class_of o (sides_of size)
+-- The search of a class, as the code makes its request.
+pub search-of : (o : Options) (heads : List ListHead) (es : List Item) (size : Size) (own_class number : ℕ) (own : Place) (b : Borders)
+    → AreListed o heads es → IsPositive (sides_of size) → own_class ≡ class_of o (sides_of size)
     → own.row ≡ band_of o (sides_of size).width → own.column ≡ band_of o (sides_of size).height → AreBorders o b
-    → IsRequest o (record { size = size; is_large = own_class == 2; own = own; borders = b })
-request-of o size own_class own b positive ec er ecol borders = grind arith
-
--- The search of a later class.
-pub search-at : (o : Options) (heads : List ListHead) (es : List Item) (first number : ℕ) (q : Request) (w : Window) → IsSearchFrom o heads es first q
-    → first ≤ number → number < 3 → IsWindowOf o number w → IsSearch o heads es number q w
-search-at o heads es first number q w h l few is = record {
-  listed = h.listed;
-  request = h.request;
-  few = few;
-  from = omega (arith, h.from, l);
-  window = window-from o heads q.own.row q.own.column number w is;
-}
-
--- The search of the first class, whose window needs no beginning.
-module _ (o : Options) (heads : List ListHead) (es : List Item) (q : Request) (least class : ℕ) (listed : AreListed o heads es) (request : IsRequest o q)
-    (reached : (i j : ℕ) → i < 52 → j < 52 → q.own.row ≤ i → q.own.column ≤ j → is_used_at heads (52 * i + j) ≡ true → (least ≤ i) ⊎ (least ≤ j))
-    (past : q.own.row ≤ least) (under : q.own.column ≤ least) (ends : class < 3 → least < start_of o (class + 1))
-    (passed : (d : ℕ) → d < class → start_of o (d + 1) ≤ least) where
-  pub fits-first : FitsItemsFrom o es class (sides_of q.size)
-  fits-first = fits-from o heads es (sides_of q.size) listed q.own.row q.own.column least class request.row request.column reached passed
-
-  own-first : class < 3 → class_of o (sides_of q.size) ≤ class
-  own-first few = own-below o (sides_of q.size) q.own.row q.own.column least class listed.valid request.positive request.row request.column past under ends few
-
-  pub search-first : (w : Window) → class < 3 → start_of o class ≤ least → IsWindowOf o class w → w.end ≤ 52
-      → IsSearch o heads es class q (record { first = 0; end = w.end })
-  search-first w few begins is most = record {
-    listed = listed;
-    request = request;
-    few = few;
-    from = own-first few;
-    window = window-below o heads q.own.row q.own.column least class w.end reached begins is.end most;
-  }
-
-  -- And of the classes above it.
-  pub search-above : class < 3 → FitsNoneIn o es class (sides_of q.size) → IsSearchFrom o heads es (class + 1) q
-  search-above few none = record {
-    listed = listed;
-    request = request;
-    from = omega (arith, own-first few);
-    passed = from-next o es (sides_of q.size) class fits-first none;
-  }
+    → number < 3 → own_class ≤ number
+    → IsSearch o heads es number (record { size = size; is_large = own_class == 2; own = own; borders = b })
+search-of o heads es size own_class number own b a positive ec er ecol borders few from = grind arith

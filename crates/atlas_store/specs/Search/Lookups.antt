@@ -1,5 +1,5 @@
 -- The search through lists of entries: what it needs, and what it answers. No public clause cites this module.
-use Rattle.std.specs.Prelude.{ℕ, ◌+◌, ◌*◌, ◌≡◌, ◌≢◌, ◌<◌, ◌≤◌, ◌==◌, ◌⊎◌, ◌++◌, Bool, true, List, Contains, slice_index_or, length}
+use Rattle.std.specs.Prelude.{ℕ, ◌+◌, ◌≡◌, ◌≢◌, ◌<◌, ◌≤◌, ◌==◌, ◌⊎◌, ◌++◌, Bool, true, List, Contains, slice_index_or, length}
 use Rattle.atlas_store.specs.declared.search.Request.{Request}
 use Rattle.atlas_store.specs.declared.search.bands.Borders.{Borders}
 use Rattle.atlas_store.specs.declared.search.bands.Place.{Place}
@@ -8,7 +8,7 @@ use Rattle.atlas_store.specs.declared.search.best.Best.{Best}
 use Rattle.atlas_store.specs.declared.search.best.Found.{Found}
 use Rattle.atlas_store.specs.declared.search.masks.Mask.{Mask}
 use Rattle.atlas_store.specs.declared.search.table.ListHead.{ListHead}
-use Rattle.atlas_store.specs.Search.Bands.{band_of, list_of, number_of, start_of, IsInWindow}
+use Rattle.atlas_store.specs.Search.Bands.{band_of, list_of, number_of, start_of}
 use Rattle.atlas_store.specs.Search.Bests.{HasSeen, IsSameBest}
 use Rattle.atlas_model.specs.Boxes.{Sides, Box, Fits, IsPositive}
 use Rattle.atlas_model.specs.Choice.{Options, AreValid, class_of}
@@ -21,7 +21,7 @@ use Rattle.atlas_model.specs.Pixels.{box_of, sides_of}
 use Rattle.atlas_store.specs.Search.Ranks.{no_rank}
 use Rattle.atlas_store.specs.Search.Searches.{Shown, shown_at, IsBestShown}
 use Rattle.atlas_store.specs.Slots.{no_slot}
-use Rattle.atlas_store.specs.Search.Tables.{head_of, is_used_at, low_of}
+use Rattle.atlas_store.specs.Search.Tables.{head_of, low_of}
 
 -- The best stands in the list xs that begins at `head`.
 pub record IsSpot (es : List Item) (head : ℕ) (place : Place) (xs : List ℕ) (found : Found) : Type 0 where
@@ -129,14 +129,6 @@ pub record IsBestIn (o : Options) (heads : List ListHead) (es : List Item) (clas
   pub best : IsBestShown (class_of o r == 2) r shown (shown_at (box_of found.rectangle) found.at.number)
   pub standing : IsStanding o heads es found
 
--- The best free entry of the lowest class with one that the request fits.
-abbrev pub IsFirstBest : Options → List ListHead → List Item → (r : Sides) → Found → Type 0
-IsFirstBest o heads es r found = (class : ℕ) × FitsItemsFrom o es class r × IsBestIn o heads es class r found
-
--- The request fits no free entry.
-abbrev pub FitsNoItem : List Item → (r : Sides) → Type 0
-FitsNoItem es r = (i : ℕ) → (item_at es i).is_free ≡ true → Fits r (item_sides (item_at es i)) → ⊥
-
 -- The boxes are those of the free entries.
 pub record AreFreeItems (es : List Item) (free : List Box) : Type 0 where
   pub of_item : (b : Box) → Contains free b → (i : ℕ) × ((item_at es i).is_free ≡ true) × (item_box (item_at es i) ≡ b)
@@ -152,13 +144,6 @@ pub record IsInsideWindow (w : Window) (row column : ℕ) : Type 0 where
 pub record IsWindowOf (o : Options) (class : ℕ) (w : Window) : Type 0 where
   pub first : w.first ≡ start_of o class
   pub end : w.end ≡ start_of o (class + 1)
-
--- The window ends with a class, and of the lists with a slot from a place on it has those of the class.
-pub record IsWindowFrom (o : Options) (heads : List ListHead) (row column class : ℕ) (w : Window) : Type 0 where
-  pub end : w.end ≡ start_of o (class + 1)
-  pub each : (i j : ℕ) → IsInWindow o class i j → IsInsideWindow w i j
-  pub only : (i j : ℕ) → row ≤ i → column ≤ j → is_used_at heads (52 * i + j) ≡ true → IsInsideWindow w i j
-      → IsInWindow o class i j
 
 -- The borders of the classes.
 pub record AreBorders (o : Options) (b : Borders) : Type 0 where
@@ -177,22 +162,12 @@ pub record IsRequest (o : Options) (q : Request) : Type 0 where
   pub column : q.own.column ≡ band_of o (sides_of q.size).height
   pub borders : AreBorders o q.borders
 
--- The free entries are listed, and a request is to be searched for in the window of a class, which isn't below its own.
-pub record IsSearch (o : Options) (heads : List ListHead) (es : List Item) (class : ℕ) (q : Request)
-    (w : Window) : Type 0 where
+-- The free entries are listed, and a request is to be searched for in a class, which isn't below its own.
+pub record IsSearch (o : Options) (heads : List ListHead) (es : List Item) (class : ℕ) (q : Request) : Type 0 where
   pub listed : AreListed o heads es
   pub request : IsRequest o q
   pub few : class < 3
   pub from : class_of o (sides_of q.size) ≤ class
-  pub window : IsWindowFrom o heads q.own.row q.own.column class w
-
--- The free entries are listed, and a request is to be searched for in the classes from one on, which isn't below its own:
--- it fits none of a class below.
-pub record IsSearchFrom (o : Options) (heads : List ListHead) (es : List Item) (class : ℕ) (q : Request) : Type 0 where
-  pub listed : AreListed o heads es
-  pub request : IsRequest o q
-  pub from : class_of o (sides_of q.size) ≤ class
-  pub passed : FitsItemsFrom o es class (sides_of q.size)
 
 -- These rows, from a column on.
 abbrev pub IsBeyond : (rows : Mask) → (first : ℕ) → ℕ → ℕ → Type 0

