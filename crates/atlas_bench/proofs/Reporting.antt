@@ -14,9 +14,6 @@ pub record HasReported (jobs : List Job) (index : ℕ) (out_old out_new : Option
   pub written : Appends out_old out_new text
   pub others : (later : List ℕ) → Reports (drop index jobs) later → Reports jobs (text ++ later)
 
-pub none_reported : (jobs : List Job) (known : Option (List ℕ)) → HasReported jobs 0 known known
-none_reported jobs known = record { text = []; written = Appends_none known; others = λ later reports. reports }
-
 pub one_more : (jobs : List Job) (index : ℕ) (job : Job) (answers : Answers) (line : List ℕ) (old mid new : Option (List ℕ))
     → HasReported jobs index old mid → index < length jobs → get_or jobs index job ≡ job → Makes job.workload job.size answers.calls
     → line ≡ report_text job.workload answers → Appends mid new line → HasReported jobs (index + 1) old new

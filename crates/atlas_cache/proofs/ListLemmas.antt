@@ -6,7 +6,7 @@ use Rattle.std.specs.List.{AllByRecursion, IsDistinct}
 use Rattle.atlas_cache.specs.declared.entries.Entry.{Entry}
 use Rattle.atlas_cache.specs.Caches.{entries_of, entry_for, FramesFall}
 use Rattle.atlas_cache.specs.Entries.{entry_at, number_of, numbers, without_number}
-use Rattle.atlas_cache.specs.Orders.{last_of}
+use Rattle.atlas_cache.specs.Orders.{oldest_of}
 
 module _ {X : Type 0} (P : X → Type 0) where
   pub each-append : (xs ys : List X) → AllByRecursion P xs → AllByRecursion P ys → AllByRecursion P (xs ++ ys)
@@ -35,7 +35,7 @@ pub length-last : {X : Type 0} (xs : List X) (e : X) → length (xs ++ e ∷ [])
 length-last [] e = refl
 length-last (x ∷ xs) e = omega (arith, length-last xs e)
 
-last-among : (m n : ℕ) (ns : List ℕ) → last_of ns ≡ Some n → AllByRecursion (λ y. eqb m y ≡ false) ns → eqb m n ≡ false
+last-among : (m n : ℕ) (ns : List ℕ) → oldest_of ns ≡ Some n → AllByRecursion (λ y. eqb m y ≡ false) ns → eqb m n ≡ false
 last-among m n [] is all = cc
 last-among m n (x ∷ []) is all = let first = all.0 in cc
 last-among m n (x ∷ (y ∷ ns)) is all = last-among m n (y ∷ ns) is all.1
@@ -134,7 +134,7 @@ module _ {K : Type 0} where
   pub record IsLast (e : Entry K) (es rest : List (Entry K)) : Type 0 where
     pub was : es ≡ rest ++ e ∷ []
 
-  pub last : (n : ℕ) (e : Entry K) (es : List (ℕ × Entry K)) → IsDistinct eqb (numbers es) → last_of (numbers es) ≡ Some n
+  pub last : (n : ℕ) (e : Entry K) (es : List (ℕ × Entry K)) → IsDistinct eqb (numbers es) → oldest_of (numbers es) ≡ Some n
       → entry_at n es ≡ Some e → IsLast e (entries_of es) (entries_of (without_number n es))
   last n e [] apart is at = absurd (let none : None ≡ Some e = at in cc)
   last n e (x ∷ []) apart is at = elim (eqb_tells n x.0) [
@@ -150,7 +150,7 @@ module _ {K : Type 0} where
         record { was = rw other.0 (ap (λ zs. x.1 ∷ zs) (last n e (y ∷ es) (IsDistinct-tail eqb x.0 (numbers (y ∷ es)) apart) is deep).was) }
   ]
 
-  pub none-last : (es : List (ℕ × Entry K)) → last_of (numbers es) ≡ None → entries_of es ≡ []
+  pub none-last : (es : List (ℕ × Entry K)) → oldest_of (numbers es) ≡ None → entries_of es ≡ []
   none-last [] is = refl
   none-last (x ∷ []) is = absurd (let some : Some x.0 ≡ None = is in cc)
   none-last (x ∷ (y ∷ es)) is = absurd (let none = none-last (y ∷ es) is in cc)

@@ -11,7 +11,7 @@ use Rattle.atlas_cache.specs.declared.entries.Entry.{Entry}
 use Rattle.atlas_cache.specs.Caches.{entries_of, AreBordered}
 use Rattle.atlas_cache.specs.Asking.{IsBorderedBy}
 use Rattle.atlas_cache.specs.Entries.{entry_at, moved, numbers, without_number, IsNumber}
-use Rattle.atlas_cache.specs.Orders.{first_of}
+use Rattle.atlas_cache.specs.Orders.{newest_of}
 use Rattle.atlas_cache.specs.Relocating.{become, numbered_as, renewed_by, told_as, told_of}
 use Rattle.atlas_cache.proofs.ListLemmas.{append-none, each-here}
 use Rattle.atlas_cache.proofs.WalkLemmas.{at-number, entries-append, numbers-append}
@@ -91,12 +91,12 @@ module _ {K : Type 0} where
       pub rest : List (ℕ × Entry K)
       pub was : all ≡ done ++ rest
       pub is : now ≡ filter_map settled done ++ rest
-      pub next : first ≡ first_of (numbers rest)
+      pub next : first ≡ newest_of (numbers rest)
       pub count : length rest + passed ≡ length all
       pub told : after ≡ before ++ filter_map (told_of padding page (renewed_by cs)) (entries_of done)
       pub room : length rest ≤ spare
 
-    pub none-walked : (was : List (ℕ × Entry K)) (next : Option ℕ) (before : List (CacheChange K)) (spare : ℕ) → next ≡ first_of (numbers was)
+    pub none-walked : (was : List (ℕ × Entry K)) (next : Option ℕ) (before : List (CacheChange K)) (spare : ℕ) → next ≡ newest_of (numbers was)
         → length was ≤ spare → Walked was was next 0 before before spare
     none-walked was next before spare first room = record {
       done = [];
@@ -125,7 +125,7 @@ module _ {K : Type 0} where
           told = rw all told;
         }
 
-    no-first : (rest : List (ℕ × Entry K)) → None ≡ first_of (numbers rest) → rest ≡ []
+    no-first : (rest : List (ℕ × Entry K)) → None ≡ newest_of (numbers rest) → rest ≡ []
     no-first [] is = refl
     no-first (x ∷ xs) is = absurd (let some : None ≡ Some x.0 = is in cc)
 
@@ -159,7 +159,7 @@ module _ {K : Type 0} where
     ahead was now n e count before after spare w apart at = go w.rest w.was w.is w.next w.count w.room
       where
         go : (rest : List (ℕ × Entry K)) → was ≡ w.done ++ rest → now ≡ filter_map settled w.done ++ rest
-            → Some n ≡ first_of (numbers rest) → length rest + count ≡ length was → length rest ≤ spare
+            → Some n ≡ newest_of (numbers rest) → length rest + count ≡ length was → length rest ≤ spare
             → Ahead was now n e count before after spare
         go [] was_is now_is next counted room = absurd (let some : Some n ≡ None = next in cc)
         go (x ∷ rest) was_is now_is next counted room =
@@ -184,7 +184,7 @@ module _ {K : Type 0} where
         → (a : Ahead was now n e count before after spare)
         → new ≡ filter_map settled a.done ++ cons_option (settled (n, e)) a.rest
         → later ≡ after ++ cons_option (told_of padding page (renewed_by cs) e) []
-        → next ≡ first_of (numbers a.rest) → length a.rest ≤ left
+        → next ≡ newest_of (numbers a.rest) → length a.rest ≤ left
         → Walked was new next (count + 1) before later left
     walked-on was now new n e next count before after later spare left a new_is later_is first room =
         let x : ℕ × Entry K = (n, e) in
@@ -205,7 +205,7 @@ module _ {K : Type 0} where
 
     -- An entry of the page is settled; another one stays.
     module _ (was now new : List (ℕ × Entry K)) (n : ℕ) (e : Entry K) (next : Option ℕ) (count : ℕ) (before after later : List (CacheChange K)) (spare left : ℕ) (a : Ahead was now n e count before after spare)
-        (first : next ≡ first_of (numbers a.rest)) (room : length a.rest ≤ left) where
+        (first : next ≡ newest_of (numbers a.rest)) (room : length a.rest ≤ left) where
       pub walked-here : e.page ≡ page → new ≡ filter_map settled a.done ++ cons_option (numbered_as n (renewed_by cs e)) a.rest
           → later ≡ after ++ told_as padding e (renewed_by cs e) ∷ [] → Walked was new next (count + 1) before later left
       walked-here here new_is later_is =
@@ -234,7 +234,7 @@ module _ {K : Type 0} where
         → Walked was now (Some n) count before after spare → IsDistinct eqb (numbers now) → IsNumber n now
     next-number was now n count before after spare w apart = go w.rest w.is w.next
       where
-        go : (rest : List (ℕ × Entry K)) → now ≡ filter_map settled w.done ++ rest → Some n ≡ first_of (numbers rest) → IsNumber n now
+        go : (rest : List (ℕ × Entry K)) → now ≡ filter_map settled w.done ++ rest → Some n ≡ newest_of (numbers rest) → IsNumber n now
         go [] now_is next = absurd (let some : Some n ≡ None = next in cc)
         go (x ∷ rest) now_is next =
             let num : x.0 ≡ n = (let h : Some n ≡ Some x.0 = next in cc) in

@@ -6,16 +6,16 @@ use Rattle.std.specs.List.{IsDistinct}
 use Rattle.atlas_cache.specs.declared.entries.Entry.{Entry}
 use Rattle.atlas_cache.specs.Caches.{entries_of}
 use Rattle.atlas_cache.specs.Entries.{entry_at, numbers}
-use Rattle.atlas_cache.specs.Orders.{first_of}
+use Rattle.atlas_cache.specs.Orders.{newest_of}
 use Rattle.atlas_cache.specs.Walking.{first_entry, last_entry, IsNext}
 use Rattle.atlas_cache.proofs.ListLemmas.{each-here}
 
 module _ {K : Type 0} where
-  pub first-none : (es : List (ℕ × Entry K)) → first_of (numbers es) ≡ None → first_entry (entries_of es) ≡ None
+  pub first-none : (es : List (ℕ × Entry K)) → newest_of (numbers es) ≡ None → first_entry (entries_of es) ≡ None
   first-none [] is = refl
   first-none (x ∷ es) is = absurd (let some : Some x.0 ≡ None = is in cc)
 
-  pub first-some : (n : ℕ) (e : Entry K) (es : List (ℕ × Entry K)) → first_of (numbers es) ≡ Some n → entry_at n es ≡ Some e
+  pub first-some : (n : ℕ) (e : Entry K) (es : List (ℕ × Entry K)) → newest_of (numbers es) ≡ Some n → entry_at n es ≡ Some e
       → first_entry (entries_of es) ≡ Some e
   first-some n e [] is at = absurd (let none : None ≡ Some n = is in cc)
   first-some n e (x ∷ es) is at = elim (eqb_tells n x.0) [
@@ -80,7 +80,7 @@ module _ {K : Type 0} where
     entries-split : entries_of es ≡ entries_of p.newer ++ e ∷ entries_of p.older
     entries-split = ap entries_of p.was ∙ entries-append p.newer (n, e) p.older
 
-    pub no-next : first_of (numbers p.older) ≡ None → IsNext e None (entries_of es)
+    pub no-next : newest_of (numbers p.older) ≡ None → IsNext e None (entries_of es)
     no-next none = record {
       newer = entries_of p.newer;
       older = entries_of p.older;
@@ -88,7 +88,7 @@ module _ {K : Type 0} where
       first = sym (first-none p.older none);
     }
 
-    pub next-some : (m : ℕ) (f : Entry K) → IsDistinct eqb (numbers es) → first_of (numbers p.older) ≡ Some m → entry_at m es ≡ Some f
+    pub next-some : (m : ℕ) (f : Entry K) → IsDistinct eqb (numbers es) → newest_of (numbers p.older) ≡ Some m → entry_at m es ≡ Some f
         → IsNext e (Some f) (entries_of es)
     next-some m f apart is at = record {
       newer = entries_of p.newer;
@@ -97,7 +97,7 @@ module _ {K : Type 0} where
       first = go p.older p.was is;
     }
       where
-        go : (older : List (ℕ × Entry K)) → es ≡ p.newer ++ (n, e) ∷ older → first_of (numbers older) ≡ Some m
+        go : (older : List (ℕ × Entry K)) → es ≡ p.newer ++ (n, e) ∷ older → newest_of (numbers older) ≡ Some m
             → Some f ≡ first_entry (entries_of older)
         go [] was none = absurd (let some : None ≡ Some m = none in cc)
         go (x ∷ rest) was some =

@@ -102,7 +102,7 @@ module _ {K : Type 0} where
       (next : CacheState K) × HasNoPageFor asked s × Does c s next × Leads asked cs next t
 
   -- A new entry of this key and size, used in this frame, is on the first page that has room for what was asked.
-  pub record IsPlaced (asked : Size) (key : K) (size : Size) (frame : ℕ) (old new : List AtlasValue) (entry : Entry K) : Type 0 where
+  pub record GetsPlace (asked : Size) (key : K) (size : Size) (frame : ℕ) (old new : List AtlasValue) (entry : Entry K) : Type 0 where
     pub named : entry.key ≡ key
     pub sized : entry.size ≡ size
     pub used : entry.frame ≡ frame
@@ -114,7 +114,7 @@ module _ {K : Type 0} where
   pub record Adds (asked : Size) (key : K) (size : Size) (place : Place) (s t : CacheState K) : Type 0 where
     pub entry : Entry K
     pub first : t.entries ≡ entry ∷ s.entries
-    pub placed : IsPlaced asked key size s.frame s.pages t.pages entry
+    pub placed : GetsPlace asked key size s.frame s.pages t.pages entry
     pub shows : place ≡ shown s.options.padding entry
     pub sizes : page_sizes t.pages ≡ page_sizes s.pages
     pub options : t.options ≡ s.options

@@ -7,47 +7,47 @@ pub record Order : Type 0 where
   pub made : ℕ
 
 -- 1 if the numbers are equal.
-abbrev pub same : ℕ → ℕ → ℕ
-same i j = if i == j then 1 else 0
+abbrev pub one_if_same : ℕ → ℕ → ℕ
+one_if_same i j = if i == j then 1 else 0
 
 -- How often a number stands in a list.
-abbrev pub occurs : ℕ → List ℕ → ℕ
-occurs k [] = 0
-occurs k (x ∷ xs) = same k x + occurs k xs
+abbrev pub times_in : ℕ → List ℕ → ℕ
+times_in k [] = 0
+times_in k (x ∷ xs) = one_if_same k x + times_in k xs
 
 -- The list without the first i.
-abbrev pub without : ℕ → List ℕ → List ℕ
-without i [] = []
-without i (x ∷ xs) = if i == x then xs else x ∷ without i xs
+abbrev pub without_first : ℕ → List ℕ → List ℕ
+without_first i [] = []
+without_first i (x ∷ xs) = if i == x then xs else x ∷ without_first i xs
 
 -- The number is that of an entry.
 abbrev pub IsEntry : ℕ → Order → Type 0
-IsEntry k o = 0 < occurs k o.entries
+IsEntry k o = 0 < times_in k o.entries
 
 -- The first of a list.
-abbrev pub first_of : List ℕ → Option ℕ
-first_of [] = None
-first_of (x ∷ xs) = Some x
+abbrev pub newest_of : List ℕ → Option ℕ
+newest_of [] = None
+newest_of (x ∷ xs) = Some x
 
 -- The last of a list.
-abbrev pub last_of : List ℕ → Option ℕ
-last_of [] = None
-last_of (x ∷ []) = Some x
-last_of (x ∷ (y ∷ ys)) = last_of (y ∷ ys)
+abbrev pub oldest_of : List ℕ → Option ℕ
+oldest_of [] = None
+oldest_of (x ∷ []) = Some x
+oldest_of (x ∷ (y ∷ ys)) = oldest_of (y ∷ ys)
 
 -- The entry is the most recently used; the others keep their order.
 abbrev pub used : ℕ → Order → Order
-used k o = record o { entries = k ∷ without k o.entries }
+used k o = record o { entries = k ∷ without_first k o.entries }
 
 -- The entry is gone; the others keep their order.
 abbrev pub gone : ℕ → Order → Order
-gone k o = record o { entries = without k o.entries }
+gone k o = record o { entries = without_first k o.entries }
 
 -- The number isn't that of an entry: one that was given out before, or the next one.
-pub record IsNew (k : ℕ) (o : Order) : Type 0 where
-  pub free : occurs k o.entries ≡ 0
+pub record IsFreshNumber (k : ℕ) (o : Order) : Type 0 where
+  pub free : times_in k o.entries ≡ 0
   pub next : k ≤ o.made
 
 -- A new entry is the most recently used.
-abbrev pub joined : ℕ → Order → Order
-joined k o = record { entries = k ∷ o.entries; made = max o.made (k + 1) }
+abbrev pub with_newest : ℕ → Order → Order
+with_newest k o = record { entries = k ∷ o.entries; made = max o.made (k + 1) }

@@ -14,12 +14,12 @@ abbrev pub rectangle_among : List Allocation → ℕ → Option Rectangle
 rectangle_among held id = option_map (λ a. a.rectangle) (find (λ a. a.id == id) held)
 
 -- The former places of what moved, and what found no room.
-abbrev pub held_before : {A : Type 0} → ChangeList A → List Allocation
-held_before list = map (λ c. c.old) list.changes.items ++ list.failures.items
+abbrev pub told_before : {A : Type 0} → ChangeList A → List Allocation
+told_before list = map (λ c. c.old) list.changes.items ++ list.failures.items
 
 -- The new places of what moved.
-abbrev pub held_after : {A : Type 0} → ChangeList A → List Allocation
-held_after list = map (λ c. c.new) list.changes.items
+abbrev pub told_after : {A : Type 0} → ChangeList A → List Allocation
+told_after list = map (λ c. c.new) list.changes.items
 
 -- No id stands twice.
 abbrev pub AreOfOwnIds : List Allocation → Type 0
@@ -28,10 +28,10 @@ AreOfOwnIds held = (id : ℕ) → count_by (λ a. a.id == id) held ≤ 1
 -- Whatever had a rectangle is told once, as moved or as a failure; what has one now is what moved, with its sides; and
 -- what is told has the coordinates of boxes.
 pub record TellsMoves {A : Type 0} (list : ChangeList A) (had has : ℕ → Option Rectangle) : Type 0 where
-  pub before : (id : ℕ) → had id ≡ rectangle_among (held_before list) id
-  pub after : (id : ℕ) → has id ≡ rectangle_among (held_after list) id
-  pub once_before : AreOfOwnIds (held_before list)
-  pub once_after : AreOfOwnIds (held_after list)
+  pub before : (id : ℕ) → had id ≡ rectangle_among (told_before list) id
+  pub after : (id : ℕ) → has id ≡ rectangle_among (told_after list) id
+  pub once_before : AreOfOwnIds (told_before list)
+  pub once_after : AreOfOwnIds (told_after list)
   pub sides : All KeepsSides list.changes.items
   pub exact : All IsExactChange list.changes.items
 
@@ -41,9 +41,9 @@ pub record RepacksPage {A : Type 0} (old new : List AtlasValue) (page : ℕ) (li
   pub others : KeepsPages old new page
 
 -- The area of what is live on each page, in unit squares.
-abbrev pub live_areas : List AtlasValue → List ℕ
-live_areas pages = map (λ s. sum_by (λ g. area g.box) (live_in (state_of s))) pages
+abbrev pub live_by_page : List AtlasValue → List ℕ
+live_by_page pages = map (λ s. sum_by (λ g. area g.box) (live_in (state_of s))) pages
 
 -- The area of what is free on each page.
-abbrev pub free_areas : List AtlasValue → List ℕ
-free_areas pages = map (λ s. sum_by area (free_in (state_of s))) pages
+abbrev pub free_by_page : List AtlasValue → List ℕ
+free_by_page pages = map (λ s. sum_by area (free_in (state_of s))) pages

@@ -1,7 +1,7 @@
 -- How links between entries keep an order. No public clause cites this module.
 use Rattle.std.specs.Prelude.{ℕ, ◌+◌, ◌≡◌, ◌<◌, ◌≤◌, ◌==◌, if◌then◌else◌, List, [], ◌∷◌, length, zero, suc, slice_index_or}
 use Rattle.atlas_cache.specs.declared.recency.links.Link.{Link}
-use Rattle.atlas_cache.specs.Orders.{occurs}
+use Rattle.atlas_cache.specs.Orders.{times_in}
 
 -- The number of no entry. The ends of the order stand there: what comes after it is the most recently used entry, and
 -- what comes before it is the least recently used one.
@@ -25,15 +25,15 @@ abbrev pub at_once : ℕ → ℕ → (ℕ → ℕ) → ℕ → ℕ
 at_once x y f k = if k == x then y else f k
 
 -- From `before` the links run through xs in both directions, and then to the end.
-abbrev pub Chain : (next previous : ℕ → ℕ) → (before : ℕ) → List ℕ → Type 0
-Chain next previous before [] = (next before ≡ no_entry) × (previous no_entry ≡ before)
-Chain next previous before (x ∷ xs) = (next before ≡ x) × (previous x ≡ before) × Chain next previous x xs
+abbrev pub RunsThrough : (next previous : ℕ → ℕ) → (before : ℕ) → List ℕ → Type 0
+RunsThrough next previous before [] = (next before ≡ no_entry) × (previous no_entry ≡ before)
+RunsThrough next previous before (x ∷ xs) = (next before ≡ x) × (previous x ≡ before) × RunsThrough next previous x xs
 
 -- The links run through xs, each once.
 pub record IsRing (links : List Link) (ends : Link) (xs : List ℕ) : Type 0 where
-  pub chain : Chain (next_at links ends) (previous_at links ends) no_entry xs
-  pub once : (k : ℕ) → occurs k xs ≤ 1
-  pub inside : (k : ℕ) → 0 < occurs k xs → k < length links
+  pub chain : RunsThrough (next_at links ends) (previous_at links ends) no_entry xs
+  pub once : (k : ℕ) → times_in k xs ≤ 1
+  pub inside : (k : ℕ) → 0 < times_in k xs → k < length links
 
 -- The first so many that the links run through.
 abbrev pub line : ℕ → (next : ℕ → ℕ) → ℕ → List ℕ
@@ -41,24 +41,24 @@ line zero next at = []
 line (suc n) next at = at ∷ line n next (next at)
 
 -- From `at` the links run through xs forwards, and then to the end.
-abbrev pub Line : (next : ℕ → ℕ) → ℕ → List ℕ → Type 0
-Line next at [] = at ≡ no_entry
-Line next at (x ∷ xs) = (at ≡ x) × Line next (next x) xs
+abbrev pub RunsForward : (next : ℕ → ℕ) → ℕ → List ℕ → Type 0
+RunsForward next at [] = at ≡ no_entry
+RunsForward next at (x ∷ xs) = (at ≡ x) × RunsForward next (next x) xs
 
 -- The links run through some list with this entry.
-abbrev pub IsListed : List Link → (ends : Link) → ℕ → Type 0
-IsListed links ends k = (xs : List ℕ) × IsRing links ends xs × (0 < occurs k xs)
+abbrev pub IsInRing : List Link → (ends : Link) → ℕ → Type 0
+IsInRing links ends k = (xs : List ℕ) × IsRing links ends xs × (0 < times_in k xs)
 
 -- The links run through some list without this entry.
-abbrev pub IsUnlisted : List Link → (ends : Link) → ℕ → Type 0
-IsUnlisted links ends k = (xs : List ℕ) × IsRing links ends xs × (occurs k xs ≡ 0)
+abbrev pub IsOutsideRing : List Link → (ends : Link) → ℕ → Type 0
+IsOutsideRing links ends k = (xs : List ℕ) × IsRing links ends xs × (times_in k xs ≡ 0)
 
 -- The numbers that belong to no entry stand in a line that begins with `unused`.
 pub record HasSpare (links : List Link) (ends : Link) (unused : ℕ) (entries : List ℕ) : Type 0 where
   pub spare : List ℕ
-  pub line : Line (next_at links ends) unused spare
-  pub each : (k : ℕ) → k < length links → occurs k entries + occurs k spare ≡ 1
-  pub inside : (k : ℕ) → 0 < occurs k entries + occurs k spare → k < length links
+  pub line : RunsForward (next_at links ends) unused spare
+  pub each : (k : ℕ) → k < length links → times_in k entries + times_in k spare ≡ 1
+  pub inside : (k : ℕ) → 0 < times_in k entries + times_in k spare → k < length links
   pub all : length entries + length spare ≡ length links
 
 -- The entries that the links run through, the first first.

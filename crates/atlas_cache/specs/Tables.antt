@@ -4,7 +4,7 @@ use Rattle.std.specs.Prelude.{ℕ, ◌≡◌, ◌<◌, ◌≤◌, Bool, true, Li
 use Rattle.std.specs.Option.{option_map_or}
 use Rattle.std.specs.HashMap.{HashMap, get}
 use Rattle.atlas_cache.specs.declared.entries.Entry.{Entry}
-use Rattle.atlas_cache.specs.Orders.{Order, IsEntry, occurs}
+use Rattle.atlas_cache.specs.Orders.{Order, IsEntry, times_in}
 
 module _ {K : Type 0} where
   -- What belongs to each of the numbers.
@@ -24,6 +24,6 @@ module _ {K : Type 0} where
   pub record AreKept {S : Type 0} (eq : K → K → Bool) (map : HashMap K ℕ S) (order : Order) (items : List (Entry K)) : Type 0 where
     pub made : order.made ≤ length items
     pub inside : (n : ℕ) → IsEntry n order → n < length items
-    pub once : (n : ℕ) → occurs n order.entries ≤ 1
+    pub once : (n : ℕ) → times_in n order.entries ≤ 1
     pub found : (k : K) (n : ℕ) → get eq map k ≡ Some n → HasKey eq k n order items
     pub known : (k : K) (n : ℕ) → HasKey eq k n order items → get eq map k ≡ Some n

@@ -4,7 +4,7 @@ ghost use Rattle.std.specs.Prelude.{◌≡◌, ◌≢◌, ◌↔◌, ◌+◌, �
 ghost use Rattle.std.specs.Prelude.{IfErr, IfOk, IfSome, IsNone, IsOkUnless, IsTrue, OnErr, nat_eq, slice_get, vec_capacity, vec_len};
 ghost use Rattle.std.specs.HashMap.{Updates, spare};
 ghost use Rattle.std.specs.List.{IsDistinct};
-ghost use Rattle.atlas_cache.specs.Orders.{first_of, last_of};
+ghost use Rattle.atlas_cache.specs.Orders.{newest_of, oldest_of};
 ghost use Rattle.atlas_cache.specs.Refusals.{IsWithoutNumber};
 
 use crate::error::CacheError;
@@ -147,7 +147,7 @@ impl<K: Copy + Eq + Hash, S: BuildHasher, A: Allocator + Copy> Entries<K, S, A> 
 
     /// The most recently used entry; None if there is none.
     pub fn newest(&self) -> Option<u32>
-        ensures first { result ≡ first_of (numbers self.now) }
+        ensures first { result ≡ newest_of (numbers self.now) }
         ensures entry { IfSome result (λ number. IsNumber number self.now) }
     {
         self.recency.newest()
@@ -155,7 +155,7 @@ impl<K: Copy + Eq + Hash, S: BuildHasher, A: Allocator + Copy> Entries<K, S, A> 
 
     /// The least recently used entry; None if there is none.
     pub fn oldest(&self) -> Option<u32>
-        ensures last { result ≡ last_of (numbers self.now) }
+        ensures last { result ≡ oldest_of (numbers self.now) }
         ensures entry { IfSome result (λ number. IsNumber number self.now) }
     {
         self.recency.oldest()
@@ -165,7 +165,7 @@ impl<K: Copy + Eq + Hash, S: BuildHasher, A: Allocator + Copy> Entries<K, S, A> 
     pub fn older(&self, number: u32) -> Option<u32>
         requires { IsNumber number self.now }
         ensures next { (newer older : List ℕ) → numbers self.now ≡ newer ++ number ∷ older
-            → result ≡ first_of older }
+            → result ≡ newest_of older }
         ensures entry { IfSome result (λ number. IsNumber number self.now) }
     {
         self.recency.older(number)

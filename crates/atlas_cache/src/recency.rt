@@ -1,9 +1,9 @@
 //! Entries in the order of their use, by links between them: each call takes a few steps, however many entries there
 //! are.
 ghost use Rattle.std.specs.Prelude.{◌≡◌, ◌⊎◌, ◌+◌, ◌<◌, ◌≤◌, max, ℕ, List, [], ◌∷◌, ◌++◌, length, IsTrue, ◌↔◌, IfErr, IfOk, IfSome, IsOkUnless, OnErr};
-ghost use Rattle.atlas_cache.specs.Orders.{IsEntry, IsNew, first_of, gone, joined, last_of, occurs, used, without};
+ghost use Rattle.atlas_cache.specs.Orders.{IsEntry, IsFreshNumber, newest_of, gone, with_newest, oldest_of, times_in, used, without_first};
 ghost use Rattle.atlas_cache.specs.Refusals.{IsWithoutNumber};
-ghost use Rattle.atlas_cache.specs.Rings.{HasSpare, IsListed, IsRing, next_at, no_entry};
+ghost use Rattle.atlas_cache.specs.Rings.{HasSpare, IsInRing, IsRing, next_at, no_entry};
 ghost use Rattle.atlas_cache.specs.declared.error.CacheError.TheVariants.{Memory, Numbers};
 
 pub mod links;
@@ -43,12 +43,12 @@ const NO_ENDS: Link = Link {
 
 // An entry comes from where it stands to the front.
 fn move_to_front(links: &mut [Link], ends: &mut Link, at: u32)
-    requires listed { IsListed links.old ends.old at }
+    requires listed { IsInRing links.old ends.old at }
     requires short { length links.old ≤ no_entry }
-    ensures ring { (xs : List ℕ) → IsRing links.old ends.old xs → 0 < occurs at xs
-        → IsRing links.new ends.new (at ∷ without at xs) }
-    ensures others { (xs : List ℕ) (k : ℕ) → IsRing links.old ends.old xs → 0 < occurs at xs → k < length links.old
-        → occurs k xs ≡ 0 → next_at links.new ends.new k ≡ next_at links.old ends.old k }
+    ensures ring { (xs : List ℕ) → IsRing links.old ends.old xs → 0 < times_in at xs
+        → IsRing links.new ends.new (at ∷ without_first at xs) }
+    ensures others { (xs : List ℕ) (k : ℕ) → IsRing links.old ends.old xs → 0 < times_in at xs → k < length links.old
+        → times_in k xs ≡ 0 → next_at links.new ends.new k ≡ next_at links.old ends.old k }
     ensures size { length links.new ≡ length links.old }
 {
     unlink(links, ends, at);
@@ -57,13 +57,13 @@ fn move_to_front(links: &mut [Link], ends: &mut Link, at: u32)
 
 // An entry leaves the ring, and then stands before the numbers that belong to none.
 fn give_back(links: &mut [Link], ends: &mut Link, at: u32, unused: u32)
-    requires listed { IsListed links.old ends.old at }
+    requires listed { IsInRing links.old ends.old at }
     requires short { length links.old ≤ no_entry }
-    ensures ring { (xs : List ℕ) → IsRing links.old ends.old xs → 0 < occurs at xs
-        → IsRing links.new ends.new (without at xs) }
+    ensures ring { (xs : List ℕ) → IsRing links.old ends.old xs → 0 < times_in at xs
+        → IsRing links.new ends.new (without_first at xs) }
     ensures own { next_at links.new ends.new at ≡ unused }
-    ensures others { (xs : List ℕ) (k : ℕ) → IsRing links.old ends.old xs → 0 < occurs at xs → k < length links.old
-        → occurs k xs ≡ 0 → next_at links.new ends.new k ≡ next_at links.old ends.old k }
+    ensures others { (xs : List ℕ) (k : ℕ) → IsRing links.old ends.old xs → 0 < times_in at xs → k < length links.old
+        → times_in k xs ≡ 0 → next_at links.new ends.new k ≡ next_at links.old ends.old k }
     ensures size { length links.new ≡ length links.old }
 {
     unlink(links, ends, at);
@@ -128,7 +128,7 @@ impl<A: Allocator> Recency<A> {
 
     /// Says what each order keeps, and does nothing: each entry stands in it once, under a number that was given out.
     pub fn prove_kept(&self)
-        ensures once { (k : ℕ) → occurs k self.now.entries ≤ 1 }
+        ensures once { (k : ℕ) → times_in k self.now.entries ≤ 1 }
         ensures made { (k : ℕ) → IsEntry k self.now → k < self.now.made }
     {
         let _links = &self.links;
@@ -136,7 +136,7 @@ impl<A: Allocator> Recency<A> {
 
     /// The most recently used entry; None if there is none.
     pub fn newest(&self) -> Option<u32>
-        ensures first { result ≡ first_of self.now.entries }
+        ensures first { result ≡ newest_of self.now.entries }
         ensures entry { IfSome result (λ number. IsEntry number self.now) }
     {
         let ends = self.ends;
@@ -148,7 +148,7 @@ impl<A: Allocator> Recency<A> {
 
     /// The least recently used entry; None if there is none.
     pub fn oldest(&self) -> Option<u32>
-        ensures last { result ≡ last_of self.now.entries }
+        ensures last { result ≡ oldest_of self.now.entries }
         ensures entry { IfSome result (λ number. IsEntry number self.now) }
     {
         let ends = self.ends;
@@ -161,7 +161,7 @@ impl<A: Allocator> Recency<A> {
     /// The entry that was used next before this one; None if this is the least recently used.
     pub fn older(&self, number: u32) -> Option<u32>
         requires { IsEntry number self.now }
-        ensures next { (newer older : List ℕ) → self.now.entries ≡ newer ++ number ∷ older → result ≡ first_of older }
+        ensures next { (newer older : List ℕ) → self.now.entries ≡ newer ++ number ∷ older → result ≡ newest_of older }
         ensures entry { IfSome result (λ number. IsEntry number self.now) }
     {
         let own = read_link(&self.links, self.ends, number);
@@ -174,8 +174,8 @@ impl<A: Allocator> Recency<A> {
     /// A new entry, the most recently used from now on: its number. That is one that belongs to no entry, or else the
     /// next one. `Numbers` only if all are in use, and `Memory` if memory is refused; then nothing changes.
     pub fn push(&mut self) -> Result<u32, CacheError>
-        ensures new { IfOk result (λ number. IsNew number self.old) }
-        ensures joined { IfOk result (λ number. self.new ≡ joined number self.old) }
+        ensures new { IfOk result (λ number. IsFreshNumber number self.old) }
+        ensures joined { IfOk result (λ number. self.new ≡ with_newest number self.old) }
         ensures refused { OnErr result (self.new ≡ self.old) }
         ensures errors { IfErr result (IsWithoutNumber (length self.old.entries)) }
     {

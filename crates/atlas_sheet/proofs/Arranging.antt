@@ -116,13 +116,6 @@ pub record IsShownTo (sheet : Sides) (spacing : Spacing) (turn : Bool) (sprites 
   pub areas : areas_of placed ≡ take k places
   pub each : AllZip (Shows sheet spacing turn) (take k sprites) placed
 
-pub shown_none : (sheet : Sides) (spacing : Spacing) (turn : Bool) (sprites : List Size) (places : List (Option Rectangle))
-    (placed : List (Option Placed)) → placed ≡ [] → IsShownTo sheet spacing turn sprites places 0 placed
-shown_none sheet spacing turn sprites places placed is = record {
-  areas = ap areas_of is;
-  each = subst (AllZip (Shows sheet spacing turn) []) (sym is) tt;
-}
-
 module _ (sheet : Sides) (spacing : Spacing) (turn : Bool) (sprites lying : List Size) (choice : Choice) (order : List (ℕ × Size))
     (places : List (Option Rectangle)) (are : IsArrangement sheet spacing turn sprites choice lying order places) where
   pub shown_more : (k : ℕ) (placed more : List (Option Placed)) (sprite l : Size) (place : Option Rectangle) (p : Option Placed)

@@ -12,7 +12,7 @@ use Rattle.guillotiere.proofs.TreeLemmas.TreeBasics.{one_if}
 use Rattle.guillotiere.proofs.ListLemmas.Counting.{count_by-cons, count_by-append}
 use Rattle.atlas_sheet.specs.declared.options.Spacing.{Spacing}
 use Rattle.atlas_sheet.specs.Orders.{AreNumberedOnce}
-use Rattle.atlas_sheet.specs.Sheets.{FindsPlace, FindPlaces, place_in, with_places}
+use Rattle.atlas_sheet.specs.Sheets.{FindsPlace, FindPlaces, place_of_sprite, with_places}
 
 -- What stands past the end of a list of sprites.
 abbrev pub no_sprite : ℕ × Size
@@ -25,7 +25,7 @@ HaveFound spacing start now found =
 
 -- A write at a number that sprites don't have leaves their places.
 elsewhere : (places : List (Option Rectangle)) (n : ℕ) (found : Option Rectangle) (s : ℕ × Size) → s.0 ≢ n
-    → place_in (set places n found) s ≡ place_in places s
+    → place_of_sprite (set places n found) s ≡ place_of_sprite places s
 elsewhere places n found s other = get_or-set_other places n s.0 found _ other
 
 -- Of sprites none of which has the number.
@@ -41,7 +41,7 @@ places_elsewhere : (places : List (Option Rectangle)) (n : ℕ) (found : Option 
     → with_places (set places n found) xs ≡ with_places places xs
 places_elsewhere places n found [] other = refl
 places_elsewhere places n found (s ∷ xs) other =
-    let here : place_in (set places n found) s ≡ place_in places s = elsewhere places n found s (All-head (λ s. s.0 ≢ n) s xs other) in
+    let here : place_of_sprite (set places n found) s ≡ place_of_sprite places s = elsewhere places n found s (All-head (λ s. s.0 ≢ n) s xs other) in
     let later : with_places (set places n found) xs ≡ with_places places xs = places_elsewhere places n found xs (All-tail (λ s. s.0 ≢ n) s xs other) in
     λ i. (s.1, here i) ∷ later i
 
@@ -66,13 +66,13 @@ module _ (spacing : Spacing) (start now next : SimpleState) (order : List (ℕ �
   longer : take (suc k) order ≡ take k order ++ s ∷ []
   longer = take-suc order k d inside ∙ ap (λ t. take k order ++ t ∷ []) (sym is)
 
-  here : place_in (set places s.0 found) s ≡ found
+  here : place_of_sprite (set places s.0 found) s ≡ found
   here = get_or-set_same places s.0 found _ room
 
   written : with_places (set places s.0 found) (take (suc k) order) ≡ with_places places (take k order) ++ (s.1, found) ∷ []
   written =
       ap (with_places (set places s.0 found)) longer
-      ∙ map-append (λ t. (t.1, place_in (set places s.0 found) t)) (take k order) (s ∷ [])
+      ∙ map-append (λ t. (t.1, place_of_sprite (set places s.0 found) t)) (take k order) (s ∷ [])
       ∙ (λ i. places_elsewhere places s.0 found (take k order) (unused order k s once split) i ++ (s.1, here i) ∷ [])
 
   pub more : HaveFound spacing start next (with_places (set places s.0 found) (take (suc k) order))

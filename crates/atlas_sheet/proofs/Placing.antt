@@ -17,7 +17,7 @@ use Rattle.guillotiere.proofs.TreeLemmas.TreeBasics.{one_if}
 use Rattle.guillotiere.proofs.ListLemmas.Counting.{count_by-cons, count_by-append}
 use Rattle.guillotiere.proofs.ListLemmas.CallerLemmas.{count_by-permutation}
 use Rattle.atlas_sheet.specs.declared.options.Spacing.{Spacing}
-use Rattle.atlas_sheet.specs.Sheets.{FindsPlace, FindPlaces, IsPlaceFor, ArePlaces, IsOnGrid, asked_sides, covers_place, inner_sides, padded, place_in, with_places}
+use Rattle.atlas_sheet.specs.Sheets.{FindsPlace, FindPlaces, IsPlaceFor, ArePlaces, IsOnGrid, asked_sides, covers_place, inner_sides, padded, place_of_sprite, with_places}
 use Rattle.atlas_sheet.proofs.Asking.{AreOnGrid, granted_on_grid, granted_room, left_on_grid, shrunk}
 use Rattle.atlas_sheet.proofs.Numbering.{order_all}
 
@@ -122,30 +122,30 @@ module _ (spacing : Spacing) (sheet : Sides) (wide : IsPositive sheet) where
 
   -- Places in the order of the numbers.
   good_with : (places : List (Option Rectangle)) (order : List (ℕ × Size)) → All Good (with_places places order)
-      → All (λ s. Good (s.1, place_in places s)) order
-  good_with places [] each = All-nil (λ s. Good (s.1, place_in places s))
+      → All (λ s. Good (s.1, place_of_sprite places s)) order
+  good_with places [] each = All-nil (λ s. Good (s.1, place_of_sprite places s))
   good_with places (s ∷ order) each =
-      All-cons (λ s. Good (s.1, place_in places s)) s order (All-head Good (s.1, place_in places s) (with_places places order) each)
-      (good_with places order (All-tail Good (s.1, place_in places s) (with_places places order) each))
+      All-cons (λ s. Good (s.1, place_of_sprite places s)) s order (All-head Good (s.1, place_of_sprite places s) (with_places places order) each)
+      (good_with places order (All-tail Good (s.1, place_of_sprite places s) (with_places places order) each))
 
-  found_with : (places : List (Option Rectangle)) (order : List (ℕ × Size)) → found_of (with_places places order) ≡ map (place_in places) order
+  found_with : (places : List (Option Rectangle)) (order : List (ℕ × Size)) → found_of (with_places places order) ≡ map (place_of_sprite places) order
   found_with places [] = refl
-  found_with places (s ∷ order) = ap (λ ps. place_in places s ∷ ps) (found_with places order)
+  found_with places (s ∷ order) = ap (λ ps. place_of_sprite places s ∷ ps) (found_with places order)
 
   zipped : (places : List (Option Rectangle)) (n : ℕ) (xs : List Size) → n + length xs ≡ length places
-      → All (λ s. Good (s.1, place_in places s)) (enumerate_from n xs)
+      → All (λ s. Good (s.1, place_of_sprite places s)) (enumerate_from n xs)
       → AllZip (λ sprite place. IfSome place (IsPlaceFor sheet spacing sprite)) xs (drop n places)
   zipped places n [] long each =
       subst (AllZip (λ sprite place. IfSome place (IsPlaceFor sheet spacing sprite)) []) (sym (drop_of_length-le places (omega arith))) tt
   zipped places n (x ∷ xs) long each =
-      let P : ℕ × Size → Type 0 = λ s. Good (s.1, place_in places s) in
+      let P : ℕ × Size → Type 0 = λ s. Good (s.1, place_of_sprite places s) in
       let R : Size → Option Rectangle → Type 0 = λ sprite place. IfSome place (IsPlaceFor sheet spacing sprite) in
       let later = zipped places (n + 1) xs (omega arith) (All-tail P (n, x) (enumerate_from (n + 1) xs) each) in
       subst (AllZip R (x ∷ xs)) (sym (drop-cons places n None (omega arith)))
       (All-head P (n, x) (enumerate_from (n + 1) xs) each, subst (λ k. AllZip R xs (drop k places)) (add-one n) later)
 
   listed : (places : List (Option Rectangle)) (n : ℕ) (xs : List Size) → n + length xs ≡ length places
-      → map (place_in places) (enumerate_from n xs) ≡ drop n places
+      → map (place_of_sprite places) (enumerate_from n xs) ≡ drop n places
   listed places n [] long = sym (drop_of_length-le places (omega arith))
   listed places n (x ∷ xs) long =
       ap (λ ps. get_or places n None ∷ ps) (listed places (n + 1) xs (omega arith) ∙ ap (λ k. drop k places) (add-one n))
@@ -160,18 +160,18 @@ module _ (spacing : Spacing) (sheet : Sides) (wide : IsPositive sheet) where
     pub in_order : ArePlaces sheet spacing sprites places
     in_order = record {
       each = zipped places 0 sprites (omega arith)
-          (All-permutation (λ s. Good (s.1, place_in places s)) order (enumerate_from 0 sprites) (IsPermutation-sym (enumerate_from 0 sprites) order moved)
+          (All-permutation (λ s. Good (s.1, place_of_sprite places s)) order (enumerate_from 0 sprites) (IsPermutation-sym (enumerate_from 0 sprites) order moved)
           (good_with places order
           (each_good s [] (with_places places order) simple one grid size guarded
-          (All-map (λ (a : Size × Option Rectangle). IsPositive (sides_of a.0)) (λ (s : ℕ × Size). (s.1, place_in places s)) order
+          (All-map (λ (a : Size × Option Rectangle). IsPositive (sides_of a.0)) (λ (s : ℕ × Size). (s.1, place_of_sprite places s)) order
           (order_all sprites order moved (λ s. IsPositive (sides_of s)) positive))
           found)));
       apart = λ x y.
           let q : Option Rectangle → Bool = covers_place spacing x y in
           let few : count_by q (found_of (with_places places order)) + 0 ≤ 1 = good_apart s [] (with_places places order) simple guarded found x y in
-          let as_found : count_by q (found_of (with_places places order)) ≡ count_by q (map (place_in places) order) = ap (count_by q) (found_with places order) in
-          let same : count_by q (map (place_in places) order) ≡ count_by q (map (place_in places) (enumerate_from 0 sprites)) =
-          count_by-permutation q (map (place_in places) (enumerate_from 0 sprites)) (map (place_in places) order) (IsPermutation-map (place_in places) (enumerate_from 0 sprites) order moved) in
-          let all : count_by q (map (place_in places) (enumerate_from 0 sprites)) ≡ count_by q places = ap (count_by q) (listed places 0 sprites (omega arith)) in
+          let as_found : count_by q (found_of (with_places places order)) ≡ count_by q (map (place_of_sprite places) order) = ap (count_by q) (found_with places order) in
+          let same : count_by q (map (place_of_sprite places) order) ≡ count_by q (map (place_of_sprite places) (enumerate_from 0 sprites)) =
+          count_by-permutation q (map (place_of_sprite places) (enumerate_from 0 sprites)) (map (place_of_sprite places) order) (IsPermutation-map (place_of_sprite places) (enumerate_from 0 sprites) order moved) in
+          let all : count_by q (map (place_of_sprite places) (enumerate_from 0 sprites)) ≡ count_by q places = ap (count_by q) (listed places 0 sprites (omega arith)) in
           omega arith;
     }

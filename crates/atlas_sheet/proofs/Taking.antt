@@ -14,7 +14,7 @@ use Rattle.atlas_sheet.specs.declared.ways.Choice.{Choice}
 use Rattle.atlas_sheet.specs.declared.ways.Way.{Way}
 use Rattle.atlas_sheet.specs.Packings.{AllFindPlaces, ArePacked, Packed, IsOrderBy, LeavesOne}
 use Rattle.atlas_sheet.specs.Orders.{AreNumberedOnce, choice_options}
-use Rattle.atlas_sheet.specs.Sheets.{FindPlaces, FindsPlace, IsPackable, inner_sides, place_in, with_places}
+use Rattle.atlas_sheet.specs.Sheets.{FindPlaces, FindsPlace, IsPackable, inner_sides, place_of_sprite, with_places}
 use Rattle.atlas_sheet.proofs.Finding.{HaveFound, more}
 use Rattle.atlas_sheet.proofs.WholeSheets.{found_places}
 
@@ -40,15 +40,15 @@ module _ (spacing : Spacing) (start now next : SimpleState) (order : List (ℕ �
       let all : HaveFound spacing start next (with_places after (take (suc k) order)) =
       more spacing start now next order k (map Some places) s d None once inside is wide step before in
       let longer : take (suc k) order ≡ take k order ++ s ∷ [] = take-suc order k d inside ∙ ap (λ t. take k order ++ t ∷ []) (sym is) in
-      let absent : place_in after s ≡ None = get_or-set_same (map Some places) s.0 None _ wide in
-      let listed : map (place_in after) (take (suc k) order) ≡ map (place_in after) (take k order) ++ None ∷ [] =
-      ap (map (place_in after)) longer ∙ map-append (place_in after) (take k order) (s ∷ []) ∙ ap (λ p. map (place_in after) (take k order) ++ p ∷ []) absent in
+      let absent : place_of_sprite after s ≡ None = get_or-set_same (map Some places) s.0 None _ wide in
+      let listed : map (place_of_sprite after) (take (suc k) order) ≡ map (place_of_sprite after) (take k order) ++ None ∷ [] =
+      ap (map (place_of_sprite after)) longer ∙ map-append (place_of_sprite after) (take k order) (s ∷ []) ∙ ap (λ p. map (place_of_sprite after) (take k order) ++ p ∷ []) absent in
       record {
         many = suc k;
         places = after;
         found = subst (λ b. FindPlaces spacing b (with_places after (take (suc k) order))) begun
             (subst (FindPlaces spacing start) (append-nil (with_places after (take (suc k) order))) (all [] tt));
-        left = subst (λ ps. Contains ps None) (sym listed) (Contains-push (map (place_in after) (take k order)) None);
+        left = subst (λ ps. Contains ps None) (sym listed) (Contains-push (map (place_of_sprite after) (take k order)) None);
       }
 
 -- One of the ways packs all.

@@ -51,13 +51,3 @@ found_places sheet spacing by sprites order places wide aligned packable moved l
     in_order spacing sheet wide sprites order moved places long
     (All-weaker (IsPackable spacing) (λ s. IsPositive (sides_of s)) (λ s packs. packs.positive) sprites packable)
     (simple_start inner options) simple (choice_alignment spacing by) (whole_on_grid options.alignment inner) refl guarded found
-
--- One place more.
-pub used_more : (places : List (Option Rectangle)) (k : ℕ) (d : Option Rectangle) → k < length places
-    → used_area (take (suc k) places) ≡ used_area (take k places) + place_area (get_or places k d)
-used_more places k d inside =
-    let e : used_area (take (suc k) places) ≡ used_area (take k places ++ get_or places k d ∷ []) = ap used_area (take-suc places k d inside) in
-    let f : used_area (take k places ++ get_or places k d ∷ []) ≡ used_area (take k places) + used_area (get_or places k d ∷ []) =
-    sum_by-append place_area (take k places) (get_or places k d ∷ []) in
-    let g : used_area (get_or places k d ∷ []) ≡ place_area (get_or places k d) + 0 = sum_by-cons place_area (get_or places k d) [] in
-    omega arith

@@ -11,7 +11,7 @@ use Rattle.atlas_sheet.specs.declared.ways.Choice.{Choice}
 use Rattle.atlas_sheet.specs.declared.ways.Way.{Way}
 use Rattle.atlas_sheet.specs.Allowances.{ComesBefore, IsAllowed, IsGreatest, pixels, power_sides}
 use Rattle.atlas_sheet.specs.Orders.{AreGreatestFirst, choice_options}
-use Rattle.atlas_sheet.specs.Sheets.{ArePlaces, FindPlaces, inner_sides, place_in, with_places}
+use Rattle.atlas_sheet.specs.Sheets.{ArePlaces, FindPlaces, inner_sides, place_of_sprite, with_places}
 
 -- An order of the sprites by a way's key.
 pub record IsOrderBy (way : Way) (sprites : List Size) (order : List (ℕ × Size)) : Type 0 where
@@ -29,7 +29,7 @@ pub record LeavesOne (sheet : Sides) (spacing : Spacing) (choice : Choice) (orde
   pub places : List (Option Rectangle)
   pub found : FindPlaces spacing (simple_start (inner_sides spacing sheet) (choice_options spacing choice))
       (with_places places (take many order))
-  pub left : Contains (map (place_in places) (take many order)) None
+  pub left : Contains (map (place_of_sprite places) (take many order)) None
 
 -- In this way a sprite finds no place.
 abbrev pub LeavesSprite : (sheet : Sides) (spacing : Spacing) → List Size → Way → Type 0

@@ -91,12 +91,12 @@ FindPlaces spacing s (asked ∷ rest) =
     (next : SimpleState) × FindsPlace spacing s asked.0 asked.1 next × FindPlaces spacing next rest
 
 -- The place of a numbered sprite.
-abbrev pub place_in : List (Option Rectangle) → ℕ × Size → Option Rectangle
-place_in places sprite = slice_index_or places sprite.0 None
+abbrev pub place_of_sprite : List (Option Rectangle) → ℕ × Size → Option Rectangle
+place_of_sprite places sprite = slice_index_or places sprite.0 None
 
 -- Numbered sprites, each with its place.
 abbrev pub with_places : List (Option Rectangle) → List (ℕ × Size) → List (Size × Option Rectangle)
-with_places places order = map (λ s. (s.1, place_in places s)) order
+with_places places order = map (λ s. (s.1, place_of_sprite places s)) order
 
 -- What sprites find in a new sheet in some way: they come in this order, which is one by the way's key.
 pub record AreFoundBy (sheet : Sides) (spacing : Spacing) (sprites : List Size) (way : Way) (order : List (ℕ × Size))

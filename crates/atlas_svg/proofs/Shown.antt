@@ -17,9 +17,6 @@ one_more (first ∷ others) line all h = (all.0, one_more others line all.1 h)
 told_by : {X : Type 0} (f : Line → List X) (lines : List Line) (line : Line) → flat_map f (lines ++ line ∷ []) ≡ flat_map f lines ++ f line
 told_by f lines line = flat_map-append f lines (line ∷ []) ∙ ap (λ xs. flat_map f lines ++ xs) (append-nil (f line))
 
-pub after_size : (front : List Line) (sides : Sides) → IsPicturedSoFar (front ++ Size sides ∷ []) (Some sides) [] []
-after_size front sides = record { before = front; after = []; whole = refl; last = tt; live_are = refl; free_are = refl }
-
 pub after_line : (front : List Line) (line : Line) (shown : Option Sides) (live : List Named) (free : List Corners) → TellsNoSize line
     → IsPicturedSoFar front shown live free → IsPicturedSoFar (front ++ line ∷ []) shown (live ++ named_in line) (free ++ holes_in line)
 after_line front line None live free h so = one_more front line so h
@@ -31,7 +28,3 @@ after_line front line (Some sides) live free h so = record {
   live_are = ap (λ (xs : List Named). xs ++ named_in line) so.live_are ∙ sym (told_by named_in so.after line);
   free_are = ap (λ (xs : List Corners). xs ++ holes_in line) so.free_are ∙ sym (told_by holes_in so.after line);
 }
-
--- The lines up to the next one.
-pub next_front : (lines : List Line) (i : ℕ) (line : Line) → i < length lines → get_or lines i line ≡ line → take (i + 1) lines ≡ take i lines ++ line ∷ []
-next_front lines i line low at = rw (add-one, take-suc lines i line low, at) refl

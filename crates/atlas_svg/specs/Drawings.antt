@@ -7,7 +7,7 @@ use Rattle.atlas_svg.specs.declared.lines.Sides.{Sides}
 use Rattle.atlas_svg.specs.declared.lines.Named.{Named}
 use Rattle.atlas_svg.specs.declared.lines.Line.{Line}
 use Rattle.atlas_svg.specs.declared.drawing.TheConstants.{STYLE}
-use Rattle.atlas_svg.specs.Lines.{SayAll}
+use Rattle.atlas_svg.specs.Lines.{SayLines}
 use Rattle.atlas_svg.specs.Pictures.{IsPictured}
 
 -- A hundredth of the greater side, and at least 1.
@@ -87,6 +87,6 @@ pub record Draws (in_old out_old out_new : Option (List ℕ)) : Type 0 where
   pub live : List Named
   pub free : List Corners
   pub read : HoldsBytes in_old input
-  pub spelled : SayAll said input
+  pub spelled : SayLines said input
   pub shown : IsPictured said sides live free
   pub written : Appends out_old out_new (svg_text sides live free)

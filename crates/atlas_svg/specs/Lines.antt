@@ -52,7 +52,7 @@ SaysLine (Free corners) line = (rest : List ℕ) × (line ≡ codes "hole" ++ re
 SaysLine Other line = IsOther line
 
 -- These bytes are lines that say this, in order.
-abbrev pub SayAll : List Line → List ℕ → Type 0
-SayAll [] text = text ≡ []
-SayAll (said ∷ others) text =
-    (line : List ℕ) × (rest : List ℕ) × BeginsWithLine text line rest × SaysLine said line × SayAll others rest
+abbrev pub SayLines : List Line → List ℕ → Type 0
+SayLines [] text = text ≡ []
+SayLines (said ∷ others) text =
+    (line : List ℕ) × (rest : List ℕ) × BeginsWithLine text line rest × SaysLine said line × SayLines others rest

@@ -1,7 +1,7 @@
 //! What a picture shows.
 ghost use Rattle.std.specs.Prelude.{◌≡◌, ℕ, List, [], ◌∷◌, ◌++◌, Err, IfOk, OnOk};
 ghost use Rattle.atlas_svg.specs.declared.lines.Line.{Line};
-ghost use Rattle.atlas_svg.specs.Lines.{SayAll};
+ghost use Rattle.atlas_svg.specs.Lines.{SayLines};
 ghost use Rattle.atlas_svg.specs.Pictures.{IsPictured, IsPicturedSoFar, TellsNoSize};
 ghost use Rattle.std.specs.List.{AllByRecursion};
 ghost use Rattle.atlas_svg.specs.declared.error.SvgError.{SvgError};
@@ -24,8 +24,8 @@ pub struct Picture {
 
 // What the lines of a text say.
 fn read_lines(alloc: Global, text: &[u8]) -> Result<Vec<Line>, SvgError>
-    ensures found { IfOk result (λ said. SayAll said.items text.now) }
-    ensures bad { (n : ℕ) (all : List Line) → result ≡ Err (SvgError.BadLine n) → SayAll all text.now → ⊥ }
+    ensures found { IfOk result (λ said. SayLines said.items text.now) }
+    ensures bad { (n : ℕ) (all : List Line) → result ≡ Err (SvgError.BadLine n) → SayLines all text.now → ⊥ }
     ensures size { result ≡ Err SvgError.NoSize → ⊥ }
 {
     let mut said = Vec::new(alloc);
@@ -103,10 +103,10 @@ fn show(alloc: Global, said: &[Line]) -> Result<Picture, SvgError>
 /// tells the size, `Memory` where memory was refused.
 pub fn read_picture(alloc: Global, text: &[u8]) -> Result<Picture, SvgError>
     ensures shown { IfOk result
-        (λ p. (said : List Line) × SayAll said text.now × IsPictured said p.sides p.live.items p.free.items) }
-    ensures bad { (n : ℕ) (all : List Line) → result ≡ Err (SvgError.BadLine n) → SayAll all text.now → ⊥ }
+        (λ p. (said : List Line) × SayLines said text.now × IsPictured said p.sides p.live.items p.free.items) }
+    ensures bad { (n : ℕ) (all : List Line) → result ≡ Err (SvgError.BadLine n) → SayLines all text.now → ⊥ }
     ensures none { result ≡ Err SvgError.NoSize
-        → (said : List Line) × SayAll said text.now × AllByRecursion TellsNoSize said }
+        → (said : List Line) × SayLines said text.now × AllByRecursion TellsNoSize said }
 {
     let said = read_lines(alloc, text)?;
     show(alloc, &said)

@@ -8,7 +8,7 @@ ghost use Rattle.atlas_store.specs.Slots.{axis_of};
 ghost use Rattle.atlas_model.specs.Pixels.{box_of, rectangle_of, sides_of};
 ghost use Rattle.atlas_store.specs.Slots.Reading.{extent_of};
 ghost use Rattle.atlas_store.specs.Store.Holdings.{across_of};
-ghost use Rattle.atlas_tree.specs.Plans.Planning.{slots_of, IsPlanFor, IsFeasible, IsPlaceable, IsPlaced};
+ghost use Rattle.atlas_tree.specs.Plans.Planning.{slots_of, IsPlanFor, IsFeasible, IsPlanReady, IsPlanDone};
 
 use atlas_model::Size;
 use atlas_store::cut::{Orientation, orientation_of};
@@ -115,8 +115,8 @@ pub fn plan_for(leaf: &Node, size: Size) -> Plan
 
 /// Carries out a plan in the loose leaf of a slot, for which there are slots. The answer is the slot that is granted.
 pub fn place<A: Allocator>(store: &mut Store<A>, at: Link, plan: Plan) -> Link
-    requires { IsPlaceable store.old at.number plan }
-    ensures { IsPlaced store.old store.new at.number result.number plan }
+    requires { IsPlanReady store.old at.number plan }
+    ensures { IsPlanDone store.old store.new at.number result.number plan }
 {
     match plan {
         Plan::Whole => {
@@ -131,8 +131,8 @@ pub fn place<A: Allocator>(store: &mut Store<A>, at: Link, plan: Plan) -> Link
 }
 
 fn strip_along<A: Allocator>(store: &mut Store<A>, at: Link, along: u32) -> Link
-    requires { IsPlaceable store.old at.number (Plan.StripAlong along) }
-    ensures { IsPlaced store.old store.new at.number result.number (Plan.StripAlong along) }
+    requires { IsPlanReady store.old at.number (Plan.StripAlong along) }
+    ensures { IsPlanDone store.old store.new at.number result.number (Plan.StripAlong along) }
 {
     let split = store.split(at, along);
     store.grant(at);
@@ -141,8 +141,8 @@ fn strip_along<A: Allocator>(store: &mut Store<A>, at: Link, along: u32) -> Link
 }
 
 fn corner_along<A: Allocator>(store: &mut Store<A>, at: Link, along: u32, across: u32) -> Link
-    requires { IsPlaceable store.old at.number (Plan.CornerAlong along across) }
-    ensures { IsPlaced store.old store.new at.number result.number (Plan.CornerAlong along across) }
+    requires { IsPlanReady store.old at.number (Plan.CornerAlong along across) }
+    ensures { IsPlanDone store.old store.new at.number result.number (Plan.CornerAlong along across) }
 {
     let split = store.split(at, along);
     let granted = store.wrap(at);
@@ -154,8 +154,8 @@ fn corner_along<A: Allocator>(store: &mut Store<A>, at: Link, along: u32, across
 }
 
 fn strip_across<A: Allocator>(store: &mut Store<A>, at: Link, across: u32) -> Link
-    requires { IsPlaceable store.old at.number (Plan.StripAcross across) }
-    ensures { IsPlaced store.old store.new at.number result.number (Plan.StripAcross across) }
+    requires { IsPlanReady store.old at.number (Plan.StripAcross across) }
+    ensures { IsPlanDone store.old store.new at.number result.number (Plan.StripAcross across) }
 {
     let (granted, split) = store.wrap_two(at, across);
     store.grant(granted);
@@ -164,8 +164,8 @@ fn strip_across<A: Allocator>(store: &mut Store<A>, at: Link, across: u32) -> Li
 }
 
 fn corner_across<A: Allocator>(store: &mut Store<A>, at: Link, along: u32, across: u32) -> Link
-    requires { IsPlaceable store.old at.number (Plan.CornerAcross along across) }
-    ensures { IsPlaced store.old store.new at.number result.number (Plan.CornerAcross along across) }
+    requires { IsPlanReady store.old at.number (Plan.CornerAcross along across) }
+    ensures { IsPlanDone store.old store.new at.number result.number (Plan.CornerAcross along across) }
 {
     let (container, split) = store.wrap_two(at, across);
     let granted = store.wrap(container);

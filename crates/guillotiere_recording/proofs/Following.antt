@@ -66,13 +66,6 @@ has_more es i n names left rising low is has updates name id = (
         let one : n.id ≡ id = ap (λ (e : Entry). e.id) its in
         ap (get nat_cmp left) (sym same) ∙ updates.1 ∙ ap Some one
 
-pub has_none : (names : Names) → names.entries ≡ [] → (es : List Entry) → HasEntries (take 0 es) names
-has_none names empty es name id = (
-  λ found.
-      (let none : None ≡ Some id = sym (ap (λ (xs : List (ℕ × ℕ)). lookup (is_at (nat_cmp name)) xs) empty) ∙ found in absurd (cc)),
-  λ (k, below, its). absurd (omega arith),
-)
-
 -- The entries of names that a map keeps.
 
 abbrev pub no_recording : RecordingValue

@@ -27,7 +27,7 @@ use Rattle.guillotiere_recording.specs.Events.EventValue.{Allocate, Deallocate, 
 use Rattle.guillotiere_recording.specs.Logs.{RecordingValue, with_event}
 use Rattle.guillotiere_recording.specs.Sessions.{Named, IsLiveName, IsNamed, GrantsUnder, FreesUnder, Leads, LeadOn, fresh_session}
 use Rattle.guillotiere_recording.specs.Names.{entries_of, name_among}
-use Rattle.guillotiere_recording.specs.Recordings.{SessionValue, session_of, first_names, LeadsTo, IsSession}
+use Rattle.guillotiere_recording.specs.Recordings.{SessionValue, session_of, first_names, LeadsTo, IsRecordedSession}
 use Rattle.guillotiere_recording.proofs.Entries.{live_is_counted, counted_is_live, entry_of, name_of, entries_pushed, name_pushed, names_pushed, All-removed, names_removed, entries_removed}
 use Rattle.guillotiere_recording.proofs.Naming.{live_at_most_once, grant_counts, growth_counts, freed_is_gone, others_stay}
 use Rattle.guillotiere_recording.proofs.Booking.{sessions_are_named}
@@ -62,7 +62,7 @@ given_more (Grow size ∷ events) event = given_more events event
 given_more (Rearrange list ∷ events) event = given_more events event
 given_more (ResizeAndRearrange size list ∷ events) event = given_more events event
 
-pub session_named : (v : SessionValue) → IsSession v → IsNamed (session_of v)
+pub session_named : (v : SessionValue) → IsRecordedSession v → IsNamed (session_of v)
 session_named v h =
     sessions_are_named (sides_of v.recording.size) (options_of v.recording.options) v.recording.events (session_of v) h.faithful.leads
 
@@ -71,12 +71,12 @@ session_named v h =
 pub new_session : (a : AtlasValue) (ns : List Entry) (r : RecordingValue) (size : Size) (options : AllocatorOptions)
     → IsPositive (sides_of size) → AreValid (options_of options) → state_of a ≡ started (sides_of size) (options_of options) 16777216
     → ns ≡ [] → r ≡ record { size = size; options = options; events = [] }
-    → IsSession (record { atlas = a; names = ns; given = 0; recording = r })
+    → IsRecordedSession (record { atlas = a; names = ns; given = 0; recording = r })
 new_session a ns r size options nonempty valid state none empty =
-    subst (λ ms. IsSession (record { atlas = a; names = ms; given = 0; recording = r })) (sym none)
-    (subst (λ q. IsSession (record { atlas = a; names = []; given = 0; recording = q })) (sym empty) it)
+    subst (λ ms. IsRecordedSession (record { atlas = a; names = ms; given = 0; recording = r })) (sym none)
+    (subst (λ q. IsRecordedSession (record { atlas = a; names = []; given = 0; recording = q })) (sym empty) it)
   where
-    it : IsSession (record { atlas = a; names = []; given = 0; recording = record { size = size; options = options; events = [] } })
+    it : IsRecordedSession (record { atlas = a; names = []; given = 0; recording = record { size = size; options = options; events = [] } })
     it = record {
       faithful = record {
         leads = record {
@@ -95,16 +95,16 @@ new_session a ns r size options nonempty valid state none empty =
 
 -- The same names after an event that gives none.
 
-pub same_session : (v : SessionValue) (a : AtlasValue) (ns : List Entry) (r : RecordingValue) (event : EventValue) → IsSession v
+pub same_session : (v : SessionValue) (a : AtlasValue) (ns : List Entry) (r : RecordingValue) (event : EventValue) → IsRecordedSession v
     → ns ≡ v.names → r ≡ with_event event v.recording → names_in event ≡ []
     → Leads (session_of v) event (record { state = state_of a; name = name_among v.names })
     → ((id : ℕ) → live_count id (state_of a) ≡ live_count id (state_of v.atlas))
-    → IsSession (record { atlas = a; names = ns; given = v.given; recording = r })
+    → IsRecordedSession (record { atlas = a; names = ns; given = v.given; recording = r })
 same_session v a ns r event h names more none leads counts =
-    subst (λ ms. IsSession (record { atlas = a; names = ms; given = v.given; recording = r })) (sym names)
-    (subst (λ q. IsSession (record { atlas = a; names = v.names; given = v.given; recording = q })) (sym more) it)
+    subst (λ ms. IsRecordedSession (record { atlas = a; names = ms; given = v.given; recording = r })) (sym names)
+    (subst (λ q. IsRecordedSession (record { atlas = a; names = v.names; given = v.given; recording = q })) (sym more) it)
   where
-    it : IsSession (record { atlas = a; names = v.names; given = v.given; recording = with_event event v.recording })
+    it : IsRecordedSession (record { atlas = a; names = v.names; given = v.given; recording = with_event event v.recording })
     it = record {
       faithful = record {
         leads = recorded_more v.recording event (session_of v) (record { state = state_of a; name = name_among v.names }) h.faithful.leads leads;
@@ -116,17 +116,17 @@ same_session v a ns r event h names more none leads counts =
       most = h.most;
     }
 
-pub unroomed_session : (v : SessionValue) (a : AtlasValue) (ns : List Entry) (r : RecordingValue) (size : Size) → IsSession v
+pub unroomed_session : (v : SessionValue) (a : AtlasValue) (ns : List Entry) (r : RecordingValue) (size : Size) → IsRecordedSession v
     → ns ≡ v.names → r ≡ with_event (Allocate size None) v.recording
     → Step (state_of v.atlas) (atlas.Allocate (sides_of size)) atlas.NoRoom (state_of a)
-    → IsSession (record { atlas = a; names = ns; given = v.given; recording = r })
+    → IsRecordedSession (record { atlas = a; names = ns; given = v.given; recording = r })
 unroomed_session v a ns r size h names more step =
     same_session v a ns r (Allocate size None) h names more refl (step, λ id _ _. refl) (λ id. ap (live_count id) step.1)
 
-pub grown_session : (v : SessionValue) (a : AtlasValue) (ns : List Entry) (r : RecordingValue) (size : Size) → IsSession v
+pub grown_session : (v : SessionValue) (a : AtlasValue) (ns : List Entry) (r : RecordingValue) (size : Size) → IsRecordedSession v
     → ns ≡ v.names → r ≡ with_event (Grow size) v.recording
     → Step (state_of v.atlas) (atlas.Grow (sides_of size)) atlas.Done (state_of a)
-    → IsSession (record { atlas = a; names = ns; given = v.given; recording = r })
+    → IsRecordedSession (record { atlas = a; names = ns; given = v.given; recording = r })
 grown_session v a ns r size h names more step =
     same_session v a ns r (Grow size) h names more refl (step, λ id _ _. refl)
     (growth_counts (state_of v.atlas) (state_of a)
@@ -141,14 +141,14 @@ abbrev pub under : (name : ℕ) → Allocation → Allocation
 under name g = record { id = name; rectangle = g.rectangle }
 
 -- A name that is live is below those that are given next.
-live_below : (v : SessionValue) (name : ℕ) → IsSession v → IsLiveName (session_of v) name → name < v.given
+live_below : (v : SessionValue) (name : ℕ) → IsRecordedSession v → IsLiveName (session_of v) name → name < v.given
 live_below v name h (id, live, is) =
     let some : 1 ≤ live_count id (state_of v.atlas) = live_is_counted (state_of v.atlas) id live in
     let r = entry_of id v.names (subst (λ n. 1 ≤ n) (sym (h.ids id)) some) in
     let few = All-contains (λ (n : Entry). n.name < v.given) v.names r.0 h.below r.1 in
     subst (λ n. n < v.given) (sym r.3 ∙ is) few
 
-pub grants_under : (v : SessionValue) (a : AtlasValue) (size : Size) (g : Allocation) → IsSession v
+pub grants_under : (v : SessionValue) (a : AtlasValue) (size : Size) (g : Allocation) → IsRecordedSession v
     → Step (state_of v.atlas) (atlas.Allocate (sides_of size)) (atlas.Allocated (grant_of g)) (state_of a) → IsExact g.rectangle
     → GrantsUnder (session_of v) size (under v.given g)
     (record { state = state_of a; name = name_among (v.names ++ named_entry v.given g ∷ []) })
@@ -177,13 +177,13 @@ grants_under v a size g h step exact = record {
         omega (arith, e, i, c, one)
 
 pub granted_session : (v : SessionValue) (a : AtlasValue) (ns : List Entry) (r : RecordingValue) (size : Size) (g : Allocation)
-    → IsSession v → v.given < 2 ^ 32
+    → IsRecordedSession v → v.given < 2 ^ 32
     → Step (state_of v.atlas) (atlas.Allocate (sides_of size)) (atlas.Allocated (grant_of g)) (state_of a) → IsExact g.rectangle
     → ns ≡ v.names ++ named_entry v.given g ∷ [] → r ≡ with_event (Allocate size (Some (under v.given g))) v.recording
-    → IsSession (record { atlas = a; names = ns; given = v.given + 1; recording = r })
+    → IsRecordedSession (record { atlas = a; names = ns; given = v.given + 1; recording = r })
 granted_session v a ns r size g h room step exact names more =
-    subst (λ ms. IsSession (record { atlas = a; names = ms; given = v.given + 1; recording = r })) (sym names)
-    (subst (λ q. IsSession (record { atlas = a; names = all; given = v.given + 1; recording = q })) (sym more) it)
+    subst (λ ms. IsRecordedSession (record { atlas = a; names = ms; given = v.given + 1; recording = r })) (sym names)
+    (subst (λ q. IsRecordedSession (record { atlas = a; names = all; given = v.given + 1; recording = q })) (sym more) it)
   where
     all : List Entry
     all = v.names ++ named_entry v.given g ∷ []
@@ -208,7 +208,7 @@ granted_session v a ns r size g h room step exact names more =
     names_given =
         given_more v.recording.events event ∙ ap (λ ns. ns ++ v.given ∷ []) h.faithful.given ∙ sym (ap first_names (add-one v.given))
 
-    it : IsSession (record { atlas = a; names = v.names ++ named_entry v.given g ∷ []; given = v.given + 1; recording = with_event event v.recording })
+    it : IsRecordedSession (record { atlas = a; names = v.names ++ named_entry v.given g ∷ []; given = v.given + 1; recording = with_event event v.recording })
     it = record {
       faithful = record {
         leads = recorded_more v.recording event (session_of v) now h.faithful.leads (grants_under v a size g h step exact);
@@ -223,7 +223,7 @@ granted_session v a ns r size g h room step exact names more =
 
 -- A freeing.
 
-freed_counts : (v : SessionValue) (a : AtlasValue) (at : ℕ) (d : Entry) → IsSession v → at < length v.names
+freed_counts : (v : SessionValue) (a : AtlasValue) (at : ℕ) (d : Entry) → IsRecordedSession v → at < length v.names
     → Step (state_of v.atlas) (atlas.Deallocate (get_or v.names at d).id) atlas.Done (state_of a)
     → (id : ℕ) → entries_of id (remove v.names at) ≡ live_count id (state_of a)
 freed_counts v a at d h below step id = by_test (eqb (get_or v.names at d).id id) refl
@@ -250,7 +250,7 @@ freed_counts v a at d h below step id = by_test (eqb (get_or v.names at d).id id
         let same = others_stay (state_of v.atlas) (state_of a) (get_or v.names at d).id gone id is in
         omega (arith, less, one, i, same)
 
-pub frees_under : (v : SessionValue) (a : AtlasValue) (at : ℕ) (d : Entry) → IsSession v → at < length v.names
+pub frees_under : (v : SessionValue) (a : AtlasValue) (at : ℕ) (d : Entry) → IsRecordedSession v → at < length v.names
     → Step (state_of v.atlas) (atlas.Deallocate (get_or v.names at d).id) atlas.Done (state_of a)
     → FreesUnder (session_of v) (get_or v.names at d).name (record { state = state_of a; name = name_among (remove v.names at) })
 frees_under v a at d h below step = record {
@@ -271,15 +271,15 @@ frees_under v a at d h below step = record {
     some id live = subst (λ n. 1 ≤ n) (sym (freed_counts v a at d h below step id)) (live_is_counted (state_of a) id live)
 
 pub freed_session : (v : SessionValue) (a : AtlasValue) (ns : List Entry) (r : RecordingValue) (at : ℕ) (d : Entry) (name : ℕ)
-    → IsSession v → at < length v.names → (get_or v.names at d).name ≡ name
+    → IsRecordedSession v → at < length v.names → (get_or v.names at d).name ≡ name
     → Step (state_of v.atlas) (atlas.Deallocate (get_or v.names at d).id) atlas.Done (state_of a)
     → ns ≡ remove v.names at → r ≡ with_event (Deallocate name) v.recording
-    → IsSession (record { atlas = a; names = ns; given = v.given; recording = r })
+    → IsRecordedSession (record { atlas = a; names = ns; given = v.given; recording = r })
 freed_session v a ns r at d name h below is step names more =
-    subst (λ ms. IsSession (record { atlas = a; names = ms; given = v.given; recording = r })) (sym names)
-    (subst (λ q. IsSession (record { atlas = a; names = remove v.names at; given = v.given; recording = q })) (sym more) it)
+    subst (λ ms. IsRecordedSession (record { atlas = a; names = ms; given = v.given; recording = r })) (sym names)
+    (subst (λ q. IsRecordedSession (record { atlas = a; names = remove v.names at; given = v.given; recording = q })) (sym more) it)
   where
-    it : IsSession (record { atlas = a; names = remove v.names at; given = v.given; recording = with_event (Deallocate name) v.recording })
+    it : IsRecordedSession (record { atlas = a; names = remove v.names at; given = v.given; recording = with_event (Deallocate name) v.recording })
     it = record {
       faithful = record {
         leads = recorded_more v.recording (Deallocate name) (session_of v)
@@ -296,7 +296,7 @@ freed_session v a ns r at d name h below is step names more =
 
 -- Live names are those of the entries.
 
-pub entry_is_live : (v : SessionValue) (n : Entry) → IsSession v → Contains v.names n → IsLiveName (session_of v) n.name
+pub entry_is_live : (v : SessionValue) (n : Entry) → IsRecordedSession v → Contains v.names n → IsLiveName (session_of v) n.name
 entry_is_live v n h at =
     let some : 1 ≤ entries_of n.id v.names = count_some (λ (m : Entry). m.id == n.id) v.names n at (eq-eqb n.id n.id refl) in
     let one = live_at_most_once (state_of v.atlas) n.id (session_named v h).sound in
@@ -304,7 +304,7 @@ entry_is_live v n h at =
     let live : IsLive (state_of v.atlas) n.id = counted_is_live (state_of v.atlas) n.id (subst (λ k. 1 ≤ k) i some) in
     (n.id, live, name_of n.id v.names n (omega (arith, one, i)) at refl)
 
-pub live_has_entry : (v : SessionValue) (name : ℕ) → IsSession v → IsLiveName (session_of v) name
+pub live_has_entry : (v : SessionValue) (name : ℕ) → IsRecordedSession v → IsLiveName (session_of v) name
     → (n : Entry) × Contains v.names n × (n.name ≡ name)
 live_has_entry v name h (id, live, is) =
     let some : 1 ≤ live_count id (state_of v.atlas) = live_is_counted (state_of v.atlas) id live in
@@ -322,29 +322,29 @@ freeing_at : (v : SessionValue) (a : AtlasValue) (at name id : ℕ) → get_or v
 freeing_at v a at name id is step =
     subst (λ k. Step (state_of v.atlas) (atlas.Deallocate k) atlas.Done (state_of a)) (sym (ap (λ (n : Entry). n.id) is)) step
 
-pub frees_name : (v : SessionValue) (a : AtlasValue) (at name id : ℕ) → IsSession v → at < length v.names
+pub frees_name : (v : SessionValue) (a : AtlasValue) (at name id : ℕ) → IsRecordedSession v → at < length v.names
     → get_or v.names at (entry name id) ≡ entry name id → Step (state_of v.atlas) (atlas.Deallocate id) atlas.Done (state_of a)
     → FreesUnder (session_of v) name (record { state = state_of a; name = name_among (remove v.names at) })
 frees_name v a at name id h below is step =
     subst (λ n. FreesUnder (session_of v) n (record { state = state_of a; name = name_among (remove v.names at) })) (ap (λ (n : Entry). n.name) is)
     (frees_under v a at (entry name id) h below (freeing_at v a at name id is step))
 
-pub freed_name : (v : SessionValue) (a : AtlasValue) (ns : List Entry) (r : RecordingValue) (at name id : ℕ) → IsSession v
+pub freed_name : (v : SessionValue) (a : AtlasValue) (ns : List Entry) (r : RecordingValue) (at name id : ℕ) → IsRecordedSession v
     → at < length v.names → get_or v.names at (entry name id) ≡ entry name id
     → Step (state_of v.atlas) (atlas.Deallocate id) atlas.Done (state_of a)
     → ns ≡ remove v.names at → r ≡ with_event (Deallocate name) v.recording
-    → IsSession (record { atlas = a; names = ns; given = v.given; recording = r })
+    → IsRecordedSession (record { atlas = a; names = ns; given = v.given; recording = r })
 freed_name v a ns r at name id h below is step names more =
     freed_session v a ns r at (entry name id) name h below (ap (λ (n : Entry). n.name) is) (freeing_at v a at name id is step) names more
 
-pub found_is_live : (v : SessionValue) (at name id : ℕ) → IsSession v → at < length v.names
+pub found_is_live : (v : SessionValue) (at name id : ℕ) → IsRecordedSession v → at < length v.names
     → get_or v.names at (entry name id) ≡ entry name id → IsLiveName (session_of v) name × IsLive (state_of v.atlas) id
 found_is_live v at name id h below is =
     let there : Contains v.names (entry name id) = (at, below, is) in
     let some : 1 ≤ entries_of id v.names = count_some (λ (m : Entry). m.id == id) v.names (entry name id) there (eq-eqb id id refl) in
     (entry_is_live v (entry name id) h there, counted_is_live (state_of v.atlas) id (subst (λ k. 1 ≤ k) (h.ids id) some))
 
-pub missing_is_not_live : (v : SessionValue) (name : ℕ) → IsSession v → All (λ (n : Entry). n.name ≡ name → ⊥) v.names
+pub missing_is_not_live : (v : SessionValue) (name : ℕ) → IsRecordedSession v → All (λ (n : Entry). n.name ≡ name → ⊥) v.names
     → IsLiveName (session_of v) name → ⊥
 missing_is_not_live v name h none live =
     let r = live_has_entry v name h live in
@@ -353,7 +353,7 @@ missing_is_not_live v name h none live =
 -- The same of a value that is known by its fields, and of names that are known to be these.
 
 pub led_by_freeing : (v w : SessionValue) (a : AtlasValue) (ns : List Entry) (at name called id : ℕ) → v ≡ w → name ≡ called
-    → ns ≡ remove v.names at → IsSession v → at < length v.names → get_or v.names at (entry name id) ≡ entry name id
+    → ns ≡ remove v.names at → IsRecordedSession v → at < length v.names → get_or v.names at (entry name id) ≡ entry name id
     → Step (state_of v.atlas) (atlas.Deallocate id) atlas.Done (state_of a)
     → FreesUnder (session_of w) called (record { state = state_of a; name = name_among ns })
 led_by_freeing v w a ns at name called id value names left h below is step =
@@ -363,7 +363,7 @@ led_by_freeing v w a ns at name called id value names left h below is step =
     (frees_name v a at name id h below is step)))
 
 pub led_by_grant : (v w : SessionValue) (a : AtlasValue) (ns : List Entry) (size : Size) (g answer : Allocation) → v ≡ w
-    → ns ≡ v.names ++ named_entry v.given g ∷ [] → answer ≡ under v.given g → IsSession v
+    → ns ≡ v.names ++ named_entry v.given g ∷ [] → answer ≡ under v.given g → IsRecordedSession v
     → Step (state_of v.atlas) (atlas.Allocate (sides_of size)) (atlas.Allocated (grant_of g)) (state_of a) → IsExact g.rectangle
     → GrantsUnder (session_of w) size answer (record { state = state_of a; name = name_among ns })
 led_by_grant v w a ns size g answer value more said h step exact =

@@ -31,7 +31,7 @@ use Rattle.guillotiere_recording.specs.Logs.{RecordingValue, with_event}
 use Rattle.guillotiere_recording.specs.Sessions.{renamed_transfer, RearrangesUnder, Leads}
 use Rattle.guillotiere_recording.specs.Names.{AreRisingNames, entries_of, name_among}
 use Rattle.guillotiere_recording.specs.Moves.{change_under, failure_under, entry_under, AreEntered, IsMoved}
-use Rattle.guillotiere_recording.specs.Recordings.{SessionValue, session_of, IsSession}
+use Rattle.guillotiere_recording.specs.Recordings.{SessionValue, session_of, IsRecordedSession}
 use Rattle.guillotiere_recording.specs.Kept.{IsSessionKept}
 use Rattle.guillotiere_recording.proofs.Counts.{count_map, count_permuted}
 use Rattle.guillotiere_recording.proofs.Entries.{entry_of, name_of, counted_is_live}
@@ -39,7 +39,7 @@ use Rattle.guillotiere_recording.proofs.Naming.{live_at_most_once, moved_from}
 use Rattle.guillotiere_recording.proofs.Keeping.{session_named, recorded_more, given_more, names_in}
 
 -- What each session keeps.
-pub kept_of : (v : SessionValue) → IsSession v → IsSessionKept v
+pub kept_of : (v : SessionValue) → IsRecordedSession v → IsSessionKept v
 kept_of v h = record { ids = h.ids; named = session_named v h }
 
 -- Lists
@@ -218,14 +218,14 @@ names_apart v new answer m asked h step moved name =
         omega (arith, few, all, from, one)
 
 pub rearranged_session : {A : Type 0} (v : SessionValue) (a : AtlasValue) (ns : List Entry) (r : RecordingValue) (answer : ChangeList A) (m : Moved A)
-    (asked : AtlasCall) (event : EventValue) → IsSession v
+    (asked : AtlasCall) (event : EventValue) → IsRecordedSession v
     → Step (state_of v.atlas) asked (atlas.Changed (rearrangement_of answer)) (state_of a) → IsMoved v.names answer m
     → ns ≡ m.names.items → r ≡ with_event event v.recording → names_in event ≡ []
     → Leads (session_of v) event (record { state = state_of a; name = name_among m.names.items })
-    → IsSession (record { atlas = a; names = ns; given = v.given; recording = r })
+    → IsRecordedSession (record { atlas = a; names = ns; given = v.given; recording = r })
 rearranged_session v a ns r answer m asked event h step moved names more none leads =
-    subst (λ ms. IsSession (record { atlas = a; names = ms; given = v.given; recording = r })) (sym names)
-    (subst (λ q. IsSession (record { atlas = a; names = m.names.items; given = v.given; recording = q })) (sym more) it)
+    subst (λ ms. IsRecordedSession (record { atlas = a; names = ms; given = v.given; recording = r })) (sym names)
+    (subst (λ q. IsRecordedSession (record { atlas = a; names = m.names.items; given = v.given; recording = q })) (sym more) it)
   where
     low : (k : ℕ) (d : Change) → k < length answer.changes.items → name_among v.names (get_or answer.changes.items k d).old.id < v.given
     low k d below =
@@ -233,7 +233,7 @@ rearranged_session v a ns r answer m asked event h step moved names more none le
         let n = entry_of (get_or answer.changes.items k d).old.id v.names (e.changed k d below) in
         subst (λ x. x < v.given) (sym n.3) (All-contains (λ (x : Entry). x.name < v.given) v.names n.0 h.below n.1)
 
-    it : IsSession (record { atlas = a; names = m.names.items; given = v.given; recording = with_event event v.recording })
+    it : IsRecordedSession (record { atlas = a; names = m.names.items; given = v.given; recording = with_event event v.recording })
     it = record {
       faithful = record {
         leads = recorded_more v.recording event (session_of v) (record { state = state_of a; name = name_among m.names.items }) h.faithful.leads leads;

@@ -20,7 +20,7 @@ use Rattle.guillotiere.proofs.TreeLemmas.TreeBasics.{one_if}
 use Rattle.guillotiere_recording.specs.declared.names.LiveName.{LiveName as Entry}
 use Rattle.guillotiere_recording.specs.Books.{AreSameGrants, book}
 use Rattle.guillotiere_recording.specs.Names.{entries_of, name_among, box_or_none, shown}
-use Rattle.guillotiere_recording.specs.Recordings.{SessionValue, session_of, AreBooked, IsSession}
+use Rattle.guillotiere_recording.specs.Recordings.{SessionValue, session_of, AreBooked, IsRecordedSession}
 use Rattle.guillotiere_recording.proofs.Counts.{count_map, count_alike}
 use Rattle.guillotiere_recording.proofs.Entries.{name_of}
 use Rattle.guillotiere_recording.proofs.Naming.{live_at_most_once}
@@ -73,7 +73,7 @@ box_of_live s g sound at =
     ap (λ (o : Option Grant). box_or_none (option_map (λ (k : Grant). k.box) o)) it
 
 -- Each entry's id has a box.
-pub entries_have_boxes : (v : SessionValue) → IsSession v → All (λ (n : Entry). IsSome (live_box (state_of v.atlas) n.id)) v.names
+pub entries_have_boxes : (v : SessionValue) → IsRecordedSession v → All (λ (n : Entry). IsSome (live_box (state_of v.atlas) n.id)) v.names
 entries_have_boxes v h k d below =
     let n : Entry = get_or v.names k d in
     let there : Contains v.names n = (k, below, get_or_default v.names k n d below) in
@@ -81,7 +81,7 @@ entries_have_boxes v h k d below =
     let it = find-counted (λ (g : Grant). g.id == n.id) (live_in (state_of v.atlas)) (subst (λ c. 1 ≤ c) (h.ids n.id) some) in
     subst (λ (o : Option Grant). IsSome (option_map (λ (g : Grant). g.box) o)) (sym it.1) refl
 
-pub shown_book : (v : SessionValue) (found : List Allocation) → IsSession v → found ≡ map (shown (state_of v.atlas)) v.names
+pub shown_book : (v : SessionValue) (found : List Allocation) → IsRecordedSession v → found ≡ map (shown (state_of v.atlas)) v.names
     → AreBooked v.recording.events found
 shown_book v found h is = subst (AreBooked v.recording.events) (sym is) it
   where
@@ -141,7 +141,7 @@ shown_area : (s : State) (o : Option Box) → s.size.width ≤ 2147483647 → s.
 shown_area s (Some b) wide high some h = record { exact = refl; measurable = grind arith; nonempty = h.0 }
 shown_area s None wide high some h = absurd (cc)
 
-pub entries_show_areas : (v : SessionValue) → IsSession v → (state_of v.atlas).size.width ≤ 2147483647
+pub entries_show_areas : (v : SessionValue) → IsRecordedSession v → (state_of v.atlas).size.width ≤ 2147483647
     → (state_of v.atlas).size.height ≤ 2147483647
     → All (λ (a : Allocation). IsShownArea a.rectangle) (map (shown (state_of v.atlas)) v.names)
 entries_show_areas v h wide high =

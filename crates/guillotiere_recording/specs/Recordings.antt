@@ -52,7 +52,7 @@ pub record AreBooked (events : List EventValue) (found : List Allocation) : Type
   pub exact : All (λ (a : Allocation). IsExact a.rectangle) found
 
 -- What each recording allocator keeps.
-pub record IsSession (v : SessionValue) : Type 0 where
+pub record IsRecordedSession (v : SessionValue) : Type 0 where
   pub faithful : IsFaithful v
   pub ids : AreLiveIds (state_of v.atlas) v.names
   pub rising : AreRisingNames v.names

@@ -51,14 +51,14 @@ pub struct RecordingAllocator<A: Allocator + Copy = Global> {
 
 impl<A: Allocator + Copy> Model for RecordingAllocator<A> {
     ghost use Rattle.guillotiere_recording.specs.Logs.{recording_of};
-    ghost use Rattle.guillotiere_recording.specs.Recordings.{SessionValue, IsSession};
+    ghost use Rattle.guillotiere_recording.specs.Recordings.{SessionValue, IsRecordedSession};
 
     ghost Value = { SessionValue };
 
     ghost view = { λ a.
         record { atlas = a.atlas; names = a.names.items; given = a.given; recording = recording_of a.log } };
 
-    ghost invariant = { λ a. IsSession
+    ghost invariant = { λ a. IsRecordedSession
         (record { atlas = a.atlas; names = a.names.items; given = a.given; recording = recording_of a.log }) };
 }
 

@@ -91,15 +91,6 @@ growth_less o sizes page old new is more within =
 one_fewer : (m n l : ℕ) → n < m → (m - n) * l ≡ (m - (n + 1)) * l + l
 one_fewer m n l less = let step : m - n ≡ (m - (n + 1)) + 1 = omega arith in ap (λ k. k * l) step ∙ omega arith
 
--- A page that is added leaves less.
-pub added_less : (o : CacheOptions) (sizes : List Size) (new : Size) → length sizes < o.pages
-    → 0 < both_sides new → both_sides new ≤ both_sides o.largest_page
-    → growth_left o (sizes ++ new ∷ []) < growth_left o sizes
-added_less o sizes new less more within =
-    let sum = sum_by-append (short_of o) sizes (new ∷ []) in
-    let fewer = one_fewer o.pages (length sizes) (both_sides o.largest_page) less in
-    rw (length-append sizes (new ∷ [])) (omega (arith, sum, fewer, more, within))
-
 -- What is known of a page that isn't at its largest.
 pub record Growth (r : RoomsState) (page : ℕ) (old : Size) : Type 0 where
   pub within : page < length r.pages
@@ -145,15 +136,6 @@ grown_less r page old growth is =
     growth_less r.options (page_sizes r.pages) page old
     (size_of (grown_sides (sides_of r.options.largest_page) (sides_of old))) is growth.grows.more
     (omega (arith, within.0, within.1))
-
--- A new page is added: less is left.
-pub new_page_less : (o : CacheOptions) (pages : List AtlasValue) → AreUsable o → length pages < o.pages
-    → growth_left o (page_sizes pages ++ o.page ∷ []) < growth_left o (page_sizes pages)
-new_page_less o pages usable less =
-    let page = usable.page in
-    let largest = usable.largest in
-    added_less o (page_sizes pages) o.page (rw (length-map pages size_of_page) less) (omega (arith, page.0))
-    (omega (arith, largest.0, largest.1))
 
 -- Where one page isn't at its largest, not all are.
 pub not_all_largest : (o : CacheOptions) (sizes : List Size) (page : ℕ) (old : Size) → slice_get sizes page ≡ Some old

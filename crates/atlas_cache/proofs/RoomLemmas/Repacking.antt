@@ -18,7 +18,7 @@ use Rattle.guillotiere.specs.Trees.{Grant}
 use Rattle.guillotiere.proofs.ListLemmas.CallerLemmas.{count_by-permutation, find-permutation, slice_get-set_here, slice_get-set_other}
 use Rattle.guillotiere.proofs.ListLemmas.Counting.{count_by-cons}
 use Rattle.guillotiere.proofs.StepLemmas.LiveBoxes.{few_live}
-use Rattle.atlas_cache.specs.Repacking.{held_after, held_before, rectangle_among, AreOfOwnIds, RepacksPage, TellsMoves}
+use Rattle.atlas_cache.specs.Repacking.{told_after, told_before, rectangle_among, AreOfOwnIds, RepacksPage, TellsMoves}
 
 abbrev HasExact : Allocation → Type 0
 HasExact a = IsExact a.rectangle
@@ -84,10 +84,10 @@ rearranging_tells s t list sound_s sound_t exact sides step =
     let exact_olds = All-map HasExact (λ (c : Change). c.old) cs (All-weaker IsExactChange (λ c. HasExact c.old) (λ c e. e.0) cs exact.changes) in
     let exact_news = All-map HasExact (λ (c : Change). c.new) cs (All-weaker IsExactChange (λ c. HasExact c.new) (λ c e. e.1) cs exact.changes) in
     record {
-      before = told s sound_s (held_before list) before (All-append HasExact (map (λ c. c.old) cs) fs exact_olds exact.failures);
-      after = told t sound_t (held_after list) after exact_news;
-      once_before = told_once s sound_s (held_before list) before;
-      once_after = told_once t sound_t (held_after list) after;
+      before = told s sound_s (told_before list) before (All-append HasExact (map (λ c. c.old) cs) fs exact_olds exact.failures);
+      after = told t sound_t (told_after list) after exact_news;
+      once_before = told_once s sound_s (told_before list) before;
+      once_after = told_once t sound_t (told_after list) after;
       sides = sides;
       exact = exact.changes;
     }

@@ -48,16 +48,6 @@ reaches : (from z to : ℤ) (a b : ℕ) → from ≡ pos a → to ≡ pos b → 
 reaches from (pos n) to a b first last positive within = omega (arith, ints)
 reaches from (negsuc n) to a b first last positive within = absurd (omega (arith, ints))
 
--- What is granted is at least as large as what was asked for.
-pub granted_is_at_least : (s : State) (asked : Size) (r : Rectangle) → IsExact r → IsGranted s asked r → IsAtLeast asked r
-granted_is_at_least s asked r exact granted = record {
-  exact = exact;
-  wide = reaches r.min.x asked.width r.max.x _ _ (ap (λ (q : Rectangle). q.min.x) exact)
-      (ap (λ (q : Rectangle). q.max.x) exact) granted.positive.0 granted.wide;
-  high = reaches r.min.y asked.height r.max.y _ _ (ap (λ (q : Rectangle). q.min.y) exact)
-      (ap (λ (q : Rectangle). q.max.y) exact) granted.positive.1 granted.high;
-}
-
 -- A page that is cleared, after others.
 pub one_more_idle : (pages : List AtlasValue) (n : ℕ) (b : AtlasValue) → n < length pages → live_in (state_of b) ≡ []
     → ((k : ℕ) → k < n → (id : ℕ) → rectangle_on pages k id ≡ None)

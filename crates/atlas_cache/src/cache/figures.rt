@@ -1,7 +1,7 @@
 //! What a cache tells of itself: how it was made, how it was used, and the areas of its pages.
 ghost use Rattle.std.specs.Prelude.{◌≡◌, slice_get};
 ghost use Rattle.atlas_cache.specs.Asking.{AreUsable};
-ghost use Rattle.atlas_cache.specs.Repacking.{free_areas, live_areas};
+ghost use Rattle.atlas_cache.specs.Repacking.{free_by_page, live_by_page};
 
 use crate::cache::TextureCache;
 use crate::counts::Counts;
@@ -29,7 +29,7 @@ impl<K: Copy + Eq + Hash, S: BuildHasher, A: Allocator + Copy> TextureCache<K, S
     /// The area of all entries of a page together, with their padding and what alignment added, in pixels; None if there
     /// is no such page. Takes no memory, and one pass over the slots of the page.
     pub fn live_area(&self, page: u32) -> Option<u64>
-        ensures { result ≡ slice_get (live_areas self.now.pages) page }
+        ensures { result ≡ slice_get (live_by_page self.now.pages) page }
     {
         if page < self.rooms.len() {
             Some(self.rooms.live_area(page))
@@ -41,7 +41,7 @@ impl<K: Copy + Eq + Hash, S: BuildHasher, A: Allocator + Copy> TextureCache<K, S
     /// The area of a page that no entry takes, in pixels; None if there is no such page. Takes no memory, and one pass
     /// over the slots of the page.
     pub fn free_area(&self, page: u32) -> Option<u64>
-        ensures { result ≡ slice_get (free_areas self.now.pages) page }
+        ensures { result ≡ slice_get (free_by_page self.now.pages) page }
     {
         if page < self.rooms.len() {
             Some(self.rooms.free_area(page))

@@ -3,7 +3,7 @@ ghost use Rattle.std.specs.Prelude.{◌≡◌, [], ◌∷◌, ◌++◌, length, 
 ghost use Rattle.guillotiere.specs.Pages.{HasSameRectangles, LeavesNoBoxOn, NoneHasRoomBelow};
 ghost use Rattle.atlas_cache.specs.Asking.{IsBorderedBy};
 ghost use Rattle.atlas_cache.specs.Caches.{entries_of, entry_for, shown, HoldsEntries, IsFound};
-ghost use Rattle.atlas_cache.specs.Changes.{IsPlaced};
+ghost use Rattle.atlas_cache.specs.Changes.{GetsPlace};
 ghost use Rattle.atlas_cache.specs.Entries.{entry_at, number_of, without_number};
 ghost use Rattle.atlas_cache.specs.Refusals.{IsRefusedNew};
 ghost use Rattle.atlas_cache.specs.Rooms.{page_sizes};
@@ -66,7 +66,7 @@ pub fn grant<K: Copy + Eq + Hash, S: BuildHasher, A: Allocator + Copy>(
     requires absent { IsNone (number_of K.eq key entries.old) }
     ensures held { HoldsEntries rooms.new.pages (entries_of entries.new) }
     ensures placed { IfOk result (λ granted. IfSome granted (λ e.
-        IsPlaced asked key size frame rooms.old.pages rooms.new.pages e)) }
+        GetsPlace asked key size frame rooms.old.pages rooms.new.pages e)) }
     ensures first { IfOk result (λ granted. IfSome granted (λ e.
         entries_of entries.new ≡ e ∷ entries_of entries.old)) }
     ensures sizes { page_sizes rooms.new.pages ≡ page_sizes rooms.old.pages }

@@ -4,7 +4,7 @@ ghost use Rattle.guillotiere.specs.Callers.{rectangle_in, KeepsFrame};
 ghost use Rattle.guillotiere.specs.States.{IsSound};
 ghost use Rattle.guillotiere.specs.Stored.{state_of};
 ghost use Rattle.atlas_cache.specs.declared.options.CacheOptions.{CacheOptions};
-ghost use Rattle.atlas_cache.specs.Repacking.{free_areas, live_areas, RepacksPage, TellsMoves};
+ghost use Rattle.atlas_cache.specs.Repacking.{free_by_page, live_by_page, RepacksPage, TellsMoves};
 ghost use Rattle.atlas_cache.specs.Rooms.{page_sizes, rooms_of, IsRefusal, KeepsRooms};
 
 use crate::error::CacheError;
@@ -67,7 +67,7 @@ impl<A: Allocator + Copy> Rooms<A> {
     /// memory, and one pass over the slots of the page.
     pub fn live_area(&self, page: u32) -> u64
         requires { page < length self.now.pages }
-        ensures { slice_get (live_areas self.now.pages) page ≡ Some result }
+        ensures { slice_get (live_by_page self.now.pages) page ≡ Some result }
     {
         self.pages[page as usize].allocated_area()
     }
@@ -76,7 +76,7 @@ impl<A: Allocator + Copy> Rooms<A> {
     /// memory, and one pass over the slots of the page.
     pub fn free_area(&self, page: u32) -> u64
         requires { page < length self.now.pages }
-        ensures { slice_get (free_areas self.now.pages) page ≡ Some result }
+        ensures { slice_get (free_by_page self.now.pages) page ≡ Some result }
     {
         self.pages[page as usize].free_area()
     }

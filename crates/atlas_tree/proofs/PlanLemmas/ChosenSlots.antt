@@ -20,7 +20,7 @@ use Rattle.atlas_store.specs.Stored.{Shelf, Holding, Holds, places_of}
 use Rattle.atlas_store.specs.Store.Holdings.{shelf_of, node_in, across_of, with_loose, with_held, IsLow}
 use Rattle.atlas_store.specs.Search.Bands.{list_of, number_of}
 use Rattle.atlas_store.specs.Slots.Lists.{node_sides, node_top}
-use Rattle.atlas_tree.specs.Plans.Planning.{IsPlanFor, IsFeasible, IsPlaceable, IsPlaceableAt, IsPlaced, IsPlanned}
+use Rattle.atlas_tree.specs.Plans.Planning.{IsPlanFor, IsFeasible, IsPlanReady, IsPlanReadyWith, IsPlanDone, IsPlanned}
 use Rattle.atlas_store.specs.Store.StoreCalls.{IsListedAt, IsSharpened, IsUnlisted}
 use Rattle.atlas_tree.specs.Plans.Chosen.{IsAtRest, IsChosen, IsGrantable, IsGrantMade}
 use Rattle.atlas_store.proofs.StoreLemmas.Filing.{with_mark-same}
@@ -98,13 +98,13 @@ module _ {A : Type 0} {v v' : Store A} {r : Sides} {p : Chosen} {h : Holding} (w
   abbrev unlisted : Holding
   unlisted = with_loose p.at.number true (with_held left.0 h)
 
-  is_placeable : IsPlaceableAt v' p.at.number p.plan unlisted
+  is_placeable : IsPlanReadyWith v' p.at.number p.plan unlisted
   is_placeable = grind (arith, left, with_mark-same, only-more, slots-kept)
 
-  pub placeable-chosen : IsPlaceable v' p.at.number p.plan
+  pub placeable-chosen : IsPlanReady v' p.at.number p.plan
   placeable-chosen = (unlisted, is_placeable)
 
-  module _ {new : Store A} {to : ℕ} (placed : IsPlaced v' new p.at.number to p.plan) where
+  module _ {new : Store A} {to : ℕ} (placed : IsPlanDone v' new p.at.number to p.plan) where
     placed_there : (h' : Holding) × IsPlanned (shelf_of new) p.at.number to p.plan unlisted h'
     placed_there = placed.kept unlisted is_placeable
 

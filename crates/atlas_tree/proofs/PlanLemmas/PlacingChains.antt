@@ -11,12 +11,12 @@ use Rattle.atlas_store.specs.Slots.Reading.{extent_of}
 use Rattle.atlas_store.specs.Stored.{Holding}
 use Rattle.atlas_store.specs.Store.Holdings.{shelf_of, node_in, HasSlotsFor, IsLooseLeaf, with_loose, with_held, with_spare, after_split, after_wrap, after_grant}
 use Rattle.atlas_store.specs.Store.StoreCalls.{IsGranted, IsListed, IsSplit, IsWrapped, IsWrappedTwo}
-use Rattle.atlas_tree.specs.Plans.Planning.{IsPlaceableAt, IsPlaced, IsPlanned, IsPlannedTree, slots_of}
+use Rattle.atlas_tree.specs.Plans.Planning.{IsPlanReadyWith, IsPlanDone, IsPlanned, IsPlannedTree, slots_of}
 use Rattle.atlas_store.proofs.SlotLemmas.Frames.{same-ne}
 use Rattle.atlas_store.proofs.StoreLemmas.Filing.{with_mark-same}
 use Rattle.atlas_store.proofs.StoreLemmas.PlacingSteps.{IsStage, stage-leaf, stage-order, mark-stays, mark-apart, SplitTo, split-stage, WrappedTo, wrap-stage, WrappedTwoTo, wrap_two-stage, grant-stage, ListedTo, list-stage, not_both}
 
-first-stage : {A : Type 0} {v : Store A} {at : ℕ} {p : Plan} {h : Holding} → IsPlaceableAt v at p h → IsStage v (at ∷ []) h
+first-stage : {A : Type 0} {v : Store A} {at : ℕ} {p : Plan} {h : Holding} → IsPlanReadyWith v at p h → IsStage v (at ∷ []) h
 first-stage s = grind (arith, not_both, same-ne)
 
 -- Fewer slots are there too.
@@ -34,12 +34,12 @@ generation-kept : {A : Type 0} {v v' : Store A} (new : Store A) (to : ℕ) → I
 generation-kept new to w same = sym (ap (λ ns. (node_at ns to).generation) same ∙ ap (λ (n : Node). n.generation) w.granted)
 
 -- The leaf is granted whole.
-pub whole-placed : {A : Type 0} {v v' : Store A} {at : ℕ} → IsGranted v v' at → IsPlaced v v' at at plan.Whole
+pub whole-placed : {A : Type 0} {v v' : Store A} {at : ℕ} → IsGranted v v' at → IsPlanDone v v' at at plan.Whole
 whole-placed {A} {v} {v'} {at} w = grind (arith, planned-end, grant-stage, first-stage, generation-kept)
 
 -- Cut along.
 module _ {A : Type 0} {v0 v1 : Store A} {at k : ℕ} {p : ℕ} (split : IsSplit v0 v1 at k p) where
-  module _ {h : Holding} (s : IsPlaceableAt v0 at (plan.StripAlong p) h) where
+  module _ {h : Holding} (s : IsPlanReadyWith v0 at (plan.StripAlong p) h) where
     strip_split : SplitTo v1 0 at k p (at ∷ []) h
     strip_split = split-stage 0 split (first-stage s) s.slots s.leaf.loose
 
@@ -76,7 +76,7 @@ module _ {A : Type 0} {v0 v1 : Store A} {at k : ℕ} {p : ℕ} (split : IsSplit 
 
 -- Cut across.
 module _ {A : Type 0} {v0 v1 : Store A} {at f b : ℕ} {q : ℕ} (wrap : IsWrappedTwo v0 v1 at f b q) where
-  module _ {h : Holding} (s : IsPlaceableAt v0 at (plan.StripAcross q) h) where
+  module _ {h : Holding} (s : IsPlanReadyWith v0 at (plan.StripAcross q) h) where
     across_wrap : WrappedTwoTo v1 0 at f b q [] h
     across_wrap = wrap_two-stage 0 wrap (first-stage s) s.slots s.leaf.loose
 
@@ -161,7 +161,7 @@ module _ {A : Type 0} {v3 v4 : Store A} {g k l : ℕ} {h3 : Holding} (c : IsCorn
 
 -- Cut along, and its first part across.
 module _ {A : Type 0} {v0 v1 : Store A} {at k : ℕ} {p : ℕ} (split : IsSplit v0 v1 at k p) {q : ℕ} {h : Holding}
-    (s : IsPlaceableAt v0 at (plan.CornerAlong p q) h) where
+    (s : IsPlanReadyWith v0 at (plan.CornerAlong p q) h) where
   along_split : SplitTo v1 2 at k p (at ∷ []) h
   along_split = split-stage 2 split (first-stage s) s.slots s.leaf.loose
 
@@ -236,7 +236,7 @@ module _ {A : Type 0} {v0 v1 : Store A} {at k : ℕ} {p : ℕ} (split : IsSplit 
 
 -- Cut across, and its first part along.
 module _ {A : Type 0} {v0 v1 : Store A} {at c b : ℕ} {q : ℕ} (wrap : IsWrappedTwo v0 v1 at c b q) {p : ℕ} {h : Holding}
-    (s : IsPlaceableAt v0 at (plan.CornerAcross p q) h) where
+    (s : IsPlanReadyWith v0 at (plan.CornerAcross p q) h) where
   both_wrap : WrappedTwoTo v1 2 at c b q [] h
   both_wrap = wrap_two-stage 2 wrap (first-stage s) s.slots s.leaf.loose
 

@@ -67,14 +67,14 @@ IsPlannedTree (plan.CornerAcross p q) at width granted g old new =
     (split_at c s q (wrapped_at at c width old)))))
 
 -- Slot `at` is a loose leaf, the only one, for which the plan is feasible, and there are slots for it.
-pub record IsPlaceableAt {A : Type 0} (s : Store A) (at : ℕ) (p : Plan) (h : Holding) : Type 0 where
+pub record IsPlanReadyWith {A : Type 0} (s : Store A) (at : ℕ) (p : Plan) (h : Holding) : Type 0 where
   pub leaf : IsLooseLeaf (shelf_of s) at h
   pub only : IsLooseOnly (at ∷ []) h
   pub feasible : IsFeasible p (extent_of (node_in (shelf_of s) at)) (across_of (node_in (shelf_of s) at))
   pub slots : HasSlotsFor (slots_of p) s h
 
-abbrev pub IsPlaceable : {A : Type 0} → Store A → (at : ℕ) → Plan → Type 0
-IsPlaceable s at p = (h : Holding) × IsPlaceableAt s at p h
+abbrev pub IsPlanReady : {A : Type 0} → Store A → (at : ℕ) → Plan → Type 0
+IsPlanReady s at p = (h : Holding) × IsPlanReadyWith s at p h
 
 -- Slot `to` is granted by a plan in place of the leaf of slot `at`, and each free slot stands in its list.
 pub record IsPlanned (new : Shelf) (at to : ℕ) (p : Plan) (h h' : Holding) : Type 0 where
@@ -87,8 +87,8 @@ pub record IsPlanned (new : Shelf) (at to : ℕ) (p : Plan) (h h' : Holding) : T
   pub spare : length h'.spare ≡ length h.spare - slots_of p
 
 -- A plan was carried out in the loose leaf of slot `at`, and slot `to` is granted.
-pub record IsPlaced {A : Type 0} (old new : Store A) (at to : ℕ) (p : Plan) : Type 0 where
-  pub kept : (h : Holding) → IsPlaceableAt old at p h → (h' : Holding) × IsPlanned (shelf_of new) at to p h h'
+pub record IsPlanDone {A : Type 0} (old new : Store A) (at to : ℕ) (p : Plan) : Type 0 where
+  pub kept : (h : Holding) → IsPlanReadyWith old at p h → (h' : Holding) × IsPlanned (shelf_of new) at to p h h'
   pub once : KeepsTakenOnce old new
   pub options : new.options ≡ old.options
   pub capacity : vec_capacity new.slots ≡ vec_capacity old.slots

@@ -1,7 +1,7 @@
 use Rattle.std.proofs.Common.{◌≡◌, ◌≢◌, [], ◌∷◌, ◌++◌, length, append-nil, append_assoc, rules, ap, sym, subst, ◌∙◌, List}
 use Rattle.std.proofs.lemmas.List.{nil_from_length}
 use Rattle.atlas_svg.specs.declared.lines.Line.{Line}
-use Rattle.atlas_svg.specs.Lines.{SayAll}
+use Rattle.atlas_svg.specs.Lines.{SayLines}
 use Rattle.atlas_words.proofs.FirstLines.{rest_shorter}
 use Rattle.atlas_svg.proofs.Texts.{next_said}
 use Rattle.atlas_svg.proofs.picture.read_lines.Goals as goal
@@ -33,7 +33,7 @@ loop-rest-preserved c =
       found = λ more spells.
           let whole = c.loop-rest.invariant.found (c.in-Some.next ∷ more) (_, _, c.first_line.ensures, c.in-Some.ensures.found, spells) in
           let same = ap (λ (ls : List Line). ls ++ more) pushed ∙ append_assoc c.loop-rest.said.items (c.in-Some.next ∷ []) more in
-          subst (λ (ls : List Line). SayAll ls c.args.text.now) (sym same) whole;
+          subst (λ (ls : List Line). SayLines ls c.args.text.now) (sym same) whole;
       all = λ all spells.
           let more = c.loop-rest.invariant.all all spells in
           let next = next_said more.0 _ _ _ more.1 some c.first_line.ensures in

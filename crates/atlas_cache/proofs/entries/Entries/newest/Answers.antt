@@ -1,12 +1,12 @@
 use Rattle.std.proofs.Common.{◌∙◌, ap, sym}
-use Rattle.atlas_cache.specs.Orders.{first_of}
+use Rattle.atlas_cache.specs.Orders.{newest_of}
 use Rattle.atlas_cache.proofs.EntryKeeping.{each-number, numbers-are}
 use Rattle.atlas_cache.proofs.entries.Entries.newest.Goals as goal
 
 pub returns-clause-first : goal.returns-clause-first
 returns-clause-first g c =
     let s = c.self.inside in
-    c.newest.ensures.first ∙ ap first_of (sym (numbers-are g.K.PartialEq.eq s.map s.recency s.items.items c.self.invariant c.args.self.now c.self.view_is))
+    c.newest.ensures.first ∙ ap newest_of (sym (numbers-are g.K.PartialEq.eq s.map s.recency s.items.items c.self.invariant c.args.self.now c.self.view_is))
 
 pub returns-clause-entry : goal.returns-clause-entry
 returns-clause-entry g c =

@@ -1,12 +1,12 @@
 use Rattle.std.proofs.Common.{◌∙◌, ap, sym}
-use Rattle.atlas_cache.specs.Orders.{last_of}
+use Rattle.atlas_cache.specs.Orders.{oldest_of}
 use Rattle.atlas_cache.proofs.EntryKeeping.{each-number, numbers-are}
 use Rattle.atlas_cache.proofs.entries.Entries.oldest.Goals as goal
 
 pub returns-clause-last : goal.returns-clause-last
 returns-clause-last g c =
     let s = c.self.inside in
-    c.oldest.ensures.last ∙ ap last_of (sym (numbers-are g.K.PartialEq.eq s.map s.recency s.items.items c.self.invariant c.args.self.now c.self.view_is))
+    c.oldest.ensures.last ∙ ap oldest_of (sym (numbers-are g.K.PartialEq.eq s.map s.recency s.items.items c.self.invariant c.args.self.now c.self.view_is))
 
 pub returns-clause-entry : goal.returns-clause-entry
 returns-clause-entry g c =

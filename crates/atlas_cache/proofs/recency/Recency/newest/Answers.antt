@@ -1,16 +1,16 @@
 use Rattle.std.proofs.Common.{◌∙◌, ◌<◌, ap, subst}
-use Rattle.atlas_cache.specs.Orders.{Order, first_of, occurs}
+use Rattle.atlas_cache.specs.Orders.{Order, newest_of, times_in}
 use Rattle.atlas_cache.proofs.SpareLemmas.{first-none, first-some, first-entry}
 use Rattle.atlas_cache.proofs.recency.Recency.newest.Goals as goal
 
 pub returns-then-ends-clause-first : goal.returns-then-ends-clause-first
 returns-then-ends-clause-first g c =
-    first-none _ _ _ c.self.invariant.short c.self.invariant.ring c.if-ends.true ∙ ap (λ (o : Order). first_of o.entries) c.self.view_is
+    first-none _ _ _ c.self.invariant.short c.self.invariant.ring c.if-ends.true ∙ ap (λ (o : Order). newest_of o.entries) c.self.view_is
 
 pub returns-clause-first : goal.returns-clause-first
 returns-clause-first g c =
-    first-some _ _ _ c.self.invariant.ring c.if-ends.false ∙ ap (λ (o : Order). first_of o.entries) c.self.view_is
+    first-some _ _ _ c.self.invariant.ring c.if-ends.false ∙ ap (λ (o : Order). newest_of o.entries) c.self.view_is
 
 pub returns-clause-entry : goal.returns-clause-entry
 returns-clause-entry g c =
-    subst (λ (o : Order). 0 < occurs c.self.inside.ends.next o.entries) c.self.view_is (first-entry _ _ _ c.self.invariant.ring c.if-ends.false)
+    subst (λ (o : Order). 0 < times_in c.self.inside.ends.next o.entries) c.self.view_is (first-entry _ _ _ c.self.invariant.ring c.if-ends.false)
