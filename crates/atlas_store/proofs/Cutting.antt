@@ -30,20 +30,6 @@ pub axis_vertical : (whole size : Size) (beside below : ℕ)
     → beside ≤ below → Vertical ≡ cut_axis (sides_of whole) (sides_of size)
 axis_vertical whole size beside below wide high width height p q r = grind arith
 
--- Where a side is equal, nothing remains on its axis.
-pub axis_equal_width : (whole r : Sides) → whole.width ≡ r.width → Vertical ≡ cut_axis whole r
-axis_equal_width whole r e =
-    let none : whole.width - r.width ≡ 0 = omega (arith, e) in
-    let beside = ap (λ d. d * r.height) none in
-    cond_above (cap (r.width * (whole.height - r.height))) (cap ((whole.width - r.width) * r.height)) Horizontal Vertical Vertical (omega (arith, beside)) refl
-
-pub axis_equal_height : (whole r : Sides) → whole.height ≡ r.height → r.width < whole.width → 0 < r.height → Horizontal ≡ cut_axis whole r
-axis_equal_height whole r e narrower high =
-    let none : whole.height - r.height ≡ 0 = omega (arith, e) in
-    let below = ap (λ d. r.width * d) none in
-    let beside = le-mul_of_pos_right (whole.width - r.width) high in
-    cond_below (cap (r.width * (whole.height - r.height))) (cap ((whole.width - r.width) * r.height)) Horizontal Vertical (omega (arith, below, beside, narrower))
-
 -- The tiling.
 
 -- A stretch cut in two: whether a place lies in the first part, in the second, in the whole.

@@ -7,7 +7,7 @@ pub mod Starting
 pub mod StoreSteps
 pub mod PlacingSteps
 pub mod StoreTakes
-pub mod SpareCounts
+pub mod UnusedCounts
 pub mod Sizes
 pub mod ExtendedTrees
 pub mod ExtendingSteps

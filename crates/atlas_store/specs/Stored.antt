@@ -48,24 +48,24 @@ state_of v =
       kept = length v.stored.shelf.slots;
     }
 
--- The numbered tree that slots stand for, and the lists that run through them: `spare` are the unused slots, `held k`
--- those of list k, and `loose` the free slots that stand in no list.
+-- The numbered tree that slots stand for, and the lists that run through them: `unused_list` has the unused slots, `free_lists k`
+-- those of list k, and `detached` the free slots that stand in no list.
 pub record Holding : Type 0 where
   pub sequence : Sequence
   pub tree : Numbered
-  pub spare : List ℕ
-  pub held : ℕ → List ℕ
-  pub loose : ℕ → Bool
+  pub unused_list : List ℕ
+  pub free_lists : ℕ → List ℕ
+  pub detached : ℕ → Bool
 
--- Where slots stand, once `hand i` counts a slot that is taken and not used yet.
-abbrev pub places_of : (hand : ℕ → ℕ) → Holding → Places
-places_of hand h = record { spare = h.spare; held = h.held; hand = hand; loose = h.loose }
+-- Where slots stand, once `claimed i` counts a slot that is taken and not used yet.
+abbrev pub places_of : (claimed : ℕ → ℕ) → Holding → Places
+places_of claimed h = record { unused_list = h.unused_list; free_lists = h.free_lists; claimed = claimed; detached = h.detached }
 
--- The slots stand for a tree, and the lists are in order; `hand i` counts a slot that is taken and not used yet.
-pub record HoldsWith (hand : ℕ → ℕ) (v : Shelf) (h : Holding) : Type 0 where
+-- The slots stand for a tree, and the lists are in order; `claimed i` counts a slot that is taken and not used yet.
+pub record HoldsWith (claimed : ℕ → ℕ) (v : Shelf) (h : Holding) : Type 0 where
   pub top : h.sequence.parent ≡ no_slot
   pub stands : Stands (nodes v.slots) h.sequence h.tree
-  pub filed : AreFiled (options_of v.options) (nodes v.slots) (rings v.slots) v.heads v.unused (places_of hand h)
+  pub filed : AreFiled (options_of v.options) (nodes v.slots) (rings v.slots) v.heads v.unused (places_of claimed h)
   pub short : length v.slots ≤ most_slots
   pub valid : AreValid (options_of v.options)
   -- Extents are positive, and no box passes what an `i32` holds.
@@ -74,19 +74,19 @@ pub record HoldsWith (hand : ℕ → ℕ) (v : Shelf) (h : Holding) : Type 0 whe
   pub across : h.sequence.start + h.sequence.width < 2 ^ 31
   pub along : total (erase h.tree) < 2 ^ 31
 
--- The same with nothing in hand.
+-- The same with nothing claimed.
 abbrev pub Holds : Shelf → Holding → Type 0
 Holds v h = HoldsWith (λ i. 0) v h
 
--- No free slot is loose but for these.
-abbrev pub IsLooseOnly : List ℕ → Holding → Type 0
-IsLooseOnly ks h = (i : ℕ) → occurs i ks ≡ 0 → h.loose i ≡ false
+-- No free slot is detached but for these.
+abbrev pub IsDetachedOnly : List ℕ → Holding → Type 0
+IsDetachedOnly ks h = (i : ℕ) → occurs i ks ≡ 0 → h.detached i ≡ false
 
 -- What each stored atlas keeps.
 pub record IsAtlas (v : Stored) : Type 0 where
   pub holding : Holding
   pub holds : Holds v.shelf holding
-  pub at_rest : IsLooseOnly [] holding
+  pub at_rest : IsDetachedOnly [] holding
   pub start : holding.sequence.start ≡ 0
   pub across : holding.sequence.width ≡ side (other holding.sequence.axis) (sides_of v.size)
   pub first : v.first.number ≡ first_slot holding.tree

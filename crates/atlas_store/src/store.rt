@@ -32,10 +32,10 @@ pub struct Store<A: Allocator> {
 }
 
 impl<A: Allocator> Store<A> {
-    ghost use Rattle.atlas_store.specs.Store.Holdings.{shelf_of, node_in, across_of, HasSlotsFor, IsHeld, IsLooseLeaf};
-    ghost use Rattle.atlas_store.specs.Store.StoreCalls.{HasInHand, IsGranted, IsJoined, IsLifted, IsListed};
-    ghost use Rattle.atlas_store.specs.Store.StoreCalls.{IsListedAt, IsLoose, IsMarkedFree, IsReadyFor, IsSharpened};
-    ghost use Rattle.atlas_store.specs.Store.StoreCalls.{IsSlotTaken, IsSplit, IsSplitWith, IsUnlisted, IsWrapped};
+    ghost use Rattle.atlas_store.specs.Store.Holdings.{shelf_of, node_in, across_of, HasSlotsFor, IsHeld, IsDetachedLeaf};
+    ghost use Rattle.atlas_store.specs.Store.StoreCalls.{HasClaimed, GrantsLeaf, IsJoined, IsLifted, ListsLeaf};
+    ghost use Rattle.atlas_store.specs.Store.StoreCalls.{IsListedAt, IsDetached, IsMarkedFree, IsReadyFor, IsSharpened};
+    ghost use Rattle.atlas_store.specs.Store.StoreCalls.{IsSlotTaken, IsSplit, IsSplitWith, UnlistsLeaf, IsWrapped};
     ghost use Rattle.atlas_store.specs.Store.StoreCalls.{IsWrappedTwo, IsWrappedWith};
 
     /// A copy: the same slots and lists, in new memory of the same allocator. No turn was taken in it yet.
@@ -76,9 +76,9 @@ impl<A: Allocator> Store<A> {
     /// Takes a free leaf out of its list.
     #[inline(always)]
     pub fn unlist(&mut self, at: Link)
-        requires ready { (h : Holding) × Holds (shelf_of self.old) h × (h.loose at.number ≡ false) }
+        requires ready { (h : Holding) × Holds (shelf_of self.old) h × (h.detached at.number ≡ false) }
         requires free { (node_in (shelf_of self.old) at.number).kind ≡ Free }
-        ensures { IsUnlisted self.old self.new at.number }
+        ensures { UnlistsLeaf self.old self.new at.number }
     {
         unlist(&mut self.slots, &mut self.lists, &self.options, at);
     }
@@ -86,7 +86,7 @@ impl<A: Allocator> Store<A> {
     /// Takes a free leaf out of the list where it stands.
     pub fn unlist_at(&mut self, at: Link, place: Place)
         requires { IsListedAt self.old at.number place }
-        ensures { IsUnlisted self.old self.new at.number }
+        ensures { UnlistsLeaf self.old self.new at.number }
     {
         unlist_at(&mut self.slots, &mut self.lists, at, place);
     }
@@ -100,34 +100,34 @@ impl<A: Allocator> Store<A> {
         self.lists.set_low(place, low);
     }
 
-    /// Puts a loose leaf into its list.
+    /// Puts a detached leaf into its list.
     #[inline(always)]
     pub fn list(&mut self, at: Link)
-        requires { IsLoose self.old at.number }
-        ensures { IsListed self.old self.new at.number }
+        requires { IsDetached self.old at.number }
+        ensures { ListsLeaf self.old self.new at.number }
     {
         enlist(&mut self.slots, &mut self.lists, &self.options, at);
     }
 
-    /// A loose leaf is granted.
+    /// A detached leaf is granted.
     pub fn grant(&mut self, at: Link)
-        requires { IsLoose self.old at.number }
-        ensures { IsGranted self.old self.new at.number }
+        requires { IsDetached self.old at.number }
+        ensures { GrantsLeaf self.old self.new at.number }
     {
         grant_leaf(&mut self.slots, at);
     }
 
-    /// Takes an unused slot, the one given back last, or else a new one at the end. It is in hand.
+    /// Takes an unused slot, the one given back last, or else a new one at the end. It is claimed.
     pub fn take(&mut self) -> Link
-        requires { (h : Holding) × (hand : ℕ → ℕ) × HoldsWith hand (shelf_of self.old) h × HasSlotsFor 1 self.old h }
+        requires { (h : Holding) × (claimed : ℕ → ℕ) × HoldsWith claimed (shelf_of self.old) h × HasSlotsFor 1 self.old h }
         ensures { IsSlotTaken self.old self.new result.number }
     {
         take_slot(&mut self.slots, &mut self.unused)
     }
 
-    // A loose leaf keeps the first `extent` pixels along its axis, and the slot in hand takes the rest.
+    // A detached leaf keeps the first `extent` pixels along its axis, and the claimed slot takes the rest.
     fn split_with(&mut self, at: Link, fresh: Link, extent: u32)
-        requires hand { HasInHand self.old at.number fresh.number }
+        requires claimed { HasClaimed self.old at.number fresh.number }
         requires positive { 0 < extent }
         requires less { extent < extent_of (node_in (shelf_of self.old) at.number) }
         ensures { IsSplitWith self.old self.new at fresh extent }
@@ -135,16 +135,16 @@ impl<A: Allocator> Store<A> {
         split_leaf(&mut self.slots, at, fresh, extent);
     }
 
-    // A loose leaf becomes a container, and the slot in hand its lone child.
+    // A detached leaf becomes a container, and the claimed slot its lone child.
     fn wrap_with(&mut self, at: Link, fresh: Link)
-        requires { HasInHand self.old at.number fresh.number }
+        requires { HasClaimed self.old at.number fresh.number }
         ensures { IsWrappedWith self.old self.new at fresh }
     {
         wrap_leaf(&mut self.slots, at, fresh);
     }
 
-    /// A loose leaf keeps the first `extent` pixels along its axis; the slot that is returned takes the rest, and is
-    /// loose too.
+    /// A detached leaf keeps the first `extent` pixels along its axis; the slot that is returned takes the rest, and is
+    /// detached too.
     #[inline(always)]
     pub fn split(&mut self, at: Link, extent: u32) -> Link
         requires ready { IsReadyFor 1 self.old at.number }
@@ -157,7 +157,7 @@ impl<A: Allocator> Store<A> {
         fresh
     }
 
-    /// A loose leaf becomes a container; the slot that is returned is its lone child, as large, and loose in its place.
+    /// A detached leaf becomes a container; the slot that is returned is its lone child, as large, and detached in its place.
     pub fn wrap(&mut self, at: Link) -> Link
         requires { IsReadyFor 1 self.old at.number }
         ensures { IsWrapped self.old self.new at.number result.number }
@@ -167,8 +167,8 @@ impl<A: Allocator> Store<A> {
         fresh
     }
 
-    /// A loose leaf becomes a container of two, the first with `extent` pixels along the other axis; the slot of the
-    /// second is taken before that of the first. Both are loose.
+    /// A detached leaf becomes a container of two, the first with `extent` pixels along the other axis; the slot of the
+    /// second is taken before that of the first. Both are detached.
     pub fn wrap_two(&mut self, at: Link, extent: u32) -> (Link, Link)
         requires ready { IsReadyFor 2 self.old at.number }
         requires positive { 0 < extent }
@@ -182,7 +182,7 @@ impl<A: Allocator> Store<A> {
         (front, back)
     }
 
-    /// A granted leaf becomes free, and is loose. One turn of a freeing.
+    /// A granted leaf becomes free, and is detached. One turn of a freeing.
     pub fn mark(&mut self, at: Link)
         requires held { IsHeld (shelf_of self.old) }
         requires granted { (node_in (shelf_of self.old) at.number).kind ≡ Alloc }
@@ -192,10 +192,10 @@ impl<A: Allocator> Store<A> {
         self.turns.tick();
     }
 
-    /// A loose leaf takes in the next one, which is loose too and whose slot is given back. One turn of a freeing.
+    /// A detached leaf takes in the next one, which is detached too and whose slot is given back. One turn of a freeing.
     pub fn join(&mut self, at: Link)
-        requires ready { (h : Holding) × IsLooseLeaf (shelf_of self.old) at.number h
-            × (h.loose (node_in (shelf_of self.old) at.number).next.number ≡ true) }
+        requires ready { (h : Holding) × IsDetachedLeaf (shelf_of self.old) at.number h
+            × (h.detached (node_in (shelf_of self.old) at.number).next.number ≡ true) }
         requires next_free { (node_in (shelf_of self.old) (node_in (shelf_of self.old) at.number).next.number).kind
             ≡ Free }
         ensures { IsJoined self.old self.new at.number (node_in (shelf_of self.old) at.number).next.number }
@@ -205,10 +205,10 @@ impl<A: Allocator> Store<A> {
         self.turns.tick();
     }
 
-    /// A loose leaf that is alone in its container takes its place; its own slot is given back. One turn of a freeing.
-    /// The answer is the container's slot, which is loose now.
+    /// A detached leaf that is alone in its container takes its place; its own slot is given back. One turn of a freeing.
+    /// The answer is the container's slot, which is detached now.
     pub fn lift(&mut self, child: Link) -> Link
-        requires ready { IsLoose self.old child.number }
+        requires ready { IsDetached self.old child.number }
         requires first { (node_in (shelf_of self.old) child.number).previous.number ≡ no_slot }
         requires last { (node_in (shelf_of self.old) child.number).next.number ≡ no_slot }
         requires nested { (node_in (shelf_of self.old) child.number).parent.number ≢ no_slot }

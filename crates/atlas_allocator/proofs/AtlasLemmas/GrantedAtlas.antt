@@ -40,7 +40,7 @@ use Rattle.atlas_store.proofs.SlotLemmas.JoiningWrites.{used-inside}
 use Rattle.atlas_store.proofs.SlotLemmas.SlotIds.{slot_count-none, id_of-slot}
 use Rattle.atlas_model.proofs.TreeLemmas.TreeCounts.{place_nodes}
 use Rattle.atlas_model.proofs.StepLemmas.StepKeeping.{placing_sound}
-use Rattle.atlas_store.proofs.StoreLemmas.SpareCounts.{spare-count}
+use Rattle.atlas_store.proofs.StoreLemmas.UnusedCounts.{unused_list-count}
 use Rattle.atlas_tree.proofs.PlanLemmas.PlannedTrees.{IsPlacing, planned-tree, planned-used, need-read}
 use Rattle.atlas_tree.proofs.PlanLemmas.PlannedSlots.{planned-first, planned-unused}
 use Rattle.atlas_allocator.proofs.AtlasLemmas.CuttingFromLists.{unsigned-fits, sides_of-size, size-positive}
@@ -96,7 +96,7 @@ module _ (v : Stored) (a : IsAtlas v) (request : Sides) where
     pub grantable : {A : Type 0} (made : Store A) → shelf_of made ≡ v.shelf → v.used + slots_of p.plan ≤ v.limit
         → (v.used + slots_of p.plan ≤ length v.shelf.slots) ⊎ (v.used + slots_of p.plan ≤ vec_capacity made.slots)
         → IsGrantable made wanted p a.holding
-    grantable made same few room = grind (arith, spare-count, at-rest)
+    grantable made same few room = grind (arith, unused_list-count, at-rest)
 
     -- The request is placed and granted.
     module _ (u : Shelf) (id to : ℕ) (h : Holding) (w : IsGrantMade u p id to a.holding h) (same_options : u.options ≡ v.shelf.options) (few : v.used + slots_of p.plan ≤ v.limit) (box : Box)
@@ -111,7 +111,7 @@ module _ (v : Stored) (a : IsAtlas v) (request : Sides) where
       more = planned-used (sides_of v.size) v.shelf a.holding p.at.number wanted placing u to p.plan h chosen.line w.planned
 
       kept-placed : length u.slots ≡ max (length v.shelf.slots) (tree.node_count (place (sides_of v.size) (box_of p.area) wanted id (tree_of (nodes v.shelf.slots))).members)
-      kept-placed = search (rules, spare-count, more, need, place_nodes)
+      kept-placed = search (rules, unused_list-count, more, need, place_nodes)
 
       pub state-placing : (used turns : ℕ) → after used turns ≡ after_placing now (box_of p.area) wanted id
       state-placing used turns = state-placed (after used turns) now (box_of p.area) wanted id tree-placed refl (ap options_of same_options) refl kept-placed

@@ -31,7 +31,7 @@ use Rattle.atlas_model.specs.Trees as tree
 use Rattle.atlas_store.specs.Slots.Numbered as numbered
 use Rattle.atlas_store.proofs.SlotLemmas.Reading.{tree_of-Stands}
 use Rattle.atlas_store.proofs.SlotLemmas.Normal.{numbers-erase}
-use Rattle.atlas_store.proofs.StoreLemmas.SpareCounts.{spare-count}
+use Rattle.atlas_store.proofs.StoreLemmas.UnusedCounts.{unused_list-count}
 use Rattle.atlas_store.proofs.StoreLemmas.Sizes.{size_is}
 use Rattle.atlas_model.proofs.TreeLemmas.TreeBasics.{side_positive}
 use Rattle.atlas_model.proofs.TreeLemmas.TreeIdle.{nothing_live}
@@ -97,7 +97,7 @@ module _ (v : Stored) (a : IsAtlas v) where
         more = nodes-grown ∙ ap (λ t. tree.node_count (grown (sides_of v.size) (sides_of size) t).members) (tree_of-IsAtlas v a) ∙ sym need
 
         kept-grown : length u.slots ≡ max (length v.shelf.slots) (tree.node_count (grown (sides_of v.size) (sides_of size) (tree_of (nodes v.shelf.slots))).members)
-        kept-grown = omega (arith, spare-count v.shelf a.holding a.holds, spare-count u h w.tree.holds, more, w.spare, nodes-grown)
+        kept-grown = omega (arith, unused_list-count v.shelf a.holding a.holds, unused_list-count u h w.tree.holds, more, w.unused_list, nodes-grown)
 
         abbrev pub after : (link : Link) (used turns : ℕ) → State
         after link used turns = state_of (record { stored = record { shelf = u; first = link; used = used; size = size; limit = v.limit }; turns = turns; capacity = 0 })
@@ -176,7 +176,7 @@ module _ (v : Stored) (a : IsAtlas v) where
 
             module _ (ok : (v.used + n ≤ v.limit) × ((v.used + n ≤ length made.slots.items) ⊎ (v.used + n ≤ vec_capacity made.slots))) where
               growable-here : IsGrowable made (sides_of p.from) (sides_of p.to) v.first.number n p a.holding
-              growable-here = grind (arith, spare-count, tree-from, plan-from, fits-from, busy, need-from)
+              growable-here = grind (arith, unused_list-count, tree-from, plan-from, fits-from, busy, need-from)
 
               pub some-growable : CanGrow made v.first.number p
               some-growable = (a.holding, n, growable-here)

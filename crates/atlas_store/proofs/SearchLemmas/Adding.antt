@@ -91,7 +91,7 @@ module _ (o : Options) (heads : List ListHead) (es : List Item) (class : ℕ) (r
       pub showable : IsShowable es (head_of heads (number_of place)).number
       showable = grind (arith, number-below)
 
-      module _ (few : class < 3) (w : IsInWindow o class place.row place.column) (xs : List ℕ) (same : xs ≡ a.held (number_of place)) where
+      module _ (few : class < 3) (w : IsInWindow o class place.row place.column) (xs : List ℕ) (same : xs ≡ a.free_lists (number_of place)) where
         of_list : (c : Shown) → Contains (shown_items es xs) c
             → ((item_at es c.at).is_free ≡ true) × (c ≡ shown_item es c.at) × (class_of o (item_sides (item_at es c.at)) ≡ class)
         of_list c h =
@@ -146,12 +146,12 @@ module _ (o : Options) (heads : List ListHead) (es : List Item) (class : ℕ) (r
       pub added-list : class < 3 → IsInWindow o class place.row place.column → (s t : Best) → HasShown es (head_of heads (number_of place)).number place s t
           → HasAdded o heads es class r (λ i j. (i ≡ place.row) × (j ≡ place.column)) s t
       added-list few w s t h =
-          added-shown few w h.xs (path-same es _ h.xs (a.held (number_of place)) a.short h.path (a.path (number_of place) number-below)) s t h.seen h.found
+          added-shown few w h.xs (path-same es _ h.xs (a.free_lists (number_of place)) a.short h.path (a.path (number_of place) number-below)) s t h.seen h.found
 
       pub added-over : class < 3 → IsInWindow o class place.row place.column → (s : Best) → s.rank ≡ 0
           → natural s.found.rectangle.min.y < low_of heads (number_of place)
           → HasAdded o heads es class r (λ i j. (i ≡ place.row) × (j ≡ place.column)) s s
-      added-over few w s best_is beyond = added-passed few w (a.held (number_of place)) refl s best_is beyond
+      added-over few w s best_is beyond = added-passed few w (a.free_lists (number_of place)) refl s best_is beyond
 
 -- Nothing that is in question was shown.
 pub added-nothing : (o : Options) (heads : List ListHead) (es : List Item) (class : ℕ) (r : Sides) (W : ℕ → ℕ → Type 0) (s : Best)

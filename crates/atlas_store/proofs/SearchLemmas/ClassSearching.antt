@@ -121,7 +121,7 @@ module _ (o : Options) (heads : List ListHead) (es : List Item) (class : ℕ) (r
   inside-free : (i : ℕ) → (item_at es i).is_free ≡ true → i < length es
   inside-free i free =
       let k = 52 * row_at o heads es class r a i + column_at o heads es class r a i in
-      path-inside es _ (a.held k) _ (a.path k (list_of-most o (item_sides (item_at es i)))) i (a.each i free)
+      path-inside es _ (a.free_lists k) _ (a.path k (list_of-most o (item_sides (item_at es i)))) i (a.each i free)
 
   -- Once an equal side is found, no list to the right and below holds the best.
   pub added-apart : (s : Best) → s.rank ≡ 0 → HasAdded o heads es class r IsApart s s

@@ -6,7 +6,7 @@ use Rattle.atlas_store.specs.declared.search.table.ListHead.{ListHead}
 use Rattle.atlas_store.specs.Search.Bands.{list_of}
 use Rattle.atlas_model.specs.Choice.{Options}
 use Rattle.atlas_store.specs.Search.Items.{Item, item_at, item_box, item_sides, IsPath}
-use Rattle.atlas_store.specs.Slots.Links.{IsSolid, held_with}
+use Rattle.atlas_store.specs.Slots.Links.{IsSolid, lists_with}
 use Rattle.atlas_store.specs.Slots.Lists.{occurs, without}
 use Rattle.atlas_store.specs.Search.Lookups.{AreListed}
 use Rattle.atlas_store.specs.Slots.Numbered.{same}
@@ -106,8 +106,8 @@ module _ (o : Options) (heads heads' : List ListHead) (es es' : List Item) (list
     (free : (item_at es x).is_free ≡ true) (list : list_at o es x ≡ k)
     (long : length es' ≡ length es) (gone : (item_at es' x).is_free ≡ false)
     (kept : (i : ℕ) → i ≢ x → ((item_at es' i).area ≡ (item_at es i).area) × ((item_at es' i).is_free ≡ (item_at es i).is_free))
-    (here : k < 2704 → IsPath es' (head_of heads' k).number (without x (listed.held k)) no_slot)
-    (links : (j i : ℕ) → j ≢ k → j < 2704 → 0 < occurs i (listed.held j) → (item_at es' i).after ≡ (item_at es i).after)
+    (here : k < 2704 → IsPath es' (head_of heads' k).number (without x (listed.free_lists k)) no_slot)
+    (links : (j i : ℕ) → j ≢ k → j < 2704 → 0 < occurs i (listed.free_lists j) → (item_at es' i).after ≡ (item_at es i).after)
     (other_heads : (j : ℕ) → j ≢ k → head_of heads' j ≡ head_of heads j)
     (low_here : (i : ℕ) → (item_at es i).is_free ≡ true → list_at o es i ≡ k → i ≢ x → low_of heads' k ≤ (item_box (item_at es i)).min.y)
     (other_lows : (j : ℕ) → j ≢ k → low_of heads' j ≡ low_of heads j) where
@@ -120,14 +120,14 @@ module _ (o : Options) (heads heads' : List ListHead) (es es' : List Item) (list
   was_free : (i : ℕ) → i ≢ x → (item_at es' i).is_free ≡ true → (item_at es i).is_free ≡ true
   was_free i ne f = sym (kept i ne).1 ∙ f
 
-  not_in : (j : ℕ) → j < 2704 → j ≢ k → occurs x (listed.held j) ≡ 0
+  not_in : (j : ℕ) → j < 2704 → j ≢ k → occurs x (listed.free_lists j) ≡ 0
   not_in j l ne = grind arith
 
-  paths : (j : ℕ) → j < 2704 → (j ≡ k) ⊎ (j ≢ k) → IsPath es' (head_of heads' j).number (without x (listed.held j)) no_slot
-  paths j l (inl e) = subst (λ n. IsPath es' (head_of heads' n).number (without x (listed.held n)) no_slot) (sym e) (here (omega arith))
+  paths : (j : ℕ) → j < 2704 → (j ≡ k) ⊎ (j ≢ k) → IsPath es' (head_of heads' j).number (without x (listed.free_lists j)) no_slot
+  paths j l (inl e) = subst (λ n. IsPath es' (head_of heads' n).number (without x (listed.free_lists n)) no_slot) (sym e) (here (omega arith))
   paths j l (inr ne) = grind (arith, without-none, not_in, path-frame)
 
-  owned : (j i : ℕ) → j < 2704 → 0 < occurs i (without x (listed.held j)) → (i ≡ x) ⊎ (i ≢ x)
+  owned : (j i : ℕ) → j < 2704 → 0 < occurs i (without x (listed.free_lists j)) → (i ≡ x) ⊎ (i ≢ x)
       → ((item_at es' i).is_free ≡ true) × (list_at o es' i ≡ j)
   owned j i l h (inl e) = grind (arith, occurs-without_self)
   owned j i l h (inr ne) = grind (arith, occurs-without_other, same_list)
@@ -140,13 +140,13 @@ module _ (o : Options) (heads heads' : List ListHead) (es es' : List Item) (list
   pub listed-without : AreListed o heads' es'
   listed-without =
       record {
-        held = λ j. without x (listed.held j);
+        free_lists = λ j. without x (listed.free_lists j);
         valid = listed.valid;
         short = omega (arith, long, listed.short);
         path = λ j l. paths j l (cases_eq j k);
         own = λ j i l h. owned j i l h (cases_eq i x);
         each = grind (arith, not_x, same_list, was_free, occurs-without_other);
-        once = λ j i l. omega (arith, listed.once j i l, occurs-without_le x i (listed.held j));
+        once = λ j i l. omega (arith, listed.once j i l, occurs-without_le x i (listed.free_lists j));
         exact = λ i f. (let ne = not_x i f in subst IsSolid (sym (kept i ne).0) (listed.exact i (was_free i ne f)));
         low = grind (arith, not_x, lows, was_free, same_list);
       }
@@ -161,19 +161,19 @@ module _ (o : Options) (heads heads' : List ListHead) (es es' : List Item) (list
     (lower : is_used_at heads k ≡ true → low_of heads' k ≤ low_of heads k)
     (other_lows : (j : ℕ) → j ≢ k → low_of heads' j ≡ low_of heads j) where
   abbrev added : ℕ → List ℕ
-  added = held_with listed.held k x
+  added = lists_with listed.free_lists k x
 
-  added-here : added k ≡ x ∷ listed.held k
-  added-here = cond-true (k == k) (x ∷ listed.held k) (listed.held k) (eq-eqb k k refl)
+  added-here : added k ≡ x ∷ listed.free_lists k
+  added-here = cond-true (k == k) (x ∷ listed.free_lists k) (listed.free_lists k) (eq-eqb k k refl)
 
-  added-other : (j : ℕ) → j ≢ k → added j ≡ listed.held j
-  added-other j ne = cond-false (j == k) (x ∷ listed.held j) (listed.held j) (ne_eqb j k ne)
+  added-other : (j : ℕ) → j ≢ k → added j ≡ listed.free_lists j
+  added-other j ne = cond-false (j == k) (x ∷ listed.free_lists j) (listed.free_lists j) (ne_eqb j k ne)
 
-  not_held : (j : ℕ) → j < 2704 → occurs x (listed.held j) ≡ 0
-  not_held j l = grind (arith, both_ways)
+  not_in_lists : (j : ℕ) → j < 2704 → occurs x (listed.free_lists j) ≡ 0
+  not_in_lists j l = grind (arith, both_ways)
 
-  frame : (j : ℕ) → j < 2704 → IsPath es' (head_of heads j).number (listed.held j) no_slot
-  frame j l = grind (arith, path-frame, not_held)
+  frame : (j : ℕ) → j < 2704 → IsPath es' (head_of heads j).number (listed.free_lists j) no_slot
+  frame j l = grind (arith, path-frame, not_in_lists)
 
   added-paths : (j : ℕ) → j < 2704 → (j ≡ k) ⊎ (j ≢ k) → IsPath es' (head_of heads' j).number (added j) no_slot
   added-paths j l (inl is) = grind (arith, added-here, frame)
@@ -185,16 +185,16 @@ module _ (o : Options) (heads heads' : List ListHead) (es es' : List Item) (list
   list-same : (i : ℕ) → i ≢ x → list_at o es' i ≡ list_at o es i
   list-same i ne = ap (λ (t : Item). list_of o (item_sides t)) (others i ne)
 
-  occurs-added : (j i : ℕ) → (j ≡ k) ⊎ (j ≢ k) → occurs i (listed.held j) ≤ occurs i (added j)
-  occurs-added j i (inl is) = subst (λ n. occurs i (listed.held n) ≤ occurs i (added n)) (sym is) (omega (arith, ap (occurs i) added-here))
+  occurs-added : (j i : ℕ) → (j ≡ k) ⊎ (j ≢ k) → occurs i (listed.free_lists j) ≤ occurs i (added j)
+  occurs-added j i (inl is) = subst (λ n. occurs i (listed.free_lists n) ≤ occurs i (added n)) (sym is) (omega (arith, ap (occurs i) added-here))
   occurs-added j i (inr ne) = omega (arith, ap (occurs i) (added-other j ne))
 
-  occurs-added_back : (j i : ℕ) → i ≢ x → (j ≡ k) ⊎ (j ≢ k) → occurs i (added j) ≡ occurs i (listed.held j)
+  occurs-added_back : (j i : ℕ) → i ≢ x → (j ≡ k) ⊎ (j ≢ k) → occurs i (added j) ≡ occurs i (listed.free_lists j)
   occurs-added_back j i ne (inl is) = grind (arith, added-here, same-ne)
   occurs-added_back j i ne (inr apart) = ap (occurs i) (added-other j apart)
 
   own-added : (j i : ℕ) → j < 2704 → 0 < occurs i (added j) → (i ≡ x) ⊎ (i ≢ x) → ((item_at es' i).is_free ≡ true) × (list_at o es' i ≡ j)
-  own-added j i l h (inl is) = grind (arith, added-other, not_held, x-list)
+  own-added j i l h (inl is) = grind (arith, added-other, not_in_lists, x-list)
   own-added j i l h (inr ne) = grind (arith, occurs-added_back, list-same)
 
   each-added : (i : ℕ) → (item_at es' i).is_free ≡ true → (i ≡ x) ⊎ (i ≢ x) → 0 < occurs i (added (list_at o es' i))
@@ -202,13 +202,13 @@ module _ (o : Options) (heads heads' : List ListHead) (es es' : List Item) (list
   each-added i f (inr ne) = grind (arith, list-same, occurs-added)
 
   once-added : (j i : ℕ) → j < 2704 → (i ≡ x) ⊎ (i ≢ x) → (j ≡ k) ⊎ (j ≢ k) → occurs i (added j) ≤ 1
-  once-added j i l (inl is) (inl jk) = grind (arith, added-here, same-self, not_held)
+  once-added j i l (inl is) (inl jk) = grind (arith, added-here, same-self, not_in_lists)
   once-added j i l (inl is) (inr ne) = omega (arith, listed.once j i l, ap (occurs i) (added-other j ne))
   once-added j i l (inr apart) c = omega (arith, listed.once j i l, occurs-added_back j i apart c)
 
   -- A list with a free entry has a head.
   used_list : (i : ℕ) → (item_at es i).is_free ≡ true → list_at o es i ≡ k → k < 2704 → is_used_at heads k ≡ true
-  used_list i f is l = slot-is (head_of heads k) (some (listed.held k) (listed.path k l) (subst (λ n. 0 < occurs i (listed.held n)) is (listed.each i f)))
+  used_list i f is l = slot-is (head_of heads k) (some (listed.free_lists k) (listed.path k l) (subst (λ n. 0 < occurs i (listed.free_lists n)) is (listed.each i f)))
     where
       some : (xs : List ℕ) → IsPath es (head_of heads k).number xs no_slot → 0 < occurs i xs → (head_of heads k).number ≢ no_slot
       some [] p h z = omega (arith, h)
@@ -221,7 +221,7 @@ module _ (o : Options) (heads heads' : List ListHead) (es es' : List Item) (list
   pub listed-with : k < 2704 → AreListed o heads' es'
   listed-with l =
       record {
-        held = added;
+        free_lists = added;
         valid = listed.valid;
         short = omega (arith, long, listed.short);
         path = λ j p. added-paths j p (cases_eq j k);

@@ -79,6 +79,3 @@ pick_of_class class free o r shown f from of best =
 
 pub up-le : (n a : ℕ) → 0 < a → n ≤ up n a
 up-le n a h = omega arith
-
-pub up-below : (n a : ℕ) → 0 < a → up n a < n + a
-up-below n a h = omega arith

@@ -51,17 +51,17 @@ pub listed-slots : (o : Options) (slots : List Slot) (heads : List ListHead) →
 listed-slots o slots heads s =
     let ns = nodes slots in
     record {
-      held = s.places.held;
+      free_lists = s.places.free_lists;
       valid = s.valid;
       short = omega (arith, s.short, length-map slots slot_item);
-      path = λ k l. path-of slots no_slot (head_of heads k).number (s.places.held k) ((s.filed.free k l).links.chain) ((s.filed.free k l).links.begins);
+      path = λ k l. path-of slots no_slot (head_of heads k).number (s.places.free_lists k) ((s.filed.free k l).links.chain) ((s.filed.free k l).links.begins);
       own = λ k i l h. (
         free-item slots i (listed-kind o ns (rings slots) heads s.unused s.places s.filed k i l h),
         ap (list_of o) (sides-is slots i) ∙ sym (listed-list o ns (rings slots) heads s.unused s.places s.filed k i l h),
       );
       each = λ i free.
           let one = listed-one o ns (rings slots) heads s.unused s.places s.filed i (item-free slots i free) (s.all_listed i) in
-          subst (λ k. 0 < occurs i (s.places.held k)) (ap (list_of o) (sym (sides-is slots i))) (omega arith);
+          subst (λ k. 0 < occurs i (s.places.free_lists k)) (ap (list_of o) (sym (sides-is slots i))) (omega arith);
       once = λ k i l. (s.filed.free k l).links.once i;
       exact = λ i free. subst IsSolid (sym (area-is slots i)) (s.exact i (item-free slots i free));
       low = λ i free.

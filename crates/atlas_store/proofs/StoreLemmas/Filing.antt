@@ -20,7 +20,7 @@ use Rattle.atlas_store.specs.Slots.Numbered.{same}
 use Rattle.atlas_store.specs.Slots.Lists.{IsList, IsFiled, AreFiled, Places, occurs, without, filed, node_sides, node_top, is_free}
 use Rattle.atlas_store.specs.Search.Bands.{list_of, number_of}
 use Rattle.atlas_store.specs.Search.Tables.{head_of, low_of, is_used_at}
-use Rattle.atlas_store.specs.Slots.Links.{IsFiledSlot, IsLooseSlot, IsListed, IsUnlisted, with_mark, with_count, held_with, unlisted, listed}
+use Rattle.atlas_store.specs.Slots.Links.{IsFiledSlot, IsDetachedSlot, IsListed, IsUnlisted, with_mark, with_count, lists_with, unlisted, listed}
 use Rattle.atlas_store.proofs.ListLemmas.Occurrences.{same-self, same-ne, ne-from_occurs, without-none, occurs-without}
 use Rattle.atlas_store.proofs.SearchLemmas.BandLaws.{list_of-most}
 use Rattle.atlas_store.proofs.StoreLemmas.Unlinking.{IsList-kept, Line-kept, Line-inside}
@@ -59,75 +59,75 @@ filed-kind o k n = grind (arith, free_kind, and_parts)
 pub filed-use : (o : Options) (k : ℕ) (n : Node) → filed o k n ≤ use_count n.kind
 filed-use o k n = grind (arith, free_use, and_parts)
 
-pub with_mark-same : (loose : ℕ → Bool) (i : ℕ) (mark : Bool) → with_mark loose i mark i ≡ mark
-with_mark-same loose i mark = cond-true _ mark (loose i) (eq-eqb i i refl)
+pub with_mark-same : (detached : ℕ → Bool) (i : ℕ) (mark : Bool) → with_mark detached i mark i ≡ mark
+with_mark-same detached i mark = cond-true _ mark (detached i) (eq-eqb i i refl)
 
-pub with_mark-other : (loose : ℕ → Bool) (i : ℕ) (mark : Bool) (k : ℕ) → (k ≡ i → ⊥) → with_mark loose i mark k ≡ loose k
-with_mark-other loose i mark k ne = cond-false _ mark (loose k) (ne_eqb k i ne)
+pub with_mark-other : (detached : ℕ → Bool) (i : ℕ) (mark : Bool) (k : ℕ) → (k ≡ i → ⊥) → with_mark detached i mark k ≡ detached k
+with_mark-other detached i mark k ne = cond-false _ mark (detached k) (ne_eqb k i ne)
 
-pub with_count-same : (hand : ℕ → ℕ) (i n : ℕ) → with_count hand i n i ≡ n
-with_count-same hand i n = cond-true _ n (hand i) (eq-eqb i i refl)
+pub with_count-same : (claimed : ℕ → ℕ) (i n : ℕ) → with_count claimed i n i ≡ n
+with_count-same claimed i n = cond-true _ n (claimed i) (eq-eqb i i refl)
 
-pub with_count-other : (hand : ℕ → ℕ) (i n k : ℕ) → (k ≡ i → ⊥) → with_count hand i n k ≡ hand k
-with_count-other hand i n k ne = cond-false _ n (hand k) (ne_eqb k i ne)
+pub with_count-other : (claimed : ℕ → ℕ) (i n k : ℕ) → (k ≡ i → ⊥) → with_count claimed i n k ≡ claimed k
+with_count-other claimed i n k ne = cond-false _ n (claimed k) (ne_eqb k i ne)
 
--- 0 where a slot is loose, or else n.
-abbrev pub unless_loose : Bool → ℕ → ℕ
-unless_loose b n = if b then 0 else n
+-- 0 where a slot is detached, or else n.
+abbrev pub unless_detached : Bool → ℕ → ℕ
+unless_detached b n = if b then 0 else n
 
-pub unless-loose : (b : Bool) (n : ℕ) → b ≡ true → unless_loose b n ≡ 0
-unless-loose b n e = cond-true b 0 n e
+pub unless-detached : (b : Bool) (n : ℕ) → b ≡ true → unless_detached b n ≡ 0
+unless-detached b n e = cond-true b 0 n e
 
-pub unless-not : (b : Bool) (n : ℕ) → b ≡ false → unless_loose b n ≡ n
+pub unless-not : (b : Bool) (n : ℕ) → b ≡ false → unless_detached b n ≡ n
 unless-not b n e = cond-false b 0 n e
 
-pub unless-le : (b : Bool) (n : ℕ) → unless_loose b n ≤ n
+pub unless-le : (b : Bool) (n : ℕ) → unless_detached b n ≤ n
 unless-le b n = cond_both b 0 n (λ v. v ≤ n) (λ _. omega arith) (λ _. omega arith)
 
 module _ (o : Options) (ns : List Node) (rs : List Ring) (heads : List ListHead) (unused : Link) (p : Places) (f : AreFiled o ns rs heads unused p) where
   -- A slot that stands in a list belongs there.
-  pub listed-list : (k i : ℕ) → k < 2704 → 0 < occurs i (p.held k) → k ≡ list_for o (node_at ns i)
-  listed-list k i l h = filed-list o k (node_at ns i) (omega (arith, (f.free k l).each i, unless-le (p.loose i) (filed o k (node_at ns i))))
+  pub listed-list : (k i : ℕ) → k < 2704 → 0 < occurs i (p.free_lists k) → k ≡ list_for o (node_at ns i)
+  listed-list k i l h = filed-list o k (node_at ns i) (omega (arith, (f.free k l).each i, unless-le (p.detached i) (filed o k (node_at ns i))))
 
-  pub listed-kind : (k i : ℕ) → k < 2704 → 0 < occurs i (p.held k) → (node_at ns i).kind ≡ kind.Free
-  listed-kind k i l h = filed-kind o k (node_at ns i) (omega (arith, (f.free k l).each i, unless-le (p.loose i) (filed o k (node_at ns i))))
+  pub listed-kind : (k i : ℕ) → k < 2704 → 0 < occurs i (p.free_lists k) → (node_at ns i).kind ≡ kind.Free
+  listed-kind k i l h = filed-kind o k (node_at ns i) (omega (arith, (f.free k l).each i, unless-le (p.detached i) (filed o k (node_at ns i))))
 
   -- A slot stands in no list but its own.
-  pub elsewhere : (k i : ℕ) → k < 2704 → (k ≡ list_for o (node_at ns i) → ⊥) → occurs i (p.held k) ≡ 0
-  elsewhere k i l ne = elim (cases_lt 0 (occurs i (p.held k))) [ inl h ↦ absurd (ne (listed-list k i l h)) | inr z ↦ omega arith ]
+  pub elsewhere : (k i : ℕ) → k < 2704 → (k ≡ list_for o (node_at ns i) → ⊥) → occurs i (p.free_lists k) ≡ 0
+  elsewhere k i l ne = elim (cases_lt 0 (occurs i (p.free_lists k))) [ inl h ↦ absurd (ne (listed-list k i l h)) | inr z ↦ omega arith ]
 
-  pub apart : (k m i : ℕ) → k < 2704 → m < 2704 → (k ≡ m → ⊥) → 0 < occurs i (p.held k) → occurs i (p.held m) ≡ 0
+  pub apart : (k m i : ℕ) → k < 2704 → m < 2704 → (k ≡ m → ⊥) → 0 < occurs i (p.free_lists k) → occurs i (p.free_lists m) ≡ 0
   apart k m i lk lm ne h = elsewhere m i lm (λ q. ne (listed-list k i lk h ∙ sym q))
 
-  -- A slot that is free and not loose stands in its list.
-  pub listed-one : (i : ℕ) → (node_at ns i).kind ≡ kind.Free → p.loose i ≡ false → occurs i (p.held (list_for o (node_at ns i))) ≡ 1
+  -- A slot that is free and not detached stands in its list.
+  pub listed-one : (i : ℕ) → (node_at ns i).kind ≡ kind.Free → p.detached i ≡ false → occurs i (p.free_lists (list_for o (node_at ns i))) ≡ 1
   listed-one i e nl =
       let k = list_for o (node_at ns i) in
-      (f.free k (list_of-most o (node_sides (node_at ns i)))).each i ∙ unless-not (p.loose i) _ nl ∙ filed-free o (node_at ns i) e
+      (f.free k (list_of-most o (node_sides (node_at ns i)))).each i ∙ unless-not (p.detached i) _ nl ∙ filed-free o (node_at ns i) e
 
-  -- A loose slot stands in no list.
-  pub loose-nowhere : (k i : ℕ) → k < 2704 → p.loose i ≡ true → occurs i (p.held k) ≡ 0
-  loose-nowhere k i l e = (f.free k l).each i ∙ unless-loose (p.loose i) _ e
+  -- A detached slot stands in no list.
+  pub detached-nowhere : (k i : ℕ) → k < 2704 → p.detached i ≡ true → occurs i (p.free_lists k) ≡ 0
+  detached-nowhere k i l e = (f.free k l).each i ∙ unless-detached (p.detached i) _ e
 
-  -- What stands in a list is not loose.
-  pub listed-kept : (k i : ℕ) → k < 2704 → 0 < occurs i (p.held k) → p.loose i ≡ false
-  listed-kept k i l h = grind (arith, loose-nowhere)
+  -- What stands in a list is not detached.
+  pub listed-kept : (k i : ℕ) → k < 2704 → 0 < occurs i (p.free_lists k) → p.detached i ≡ false
+  listed-kept k i l h = grind (arith, detached-nowhere)
 
   -- An unused slot stands in no list.
-  pub unused-nowhere : (k i : ℕ) → k < 2704 → use_count (node_at ns i).kind ≡ 0 → occurs i (p.held k) ≡ 0
-  unused-nowhere k i l e = omega (arith, (f.free k l).each i, unless-le (p.loose i) (filed o k (node_at ns i)), filed-use o k (node_at ns i))
+  pub unused-nowhere : (k i : ℕ) → k < 2704 → use_count (node_at ns i).kind ≡ 0 → occurs i (p.free_lists k) ≡ 0
+  unused-nowhere k i l e = omega (arith, (f.free k l).each i, unless-le (p.detached i) (filed o k (node_at ns i)), filed-use o k (node_at ns i))
 
-  -- What is spare is not used.
-  pub spare-use : (i : ℕ) → 0 < occurs i p.spare → (use_count (node_at ns i).kind ≡ 0) × (p.hand i ≡ 0)
-  spare-use i h = let e = f.each i (Line-inside rs i p.spare f.line h) in (omega arith, omega arith)
+  -- What is in the unused list is not used.
+  pub unused_list-use : (i : ℕ) → 0 < occurs i p.unused_list → (use_count (node_at ns i).kind ≡ 0) × (p.claimed i ≡ 0)
+  unused_list-use i h = let e = f.each i (Line-inside rs i p.unused_list f.line h) in (omega arith, omega arith)
 
-  -- A used slot is not spare.
-  pub used-not-spare : (i : ℕ) → 0 < use_count (node_at ns i).kind → occurs i p.spare ≡ 0
-  used-not-spare i u = elim (cases_lt 0 (occurs i p.spare)) [ inl h ↦ (let e = spare-use i h in absurd (omega (arith, e.0))) | inr z ↦ omega arith ]
+  -- A used slot is not in the unused list.
+  pub used-not-unused_list : (i : ℕ) → 0 < use_count (node_at ns i).kind → occurs i p.unused_list ≡ 0
+  used-not-unused_list i u = elim (cases_lt 0 (occurs i p.unused_list)) [ inl h ↦ (let e = unused_list-use i h in absurd (omega (arith, e.0))) | inr z ↦ omega arith ]
 
 -- A list stays as it was: its slots keep their rings.
-pub IsFiled-kept : (o : Options) (ns : List Node) (rs ts : List Ring) (heads heads' : List ListHead) (k : ℕ) (xs ys : List ℕ) (loose loose' : ℕ → Bool) → head_of heads' k ≡ head_of heads k → low_of heads' k ≡ low_of heads k → ys ≡ xs → length rs ≤ length ts → ((j : ℕ) → 0 < occurs j xs → ring_at ts j ≡ ring_at rs j) → ((j : ℕ) → unless_loose (loose' j) (filed o k (node_at ns j)) ≡ unless_loose (loose j) (filed o k (node_at ns j))) → IsFiled o ns rs heads k xs loose → IsFiled o ns ts heads' k ys loose'
-IsFiled-kept o ns rs ts heads heads' k xs ys loose loose' eh el ey lt same_at marks h =
+pub IsFiled-kept : (o : Options) (ns : List Node) (rs ts : List Ring) (heads heads' : List ListHead) (k : ℕ) (xs ys : List ℕ) (detached detached' : ℕ → Bool) → head_of heads' k ≡ head_of heads k → low_of heads' k ≡ low_of heads k → ys ≡ xs → length rs ≤ length ts → ((j : ℕ) → 0 < occurs j xs → ring_at ts j ≡ ring_at rs j) → ((j : ℕ) → unless_detached (detached' j) (filed o k (node_at ns j)) ≡ unless_detached (detached j) (filed o k (node_at ns j))) → IsFiled o ns rs heads k xs detached → IsFiled o ns ts heads' k ys detached'
+IsFiled-kept o ns rs ts heads heads' k xs ys detached detached' eh el ey lt same_at marks h =
     grind (arith, IsList-kept rs ts (head_of heads k) xs lt same_at h.links)
 
 -- Slot i left a list.
@@ -154,62 +154,62 @@ module _ (o : Options) (ns : List Node) (rs ts : List Ring) (heads heads' : List
   in_use : 0 < use_count (node_at ns i).kind
   in_use = omega (arith, ap use_count is_free)
 
-  used_free : (j : ℕ) → 0 < occurs j p.spare → occurs j (p.held m) ≡ 0
-  used_free j h = unused-nowhere o ns rs heads unused p f m j below (spare-use o ns rs heads unused p f j h).0
+  used_free : (j : ℕ) → 0 < occurs j p.unused_list → occurs j (p.free_lists m) ≡ 0
+  used_free j h = unused-nowhere o ns rs heads unused p f m j below (unused_list-use o ns rs heads unused p f j h).0
 
-  marks : (k : ℕ) (mark : Bool) → (k ≡ m → ⊥) → (j : ℕ) → unless_loose (with_mark p.loose i mark j) (filed o k (node_at ns j)) ≡ unless_loose (p.loose j) (filed o k (node_at ns j))
+  marks : (k : ℕ) (mark : Bool) → (k ≡ m → ⊥) → (j : ℕ) → unless_detached (with_mark p.detached i mark j) (filed o k (node_at ns j)) ≡ unless_detached (p.detached j) (filed o k (node_at ns j))
   marks k mark ne j = grind (arith, filed-other, unless-le, with_mark-other)
 
-  pub AreFiled-unlisted : p.loose i ≡ false → IsTakenOut rs ts (head_of heads m) (head_of heads' m) i → low_of heads' m ≡ low_of heads m → AreFiled o ns ts heads' unused (unlisted p i)
+  pub AreFiled-unlisted : p.detached i ≡ false → IsTakenOut rs ts (head_of heads m) (head_of heads' m) i → low_of heads' m ≡ low_of heads m → AreFiled o ns ts heads' unused (unlisted p i)
   AreFiled-unlisted kept w same_low =
       let mine = f.free m below in
-      let one : occurs i (p.held m) ≡ 1 = rw em (listed-one o ns rs heads unused p f i is_free kept) in
-      let on : 0 < occurs i (p.held m) = omega arith in
-      let same_at : (j : ℕ) → occurs j (p.held m) ≡ 0 → ring_at ts j ≡ ring_at rs j = (λ j z. w.others (p.held m) j mine.links on z) in
-      let links : IsList ts (head_of heads' m) (without i (p.held m)) = w.links (p.held m) mine.links on in
-      let changed : IsFiled o ns ts heads' m (without i (p.held m)) (with_mark p.loose i true) =
-      grind (arith, unless-loose, with_mark-same, occurs-without, same-self, same-ne, with_mark-other) in
+      let one : occurs i (p.free_lists m) ≡ 1 = rw em (listed-one o ns rs heads unused p f i is_free kept) in
+      let on : 0 < occurs i (p.free_lists m) = omega arith in
+      let same_at : (j : ℕ) → occurs j (p.free_lists m) ≡ 0 → ring_at ts j ≡ ring_at rs j = (λ j z. w.others (p.free_lists m) j mine.links on z) in
+      let links : IsList ts (head_of heads' m) (without i (p.free_lists m)) = w.links (p.free_lists m) mine.links on in
+      let changed : IsFiled o ns ts heads' m (without i (p.free_lists m)) (with_mark p.detached i true) =
+      grind (arith, unless-detached, with_mark-same, occurs-without, same-self, same-ne, with_mark-other) in
       record {
         free = λ k l. elim (cases_eq k m) [
           | inl e ↦ rw e changed
-          | inr ne ↦ IsFiled-kept o ns rs ts heads heads' k (p.held k) (without i (p.held k)) p.loose (with_mark p.loose i true) (same_lists.firsts k ne) (same_lists.lows k ne) (without-none i (p.held k) (elsewhere o ns rs heads unused p f k i l (λ q. ne (q ∙ sym em)))) (omega (arith, w.same_length)) (λ j h. same_at j (apart o ns rs heads unused p f k m j l below ne h)) (marks k true ne) (f.free k l)
+          | inr ne ↦ IsFiled-kept o ns rs ts heads heads' k (p.free_lists k) (without i (p.free_lists k)) p.detached (with_mark p.detached i true) (same_lists.firsts k ne) (same_lists.lows k ne) (without-none i (p.free_lists k) (elsewhere o ns rs heads unused p f k i l (λ q. ne (q ∙ sym em)))) (omega (arith, w.same_length)) (λ j h. same_at j (apart o ns rs heads unused p f k m j l below ne h)) (marks k true ne) (f.free k l)
         ];
-        line = Line-kept rs ts p.spare (omega (arith, w.same_length)) (λ j h. same_at j (used_free j h)) f.line;
+        line = Line-kept rs ts p.unused_list (omega (arith, w.same_length)) (λ j h. same_at j (used_free j h)) f.line;
         begins = f.begins;
         each = λ j l. f.each j (omega (arith, w.same_length));
       }
 
-  pub AreFiled-listed : p.loose i ≡ true → IsPutIn rs ts (head_of heads m) (head_of heads' m) i → low_of heads' m ≤ node_top (node_at ns i) → ((j : ℕ) → 0 < occurs j (p.held m) → low_of heads' m ≤ low_of heads m) → AreFiled o ns ts heads' unused (listed p m i)
+  pub AreFiled-listed : p.detached i ≡ true → IsPutIn rs ts (head_of heads m) (head_of heads' m) i → low_of heads' m ≤ node_top (node_at ns i) → ((j : ℕ) → 0 < occurs j (p.free_lists m) → low_of heads' m ≤ low_of heads m) → AreFiled o ns ts heads' unused (listed p m i)
   AreFiled-listed kept w low lower =
       let mine = f.free m below in
-      let none : occurs i (p.held m) ≡ 0 = loose-nowhere o ns rs heads unused p f m i below kept in
-      let same_at : (j : ℕ) → (j ≡ i → ⊥) → occurs j (p.held m) ≡ 0 → ring_at ts j ≡ ring_at rs j = (λ j nj z. w.others (p.held m) j mine.links nj z) in
-      let changed : IsFiled o ns ts heads' m (i ∷ p.held m) (with_mark p.loose i false) = record {
-        links = w.links (p.held m) mine.links none;
+      let none : occurs i (p.free_lists m) ≡ 0 = detached-nowhere o ns rs heads unused p f m i below kept in
+      let same_at : (j : ℕ) → (j ≡ i → ⊥) → occurs j (p.free_lists m) ≡ 0 → ring_at ts j ≡ ring_at rs j = (λ j nj z. w.others (p.free_lists m) j mine.links nj z) in
+      let changed : IsFiled o ns ts heads' m (i ∷ p.free_lists m) (with_mark p.detached i false) = record {
+        links = w.links (p.free_lists m) mine.links none;
         each = λ j. elim (cases_eq j i) [
           | inl e ↦
-              let z : unless_loose (with_mark p.loose i false j) (filed o m (node_at ns j)) ≡ 1 = unless-not (with_mark p.loose i false j) (filed o m (node_at ns j)) (rw e (with_mark-same p.loose i false)) ∙ rw (e, em) (filed-free o (node_at ns i) is_free) in
-              let u : occurs j (p.held m) ≡ 0 = rw e none in
+              let z : unless_detached (with_mark p.detached i false j) (filed o m (node_at ns j)) ≡ 1 = unless-not (with_mark p.detached i false j) (filed o m (node_at ns j)) (rw e (with_mark-same p.detached i false)) ∙ rw (e, em) (filed-free o (node_at ns i) is_free) in
+              let u : occurs j (p.free_lists m) ≡ 0 = rw e none in
               let s : same j i ≡ 1 = rw e (same-self i) in
-              (let v : occurs j (i ∷ p.held m) ≡ 1 = omega arith in v) ∙ sym z
+              (let v : occurs j (i ∷ p.free_lists m) ≡ 1 = omega arith in v) ∙ sym z
           | inr nj ↦
               let s = same-ne j i nj in
-              let v : occurs j (i ∷ p.held m) ≡ occurs j (p.held m) = omega arith in
-              v ∙ mine.each j ∙ sym (ap (λ b. unless_loose b (filed o m (node_at ns j))) (with_mark-other p.loose i false j nj))
+              let v : occurs j (i ∷ p.free_lists m) ≡ occurs j (p.free_lists m) = omega arith in
+              v ∙ mine.each j ∙ sym (ap (λ b. unless_detached b (filed o m (node_at ns j))) (with_mark-other p.detached i false j nj))
         ];
         low = λ j h. elim (cases_eq j i) [
           | inl e ↦ rw e low
           | inr nj ↦
-              let here : 0 < occurs j (p.held m) = omega (arith, same-ne j i nj) in
+              let here : 0 < occurs j (p.free_lists m) = omega (arith, same-ne j i nj) in
               omega (arith, lower j here, mine.low j here)
         ];
       } in
       record {
         free = λ k l. elim (cases_eq k m) [
-          | inl e ↦ rw (e, cond-true (eqb m m) (i ∷ p.held m) (p.held m) (eq-eqb m m refl)) changed
-          | inr ne ↦ IsFiled-kept o ns rs ts heads heads' k (p.held k) (held_with p.held m i k) p.loose (with_mark p.loose i false) (same_lists.firsts k ne) (same_lists.lows k ne) (cond-false (eqb k m) (i ∷ p.held k) (p.held k) (ne_eqb k m ne)) (omega (arith, w.same_length)) (λ j h. same_at j (λ q. absurd (ne-from_occurs i j (p.held k) (loose-nowhere o ns rs heads unused p f k i l kept) h q)) (apart o ns rs heads unused p f k m j l below ne h)) (marks k false ne) (f.free k l)
+          | inl e ↦ rw (e, cond-true (eqb m m) (i ∷ p.free_lists m) (p.free_lists m) (eq-eqb m m refl)) changed
+          | inr ne ↦ IsFiled-kept o ns rs ts heads heads' k (p.free_lists k) (lists_with p.free_lists m i k) p.detached (with_mark p.detached i false) (same_lists.firsts k ne) (same_lists.lows k ne) (cond-false (eqb k m) (i ∷ p.free_lists k) (p.free_lists k) (ne_eqb k m ne)) (omega (arith, w.same_length)) (λ j h. same_at j (λ q. absurd (ne-from_occurs i j (p.free_lists k) (detached-nowhere o ns rs heads unused p f k i l kept) h q)) (apart o ns rs heads unused p f k m j l below ne h)) (marks k false ne) (f.free k l)
         ];
-        line = Line-kept rs ts p.spare (omega (arith, w.same_length)) (λ j h. same_at j (λ q. absurd (ne-from_occurs i j p.spare (used-not-spare o ns rs heads unused p f i in_use) h q)) (used_free j h)) f.line;
+        line = Line-kept rs ts p.unused_list (omega (arith, w.same_length)) (λ j h. same_at j (λ q. absurd (ne-from_occurs i j p.unused_list (used-not-unused_list o ns rs heads unused p f i in_use) h q)) (used_free j h)) f.line;
         begins = f.begins;
         each = λ j l. f.each j (omega (arith, w.same_length));
       }
@@ -217,7 +217,7 @@ module _ (o : Options) (ns : List Node) (rs ts : List Ring) (heads heads' : List
 -- Another bound is kept of list m.
 pub AreFiled-sharpened : (o : Options) (ns : List Node) (rs : List Ring) (heads heads' : List ListHead) (unused : Link) (p : Places) (m low : ℕ)
     → ((k : ℕ) → head_of heads' k ≡ head_of heads k) → ((k : ℕ) → k ≢ m → low_of heads' k ≡ low_of heads k) → low_of heads' m ≡ low
-    → ((i : ℕ) → (node_at ns i).kind ≡ kind.Free → p.loose i ≡ false → list_for o (node_at ns i) ≡ m → low ≤ node_top (node_at ns i))
+    → ((i : ℕ) → (node_at ns i).kind ≡ kind.Free → p.detached i ≡ false → list_for o (node_at ns i) ≡ m → low ≤ node_top (node_at ns i))
     → AreFiled o ns rs heads unused p → AreFiled o ns rs heads' unused p
 AreFiled-sharpened o ns rs heads heads' unused p m low firsts lows here below f =
     grind (arith, below, listed-kind, listed-kept, listed-list, IsFiled-kept)
@@ -225,19 +225,19 @@ AreFiled-sharpened o ns rs heads heads' unused p m low firsts lows here below f 
 pub number-is : (o : Options) (place : Place) (size : Size) (node n : Node) → number_of place ≡ list_of o (sides_of size) → sides_of size ≡ box_sides (box_of node.area) → node ≡ n → number_of place ≡ list_for o n
 number-is o place size node n e s r = e ∙ ap (list_of o) s ∙ ap (list_for o) r
 
--- A free slot that is not loose stands in a list.
+-- A free slot that is not detached stands in a list.
 pub is-listed : (o : Options) (slots : List Slot) (heads : List ListHead) (i : ℕ) → IsFiledSlot o slots heads i → (node_at (nodes slots) i).kind ≡ kind.Free → IsListed (rings slots) i
 is-listed o slots heads i k free =
     let m = list_for o (node_at (nodes slots) i) in
     let below : m < 2704 = list_of-most o (node_sides (node_at (nodes slots) i)) in
-    let one : occurs i (k.places.held m) ≡ 1 = listed-one o _ _ heads k.unused k.places k.filed i free k.kept in
-    (head_of heads m, k.places.held m, (k.filed.free m below).links, omega arith)
+    let one : occurs i (k.places.free_lists m) ≡ 1 = listed-one o _ _ heads k.unused k.places k.filed i free k.kept in
+    (head_of heads m, k.places.free_lists m, (k.filed.free m below).links, omega arith)
 
--- No list holds a loose slot.
-pub is-unlisted : (o : Options) (slots : List Slot) (heads : List ListHead) (i m : ℕ) → IsLooseSlot o slots heads i → m ≡ list_for o (node_at (nodes slots) i) → IsUnlisted (rings slots) (head_of heads m) i
+-- No list holds a detached slot.
+pub is-unlisted : (o : Options) (slots : List Slot) (heads : List ListHead) (i m : ℕ) → IsDetachedSlot o slots heads i → m ≡ list_for o (node_at (nodes slots) i) → IsUnlisted (rings slots) (head_of heads m) i
 is-unlisted o slots heads i m k em =
     let below : m < 2704 = rw em (list_of-most o (node_sides (node_at (nodes slots) i))) in
-    (k.places.held m, (k.filed.free m below).links, loose-nowhere o _ _ heads k.unused k.places k.filed m i below k.is_loose)
+    (k.places.free_lists m, (k.filed.free m below).links, detached-nowhere o _ _ heads k.unused k.places k.filed m i below k.is_detached)
 
 -- A slot that stands in a list makes it one that is used.
 is-used : (rs : List Ring) (heads : List ListHead) (k j : ℕ) (xs : List ℕ) → length rs < 4294967295 → IsList rs (head_of heads k) xs → 0 < occurs j xs → is_used_at heads k ≡ true
@@ -246,14 +246,14 @@ is-used rs heads k j (x ∷ xs) short h l = grind (arith, ne_eqb)
 
 pub unlisted-by : (o : Options) (ns ms : List Node) (rs ts : List Ring) (heads heads' : List ListHead) (i m : ℕ) (new : Link) → ms ≡ ns → m ≡ list_for o (node_at ns i) → (node_at ns i).kind ≡ kind.Free
     → ChangesList heads heads' m → head_of heads' m ≡ new → low_of heads' m ≡ low_of heads m → IsTakenOut rs ts (head_of heads m) new i
-    → (unused : Link) (p : Places) → AreFiled o ns rs heads unused p → p.loose i ≡ false → AreFiled o ms ts heads' unused (unlisted p i)
+    → (unused : Link) (p : Places) → AreFiled o ns rs heads unused p → p.detached i ≡ false → AreFiled o ms ts heads' unused (unlisted p i)
 unlisted-by o ns ms rs ts heads heads' i m new en em free changes first low w unused p f kept =
     grind (arith, AreFiled-unlisted o ns rs ts heads heads' unused p f i m em free changes kept)
 
 pub listed-by : (o : Options) (ns ms : List Node) (rs ts : List Ring) (heads heads' : List ListHead) (i m top : ℕ) (new : Link) → length rs < 4294967295 → ms ≡ ns → m ≡ list_for o (node_at ns i) → (node_at ns i).kind ≡ kind.Free
     → ChangesList heads heads' m → head_of heads' m ≡ new → top ≡ node_top (node_at ns i) → low_of heads' m ≤ top
     → (is_used_at heads m ≡ true → low_of heads' m ≤ low_of heads m) → IsPutIn rs ts (head_of heads m) new i
-    → (unused : Link) (p : Places) → AreFiled o ns rs heads unused p → p.loose i ≡ true → AreFiled o ms ts heads' unused (listed p (list_for o (node_at ns i)) i)
+    → (unused : Link) (p : Places) → AreFiled o ns rs heads unused p → p.detached i ≡ true → AreFiled o ms ts heads' unused (listed p (list_for o (node_at ns i)) i)
 listed-by o ns ms rs ts heads heads' i m top new short en em free changes first es low lower w unused p f kept =
     grind (
       arith,

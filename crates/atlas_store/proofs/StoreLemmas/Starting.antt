@@ -13,8 +13,8 @@ use Rattle.atlas_store.specs.Slots.Standing.{Stands, member_box}
 use Rattle.atlas_store.specs.Search.Tables.{is_used_at}
 use Rattle.atlas_store.specs.Slots.Reading.{tree_of}
 use Rattle.atlas_store.specs.Stored.{Shelf, Stored, Holds, IsAtlas, state_of}
-use Rattle.atlas_store.specs.Store.Holdings.{IsLooseLeaf}
-use Rattle.atlas_store.specs.Store.Starts.{one_free_slot, loose_holding, start_holding}
+use Rattle.atlas_store.specs.Store.Holdings.{IsDetachedLeaf}
+use Rattle.atlas_store.specs.Store.Starts.{one_free_slot, detached_holding, start_holding}
 use Rattle.atlas_store.proofs.SlotLemmas.Frames.{same-self, same-ne}
 use Rattle.atlas_store.proofs.SlotLemmas.Reading.{tree_of-Stands}
 use Rattle.atlas_model.proofs.StepLemmas.StepKeeping.{fresh_well_formed, fresh_normal}
@@ -30,29 +30,29 @@ pub record IsStart (v : Shelf) (size : Size) : Type 0 where
 
 -- The rectangle of the whole atlas.
 whole_area : (size : Size) → IsPositive (sides_of size)
-    → (one_free_slot size).node.area ≡ rectangle_of (member_box (loose_holding (sides_of size)).sequence 0 (sides_of size).height)
+    → (one_free_slot size).node.area ≡ rectangle_of (member_box (detached_holding (sides_of size)).sequence 0 (sides_of size).height)
 whole_area size h = grind (arith, side_is)
 
 whole_stands : (size : Size) → IsPositive (sides_of size)
-    → Stands (nodes (one_free_slot size ∷ [])) (loose_holding (sides_of size)).sequence (loose_holding (sides_of size)).tree
+    → Stands (nodes (one_free_slot size ∷ [])) (detached_holding (sides_of size)).sequence (detached_holding (sides_of size)).tree
 whole_stands size h = grind (arith, whole_area, same-self, same-ne)
 
 whole_holds : (v : Shelf) (size : Size) → IsStart v size → IsPositive (sides_of size) → (sides_of size).width < 2 ^ 31 → (sides_of size).height < 2 ^ 31
-    → Holds v (loose_holding (sides_of size))
+    → Holds v (detached_holding (sides_of size))
 whole_holds v size s h wide high = grind (arith, whole_stands, AreFiled-one)
 
--- The one slot is a loose leaf.
+-- The one slot is a detached leaf.
 pub whole_leaf : (v : Shelf) (size : Size) → IsStart v size → IsPositive (sides_of size) → (sides_of size).width < 2 ^ 31 → (sides_of size).height < 2 ^ 31
-    → IsLooseLeaf v 0 (loose_holding (sides_of size))
+    → IsDetachedLeaf v 0 (detached_holding (sides_of size))
 whole_leaf v size s h wide high = grind (arith, whole_holds)
 
 -- The state of an atlas of one slot.
-module _ (v : Stored) (held : ℕ → List ℕ)
-    (holds : Holds v.shelf (start_holding held (sides_of v.size)))
+module _ (v : Stored) (free_lists : ℕ → List ℕ)
+    (holds : Holds v.shelf (start_holding free_lists (sides_of v.size)))
     (positive : IsPositive (sides_of v.size)) (one : length v.shelf.slots ≡ 1) where
   whole_tree : tree_of (nodes v.shelf.slots) ≡ fresh (sides_of v.size)
   whole_tree =
-      tree_of-Stands (nodes v.shelf.slots) (start_holding held (sides_of v.size)).sequence (start_holding held (sides_of v.size)).tree
+      tree_of-Stands (nodes v.shelf.slots) (start_holding free_lists (sides_of v.size)).sequence (start_holding free_lists (sides_of v.size)).tree
       (nodes-below v.shelf.slots (omega (arith, one))) refl holds.stands (omega (arith, same-self 0))
 
   pub whole_state : state_of (record { stored = v; turns = 0; capacity = 0 }) ≡ started (sides_of v.size) (options_of v.shelf.options) v.limit

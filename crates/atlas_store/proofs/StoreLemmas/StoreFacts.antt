@@ -39,9 +39,9 @@ module _ {A : Type 0} (old new : Store A) (i : ℕ) (n : Node) (slot : Slot) whe
   taken-longer again fresh = grind (arith, pushed-length, taken-length)
 
   -- One slot fewer can be taken then.
-  pub taken-room : (h : Holding) (hand : ℕ → ℕ) (m : ℕ) → HoldsWith hand (shelf_of old) h
+  pub taken-room : (h : Holding) (claimed : ℕ → ℕ) (m : ℕ) → HoldsWith claimed (shelf_of old) h
       → ((old.unused.number ≡ no_slot → ⊥) → nodes new.slots.items ≡ set (nodes old.slots.items) i n)
       → (old.unused.number ≡ no_slot → new.slots.items ≡ old.slots.items ++ slot ∷ [])
       → vec_capacity new.slots ≡ vec_capacity old.slots → HasSlotsFor (m + 1) old h → HasSlotsFor m new (after_take h)
-  taken-room h hand m holds again fresh room slots =
+  taken-room h claimed m holds again fresh room slots =
       grind (arith, rest-length, pushed-length, some-front, length-rings, taken-length)

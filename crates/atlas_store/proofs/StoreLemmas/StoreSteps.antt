@@ -20,48 +20,48 @@ use Rattle.atlas_store.specs.Slots.Lists.{AreFiled, Places, Line, front, is_free
 use Rattle.std.proofs.lemmas.List.{length-map, length_push}
 use Rattle.atlas_store.specs.Slots.Links.{BelongsIn, IsListed, with_mark, with_count, given_back, IsSolid, IsTaken}
 use Rattle.atlas_store.specs.Stored.{Shelf, Holding, Holds, HoldsWith, places_of}
-use Rattle.atlas_store.specs.Store.Holdings.{node_in, IsLow, IsLooseLeaf, IsReadyWith, after_take, after_grant, after_mark, after_join, after_lift, after_split, after_wrap}
+use Rattle.atlas_store.specs.Store.Holdings.{node_in, IsLow, IsDetachedLeaf, IsReadyWith, after_take, after_grant, after_mark, after_join, after_lift, after_split, after_wrap}
 use Rattle.atlas_store.proofs.StoreLemmas.Filing.{AreFiled-sharpened, is-listed, with_mark-same, with_mark-other, with_count-same, with_count-other}
 use Rattle.atlas_store.proofs.StoreLemmas.Taking.{AreFiled-moved, AreFiled-nodes, IsMoved}
 use Rattle.atlas_store.proofs.SlotLemmas.NumberedCuts.{IsRecut, recut-marked, recut-granted, recut-joined, recut-lifted, recut-split, recut-wrapped}
 use Rattle.atlas_store.proofs.SlotLemmas.SlotBoxes.{slot-exact}
 
 -- What is held once the slots and the unused list changed, and no list of free slots.
-pub held_again : (hand hand' : ℕ → ℕ) (v : Shelf) (new : List Slot) (unused : Link) (h : Holding) (tree : Numbered)
-    (spare : List ℕ) (loose : ℕ → Bool)
-    → length new ≤ 16777216 → HoldsWith hand v h → Stands (nodes new) h.sequence tree
+pub held_again : (claimed claimed' : ℕ → ℕ) (v : Shelf) (new : List Slot) (unused : Link) (h : Holding) (tree : Numbered)
+    (unused_list : List ℕ) (detached : ℕ → Bool)
+    → length new ≤ 16777216 → HoldsWith claimed v h → Stands (nodes new) h.sequence tree
     → AreFiled (options_of v.options) (nodes new) (rings new) v.heads unused
-    (record { spare = spare; held = h.held; hand = hand'; loose = loose })
+    (record { unused_list = unused_list; free_lists = h.free_lists; claimed = claimed'; detached = detached })
     → IsRecut h.sequence.width h.tree tree
-    → HoldsWith hand' (record v { slots = new; unused = unused }) (record h { tree = tree; spare = spare; loose = loose })
-held_again hand hand' v new unused h tree spare loose short holds stands filed recut = grind arith
+    → HoldsWith claimed' (record v { slots = new; unused = unused }) (record h { tree = tree; unused_list = unused_list; detached = detached })
+held_again claimed claimed' v new unused h tree unused_list detached short holds stands filed recut = grind arith
 
 -- A slot that keeps its use stays as it was for the lists.
-pub moved-kept : (n m : Node) (loose loose' : Bool) → KeepsUse n m → loose' ≡ loose → IsMoved n m loose loose'
-moved-kept n m loose loose' k e = inl (k.kind, k.area, e)
+pub moved-kept : (n m : Node) (detached detached' : Bool) → KeepsUse n m → detached' ≡ detached → IsMoved n m detached detached'
+moved-kept n m detached detached' k e = inl (k.kind, k.area, e)
 
 pub use-kept : (n m : Node) → KeepsUse n m → use_count m.kind ≡ use_count n.kind
 use-kept n m k = ap use_count k.kind
 
--- One loose slot changes, and stays in use.
+-- One detached slot changes, and stays in use.
 pub filed-one : (o : Options) (ns ms : List Node) (rs ts : List Ring) (heads : List ListHead) (unused : Link) (p : Places) (i : ℕ) (mark : Bool)
-    → ts ≡ rs → IsMoved (node_at ns i) (node_at ms i) (p.loose i) mark → use_count (node_at ms i).kind ≡ use_count (node_at ns i).kind
+    → ts ≡ rs → IsMoved (node_at ns i) (node_at ms i) (p.detached i) mark → use_count (node_at ms i).kind ≡ use_count (node_at ns i).kind
     → ((k : ℕ) → k ≢ i → KeepsUse (node_at ns k) (node_at ms k))
-    → AreFiled o ns rs heads unused p → AreFiled o ms ts heads unused (record p { loose = with_mark p.loose i mark })
+    → AreFiled o ns rs heads unused p → AreFiled o ms ts heads unused (record p { detached = with_mark p.detached i mark })
 filed-one o ns ms rs ts heads unused p i mark same here used others filed =
     grind (arith, with_mark-same, moved-kept, with_mark-other, use-kept, AreFiled-moved)
 
--- A loose leaf is granted.
+-- A detached leaf is granted.
 pub granted-holds : (v : Shelf) (new : List Slot) (at : ℕ) → length new ≡ length v.slots → IsLeafGranted v.slots new at
-    → (h : Holding) → IsLooseLeaf v at h
+    → (h : Holding) → IsDetachedLeaf v at h
     → Holds (record v { slots = new }) (after_grant at (node_in v at).generation h)
 granted-holds v new at long w h leaf =
     let is_granted : (node_at (nodes new) at).kind ≡ kind.Alloc = ap (λ n. n.kind) w.leaf in
     let age : ℕ = (node_in v at).generation in
-    held_again (λ i. 0) (λ i. 0) v new v.unused h (granted_at at age h.tree) h.spare (with_mark h.loose at false)
+    held_again (λ i. 0) (λ i. 0) v new v.unused h (granted_at at age h.tree) h.unused_list (with_mark h.detached at false)
     (omega (arith, leaf.holds.short, long)) leaf.holds (w.tree h.sequence h.tree leaf.holds.stands)
     (filed-one (options_of v.options) (nodes v.slots) (nodes new) (rings v.slots) (rings new) v.heads v.unused
-    (places_of (λ i. 0) h) at false w.same_rings (inr (inl leaf.loose, inr (ap is_free is_granted)))
+    (places_of (λ i. 0) h) at false w.same_rings (inr (inl leaf.detached, inr (ap is_free is_granted)))
     (ap use_count is_granted ∙ sym (ap use_count leaf.kind)) w.others leaf.holds.filed)
     (recut-granted at age h.sequence.width h.tree)
 
@@ -82,12 +82,12 @@ long-over own old mid new a = ap (λ s. length s) a.left ∙ a.long ∙ ap (λ s
 pub short-mid : (own old mid new : List Slot) → AreSlots own old mid new → length own ≤ 16777216 → length mid ≤ 16777216
 short-mid own old mid new a h = omega (arith, ap (λ s. length s) a.given, a.long, h)
 
-pub filed-before : (hand : ℕ → ℕ) (v : Shelf) (old : List Slot) (h : Holding) → old ≡ v.slots → HoldsWith hand v h
-    → AreFiled (options_of v.options) (nodes old) (rings old) v.heads v.unused (places_of hand h)
-filed-before hand v old h e holds = grind arith
+pub filed-before : (claimed : ℕ → ℕ) (v : Shelf) (old : List Slot) (h : Holding) → old ≡ v.slots → HoldsWith claimed v h
+    → AreFiled (options_of v.options) (nodes old) (rings old) v.heads v.unused (places_of claimed h)
+filed-before claimed v old h e holds = grind arith
 
-pub stands-before : (hand : ℕ → ℕ) (v : Shelf) (old : List Slot) (h : Holding) → old ≡ v.slots → HoldsWith hand v h → Stands (nodes old) h.sequence h.tree
-stands-before hand v old h e holds = let Q : List Slot → Type 0 = λ slots. Stands (nodes slots) h.sequence h.tree in subst Q (sym e) holds.stands
+pub stands-before : (claimed : ℕ → ℕ) (v : Shelf) (old : List Slot) (h : Holding) → old ≡ v.slots → HoldsWith claimed v h → Stands (nodes old) h.sequence h.tree
+stands-before claimed v old h e holds = let Q : List Slot → Type 0 = λ slots. Stands (nodes slots) h.sequence h.tree in subst Q (sym e) holds.stands
 
 -- A granted leaf becomes free.
 pub marked-holds : (v : Shelf) (new : List Slot) (at : ℕ) → length new ≡ length v.slots → IsLeafFreed v.slots new at
@@ -100,23 +100,23 @@ marked-holds v new at long w was h holds =
       recut-marked at h.sequence.width h.tree,
     )
 
--- Two slots change: i stays in use, and j goes to hand or comes from there.
-pub record ChangesTwo (ns ms : List Node) (i j : ℕ) (hand hand' : ℕ → ℕ) (loose loose' : ℕ → Bool) : Type 0 where
+-- Two slots change: i stays in use, and j is claimed or was.
+pub record ChangesTwo (ns ms : List Node) (i j : ℕ) (claimed claimed' : ℕ → ℕ) (detached detached' : ℕ → Bool) : Type 0 where
   pub apart : i ≢ j
-  pub first : IsMoved (node_at ns i) (node_at ms i) (loose i) (loose' i)
-  pub second : IsMoved (node_at ns j) (node_at ms j) (loose j) (loose' j)
+  pub first : IsMoved (node_at ns i) (node_at ms i) (detached i) (detached' i)
+  pub second : IsMoved (node_at ns j) (node_at ms j) (detached j) (detached' j)
   pub used : use_count (node_at ms i).kind ≡ use_count (node_at ns i).kind
-  pub counted : hand' j + use_count (node_at ms j).kind ≡ hand j + use_count (node_at ns j).kind
-  pub hands : (k : ℕ) → k ≢ j → hand' k ≡ hand k
-  pub marks : (k : ℕ) → k ≢ i → k ≢ j → loose' k ≡ loose k
+  pub counted : claimed' j + use_count (node_at ms j).kind ≡ claimed j + use_count (node_at ns j).kind
+  pub hands : (k : ℕ) → k ≢ j → claimed' k ≡ claimed k
+  pub marks : (k : ℕ) → k ≢ i → k ≢ j → detached' k ≡ detached k
   pub others : (k : ℕ) → k ≢ i → k ≢ j → KeepsUse (node_at ns k) (node_at ms k)
 
-pub filed-two : (o : Options) (ns ms : List Node) (rs ts : List Ring) (heads : List ListHead) (unused : Link) (p : Places) (hand' : ℕ → ℕ) (loose' : ℕ → Bool) (i j : ℕ)
-    → ts ≡ rs → ChangesTwo ns ms i j p.hand hand' p.loose loose'
-    → AreFiled o ns rs heads unused p → AreFiled o ms ts heads unused (record p { hand = hand'; loose = loose' })
-filed-two o ns ms rs ts heads unused p hand' loose' i j same c filed =
-    let M : ℕ → Type 0 = λ x. IsMoved (node_at ns x) (node_at ms x) (p.loose x) (loose' x) in
-    let C : ℕ → Type 0 = λ x. hand' x + use_count (node_at ms x).kind ≡ p.hand x + use_count (node_at ns x).kind in
+pub filed-two : (o : Options) (ns ms : List Node) (rs ts : List Ring) (heads : List ListHead) (unused : Link) (p : Places) (claimed' : ℕ → ℕ) (detached' : ℕ → Bool) (i j : ℕ)
+    → ts ≡ rs → ChangesTwo ns ms i j p.claimed claimed' p.detached detached'
+    → AreFiled o ns rs heads unused p → AreFiled o ms ts heads unused (record p { claimed = claimed'; detached = detached' })
+filed-two o ns ms rs ts heads unused p claimed' detached' i j same c filed =
+    let M : ℕ → Type 0 = λ x. IsMoved (node_at ns x) (node_at ms x) (p.detached x) (detached' x) in
+    let C : ℕ → Type 0 = λ x. claimed' x + use_count (node_at ms x).kind ≡ p.claimed x + use_count (node_at ns x).kind in
     let moved : (k : ℕ) → M k =
     λ k. elim (cases_eq k i) [
       | inl e ↦ subst M (sym e) c.first
@@ -127,28 +127,28 @@ filed-two o ns ms rs ts heads unused p hand' loose' i j same c filed =
       | inl e ↦ subst C (sym e) c.counted
       | inr ne ↦ grind (arith, use-kept)
     ] in
-    subst (λ r. AreFiled o ms r heads unused (record p { hand = hand'; loose = loose' })) (sym same)
-    (AreFiled-moved o ns ms rs heads unused p hand' loose' moved counts filed)
+    subst (λ r. AreFiled o ms r heads unused (record p { claimed = claimed'; detached = detached' })) (sym same)
+    (AreFiled-moved o ns ms rs heads unused p claimed' detached' moved counts filed)
 
--- What is in hand may be said in another way.
-pub filed-hand : (o : Options) (ns : List Node) (rs : List Ring) (heads : List ListHead) (unused : Link) (p : Places) (hand' : ℕ → ℕ)
-    → ((i : ℕ) → hand' i ≡ p.hand i) → AreFiled o ns rs heads unused p → AreFiled o ns rs heads unused (record p { hand = hand' })
-filed-hand o ns rs heads unused p hand' e filed = grind (arith, AreFiled-nodes)
+-- What is claimed may be said in another way.
+pub filed-claimed : (o : Options) (ns : List Node) (rs : List Ring) (heads : List ListHead) (unused : Link) (p : Places) (claimed' : ℕ → ℕ)
+    → ((i : ℕ) → claimed' i ≡ p.claimed i) → AreFiled o ns rs heads unused p → AreFiled o ns rs heads unused (record p { claimed = claimed' })
+filed-claimed o ns rs heads unused p claimed' e filed = grind (arith, AreFiled-nodes)
 
-pub holds-hand : (hand hand' : ℕ → ℕ) (v : Shelf) (h : Holding) → ((i : ℕ) → hand' i ≡ hand i) → HoldsWith hand v h → HoldsWith hand' v h
-holds-hand hand hand' v h e holds = grind (arith, filed-hand)
+pub holds-claimed : (claimed claimed' : ℕ → ℕ) (v : Shelf) (h : Holding) → ((i : ℕ) → claimed' i ≡ claimed i) → HoldsWith claimed v h → HoldsWith claimed' v h
+holds-claimed claimed claimed' v h e holds = grind (arith, filed-claimed)
 
--- One slot that was in hand, and is no more.
-pub hand-back : (hand : ℕ → ℕ) (j m : ℕ) → hand j ≡ 0 → (i : ℕ) → with_count (with_count hand j m) j 0 i ≡ hand i
-hand-back hand j m none i = grind (arith, with_count-same, with_count-other)
+-- One slot that was claimed, and is no more.
+pub claimed-back : (claimed : ℕ → ℕ) (j m : ℕ) → claimed j ≡ 0 → (i : ℕ) → with_count (with_count claimed j m) j 0 i ≡ claimed i
+claimed-back claimed j m none i = grind (arith, with_count-same, with_count-other)
 
 -- A free leaf leaves its list, or enters it: the nodes stay.
-pub listed-holds : (v : Shelf) (old mid new : List Slot) (heads : List ListHead) (h : Holding) (held : ℕ → List ℕ) (loose : ℕ → Bool)
+pub listed-holds : (v : Shelf) (old mid new : List Slot) (heads : List ListHead) (h : Holding) (free_lists : ℕ → List ℕ) (detached : ℕ → Bool)
     → AreSlots v.slots old mid new → nodes mid ≡ nodes old
     → (AreFiled (options_of v.options) (nodes old) (rings old) v.heads v.unused (places_of (λ i. 0) h)
-    → AreFiled (options_of v.options) (nodes mid) (rings mid) heads v.unused (record (places_of (λ i. 0) h) { held = held; loose = loose }))
-    → Holds v h → Holds (record v { slots = new; heads = heads }) (record h { held = held; loose = loose })
-listed-holds v old mid new heads h held loose a same filed holds =
+    → AreFiled (options_of v.options) (nodes mid) (rings mid) heads v.unused (record (places_of (λ i. 0) h) { free_lists = free_lists; detached = detached }))
+    → Holds v h → Holds (record v { slots = new; heads = heads }) (record h { free_lists = free_lists; detached = detached })
+listed-holds v old mid new heads h free_lists detached a same filed holds =
     grind (arith, stands-before, filed-before, short-mid)
 
 -- Another bound is kept of a list.
@@ -162,88 +162,88 @@ pub leaf-exact : (v : Shelf) (old : List Slot) (at : ℕ) (h : Holding) → old 
     → IsSolid (node_at (nodes old) at).area
 leaf-exact v old at h e holds free = grind (arith, slot-exact)
 
--- A free slot that is not loose stands in a list.
+-- A free slot that is not detached stands in a list.
 pub is-held-listed : (v : Shelf) (old : List Slot) (at : ℕ) (h : Holding) → old ≡ v.slots → Holds v h
-    → (node_in v at).kind ≡ kind.Free → h.loose at ≡ false → IsListed (rings old) at
+    → (node_in v at).kind ≡ kind.Free → h.detached at ≡ false → IsListed (rings old) at
 is-held-listed v old at h e holds free kept =
     let P : List Slot → Type 0 = λ slots. IsListed (rings slots) at in
     subst P (sym e) (is-listed (options_of v.options) v.slots v.heads at
     (record { unused = v.unused; places = places_of (λ i. 0) h; filed = holds.filed; kept = kept }) free)
 
 pub belongs-before : (v : Shelf) (old : List Slot) (m at : ℕ) (h : Holding) → old ≡ v.slots
-    → (node_in v at).kind ≡ kind.Free → h.loose at ≡ false → m ≡ list_of (options_of v.options) (node_sides (node_in v at))
+    → (node_in v at).kind ≡ kind.Free → h.detached at ≡ false → m ≡ list_of (options_of v.options) (node_sides (node_in v at))
     → BelongsIn (options_of v.options) (nodes old) (places_of (λ i. 0) h) m at
 belongs-before v old m at h e free kept list = grind arith
 
--- Slot j, which was in hand, is given back.
+-- Slot j, which was claimed, is given back.
 pub record GivesBack (v : Shelf) (old new : List Slot) (unused : Link) (j : ℕ) : Type 0 where
   pub same_nodes : nodes new ≡ nodes old
   pub long : length new ≡ length old
   pub filed :
       (o : Options) (heads : List ListHead) (p : Places)
-      → AreFiled o (nodes old) (rings old) heads v.unused p → 0 < p.hand j
+      → AreFiled o (nodes old) (rings old) heads v.unused p → 0 < p.claimed j
       → AreFiled o (nodes new) (rings new) heads unused (given_back p j)
 
--- What the lists hold once slot j, which is in hand, is given back.
+-- What the lists hold once slot j, which is claimed, is given back.
 given-filed : (v : Shelf) (old new : List Slot) (unused : Link) (j : ℕ) (o : Options) (heads : List ListHead) (p : Places)
     → GivesBack v old new unused j
-    → AreFiled o (nodes old) (rings old) heads v.unused (record p { hand = with_count (λ i. 0) j 1 })
-    → AreFiled o (nodes new) (rings new) heads unused (record p { spare = j ∷ p.spare; hand = λ i. 0 })
+    → AreFiled o (nodes old) (rings old) heads v.unused (record p { claimed = with_count (λ i. 0) j 1 })
+    → AreFiled o (nodes new) (rings new) heads unused (record p { unused_list = j ∷ p.unused_list; claimed = λ i. 0 })
 given-filed v old new unused j o heads p b filed =
-    filed-hand o (nodes new) (rings new) heads unused (given_back (record p { hand = with_count (λ i. 0) j 1 }) j) (λ i. 0)
-    (λ i. sym (hand-back (λ k. 0) j 1 refl i))
-    (b.filed o heads (record p { hand = with_count (λ i. 0) j 1 }) filed (omega (arith, with_count-same (λ i. 0) j 1)))
+    filed-claimed o (nodes new) (rings new) heads unused (given_back (record p { claimed = with_count (λ i. 0) j 1 }) j) (λ i. 0)
+    (λ i. sym (claimed-back (λ k. 0) j 1 refl i))
+    (b.filed o heads (record p { claimed = with_count (λ i. 0) j 1 }) filed (omega (arith, with_count-same (λ i. 0) j 1)))
 
--- What is held once slot j went to hand, and was given back from there.
-given-holds : (v : Shelf) (mid new : List Slot) (unused : Link) (i j : ℕ) (h : Holding) (tree : Numbered) (loose : ℕ → Bool)
+-- What is held once slot j was claimed, and was given back.
+given-holds : (v : Shelf) (mid new : List Slot) (unused : Link) (i j : ℕ) (h : Holding) (tree : Numbered) (detached : ℕ → Bool)
     → length mid ≡ length v.slots → rings mid ≡ rings v.slots → GivesBack v mid new unused j → Holds v h
-    → ChangesTwo (nodes v.slots) (nodes mid) i j (λ k. 0) (with_count (λ k. 0) j 1) h.loose loose
+    → ChangesTwo (nodes v.slots) (nodes mid) i j (λ k. 0) (with_count (λ k. 0) j 1) h.detached detached
     → Stands (nodes mid) h.sequence tree → IsRecut h.sequence.width h.tree tree
-    → Holds (record v { slots = new; unused = unused }) (record h { tree = tree; spare = j ∷ h.spare; loose = loose })
-given-holds v mid new unused i j h tree loose long same back holds two stands recut =
+    → Holds (record v { slots = new; unused = unused }) (record h { tree = tree; unused_list = j ∷ h.unused_list; detached = detached })
+given-holds v mid new unused i j h tree detached long same back holds two stands recut =
     let S : List Node → Type 0 = λ ns. Stands ns h.sequence tree in
     let filed : AreFiled (options_of v.options) (nodes mid) (rings mid) v.heads v.unused
-    (record (places_of (with_count (λ k. 0) j 1) h) { loose = loose }) =
+    (record (places_of (with_count (λ k. 0) j 1) h) { detached = detached }) =
     filed-two (options_of v.options) (nodes v.slots) (nodes mid) (rings v.slots) (rings mid) v.heads v.unused
-    (places_of (λ k. 0) h) (with_count (λ k. 0) j 1) loose i j same two holds.filed in
-    held_again (λ k. 0) (λ k. 0) v new unused h tree (j ∷ h.spare) loose
+    (places_of (λ k. 0) h) (with_count (λ k. 0) j 1) detached i j same two holds.filed in
+    held_again (λ k. 0) (λ k. 0) v new unused h tree (j ∷ h.unused_list) detached
     (omega (arith, back.long, long, holds.short)) holds (subst S (sym back.same_nodes) stands)
-    (given-filed v mid new unused j (options_of v.options) v.heads (record (places_of (λ k. 0) h) { loose = loose }) back filed)
+    (given-filed v mid new unused j (options_of v.options) v.heads (record (places_of (λ k. 0) h) { detached = detached }) back filed)
     recut
 
--- A loose leaf takes in the next one, whose slot is given back.
+-- A detached leaf takes in the next one, whose slot is given back.
 pub joined-holds : (v : Shelf) (mid new : List Slot) (unused : Link) (i j : ℕ) → length mid ≡ length v.slots
     → IsNextJoined v.slots mid i j → GivesBack v mid new unused j → (node_in v j).kind ≡ kind.Free
-    → (h : Holding) → IsLooseLeaf v i h → h.loose j ≡ true
+    → (h : Holding) → IsDetachedLeaf v i h → h.detached j ≡ true
     → Holds (record v { slots = new; unused = unused }) (after_join i j h)
-joined-holds v mid new unused i j long w back other_free h leaf loose_j =
+joined-holds v mid new unused i j long w back other_free h leaf detached_j =
     grind (
       arith,
-      given-holds v mid new unused i j h (joined i h.tree) (with_mark h.loose j false) long w.same_rings back leaf.holds,
-      with_mark-other h.loose j false i,
+      given-holds v mid new unused i j h (joined i h.tree) (with_mark h.detached j false) long w.same_rings back leaf.holds,
+      with_mark-other h.detached j false i,
       with_count-same,
       with_count-other,
-      with_mark-other h.loose j false,
+      with_mark-other h.detached j false,
       recut-joined i h.sequence.width h.tree,
     )
 
 -- A container gives way to its lone child, whose slot is given back.
 pub lifted-holds : (v : Shelf) (mid new : List Slot) (unused : Link) (i c : ℕ) → length mid ≡ length v.slots
-    → IsChildLifted v.slots mid i c → GivesBack v mid new unused c → (h : Holding) → IsLooseLeaf v c h
+    → IsChildLifted v.slots mid i c → GivesBack v mid new unused c → (h : Holding) → IsDetachedLeaf v c h
     → Holds (record v { slots = new; unused = unused }) (after_lift i c h)
 lifted-holds v mid new unused i c long w back h leaf =
     let gone : (node_at (nodes mid) c).kind ≡ kind.Unused = ap (λ n. n.kind) w.given in
     let free : (node_at (nodes mid) i).kind ≡ kind.Free = ap (λ n. n.kind) w.leaf in
     let apart : i ≢ c =
     (λ e. let z : kind.Container ≡ kind.Free = sym w.container ∙ ap (λ x. (node_in v x).kind) e ∙ leaf.kind in cc) in
-    given-holds v mid new unused i c h (lifted i h.tree) (with_mark (with_mark h.loose i true) c false) long w.same_rings back leaf.holds (record {
+    given-holds v mid new unused i c h (lifted i h.tree) (with_mark (with_mark h.detached i true) c false) long w.same_rings back leaf.holds (record {
       apart = apart;
-      first = inr (inr (ap is_free w.container), inl (with_mark-other (with_mark h.loose i true) c false i apart ∙ with_mark-same h.loose i true));
-      second = inr (inl leaf.loose, inr (ap is_free gone));
+      first = inr (inr (ap is_free w.container), inl (with_mark-other (with_mark h.detached i true) c false i apart ∙ with_mark-same h.detached i true));
+      second = inr (inl leaf.detached, inr (ap is_free gone));
       used = ap use_count free ∙ sym (ap use_count w.container);
       counted = omega (arith, with_count-same (λ k. 0) c 1, ap use_count gone, ap use_count leaf.kind);
       hands = λ k ne. with_count-other (λ k. 0) c 1 k ne;
-      marks = λ k ne nf. with_mark-other (with_mark h.loose i true) c false k nf ∙ with_mark-other h.loose i true k ne;
+      marks = λ k ne nf. with_mark-other (with_mark h.detached i true) c false k nf ∙ with_mark-other h.detached i true k ne;
       others = w.others;
     })
     (w.tree h.sequence h.tree leaf.holds.top leaf.holds.stands) (recut-lifted i h.sequence.width h.tree)
@@ -258,12 +258,12 @@ pub stands-taken : (ns ms : List Node) (i : ℕ) (s : Sequence) (n : Numbered) �
 stands-taken ns ms i s n was is others stands = grind (arith, others, Standing-same)
 
 -- An unused slot is taken.
-pub taken-holds : (v : Shelf) (new : List Slot) (unused : Link) (at : ℕ) (h : Holding) (hand : ℕ → ℕ)
+pub taken-holds : (v : Shelf) (new : List Slot) (unused : Link) (at : ℕ) (h : Holding) (claimed : ℕ → ℕ)
     → length new ≤ 16777216
     → ((k : ℕ) → k ≢ at → node_at (nodes new) k ≡ node_at (nodes v.slots) k)
-    → IsTaken (options_of v.options) v.slots new v.heads unused (places_of hand h) at
-    → HoldsWith hand v h → HoldsWith (with_count hand at 1) (record v { slots = new; unused = unused }) (after_take h)
-taken-holds v new unused at h hand short others taken holds = grind (arith, held_again, stands-taken, others)
+    → IsTaken (options_of v.options) v.slots new v.heads unused (places_of claimed h) at
+    → HoldsWith claimed v h → HoldsWith (with_count claimed at 1) (record v { slots = new; unused = unused }) (after_take h)
+taken-holds v new unused at h claimed short others taken holds = grind (arith, held_again, stands-taken, others)
 
 -- A list of slots begins at a slot.
 pub some-front : (xs : List ℕ) (rs : List Ring) → length rs ≤ 16777216 → Line rs xs → front xs ≡ no_slot → 1 ≤ length xs → ⊥
@@ -277,67 +277,67 @@ pub length-nodes : (slots : List Slot) → length (nodes slots) ≡ length slots
 length-nodes slots = simp length-map
 
 -- There are not too many slots once one is taken for which there was room.
-pub taken-short : (v : Shelf) (new : List Slot) (capacity i : ℕ) (n : Node) (slot : Slot) (h : Holding) (hand : ℕ → ℕ)
-    → HoldsWith hand v h
-    → (1 ≤ length h.spare) ⊎ ((length v.slots + 1 ≤ length h.spare + capacity) × (length v.slots + 1 ≤ length h.spare + 16777216))
+pub taken-short : (v : Shelf) (new : List Slot) (capacity i : ℕ) (n : Node) (slot : Slot) (h : Holding) (claimed : ℕ → ℕ)
+    → HoldsWith claimed v h
+    → (1 ≤ length h.unused_list) ⊎ ((length v.slots + 1 ≤ length h.unused_list + capacity) × (length v.slots + 1 ≤ length h.unused_list + 16777216))
     → ((v.unused.number ≡ no_slot → ⊥) → nodes new ≡ set (nodes v.slots) i n)
     → (v.unused.number ≡ no_slot → new ≡ v.slots ++ slot ∷ [])
     → length new ≤ 16777216
-taken-short v new capacity i n slot h hand holds room again fresh =
+taken-short v new capacity i n slot h claimed holds room again fresh =
     grind (arith, length_push, some-front, length-rings, length-set, length-nodes)
 
 -- A free leaf and an unused slot are two.
 pub apart-kinds : (ns : List Node) (i j : ℕ) → (node_at ns i).kind ≡ kind.Free → (node_at ns j).kind ≡ kind.Unused → i ≢ j
 apart-kinds ns i j free unused e = grind arith
 
--- The slot in hand takes what a loose leaf doesn't keep.
+-- The claimed slot takes what a detached leaf doesn't keep.
 pub split-holds : (v : Shelf) (new : List Slot) (at fresh : Link) (p : ℕ) → length new ≡ length v.slots
     → IsLeafSplit v.slots new at fresh p → CanSplitInto (nodes v.slots) at.number fresh.number p
-    → (h : Holding) (hand : ℕ → ℕ) → IsReadyWith hand v at.number fresh.number h
-    → HoldsWith (with_count hand fresh.number 0) (record v { slots = new }) (after_split at.number fresh.number p h)
-split-holds v new at fresh p long w can h hand r =
+    → (h : Holding) (claimed : ℕ → ℕ) → IsReadyWith claimed v at.number fresh.number h
+    → HoldsWith (with_count claimed fresh.number 0) (record v { slots = new }) (after_split at.number fresh.number p h)
+split-holds v new at fresh p long w can h claimed r =
     let i : ℕ = at.number in
     let k : ℕ = fresh.number in
     let apart : i ≢ k = apart-kinds (nodes v.slots) i k can.free can.unused in
     let back_free : (node_at (nodes new) k).kind ≡ kind.Free = ap (λ n. n.kind) w.back in
-    held_again hand (with_count hand k 0) v new v.unused h (split_at i k p h.tree) h.spare (with_mark h.loose k true)
+    held_again claimed (with_count claimed k 0) v new v.unused h (split_at i k p h.tree) h.unused_list (with_mark h.detached k true)
     (omega (arith, long, r.holds.short)) r.holds (w.tree h.sequence h.tree r.holds.stands)
-    (filed-two (options_of v.options) (nodes v.slots) (nodes new) (rings v.slots) (rings new) v.heads v.unused (places_of hand h)
-    (with_count hand k 0) (with_mark h.loose k true) i k w.same_rings (record {
+    (filed-two (options_of v.options) (nodes v.slots) (nodes new) (rings v.slots) (rings new) v.heads v.unused (places_of claimed h)
+    (with_count claimed k 0) (with_mark h.detached k true) i k w.same_rings (record {
       apart = apart;
-      first = inr (inl r.loose, inl (with_mark-other h.loose k true i apart ∙ r.loose));
-      second = inr (inr (ap is_free can.unused), inl (with_mark-same h.loose k true));
+      first = inr (inl r.detached, inl (with_mark-other h.detached k true i apart ∙ r.detached));
+      second = inr (inr (ap is_free can.unused), inl (with_mark-same h.detached k true));
       used = ap (λ n. use_count n.kind) w.front;
-      counted = omega (arith, with_count-same hand k 0, ap use_count back_free, ap use_count can.unused, r.in_hand);
-      hands = λ x ne. with_count-other hand k 0 x ne;
-      marks = λ x _ ne. with_mark-other h.loose k true x ne;
+      counted = omega (arith, with_count-same claimed k 0, ap use_count back_free, ap use_count can.unused, r.is_claimed);
+      hands = λ x ne. with_count-other claimed k 0 x ne;
+      marks = λ x _ ne. with_mark-other h.detached k true x ne;
       others = w.others;
     }) r.holds.filed)
     (recut-split i k p (nodes v.slots) can.positive can.less h.sequence no_slot 0 h.tree r.holds.stands.standing)
 
--- The slot in hand becomes the lone child of what was a loose leaf.
+-- The claimed slot becomes the lone child of what was a detached leaf.
 pub wrapped-holds : (v : Shelf) (new : List Slot) (at fresh : Link) → length new ≡ length v.slots
     → IsLeafWrapped v.slots new at fresh → (node_in v at.number).kind ≡ kind.Free → (node_in v fresh.number).kind ≡ kind.Unused
-    → (h : Holding) (hand : ℕ → ℕ) → IsReadyWith hand v at.number fresh.number h
-    → HoldsWith (with_count hand fresh.number 0) (record v { slots = new }) (after_wrap at.number fresh.number h)
-wrapped-holds v new at fresh long w free unused h hand r =
+    → (h : Holding) (claimed : ℕ → ℕ) → IsReadyWith claimed v at.number fresh.number h
+    → HoldsWith (with_count claimed fresh.number 0) (record v { slots = new }) (after_wrap at.number fresh.number h)
+wrapped-holds v new at fresh long w free unused h claimed r =
     let i : ℕ = at.number in
     let k : ℕ = fresh.number in
     let apart : i ≢ k = apart-kinds (nodes v.slots) i k free unused in
     let outer_kind : (node_at (nodes new) i).kind ≡ kind.Container = ap (λ n. n.kind) w.outer in
     let inner_free : (node_at (nodes new) k).kind ≡ kind.Free = ap (λ n. n.kind) w.inner in
-    held_again hand (with_count hand k 0) v new v.unused h (wrapped_at i k h.sequence.width h.tree) h.spare
-    (with_mark (with_mark h.loose k true) i false)
+    held_again claimed (with_count claimed k 0) v new v.unused h (wrapped_at i k h.sequence.width h.tree) h.unused_list
+    (with_mark (with_mark h.detached k true) i false)
     (omega (arith, long, r.holds.short)) r.holds (w.tree h.sequence h.tree r.holds.stands)
-    (filed-two (options_of v.options) (nodes v.slots) (nodes new) (rings v.slots) (rings new) v.heads v.unused (places_of hand h)
-    (with_count hand k 0) (with_mark (with_mark h.loose k true) i false) i k w.same_rings (record {
+    (filed-two (options_of v.options) (nodes v.slots) (nodes new) (rings v.slots) (rings new) v.heads v.unused (places_of claimed h)
+    (with_count claimed k 0) (with_mark (with_mark h.detached k true) i false) i k w.same_rings (record {
       apart = apart;
-      first = inr (inl r.loose, inr (ap is_free outer_kind));
-      second = inr (inr (ap is_free unused), inl (with_mark-other (with_mark h.loose k true) i false k (λ e. apart (sym e)) ∙ with_mark-same h.loose k true));
+      first = inr (inl r.detached, inr (ap is_free outer_kind));
+      second = inr (inr (ap is_free unused), inl (with_mark-other (with_mark h.detached k true) i false k (λ e. apart (sym e)) ∙ with_mark-same h.detached k true));
       used = ap use_count outer_kind ∙ sym (ap use_count free);
-      counted = omega (arith, with_count-same hand k 0, ap use_count inner_free, ap use_count unused, r.in_hand);
-      hands = λ x ne. with_count-other hand k 0 x ne;
-      marks = λ x ne nf. with_mark-other (with_mark h.loose k true) i false x ne ∙ with_mark-other h.loose k true x nf;
+      counted = omega (arith, with_count-same claimed k 0, ap use_count inner_free, ap use_count unused, r.is_claimed);
+      hands = λ x ne. with_count-other claimed k 0 x ne;
+      marks = λ x ne nf. with_mark-other (with_mark h.detached k true) i false x ne ∙ with_mark-other h.detached k true x nf;
       others = w.others;
     }) r.holds.filed)
     (recut-wrapped i k h.sequence.width h.tree)

@@ -16,70 +16,70 @@ use Rattle.atlas_store.specs.Search.Tables.{head_of, is_used_at}
 use Rattle.atlas_store.specs.Slots.Links.{with_count, with_mark, tail_of, renewed, given_back, IsTaken, TakesFirst}
 use Rattle.atlas_store.proofs.ListLemmas.Occurrences.{same-self, same-ne, ne-from_occurs}
 use Rattle.atlas_store.proofs.StoreLemmas.Unlinking.{IsList-kept, Line-kept, Line-inside, Line-given}
-use Rattle.atlas_store.proofs.StoreLemmas.Filing.{unless-le, filed-use, with_mark-same, unless_loose, unless-loose, spare-use, unused-nowhere, with_count-same, with_count-other, past-unused}
+use Rattle.atlas_store.proofs.StoreLemmas.Filing.{unless-le, filed-use, with_mark-same, unless_detached, unless-detached, unused_list-use, unused-nowhere, with_count-same, with_count-other, past-unused}
 
--- The lists stay in order where the nodes change: each slot is filed as before, is used or in hand as before, and keeps
+-- The lists stay in order where the nodes change: each slot is filed as before, is used or claimed as before, and keeps
 -- its rectangle if it stands in a list.
-pub AreFiled-nodes : (o : Options) (ns ms : List Node) (rs : List Ring) (heads : List ListHead) (unused : Link) (p : Places) (hand' : ℕ → ℕ) (loose' : ℕ → Bool) → ((k i : ℕ) → unless_loose (loose' i) (filed o k (node_at ms i)) ≡ unless_loose (p.loose i) (filed o k (node_at ns i))) → ((i : ℕ) → i < length rs → hand' i + use_count (node_at ms i).kind ≡ p.hand i + use_count (node_at ns i).kind) → ((k i : ℕ) → k < 2704 → 0 < occurs i (p.held k) → (node_at ms i).area ≡ (node_at ns i).area) → AreFiled o ns rs heads unused p → AreFiled o ms rs heads unused (record p { hand = hand'; loose = loose' })
-AreFiled-nodes o ns ms rs heads unused p hand' loose' files counts areas f = grind arith
+pub AreFiled-nodes : (o : Options) (ns ms : List Node) (rs : List Ring) (heads : List ListHead) (unused : Link) (p : Places) (claimed' : ℕ → ℕ) (detached' : ℕ → Bool) → ((k i : ℕ) → unless_detached (detached' i) (filed o k (node_at ms i)) ≡ unless_detached (p.detached i) (filed o k (node_at ns i))) → ((i : ℕ) → i < length rs → claimed' i + use_count (node_at ms i).kind ≡ p.claimed i + use_count (node_at ns i).kind) → ((k i : ℕ) → k < 2704 → 0 < occurs i (p.free_lists k) → (node_at ms i).area ≡ (node_at ns i).area) → AreFiled o ns rs heads unused p → AreFiled o ms rs heads unused (record p { claimed = claimed'; detached = detached' })
+AreFiled-nodes o ns ms rs heads unused p claimed' detached' files counts areas f = grind arith
 
--- A slot stands in no list: it is loose or not free.
+-- A slot stands in no list: it is detached or not free.
 abbrev pub IsOut : Bool → NodeKind → Type 0
-IsOut loose k = (loose ≡ true) ⊎ (is_free k ≡ false)
+IsOut detached k = (detached ≡ true) ⊎ (is_free k ≡ false)
 
 -- A slot is as before for the lists, or was and is out of them.
-abbrev pub IsMoved : (n m : Node) (loose loose' : Bool) → Type 0
-IsMoved n m loose loose' =
-    ((m.kind ≡ n.kind) × (m.area ≡ n.area) × (loose' ≡ loose)) ⊎ (IsOut loose n.kind × IsOut loose' m.kind)
+abbrev pub IsMoved : (n m : Node) (detached detached' : Bool) → Type 0
+IsMoved n m detached detached' =
+    ((m.kind ≡ n.kind) × (m.area ≡ n.area) × (detached' ≡ detached)) ⊎ (IsOut detached n.kind × IsOut detached' m.kind)
 
-filed-out : (o : Options) (k : ℕ) (n : Node) (loose : Bool) → IsOut loose n.kind → unless_loose loose (filed o k n) ≡ 0
-filed-out o k n loose (inl e) = unless-loose loose (filed o k n) e
-filed-out o k n loose (inr e) = grind (arith, cond-false, and_left, unless_loose)
+filed-out : (o : Options) (k : ℕ) (n : Node) (detached : Bool) → IsOut detached n.kind → unless_detached detached (filed o k n) ≡ 0
+filed-out o k n detached (inl e) = unless-detached detached (filed o k n) e
+filed-out o k n detached (inr e) = grind (arith, cond-false, and_left, unless_detached)
 
 filed-same : (o : Options) (k : ℕ) (n m : Node) → m.kind ≡ n.kind → m.area ≡ n.area → filed o k m ≡ filed o k n
 filed-same o k n m e a = grind arith
 
 -- The lists stay in order where the nodes of slots that are out of them change.
-pub AreFiled-moved : (o : Options) (ns ms : List Node) (rs : List Ring) (heads : List ListHead) (unused : Link) (p : Places) (hand' : ℕ → ℕ) (loose' : ℕ → Bool) → ((i : ℕ) → IsMoved (node_at ns i) (node_at ms i) (p.loose i) (loose' i)) → ((i : ℕ) → i < length rs → hand' i + use_count (node_at ms i).kind ≡ p.hand i + use_count (node_at ns i).kind) → AreFiled o ns rs heads unused p → AreFiled o ms rs heads unused (record p { hand = hand'; loose = loose' })
-AreFiled-moved o ns ms rs heads unused p hand' loose' moved counts f =
-    grind (arith, AreFiled-nodes, unless_loose, filed-same, filed-out)
+pub AreFiled-moved : (o : Options) (ns ms : List Node) (rs : List Ring) (heads : List ListHead) (unused : Link) (p : Places) (claimed' : ℕ → ℕ) (detached' : ℕ → Bool) → ((i : ℕ) → IsMoved (node_at ns i) (node_at ms i) (p.detached i) (detached' i)) → ((i : ℕ) → i < length rs → claimed' i + use_count (node_at ms i).kind ≡ p.claimed i + use_count (node_at ns i).kind) → AreFiled o ns rs heads unused p → AreFiled o ms rs heads unused (record p { claimed = claimed'; detached = detached' })
+AreFiled-moved o ns ms rs heads unused p claimed' detached' moved counts f =
+    grind (arith, AreFiled-nodes, unless_detached, filed-same, filed-out)
 
 -- The nodes stay as they were where a new slot comes.
 pub node_at-grown : (ns : List Node) (i : ℕ) → node_at (ns ++ blank_node ∷ []) i ≡ node_at ns i
 node_at-grown ns i = grind (arith, get_or_append_left, get_or_push, get_or_past, length_push)
 
--- One more unused slot, which is in hand.
+-- One more unused slot, which is claimed.
 module _ (o : Options) (ns : List Node) (rs : List Ring) (heads : List ListHead) (unused : Link) (p : Places) (f : AreFiled o ns rs heads unused p) where
   ring_at-grown : (i : ℕ) → ring_at (rs ++ blank_ring ∷ []) i ≡ ring_at rs i
   ring_at-grown i = grind (arith, get_or_append_left, get_or_push, get_or_past, length_push)
 
-  pub AreFiled-grown : length ns ≡ length rs → AreFiled o (ns ++ blank_node ∷ []) (rs ++ blank_ring ∷ []) heads unused (record p { hand = with_count p.hand (length rs) 1 })
+  pub AreFiled-grown : length ns ≡ length rs → AreFiled o (ns ++ blank_node ∷ []) (rs ++ blank_ring ∷ []) heads unused (record p { claimed = with_count p.claimed (length rs) 1 })
   AreFiled-grown el =
       let longer = length_push rs blank_ring in
       let ms = ns ++ blank_node ∷ [] in
-      let moved = AreFiled-nodes o ns ms rs heads unused p p.hand p.loose (λ k i. ap (λ n. unless_loose (p.loose i) (filed o k n)) (node_at-grown ns i)) (λ i l. ap (λ (n : Node). p.hand i + use_count n.kind) (node_at-grown ns i)) (λ k i l h. ap (λ (n : Node). n.area) (node_at-grown ns i)) f in
+      let moved = AreFiled-nodes o ns ms rs heads unused p p.claimed p.detached (λ k i. ap (λ n. unless_detached (p.detached i) (filed o k n)) (node_at-grown ns i)) (λ i l. ap (λ (n : Node). p.claimed i + use_count n.kind) (node_at-grown ns i)) (λ k i l h. ap (λ (n : Node). n.area) (node_at-grown ns i)) f in
       record {
-        free = λ k l. let mine = moved.free k l in record { links = IsList-kept rs (rs ++ blank_ring ∷ []) (head_of heads k) (p.held k) (omega arith) (λ j h. ring_at-grown j) mine.links; each = mine.each; low = mine.low };
-        line = Line-kept rs (rs ++ blank_ring ∷ []) p.spare (omega arith) (λ j h. ring_at-grown j) f.line;
+        free = λ k l. let mine = moved.free k l in record { links = IsList-kept rs (rs ++ blank_ring ∷ []) (head_of heads k) (p.free_lists k) (omega arith) (λ j h. ring_at-grown j) mine.links; each = mine.each; low = mine.low };
+        line = Line-kept rs (rs ++ blank_ring ∷ []) p.unused_list (omega arith) (λ j h. ring_at-grown j) f.line;
         begins = f.begins;
         each = grind (arith, node_at-grown, past-unused, with_count-same, Line-inside, with_count-other);
       }
 
-  -- The first spare slot is taken.
-  pub AreFiled-taken : (x : ℕ) (rest : List ℕ) (next : Link) → p.spare ≡ x ∷ rest → next ≡ (ring_at rs x).next → AreFiled o ns rs heads next (record p { spare = rest; hand = with_count p.hand x 1 })
+  -- The first unused slot is taken.
+  pub AreFiled-taken : (x : ℕ) (rest : List ℕ) (next : Link) → p.unused_list ≡ x ∷ rest → next ≡ (ring_at rs x).next → AreFiled o ns rs heads next (record p { unused_list = rest; claimed = with_count p.claimed x 1 })
   AreFiled-taken x rest next es en = grind (arith, with_count-same, same-self, with_count-other, same-ne)
 
-  -- A slot in hand becomes the first spare one.
-  pub AreFiled-given : (ts : List Ring) (i : ℕ) (ring : Ring) (next : Link) → i < length rs → 0 < p.hand i → ts ≡ set rs i ring → ring.next ≡ unused → next.number ≡ i → AreFiled o ns ts heads next (given_back p i)
+  -- A claimed slot becomes the first spare one.
+  pub AreFiled-given : (ts : List Ring) (i : ℕ) (ring : Ring) (next : Link) → i < length rs → 0 < p.claimed i → ts ≡ set rs i ring → ring.next ≡ unused → next.number ≡ i → AreFiled o ns ts heads next (given_back p i)
   AreFiled-given ts i ring next li hi et er en =
       let lt : length ts ≡ length rs = rw et (length-set rs i ring) in
       let now = f.each i li in
       let unused_now : use_count (node_at ns i).kind ≡ 0 = omega arith in
       let same_at : (j : ℕ) → (j ≡ i → ⊥) → ring_at ts j ≡ ring_at rs j = (λ j ne. rw et (get_or-set_other rs i j ring blank_ring ne)) in
-      let none : occurs i p.spare ≡ 0 = omega arith in
+      let none : occurs i p.unused_list ≡ 0 = omega arith in
       record {
-        free = λ k l. let mine = f.free k l in record { links = IsList-kept rs ts (head_of heads k) (p.held k) (omega arith) (λ j h. same_at j (ne-from_occurs i j (p.held k) (unused-nowhere o ns rs heads unused p f k i l unused_now) h)) mine.links; each = mine.each; low = mine.low };
-        line = Line-given rs ts i ring li et p.spare f.line (ap (λ (l : Link). l.number) er ∙ f.begins) none;
+        free = λ k l. let mine = f.free k l in record { links = IsList-kept rs ts (head_of heads k) (p.free_lists k) (omega arith) (λ j h. same_at j (ne-from_occurs i j (p.free_lists k) (unused-nowhere o ns rs heads unused p f k i l unused_now) h)) mine.links; each = mine.each; low = mine.low };
+        line = Line-given rs ts i ring li et p.unused_list f.line (ap (λ (l : Link). l.number) er ∙ f.begins) none;
         begins = en;
         each = grind (arith, with_count-same, same-self, with_count-other, same-ne);
       }
@@ -90,7 +90,7 @@ unused_kind kind.Alloc e = absurd (omega arith)
 unused_kind kind.Free e = absurd (omega arith)
 unused_kind kind.Unused e = refl
 
-nil-from_inside : (rs : List Ring) (spare : List ℕ) → length rs < 4294967295 → Line rs spare → front spare ≡ no_slot → spare ≡ []
+nil-from_inside : (rs : List Ring) (unused_list : List ℕ) → length rs < 4294967295 → Line rs unused_list → front unused_list ≡ no_slot → unused_list ≡ []
 nil-from_inside rs [] short l e = refl
 nil-from_inside rs (x ∷ xs) short l e = absurd (omega (arith, l.0))
 
@@ -102,10 +102,10 @@ taken-fresh o old new slot heads unused at short none ea en es p f =
     let last : new ≡ old ++ blank_slot ∷ [] = en ∙ ap (λ s. old ++ s ∷ []) es in
     let ns : nodes new ≡ nodes old ++ blank_node ∷ [] = ap nodes last ∙ map-append (λ (s : Slot). s.node) old (blank_slot ∷ []) in
     let rs : rings new ≡ rings old ++ blank_ring ∷ [] = ap rings last ∙ map-append (λ (s : Slot). s.ring) old (blank_slot ∷ []) in
-    let empty : p.spare ≡ [] = nil-from_inside (rings old) p.spare (omega arith) f.line (sym f.begins ∙ none) in
-    let same_rest : tail_of p.spare ≡ p.spare = ap tail_of empty ∙ sym empty in
+    let empty : p.unused_list ≡ [] = nil-from_inside (rings old) p.unused_list (omega arith) f.line (sym f.begins ∙ none) in
+    let same_rest : tail_of p.unused_list ≡ p.unused_list = ap tail_of empty ∙ sym empty in
     let grown = AreFiled-grown o (nodes old) (rings old) heads unused p f (ln ∙ sym lr) in
-    let P : List Node → List Ring → List ℕ → ℕ → Type 0 = λ ms ts ys n. AreFiled o ms ts heads unused (record p { spare = ys; hand = with_count p.hand n 1 }) in
+    let P : List Node → List Ring → List ℕ → ℕ → Type 0 = λ ms ts ys n. AreFiled o ms ts heads unused (record p { unused_list = ys; claimed = with_count p.claimed n 1 }) in
     let at_node : (i : ℕ) → node_at (nodes new) i ≡ node_at (nodes old) i = (λ i. rw ns (node_at-grown (nodes old) i)) in
     let blank : node_at (nodes old) at ≡ blank_node = get_or_past (nodes old) at blank_node (omega arith) in
     record {
@@ -119,7 +119,7 @@ taken-fresh o old new slot heads unused at short none ea en es p f =
 -- The first unused slot is taken.
 taken-again : (o : Options) (old new : List Slot) (heads : List ListHead) (unused next : Link) → (unused.number ≡ no_slot → ⊥) → next ≡ (ring_at (rings old) unused.number).next → nodes new ≡ set (nodes old) unused.number (renewed (node_at (nodes old) unused.number)) → rings new ≡ rings old → (p : Places) → AreFiled o (nodes old) (rings old) heads unused p → IsTaken o old new heads next p unused.number
 taken-again o old new heads unused next some en em er p f =
-    grind (arith, length-map, same-self, spare-use, unused_kind, get_or-set_same, get_or-set_other, AreFiled-taken, AreFiled-moved)
+    grind (arith, length-map, same-self, unused_list-use, unused_kind, get_or-set_same, get_or-set_other, AreFiled-taken, AreFiled-moved)
 
 -- The same where the slots are seen through another name.
 taken-again_by : (o : Options) (old items ys new : List Slot) (heads : List ListHead) (unused : Link) (ring : Ring) → items ≡ old → new ≡ ys → (unused.number ≡ no_slot → ⊥) → ring ≡ ring_at (rings old) unused.number → nodes ys ≡ set (nodes items) unused.number (renewed (node_at (nodes items) unused.number)) → rings ys ≡ rings items → (p : Places) → AreFiled o (nodes old) (rings old) heads unused p → IsTaken o old new heads ring.next p unused.number
@@ -161,7 +161,7 @@ takes-again old items ys new unused ring ei ey some eg em er =
       once = λ f. absurd (some f.none);
     }
 
-pub given-by : (o : Options) (old new : List Slot) (heads : List ListHead) (unused at : Link) (ring : Ring) → at.number < length old → rings new ≡ set (rings old) at.number ring → nodes new ≡ nodes old → ring.next ≡ unused → (p : Places) → AreFiled o (nodes old) (rings old) heads unused p → 0 < p.hand at.number → AreFiled o (nodes new) (rings new) heads at (given_back p at.number)
+pub given-by : (o : Options) (old new : List Slot) (heads : List ListHead) (unused at : Link) (ring : Ring) → at.number < length old → rings new ≡ set (rings old) at.number ring → nodes new ≡ nodes old → ring.next ≡ unused → (p : Places) → AreFiled o (nodes old) (rings old) heads unused p → 0 < p.claimed at.number → AreFiled o (nodes new) (rings new) heads at (given_back p at.number)
 given-by o old new heads unused at ring li er en es p f h =
     let inside : at.number < length (rings old) = rw (length-map old (λ (s : Slot). s.ring)) li in
     rw en (AreFiled-given o (nodes old) (rings old) heads unused p f (rings new) at.number ring at inside h er es refl)
@@ -169,20 +169,20 @@ given-by o old new heads unused at ring li er en es p f h =
 empty-list : (rs : List Ring) (first : Link) → first.number ≡ no_slot → IsList rs first []
 empty-list rs first none = record { chain = tt; begins = none; once = λ k. omega arith }
 
--- Slot 0 is loose, and nothing else stands anywhere.
-abbrev pub one_loose : Places
-one_loose = record { spare = []; held = λ _. []; hand = λ _. 0; loose = with_mark (λ _. false) 0 true }
+-- Slot 0 is detached, and nothing else stands anywhere.
+abbrev pub one_detached : Places
+one_detached = record { unused_list = []; free_lists = λ _. []; claimed = λ _. 0; detached = with_mark (λ _. false) 0 true }
 
 none-used : (heads : List ListHead) (k : ℕ) → is_used_at heads k ≡ false → (head_of heads k).number ≡ no_slot
 none-used heads k e = grind (arith, ne_eqb)
 
--- One free slot, which is loose: the lists are empty.
-pub AreFiled-one : (o : Options) (n : Node) (ring : Ring) (heads : List ListHead) (unused : Link) → n.kind ≡ kind.Free → ((k : ℕ) → is_used_at heads k ≡ false) → unused.number ≡ no_slot → AreFiled o (n ∷ []) (ring ∷ []) heads unused one_loose
+-- One free slot, which is detached: the lists are empty.
+pub AreFiled-one : (o : Options) (n : Node) (ring : Ring) (heads : List ListHead) (unused : Link) → n.kind ≡ kind.Free → ((k : ℕ) → is_used_at heads k ≡ false) → unused.number ≡ no_slot → AreFiled o (n ∷ []) (ring ∷ []) heads unused one_detached
 AreFiled-one o n ring heads unused e empty none =
-    grind (arith, empty-list, none-used, unless-loose, with_mark-same, unless-le, filed-use, past-unused)
+    grind (arith, empty-list, none-used, unless-detached, with_mark-same, unless-le, filed-use, past-unused)
 
 -- Slot i changes what it is used for, and is out of the lists before and after; any other keeps its use.
-pub record Changes (ns ms : List Node) (i : ℕ) (loose loose' : Bool) (hand hand' : ℕ) : Type 0 where
-  pub out_before : IsOut loose (node_at ns i).kind
-  pub out_after : IsOut loose' (node_at ms i).kind
-  pub counts : hand' + use_count (node_at ms i).kind ≡ hand + use_count (node_at ns i).kind
+pub record Changes (ns ms : List Node) (i : ℕ) (detached detached' : Bool) (claimed claimed' : ℕ) : Type 0 where
+  pub out_before : IsOut detached (node_at ns i).kind
+  pub out_after : IsOut detached' (node_at ms i).kind
+  pub counts : claimed' + use_count (node_at ms i).kind ≡ claimed + use_count (node_at ns i).kind

@@ -12,8 +12,8 @@ use Rattle.atlas_store.specs.Slots.{nodes, rings, no_slot}
 use Rattle.atlas_store.specs.Slots.Numbered.{erase, numbers, same, tally, marked, lifted, first_slot}
 use Rattle.atlas_store.specs.Slots.Standing.{IsSlot, IsWhole, IsTree}
 use Rattle.atlas_store.specs.Slots.Lists.{occurs}
-use Rattle.atlas_store.specs.Stored.{Shelf, Holding, Holds, IsLooseOnly}
-use Rattle.atlas_store.specs.Store.Holdings.{IsLooseLeaf, KeepsRoom, node_in, with_loose, with_held, after_mark, after_join, after_lift}
+use Rattle.atlas_store.specs.Stored.{Shelf, Holding, Holds, IsDetachedOnly}
+use Rattle.atlas_store.specs.Store.Holdings.{IsDetachedLeaf, KeepsRoom, node_in, with_detached, with_free_lists, after_mark, after_join, after_lift}
 use Rattle.atlas_store.specs.Store.Freeing.{IsSettlingAt, IsTurned, IsFreeable, IsFreed}
 use Rattle.atlas_store.proofs.StoreLemmas.Filing.{with_mark-same, with_mark-other}
 use Rattle.atlas_store.proofs.ListLemmas.Occurrences.{same-self, same-ne, ne-from_same}
@@ -51,18 +51,18 @@ pub previous-inside : (v : Shelf) (at m : ℕ) (n : Node) → ((h : Holding) × 
 previous-inside v at m n t e em = grind (arith, few-slots, previous-slot, whole-of, count-nodes)
 
 -- A slot other than the one at work stands in its list.
-listed : (v : Shelf) (at x : ℕ) (h : Holding) → IsSettlingAt v at h → (x ≡ at → ⊥) → h.loose x ≡ false
+listed : (v : Shelf) (at x : ℕ) (h : Holding) → IsSettlingAt v at h → (x ≡ at → ⊥) → h.detached x ≡ false
 listed v at x h w ne = w.only x (omega (arith, same-ne x at ne))
 
--- Two neighbours are free, the later one comes next, and no other free slot is loose: they can be joined.
+-- Two neighbours are free, the later one comes next, and no other free slot is detached: they can be joined.
 pub record IsJoinable (v : Shelf) (i j at : ℕ) (h : Holding) : Type 0 where
   pub holds : Holds v h
   pub free : (node_in v i).kind ≡ kind.Free
   pub next : (node_in v i).next.number ≡ j
   pub next_free : (node_in v j).kind ≡ kind.Free
-  pub loose : h.loose i ≡ true
-  pub next_loose : h.loose j ≡ true
-  pub only : IsLooseOnly (i ∷ j ∷ []) h
+  pub detached : h.detached i ≡ true
+  pub next_detached : h.detached j ≡ true
+  pub only : IsDetachedOnly (i ∷ j ∷ []) h
   pub apart : j ≡ i → ⊥
   pub which : (at ≡ i) ⊎ (at ≡ j)
   pub calm : IsCalmBut (nodes v.slots) at
@@ -74,35 +74,35 @@ apart-next v i j h w fi e fj = grind (arith, few-slots, can-join, tree-in)
 leads-here : (v : Shelf) (at x : ℕ) (h : Holding) → IsSettlingAt v at h → x ≡ (node_in v at).previous.number → (node_in v x).kind ≡ kind.Free → (node_in v x).next.number ≡ at
 leads-here v at x h w e f = grind (arith, few-slots, previous-leads, whole-of)
 
--- Only the leaf at work and the one that was taken out of its list are loose.
-only-two : (i j : ℕ) (h : Holding) (held : ℕ → List ℕ) → IsLooseOnly (i ∷ []) h → IsLooseOnly (i ∷ j ∷ []) (with_loose j true (with_held held h))
-only-two i j h held only k z = grind (arith, ne-from_same, with_mark-other, only, same-ne)
+-- Only the leaf at work and the one that was taken out of its list are detached.
+only-two : (i j : ℕ) (h : Holding) (free_lists : ℕ → List ℕ) → IsDetachedOnly (i ∷ []) h → IsDetachedOnly (i ∷ j ∷ []) (with_detached j true (with_free_lists free_lists h))
+only-two i j h free_lists only k z = grind (arith, ne-from_same, with_mark-other, only, same-ne)
 
-pub next-listed : (v : Shelf) (at x : ℕ) (h : Holding) → IsSettlingAt v at h → x ≡ (node_in v at).next.number → (node_in v x).kind ≡ kind.Free → h.loose x ≡ false
+pub next-listed : (v : Shelf) (at x : ℕ) (h : Holding) → IsSettlingAt v at h → x ≡ (node_in v at).next.number → (node_in v x).kind ≡ kind.Free → h.detached x ≡ false
 next-listed v at x h w e f = listed v at x h w (apart-next v at x h w.leaf.holds w.leaf.kind (sym e) f)
 
-pub previous-listed : (v : Shelf) (at x : ℕ) (h : Holding) → IsSettlingAt v at h → x ≡ (node_in v at).previous.number → (node_in v x).kind ≡ kind.Free → h.loose x ≡ false
+pub previous-listed : (v : Shelf) (at x : ℕ) (h : Holding) → IsSettlingAt v at h → x ≡ (node_in v at).previous.number → (node_in v x).kind ≡ kind.Free → h.detached x ≡ false
 previous-listed v at x h w e f = grind (arith, listed, apart-next, leads-here)
 
-pub joinable-next : (v u : Shelf) (at x : ℕ) (h : Holding) (held : ℕ → List ℕ) → IsSettlingAt v at h → x ≡ (node_in v at).next.number → (node_in v x).kind ≡ kind.Free → nodes u.slots ≡ nodes v.slots → Holds u (with_loose x true (with_held held h)) → IsJoinable u at x at (with_loose x true (with_held held h))
-joinable-next v u at x h held w e f same_nodes holds =
+pub joinable-next : (v u : Shelf) (at x : ℕ) (h : Holding) (free_lists : ℕ → List ℕ) → IsSettlingAt v at h → x ≡ (node_in v at).next.number → (node_in v x).kind ≡ kind.Free → nodes u.slots ≡ nodes v.slots → Holds u (with_detached x true (with_free_lists free_lists h)) → IsJoinable u at x at (with_detached x true (with_free_lists free_lists h))
+joinable-next v u at x h free_lists w e f same_nodes holds =
     grind (arith, apart-next, with_mark-other, with_mark-same, only-two)
 
-pub joinable-previous : (v u : Shelf) (at x : ℕ) (h : Holding) (held : ℕ → List ℕ) → IsSettlingAt v at h → x ≡ (node_in v at).previous.number → (node_in v x).kind ≡ kind.Free → nodes u.slots ≡ nodes v.slots → Holds u (with_loose x true (with_held held h)) → IsJoinable u x at at (with_loose x true (with_held held h))
-joinable-previous v u at x h held w e f same_nodes holds =
+pub joinable-previous : (v u : Shelf) (at x : ℕ) (h : Holding) (free_lists : ℕ → List ℕ) → IsSettlingAt v at h → x ≡ (node_in v at).previous.number → (node_in v x).kind ≡ kind.Free → nodes u.slots ≡ nodes v.slots → Holds u (with_detached x true (with_free_lists free_lists h)) → IsJoinable u x at at (with_detached x true (with_free_lists free_lists h))
+joinable-previous v u at x h free_lists w e f same_nodes holds =
     grind (arith, leads-here, apart-next, with_mark-same, with_mark-other, only-two)
 
 -- One slot was given back, so there is one member fewer.
-pub fewer-given : (v u : Shelf) (h less : Holding) (j : ℕ) → Holds v h → Holds u less → length u.slots ≡ length v.slots → less.spare ≡ j ∷ h.spare → numbers less.tree + 1 ≡ numbers h.tree
+pub fewer-given : (v u : Shelf) (h less : Holding) (j : ℕ) → Holds v h → Holds u less → length u.slots ≡ length v.slots → less.unused_list ≡ j ∷ h.unused_list → numbers less.tree + 1 ≡ numbers h.tree
 fewer-given v u h less j w k same_length given =
     let lj : j < length (rings u.slots) = (rw given at k.filed.line).0 in
     let nv : length (nodes v.slots) ≡ length v.slots = simp length-map in
     let nu : length (nodes u.slots) ≡ length u.slots = simp length-map in
     let rv : length (rings v.slots) ≡ length v.slots = simp length-map in
     let ru : length (rings u.slots) ≡ length u.slots = simp length-map in
-    let spare : (x : ℕ) → occurs x less.spare ≡ same x j + occurs x h.spare = λ x. ap (occurs x) given in
+    let unused_list : (x : ℕ) → occurs x less.unused_list ≡ same x j + occurs x h.unused_list = λ x. ap (occurs x) given in
     let tallies : (x : ℕ) → tally x less.tree + same x j ≡ tally x h.tree = λ x. elim (cases_lt x (length v.slots)) [
-      | inl l ↦ omega (arith, w.filed.each x (omega arith), k.filed.each x (omega arith), w.stands.numbered x, k.stands.numbered x, spare x)
+      | inl l ↦ omega (arith, w.filed.each x (omega arith), k.filed.each x (omega arith), w.stands.numbered x, k.stands.numbered x, unused_list x)
       | inr g ↦ omega (arith, beyond v h x w g, beyond u less x k (omega arith), same-ne x j (λ q. absurd (omega arith)))
     ] in
     numbers-less (length (nodes v.slots)) j h.tree less.tree (omega arith) (λ x c. used-inside (nodes v.slots) x (rw (← w.stands.numbered x) c)) tallies
@@ -116,8 +116,8 @@ fewer-given v u h less j w k same_length given =
         ]
 
 -- An unused slot is not free.
-spare-apart : (u : Shelf) (less : Holding) (c j : ℕ) (rest : List ℕ) → Holds u less → less.spare ≡ j ∷ rest → (node_in u c).kind ≡ kind.Free → c ≡ j → ⊥
-spare-apart u less c j rest k given f e = grind (arith, same-self)
+unused_list-apart : (u : Shelf) (less : Holding) (c j : ℕ) (rest : List ℕ) → Holds u less → less.unused_list ≡ j ∷ rest → (node_in u c).kind ≡ kind.Free → c ≡ j → ⊥
+unused_list-apart u less c j rest k given f e = grind (arith, same-self)
 
 -- What a join makes of two leaves that can be joined.
 pub settling-joined : (v u : Shelf) (i j at : ℕ) (h : Holding) → IsJoinable v i j at h → Holds u (after_join i (node_in v i).next.number h) → length u.slots ≡ length v.slots → IsCalmBut (nodes u.slots) i → (node_in u i).kind ≡ kind.Free → (less : Holding) × IsSettlingAt u i less × IsTurned h less
@@ -125,10 +125,10 @@ settling-joined v u i j at h w was same_length calm free =
     let k : Holds u (after_join i j h) = subst (λ x. Holds u (after_join i x h)) w.next was in (
       after_join i j h,
       record {
-        leaf = record { holds = k; kind = free; loose = with_mark-other h.loose j false i (λ q. w.apart (sym q)) ∙ w.loose };
+        leaf = record { holds = k; kind = free; detached = with_mark-other h.detached j false i (λ q. w.apart (sym q)) ∙ w.detached };
         only = λ x z. elim (cases_eq x j) [
-          | inl e ↦ rw e (with_mark-same h.loose j false)
-          | inr ne ↦ with_mark-other h.loose j false x ne ∙ w.only x (omega (arith, same-ne x j ne))
+          | inl e ↦ rw e (with_mark-same h.detached j false)
+          | inr ne ↦ with_mark-other h.detached j false x ne ∙ w.only x (omega (arith, same-ne x j ne))
         ];
         calm = calm;
         full = full-joined i h.tree w.full;
@@ -142,17 +142,17 @@ settling-joined v u i j at h w was same_length calm free =
     )
 
 -- A turn of a tree is one of the same tree with other lists.
-pub turned-same : (h held less : Holding) → held.tree ≡ h.tree → held.sequence ≡ h.sequence → IsTurned held less → IsTurned h less
-turned-same h held less et es w = grind arith
+pub turned-same : (h free_lists less : Holding) → free_lists.tree ≡ h.tree → free_lists.sequence ≡ h.sequence → IsTurned free_lists less → IsTurned h less
+turned-same h free_lists less et es w = grind arith
 
 -- What a lift makes of the leaf at work.
 pub settling-lifted : (v u : Shelf) (c at : ℕ) (h : Holding) → IsSettlingAt v at h → Holds u (after_lift c at h) → length u.slots ≡ length v.slots → IsCalmBut (nodes u.slots) c → (node_in u c).kind ≡ kind.Free → (less : Holding) × IsSettlingAt u c less × IsTurned h less
 settling-lifted v u c at h w k same_length calm free =
-    let ne : c ≡ at → ⊥ = spare-apart u (after_lift c at h) c at h.spare k refl free in
-    let outer = with_loose c true (record h { tree = lifted c h.tree }) in (
+    let ne : c ≡ at → ⊥ = unused_list-apart u (after_lift c at h) c at h.unused_list k refl free in
+    let outer = with_detached c true (record h { tree = lifted c h.tree }) in (
       after_lift c at h,
       record {
-        leaf = record { holds = k; kind = free; loose = with_mark-other outer.loose at false c ne ∙ with_mark-same h.loose c true };
+        leaf = record { holds = k; kind = free; detached = with_mark-other outer.detached at false c ne ∙ with_mark-same h.detached c true };
         only = grind (arith, with_mark-same, same-self, with_mark-other, same-ne);
         calm = calm;
         full = full-lifted c h.tree w.full;
@@ -187,8 +187,8 @@ freeing-marked v u i n h w k calm free =
     let inside = granted-inside v i w.granted in
     record {
       settling = record {
-        leaf = record { holds = k; kind = ap (λ (n : Node). n.kind) free; loose = with_mark-same h.loose i true };
-        only = λ x z. with_mark-other h.loose i true x (λ q. absurd (omega (arith, same-self i, ap (λ v. same v i) q))) ∙ w.only x refl;
+        leaf = record { holds = k; kind = ap (λ (n : Node). n.kind) free; detached = with_mark-same h.detached i true };
+        only = λ x z. with_mark-other h.detached i true x (λ q. absurd (omega (arith, same-self i, ap (λ v. same v i) q))) ∙ w.only x refl;
         calm = calm (calm-Stands (nodes v.slots) h.sequence h.tree (omega arith) w.holds.top w.holds.stands w.normal);
         full = full-marked i h.tree (full-from_normal (erase h.tree) w.normal);
       };
@@ -207,13 +207,13 @@ pub freeing-short : (v u : Shelf) (i at n : ℕ) (h m : Holding) → IsFreeable 
 freeing-short v u i at n h m w f = grind (arith, length-map, numbers-few)
 
 -- And ends it where the tree is normal and the leaf is listed.
-pub freed-listed : (v now u : Shelf) (i at n : ℕ) (h m : Holding) (held : ℕ → List ℕ) → IsFreeable v i h → IsFreeing now i at n h m → IsNormal (erase m.tree) → Holds u (with_loose at false (with_held held m)) → IsFreed v u i n h (with_loose at false (with_held held m))
-freed-listed v now u i at n h m held w f normal k =
+pub freed-listed : (v now u : Shelf) (i at n : ℕ) (h m : Holding) (free_lists : ℕ → List ℕ) → IsFreeable v i h → IsFreeing now i at n h m → IsNormal (erase m.tree) → Holds u (with_detached at false (with_free_lists free_lists m)) → IsFreed v u i n h (with_detached at false (with_free_lists free_lists m))
+freed-listed v now u i at n h m free_lists w f normal k =
     grind (arith, few-slots, with_mark-same, with_mark-other, same-ne, nf-normal, erase-marked_at, granted-inside)
 
--- A leaf is as loose on the same slots.
-pub loose-same : (v u : Shelf) (at : ℕ) (h : Holding) → u ≡ v → IsSettlingAt v at h → IsLooseLeaf u at h
-loose-same v u at h e w = rw e w.leaf
+-- A leaf is as detached on the same slots.
+pub detached-same : (v u : Shelf) (at : ℕ) (h : Holding) → u ≡ v → IsSettlingAt v at h → IsDetachedLeaf u at h
+detached-same v u at h e w = rw e w.leaf
 
 -- Rooms are kept one after another.
 pub keeps-room : {A : Type 0} (a b c : Store A) → KeepsRoom a b → KeepsRoom b c → KeepsRoom a c

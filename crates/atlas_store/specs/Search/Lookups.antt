@@ -46,14 +46,14 @@ pub record HasShown (es : List Item) (head : ℕ) (place : Place) (before after 
 -- Each free entry stands once in the list of its sides, and nothing else stands in a list; its rectangle is exact, and
 -- its `min.y` is at least the list's bound.
 pub record AreListed (o : Options) (heads : List ListHead) (es : List Item) : Type 0 where
-  pub held : ℕ → List ℕ
+  pub free_lists : ℕ → List ℕ
   pub valid : AreValid o
   pub short : length es ≤ no_slot
-  pub path : (k : ℕ) → k < 2704 → IsPath es (head_of heads k).number (held k) no_slot
-  pub own : (k i : ℕ) → k < 2704 → 0 < occurs i (held k)
+  pub path : (k : ℕ) → k < 2704 → IsPath es (head_of heads k).number (free_lists k) no_slot
+  pub own : (k i : ℕ) → k < 2704 → 0 < occurs i (free_lists k)
       → ((item_at es i).is_free ≡ true) × (list_of o (item_sides (item_at es i)) ≡ k)
-  pub each : (i : ℕ) → (item_at es i).is_free ≡ true → 0 < occurs i (held (list_of o (item_sides (item_at es i))))
-  pub once : (k i : ℕ) → k < 2704 → occurs i (held k) ≤ 1
+  pub each : (i : ℕ) → (item_at es i).is_free ≡ true → 0 < occurs i (free_lists (list_of o (item_sides (item_at es i))))
+  pub once : (k i : ℕ) → k < 2704 → occurs i (free_lists k) ≤ 1
   pub exact : (i : ℕ) → (item_at es i).is_free ≡ true → IsSolid (item_at es i).area
   pub low : (i : ℕ) → (item_at es i).is_free ≡ true
       → low_of heads (list_of o (item_sides (item_at es i))) ≤ (item_box (item_at es i)).min.y

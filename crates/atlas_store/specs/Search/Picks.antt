@@ -36,7 +36,7 @@ pub record IsSearchable (o : Options) (slots : List Slot) (heads : List ListHead
   pub unused : Link
   pub places : Places
   pub filed : AreFiled o (nodes slots) (rings slots) heads unused places
-  pub all_listed : (i : ℕ) → places.loose i ≡ false
+  pub all_listed : (i : ℕ) → places.detached i ≡ false
   pub exact : (i : ℕ) → IsFreeSlot (nodes slots) i → IsSolid (node_at (nodes slots) i).area
   pub short : length slots ≤ most_slots
   pub valid : AreValid o

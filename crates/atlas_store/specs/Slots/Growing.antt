@@ -90,9 +90,9 @@ abbrev pub after_whole : Sides → (at : ℕ) → Holding → Holding
 after_whole size at h =
     record h { sequence = whole_sequence size h.sequence; tree = Free at (side h.sequence.axis size) End }
 
--- Slot k holds a loose leaf of extent d that comes last in the top sequence.
+-- Slot k holds a detached leaf of extent d that comes last in the top sequence.
 abbrev pub after_append : (k d : ℕ) → Holding → Holding
-after_append k d h = record h { tree = appended k d h.tree; loose = with_mark h.loose k true }
+after_append k d h = record h { tree = appended k d h.tree; detached = with_mark h.detached k true }
 
 -- Slot c holds what was the top sequence, the only member of the new one.
 abbrev pub after_wrap_top : (c : ℕ) → Holding → Holding
@@ -102,6 +102,6 @@ after_wrap_top c h =
       tree = Seq c h.sequence.width h.tree End;
     }
 
--- And after it comes a loose leaf of extent d in slot k.
+-- And after it comes a detached leaf of extent d in slot k.
 abbrev pub after_nest : (c k d : ℕ) → Holding → Holding
 after_nest c k d h = after_append k d (after_wrap_top c h)

@@ -39,48 +39,48 @@ with_ring_previous rs i link = slice_set rs i (record (ring_at rs i) { previous 
 
 -- The mark of slot i is `mark`, and the others stay.
 abbrev pub with_mark : (ℕ → Bool) → ℕ → Bool → ℕ → Bool
-with_mark loose i mark k = if k == i then mark else loose k
+with_mark detached i mark k = if k == i then mark else detached k
 
 -- The count of slot i is n, and the others stay.
 abbrev pub with_count : (ℕ → ℕ) → ℕ → ℕ → ℕ → ℕ
-with_count hand i n k = if k == i then n else hand k
+with_count claimed i n k = if k == i then n else claimed k
 
 -- Slot i is gone from each list.
-abbrev pub held_without : (ℕ → List ℕ) → ℕ → ℕ → List ℕ
-held_without held i k = without i (held k)
+abbrev pub lists_without : (ℕ → List ℕ) → ℕ → ℕ → List ℕ
+lists_without free_lists i k = without i (free_lists k)
 
 -- Slot i stands first in list m.
-abbrev pub held_with : (ℕ → List ℕ) → (m i : ℕ) → ℕ → List ℕ
-held_with held m i k = if k == m then i ∷ held k else held k
+abbrev pub lists_with : (ℕ → List ℕ) → (m i : ℕ) → ℕ → List ℕ
+lists_with free_lists m i k = if k == m then i ∷ free_lists k else free_lists k
 
 -- A rectangle with sides above 0, and no corner below 0.
 pub record IsSolid (r : Rectangle) : Type 0 where
   pub unsigned : IsUnsigned r
   pub nonempty : IsNonempty (box_of r)
 
--- The lists are in order, and slot i is not loose.
+-- The lists are in order, and slot i is not detached.
 pub record IsFiledSlot (o : Options) (slots : List Slot) (heads : List ListHead) (i : ℕ) : Type 0 where
   pub unused : Link
   pub places : Places
   pub filed : AreFiled o (nodes slots) (rings slots) heads unused places
-  pub kept : places.loose i ≡ false
+  pub kept : places.detached i ≡ false
 
--- The lists are in order, and slot i is loose.
-pub record IsLooseSlot (o : Options) (slots : List Slot) (heads : List ListHead) (i : ℕ) : Type 0 where
+-- The lists are in order, and slot i is detached.
+pub record IsDetachedSlot (o : Options) (slots : List Slot) (heads : List ListHead) (i : ℕ) : Type 0 where
   pub unused : Link
   pub places : Places
   pub filed : AreFiled o (nodes slots) (rings slots) heads unused places
-  pub is_loose : places.loose i ≡ true
+  pub is_detached : places.detached i ≡ true
 
 -- The row and the column of some list.
 pub record IsInTable (place : Place) : Type 0 where
   pub row : place.row < 52
   pub column : place.column < 52
 
--- Slot i is free and not loose, and its rectangle belongs in list k.
+-- Slot i is free and not detached, and its rectangle belongs in list k.
 pub record BelongsIn (o : Options) (ns : List Node) (p : Places) (k i : ℕ) : Type 0 where
   pub free : (node_at ns i).kind ≡ kind.Free
-  pub kept : p.loose i ≡ false
+  pub kept : p.detached i ≡ false
   pub list : k ≡ list_of o (node_sides (node_at ns i))
 
 -- The list but for its first.
@@ -88,38 +88,38 @@ abbrev pub tail_of : List ℕ → List ℕ
 tail_of [] = []
 tail_of (x ∷ xs) = xs
 
--- Slot i has left its list, and is loose.
+-- Slot i has left its list, and is detached.
 abbrev pub unlisted : Places → ℕ → Places
-unlisted p i = record p { held = held_without p.held i; loose = with_mark p.loose i true }
+unlisted p i = record p { free_lists = lists_without p.free_lists i; detached = with_mark p.detached i true }
 
--- Slot i stands first in list m, and is no longer loose.
+-- Slot i stands first in list m, and is no longer detached.
 abbrev pub listed : Places → (m i : ℕ) → Places
-listed p m i = record p { held = held_with p.held m i; loose = with_mark p.loose i false }
+listed p m i = record p { free_lists = lists_with p.free_lists m i; detached = with_mark p.detached i false }
 
--- The first spare slot, if there was one, is gone, and slot i is in hand.
-abbrev pub in_hand : Places → ℕ → Places
-in_hand p i = record p { spare = tail_of p.spare; hand = with_count p.hand i 1 }
+-- The first unused slot, if there was one, is gone, and slot i is claimed.
+abbrev pub with_claimed : Places → ℕ → Places
+with_claimed p i = record p { unused_list = tail_of p.unused_list; claimed = with_count p.claimed i 1 }
 
--- Slot i, which was in hand, is the first spare one.
+-- Slot i, which was claimed, is the first unused one.
 abbrev pub given_back : Places → ℕ → Places
-given_back p i = record p { spare = i ∷ p.spare; hand = with_count p.hand i 0 }
+given_back p i = record p { unused_list = i ∷ p.unused_list; claimed = with_count p.claimed i 0 }
 
 -- The node of an unused slot once it is taken again.
 abbrev pub renewed : Node → Node
 renewed n = record n { generation = (n.generation + 1) % 256 }
 
--- Slot `at` was taken: it is in hand, no longer spare, not used, and none of those that were in hand.
+-- Slot `at` was taken: it is claimed, no longer unused, not used, and none of those that were claimed.
 pub record IsTaken (o : Options) (old new : List Slot) (heads : List ListHead) (unused' : Link) (p : Places)
     (at : ℕ) : Type 0 where
-  pub filed : AreFiled o (nodes new) (rings new) heads unused' (in_hand p at)
+  pub filed : AreFiled o (nodes new) (rings new) heads unused' (with_claimed p at)
   pub inside : at < length new
   pub was_unused : (node_at (nodes old) at).kind ≡ kind.Unused
   pub is_unused : (node_at (nodes new) at).kind ≡ kind.Unused
-  pub apart : (k : ℕ) → k < length old → 0 < p.hand k → at ≡ k → ⊥
+  pub apart : (k : ℕ) → k < length old → 0 < p.claimed k → at ≡ k → ⊥
 
 -- The first of the unused slots can be taken, or else there is room for a new one.
 pub record CanTake (slots : List Slot) (capacity : ℕ) (unused : Link) : Type 0 where
-  pub line : (spare : List ℕ) × Line (rings slots) spare × (unused.number ≡ front spare)
+  pub line : (unused_list : List ℕ) × Line (rings slots) unused_list × (unused.number ≡ front unused_list)
   pub room : unused.number ≡ no_slot → length slots < capacity
   pub short : length slots < no_slot
 

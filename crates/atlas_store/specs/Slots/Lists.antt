@@ -64,26 +64,26 @@ is_free _ = false
 abbrev pub filed : Options → (k : ℕ) → Node → ℕ
 filed o k n = if is_free n.kind && list_of o (node_sides n) == k then 1 else 0
 
--- List k holds the slots xs: the free ones that belong in it, but for those that are loose. The `min.y` of
+-- List k holds the slots xs: the free ones that belong in it, but for those that are detached. The `min.y` of
 -- each is at least the bound that is kept of the list.
 pub record IsFiled (o : Options) (ns : List Node) (rs : List Ring) (heads : List ListHead) (k : ℕ) (xs : List ℕ)
-    (loose : ℕ → Bool) : Type 0 where
+    (detached : ℕ → Bool) : Type 0 where
   pub links : IsList rs (head_of heads k) xs
-  pub each : (i : ℕ) → occurs i xs ≡ (if loose i then 0 else filed o k (node_at ns i))
+  pub each : (i : ℕ) → occurs i xs ≡ (if detached i then 0 else filed o k (node_at ns i))
   pub low : (i : ℕ) → 0 < occurs i xs → low_of heads k ≤ node_top (node_at ns i)
 
--- Where slots stand: `spare` are the unused ones, `held k` those of list k, `hand i` counts a slot that is taken and
--- not used yet, and `loose` are the free ones that stand in no list.
+-- Where slots stand: `unused_list` has the unused ones, `free_lists k` those of list k, `claimed i` counts a slot that is taken and
+-- not used yet, and `detached` are the free ones that stand in no list.
 pub record Places : Type 0 where
-  pub spare : List ℕ
-  pub held : ℕ → List ℕ
-  pub hand : ℕ → ℕ
-  pub loose : ℕ → Bool
+  pub unused_list : List ℕ
+  pub free_lists : ℕ → List ℕ
+  pub claimed : ℕ → ℕ
+  pub detached : ℕ → Bool
 
 -- The lists of free slots and the list of unused ones hold what stands there.
 pub record AreFiled (o : Options) (ns : List Node) (rs : List Ring) (heads : List ListHead) (unused : Link)
     (p : Places) : Type 0 where
-  pub free : (k : ℕ) → k < 2704 → IsFiled o ns rs heads k (p.held k) p.loose
-  pub line : Line rs p.spare
-  pub begins : unused.number ≡ front p.spare
-  pub each : (i : ℕ) → i < length rs → occurs i p.spare + p.hand i + use_count (node_at ns i).kind ≡ 1
+  pub free : (k : ℕ) → k < 2704 → IsFiled o ns rs heads k (p.free_lists k) p.detached
+  pub line : Line rs p.unused_list
+  pub begins : unused.number ≡ front p.unused_list
+  pub each : (i : ℕ) → i < length rs → occurs i p.unused_list + p.claimed i + use_count (node_at ns i).kind ≡ 1

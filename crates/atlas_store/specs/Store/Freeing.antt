@@ -7,13 +7,13 @@ use Rattle.atlas_model.specs.Changes.{nf, mark, only}
 use Rattle.atlas_store.specs.Slots.Calm.{IsCalmBut, NoneEmpty}
 use Rattle.atlas_store.specs.Slots.{nodes}
 use Rattle.atlas_store.specs.Slots.Numbered.{erase, first_slot, numbers, id_of}
-use Rattle.atlas_store.specs.Stored.{Shelf, Holding, Holds, IsLooseOnly}
-use Rattle.atlas_store.specs.Store.Holdings.{shelf_of, IsLooseLeaf, node_in}
+use Rattle.atlas_store.specs.Stored.{Shelf, Holding, Holds, IsDetachedOnly}
+use Rattle.atlas_store.specs.Store.Holdings.{shelf_of, IsDetachedLeaf, node_in}
 
 -- Slot `at` is a free leaf in no list, and apart from it the slots are calm.
 pub record IsSettlingAt (v : Shelf) (at : ℕ) (h : Holding) : Type 0 where
-  pub leaf : IsLooseLeaf v at h
-  pub only : IsLooseOnly (at ∷ []) h
+  pub leaf : IsDetachedLeaf v at h
+  pub only : IsDetachedOnly (at ∷ []) h
   pub calm : IsCalmBut (nodes v.slots) at
   pub full : NoneEmpty (erase h.tree)
 
@@ -39,14 +39,14 @@ pub record IsSettled {A : Type 0} (old new : Store A) (at : ℕ) : Type 0 where
 -- Slot `at` is granted in a normal tree, and each free slot stands in its list.
 pub record IsFreeable (v : Shelf) (at : ℕ) (h : Holding) : Type 0 where
   pub holds : Holds v h
-  pub only : IsLooseOnly [] h
+  pub only : IsDetachedOnly [] h
   pub normal : IsNormal (erase h.tree)
   pub granted : (node_in v at).kind ≡ kind.Alloc
 
 -- The leaf of slot `at` is freed, and n slots with it.
 pub record IsFreed (old new : Shelf) (at n : ℕ) (h h' : Holding) : Type 0 where
   pub holds : Holds new h'
-  pub listed : IsLooseOnly [] h'
+  pub listed : IsDetachedOnly [] h'
   pub tree : erase h'.tree ≡ nf (mark (only (id_of at (node_in old at).generation)) (erase h.tree))
   pub given : numbers h'.tree + n ≡ numbers h.tree
   pub sequence : h'.sequence ≡ h.sequence

@@ -17,25 +17,25 @@ use Rattle.atlas_store.specs.Stored.{Shelf, Holding, Holds, HoldsWith}
 abbrev pub shelf_of : {A : Type 0} → Store A → Shelf
 shelf_of s = record { slots = s.slots.items; heads = s.lists; unused = s.unused; options = s.options }
 
--- Slot i is loose, or isn't.
-abbrev pub with_loose : (i : ℕ) → Bool → Holding → Holding
-with_loose i b h = record h { loose = with_mark h.loose i b }
+-- Slot i is detached, or isn't.
+abbrev pub with_detached : (i : ℕ) → Bool → Holding → Holding
+with_detached i b h = record h { detached = with_mark h.detached i b }
 
 abbrev pub with_numbered : Numbered → Holding → Holding
 with_numbered n h = record h { tree = n }
 
-abbrev pub with_held : (ℕ → List ℕ) → Holding → Holding
-with_held held h = record h { held = held }
+abbrev pub with_free_lists : (ℕ → List ℕ) → Holding → Holding
+with_free_lists free_lists h = record h { free_lists = free_lists }
 
-abbrev pub with_spare : List ℕ → Holding → Holding
-with_spare spare h = record h { spare = spare }
+abbrev pub with_unused_list : List ℕ → Holding → Holding
+with_unused_list unused_list h = record h { unused_list = unused_list }
 
 -- n slots can be taken without memory: as many are unused, or there is room for the others.
 abbrev pub HasSlotsFor : {A : Type 0} → (n : ℕ) → Store A → Holding → Type 0
 HasSlotsFor n s h =
-    (n ≤ length h.spare)
-    ⊎ ((length s.slots.items + n ≤ length h.spare + vec_capacity s.slots)
-    × (length s.slots.items + n ≤ length h.spare + most_slots))
+    (n ≤ length h.unused_list)
+    ⊎ ((length s.slots.items + n ≤ length h.unused_list + vec_capacity s.slots)
+    × (length s.slots.items + n ≤ length h.unused_list + most_slots))
 
 -- The node at slot i.
 abbrev pub node_in : Shelf → ℕ → Node
@@ -46,15 +46,15 @@ abbrev pub IsHeld : Shelf → Type 0
 IsHeld v = (h : Holding) × Holds v h
 
 -- Slot i is a free leaf that stands in no list.
-pub record IsLooseLeaf (v : Shelf) (i : ℕ) (h : Holding) : Type 0 where
+pub record IsDetachedLeaf (v : Shelf) (i : ℕ) (h : Holding) : Type 0 where
   pub holds : Holds v h
   pub kind : (node_in v i).kind ≡ kind.Free
-  pub loose : h.loose i ≡ true
+  pub detached : h.detached i ≡ true
 
--- `low` is at most the `min.y` of each free slot of list k, but of those that are loose.
+-- `low` is at most the `min.y` of each free slot of list k, but of those that are detached.
 abbrev pub IsLow : Shelf → Holding → (k low : ℕ) → Type 0
 IsLow v h k low =
-    (i : ℕ) → (node_in v i).kind ≡ kind.Free → h.loose i ≡ false
+    (i : ℕ) → (node_in v i).kind ≡ kind.Free → h.detached i ≡ false
     → list_of (options_of v.options) (node_sides (node_in v i)) ≡ k
     → low ≤ node_top (node_in v i)
 
@@ -72,40 +72,40 @@ IsTakenOnce s = AreTakenOnce (nodes s.slots.items) s.unused
 abbrev pub KeepsTakenOnce : {A : Type 0} → (old new : Store A) → Type 0
 KeepsTakenOnce old new = IsTakenOnce old → IsTakenOnce new
 
--- Slot i is a loose leaf, and slot k is in hand.
-pub record IsReadyWith (hand : ℕ → ℕ) (v : Shelf) (i k : ℕ) (h : Holding) : Type 0 where
-  pub holds : HoldsWith hand v h
-  pub loose : h.loose i ≡ true
-  pub in_hand : hand k ≡ 1
+-- Slot i is a detached leaf, and slot k is claimed.
+pub record IsReadyWith (claimed : ℕ → ℕ) (v : Shelf) (i k : ℕ) (h : Holding) : Type 0 where
+  pub holds : HoldsWith claimed v h
+  pub detached : h.detached i ≡ true
+  pub is_claimed : claimed k ≡ 1
 
 -- The first unused slot is gone, if there was one.
 abbrev pub after_take : Holding → Holding
-after_take h = with_spare (tail_of h.spare) h
+after_take h = with_unused_list (tail_of h.unused_list) h
 
 -- What a leaf of slot i becomes when it is granted.
 abbrev pub after_grant : (i g : ℕ) → Holding → Holding
-after_grant i g h = with_loose i false (with_numbered (granted_at i g h.tree) h)
+after_grant i g h = with_detached i false (with_numbered (granted_at i g h.tree) h)
 
--- Slot k takes what a loose leaf of slot i doesn't keep, p of its extent.
+-- Slot k takes what a detached leaf of slot i doesn't keep, p of its extent.
 abbrev pub after_split : (i k p : ℕ) → Holding → Holding
-after_split i k p h = with_loose k true (with_numbered (split_at i k p h.tree) h)
+after_split i k p h = with_detached k true (with_numbered (split_at i k p h.tree) h)
 
--- Slot k is the lone child of what was the loose leaf of slot i.
+-- Slot k is the lone child of what was the detached leaf of slot i.
 abbrev pub after_wrap : (i k : ℕ) → Holding → Holding
-after_wrap i k h = with_loose i false (with_loose k true (with_numbered (wrapped_at i k h.sequence.width h.tree) h))
+after_wrap i k h = with_detached i false (with_detached k true (with_numbered (wrapped_at i k h.sequence.width h.tree) h))
 
--- The granted leaf of slot i is free, and loose.
+-- The granted leaf of slot i is free, and detached.
 abbrev pub after_mark : (i : ℕ) → Holding → Holding
-after_mark i h = with_loose i true (with_numbered (marked i h.tree) h)
+after_mark i h = with_detached i true (with_numbered (marked i h.tree) h)
 
--- The loose leaf of slot i has taken in that of slot j, which is unused.
+-- The detached leaf of slot i has taken in that of slot j, which is unused.
 abbrev pub after_join : (i j : ℕ) → Holding → Holding
-after_join i j h = with_spare (j ∷ h.spare) (with_loose j false (with_numbered (joined i h.tree) h))
+after_join i j h = with_unused_list (j ∷ h.unused_list) (with_detached j false (with_numbered (joined i h.tree) h))
 
 -- The container of slot i has given way to its lone child of slot c, which is unused.
 abbrev pub after_lift : (i c : ℕ) → Holding → Holding
 after_lift i c h =
-    with_spare (c ∷ h.spare) (with_loose c false (with_loose i true (with_numbered (lifted i h.tree) h)))
+    with_unused_list (c ∷ h.unused_list) (with_detached c false (with_detached i true (with_numbered (lifted i h.tree) h)))
 
 -- The side of a leaf across the sequence that holds it.
 abbrev pub across_of : Node → ℕ

@@ -31,31 +31,31 @@ one_free_slot size =
       ring = record { previous = record { number = no_slot }; next = record { number = no_slot } };
     }
 
--- What one free slot holds, while it is loose.
-abbrev pub loose_holding : Sides → Holding
-loose_holding size =
+-- What one free slot holds, while it is detached.
+abbrev pub detached_holding : Sides → Holding
+detached_holding size =
     record {
       sequence = record { parent = no_slot; axis = Vertical; start = 0; width = size.width };
       tree = Free 0 size.height End;
-      spare = [];
-      held = λ k. [];
-      loose = with_mark (λ _. false) 0 true;
+      unused_list = [];
+      free_lists = λ k. [];
+      detached = with_mark (λ _. false) 0 true;
     }
 
 -- What it holds once it stands in a list.
 abbrev pub start_holding : (ℕ → List ℕ) → Sides → Holding
-start_holding held size =
+start_holding free_lists size =
     record {
       sequence = record { parent = no_slot; axis = Vertical; start = 0; width = size.width };
       tree = Free 0 size.height End;
-      spare = [];
-      held = held;
-      loose = with_mark (with_mark (λ _. false) 0 true) 0 false;
+      unused_list = [];
+      free_lists = free_lists;
+      detached = with_mark (with_mark (λ _. false) 0 true) 0 false;
     }
 
 -- One free slot of this size, in its list, and no other slot.
 pub record IsStarted {A : Type 0} (old new : Store A) (size : Size) (given : AllocatorOptions) : Type 0 where
-  pub holds : (held : ℕ → List ℕ) × Holds (shelf_of new) (start_holding held (sides_of size))
+  pub holds : (free_lists : ℕ → List ℕ) × Holds (shelf_of new) (start_holding free_lists (sides_of size))
   pub slots : nodes new.slots.items ≡ nodes (one_free_slot size ∷ [])
   pub one : length new.slots.items ≡ 1
   pub once : IsTakenOnce new

@@ -5,7 +5,7 @@ use Rattle.atlas_store.specs.declared.slots.NodeKind.TheVariants as kind
 use Rattle.atlas_model.specs.Boxes.{Sides}
 use Rattle.atlas_store.specs.Slots.Links.{with_count}
 use Rattle.atlas_store.specs.Stored.{Shelf, Holding, Holds, HoldsWith}
-use Rattle.atlas_store.specs.Store.Holdings.{shelf_of, node_in, IsLooseLeaf, KeepsRoom}
+use Rattle.atlas_store.specs.Store.Holdings.{shelf_of, node_in, IsDetachedLeaf, KeepsRoom}
 use Rattle.atlas_store.specs.Slots.Growing.{
   IsEnd,
   IsLone,
@@ -19,47 +19,47 @@ use Rattle.atlas_store.specs.Slots.Growing.{
 }
 use Rattle.atlas_store.specs.Store.StoreCalls.{TakesSlots}
 
--- The loose leaf of slot `last` ends at the far corner of a size.
+-- The detached leaf of slot `last` ends at the far corner of a size.
 pub record IsStretched {A : Type 0} (old new : Store A) (size : Sides) (last : ℕ) : Type 0 where
-  pub kept : (h : Holding) (d : ℕ) → IsLooseLeaf (shelf_of old) last h → IsEnd size d last h
+  pub kept : (h : Holding) (d : ℕ) → IsDetachedLeaf (shelf_of old) last h → IsEnd size d last h
       → Holds (shelf_of new) (after_stretch d h)
   pub free : (node_in (shelf_of new) last).kind ≡ kind.Free
   pub room : KeepsRoom old new
   pub turns : new.turns ≡ old.turns
 
--- The loose leaf of slot `at`, the only member, is as large as a size.
+-- The detached leaf of slot `at`, the only member, is as large as a size.
 pub record IsEnlarged {A : Type 0} (old new : Store A) (size : Sides) (at : ℕ) : Type 0 where
-  pub kept : (h : Holding) → IsLooseLeaf (shelf_of old) at h → IsLone at h
+  pub kept : (h : Holding) → IsDetachedLeaf (shelf_of old) at h → IsLone at h
       → Holds (shelf_of new) (after_whole size at h)
   pub free : (node_in (shelf_of new) at).kind ≡ kind.Free
   pub room : KeepsRoom old new
   pub turns : new.turns ≡ old.turns
 
--- A leaf of extent d in slot k, which is in hand, fits after the last member, of slot `last`.
-pub record IsAppendable (hand : ℕ → ℕ) (v : Shelf) (size : Sides) (last k d : ℕ) (h : Holding) : Type 0 where
-  pub holds : HoldsWith hand v h
-  pub in_hand : hand k ≡ 1
+-- A leaf of extent d in slot k, which is claimed, fits after the last member, of slot `last`.
+pub record IsAppendable (claimed : ℕ → ℕ) (v : Shelf) (size : Sides) (last k d : ℕ) (h : Holding) : Type 0 where
+  pub holds : HoldsWith claimed v h
+  pub is_claimed : claimed k ≡ 1
   pub end : IsEnd size d last h
   pub more : 0 < d
 
--- Slot k, which was in hand, is a loose leaf after the last member.
+-- Slot k, which was claimed, is a detached leaf after the last member.
 pub record IsAppendedWith {A : Type 0} (old new : Store A) (size : Sides) (last k : ℕ) : Type 0 where
-  pub kept : (h : Holding) (hand : ℕ → ℕ) (d : ℕ) → IsAppendable hand (shelf_of old) size last k d h
-      → HoldsWith (with_count hand k 0) (shelf_of new) (after_append k d h)
+  pub kept : (h : Holding) (claimed : ℕ → ℕ) (d : ℕ) → IsAppendable claimed (shelf_of old) size last k d h
+      → HoldsWith (with_count claimed k 0) (shelf_of new) (after_append k d h)
   pub free : (node_in (shelf_of new) k).kind ≡ kind.Free
   pub room : KeepsRoom old new
   pub turns : new.turns ≡ old.turns
 
--- The top sequence begins at slot `first` and spans a size, and slot c is in hand.
-pub record IsWrappable (hand : ℕ → ℕ) (v : Shelf) (size : Sides) (first c : ℕ) (h : Holding) : Type 0 where
-  pub holds : HoldsWith hand v h
-  pub in_hand : hand c ≡ 1
+-- The top sequence begins at slot `first` and spans a size, and slot c is claimed.
+pub record IsWrappable (claimed : ℕ → ℕ) (v : Shelf) (size : Sides) (first c : ℕ) (h : Holding) : Type 0 where
+  pub holds : HoldsWith claimed v h
+  pub is_claimed : claimed c ≡ 1
   pub spans : IsSpanning size first h
 
--- Slot c, which was in hand, holds what was the top sequence.
+-- Slot c, which was claimed, holds what was the top sequence.
 pub record IsTopWrappedWith {A : Type 0} (old new : Store A) (size : Sides) (first c : ℕ) : Type 0 where
-  pub kept : (h : Holding) (hand : ℕ → ℕ) → IsWrappable hand (shelf_of old) size first c h
-      → HoldsWith (with_count hand c 0) (shelf_of new) (after_wrap_top c h)
+  pub kept : (h : Holding) (claimed : ℕ → ℕ) → IsWrappable claimed (shelf_of old) size first c h
+      → HoldsWith (with_count claimed c 0) (shelf_of new) (after_wrap_top c h)
   pub unused : (j : ℕ) → j ≢ c → (node_in (shelf_of old) j).kind ≡ kind.Unused
       → (node_in (shelf_of new) j).kind ≡ kind.Unused
   pub room : KeepsRoom old new
@@ -71,7 +71,7 @@ pub record IsExtendable (v : Shelf) (size : Sides) (last d : ℕ) (h : Holding) 
   pub end : IsEnd size d last h
   pub more : 0 < d
 
--- Slot k is a loose leaf after the last member.
+-- Slot k is a detached leaf after the last member.
 pub record IsAppended {A : Type 0} (old new : Store A) (size : Sides) (last k : ℕ) : Type 0 where
   pub kept : (d : ℕ) → TakesSlots old new 1 (IsExtendable (shelf_of old) size last d) (after_append k d)
   pub free : (node_in (shelf_of new) k).kind ≡ kind.Free
@@ -86,7 +86,7 @@ pub record IsNestable (v : Shelf) (inner size : Sides) (first d : ℕ) (h : Hold
   pub wider : IsWider h.sequence.axis inner size d
   pub more : 0 < d
 
--- Slot c holds what was the top sequence, and slot k is a loose leaf after it.
+-- Slot c holds what was the top sequence, and slot k is a detached leaf after it.
 pub record IsNested {A : Type 0} (old new : Store A) (inner size : Sides) (first c k : ℕ) : Type 0 where
   pub kept : (d : ℕ) → TakesSlots old new 2 (IsNestable (shelf_of old) inner size first d) (after_nest c k d)
   pub free : (node_in (shelf_of new) k).kind ≡ kind.Free

@@ -12,7 +12,7 @@ ghost use Rattle.atlas_store.specs.declared.search.table.ListHead.{ListHead};
 ghost use Rattle.atlas_store.specs.Slots.Lists.{AreFiled, IsList, Places, node_sides, occurs, without};
 ghost use Rattle.atlas_store.specs.declared.slots.NodeKind.TheVariants.{Free};
 ghost use Rattle.atlas_store.specs.Slots.Links.{BelongsIn, CanTake, IsInTable, IsSolid, IsFiledSlot, IsListed};
-ghost use Rattle.atlas_store.specs.Slots.Links.{IsLooseSlot, IsUnlisted, TakesFirst};
+ghost use Rattle.atlas_store.specs.Slots.Links.{IsDetachedSlot, IsUnlisted, TakesFirst};
 ghost use Rattle.atlas_store.specs.Slots.Links.{first_without, given_back, listed, renewed, unlisted, with_next};
 ghost use Rattle.atlas_store.specs.Slots.Links.{with_ring_previous};
 
@@ -105,7 +105,7 @@ fn top_in(area: Rectangle) -> u32
     area.min.y as u32
 }
 
-/// Takes a free slot, whose rectangle is exact, out of its list; it is loose from then on.
+/// Takes a free slot, whose rectangle is exact, out of its list; it is detached from then on.
 #[inline(always)]
 pub fn unlist<A: Allocator>(slots: &mut [Slot], lists: &mut Table<A>, options: &Scale, at: Link)
     requires free { (node_at (nodes slots.old) at.number).kind ≡ Free }
@@ -114,7 +114,7 @@ pub fn unlist<A: Allocator>(slots: &mut [Slot], lists: &mut Table<A>, options: &
     requires short { length slots.old < NO_SLOT }
     ensures filed { (unused : Link) (p : Places)
         → AreFiled (options_of options.now) (nodes slots.old) (rings slots.old) lists.old unused p
-        → p.loose at.number ≡ false
+        → p.detached at.number ≡ false
         → AreFiled (options_of options.now) (nodes slots.new) (rings slots.new) lists.new unused
         (unlisted p at.number) }
     ensures same_nodes { nodes slots.new ≡ nodes slots.old }
@@ -128,7 +128,7 @@ pub fn unlist<A: Allocator>(slots: &mut [Slot], lists: &mut Table<A>, options: &
     }
 }
 
-/// Takes a slot out of the list where it stands; it is loose from then on.
+/// Takes a slot out of the list where it stands; it is detached from then on.
 pub fn unlist_at<A: Allocator>(slots: &mut [Slot], lists: &mut Table<A>, at: Link, place: Place)
     requires listed { IsListed (rings slots.old) at.number }
     requires place { IsInTable place }
@@ -145,16 +145,16 @@ pub fn unlist_at<A: Allocator>(slots: &mut [Slot], lists: &mut Table<A>, at: Lin
     }
 }
 
-/// Puts a free and loose slot, whose rectangle is exact, into its list.
+/// Puts a free and detached slot, whose rectangle is exact, into its list.
 #[inline(always)]
 pub fn enlist<A: Allocator>(slots: &mut [Slot], lists: &mut Table<A>, options: &Scale, at: Link)
     requires free { (node_at (nodes slots.old) at.number).kind ≡ Free }
     requires exact { IsSolid (node_at (nodes slots.old) at.number).area }
-    requires loose { IsLooseSlot (options_of options.now) slots.old lists.old at.number }
+    requires detached { IsDetachedSlot (options_of options.now) slots.old lists.old at.number }
     requires short { length slots.old < NO_SLOT }
     ensures filed { (unused : Link) (p : Places)
         → AreFiled (options_of options.now) (nodes slots.old) (rings slots.old) lists.old unused p
-        → p.loose at.number ≡ true
+        → p.detached at.number ≡ true
         → AreFiled (options_of options.now) (nodes slots.new) (rings slots.new) lists.new unused
         (listed p (list_of (options_of options.now) (node_sides (node_at (nodes slots.old) at.number))) at.number) }
     ensures same_nodes { nodes slots.new ≡ nodes slots.old }
@@ -204,8 +204,8 @@ fn renew(slots: &mut [Slot], at: Link)
     write_node(slots, at, node);
 }
 
-/// Takes the first of the unused slots, whose generation rises, or else a new one, for which there is room. It is in
-/// hand from then on.
+/// Takes the first of the unused slots, whose generation rises, or else a new one, for which there is room. It is
+/// claimed from then on.
 pub fn take_slot<A: Allocator>(slots: &mut Vec<Slot, A>, unused: &mut Link) -> Link
     requires { CanTake slots.old.items (vec_capacity slots.old) unused.old }
     ensures taken { TakesFirst slots.old.items slots.new.items unused.old unused.new result }
@@ -224,11 +224,11 @@ pub fn take_slot<A: Allocator>(slots: &mut Vec<Slot, A>, unused: &mut Link) -> L
     }
 }
 
-/// Puts a slot that is in hand, and not used, in front of the unused ones.
+/// Puts a slot that is claimed, and not used, in front of the unused ones.
 pub fn give_back(slots: &mut [Slot], unused: &mut Link, at: Link)
     requires { at.number < length slots.old }
     ensures filed { (o : Options) (heads : List ListHead) (p : Places)
-        → AreFiled o (nodes slots.old) (rings slots.old) heads unused.old p → 0 < p.hand at.number
+        → AreFiled o (nodes slots.old) (rings slots.old) heads unused.old p → 0 < p.claimed at.number
         → AreFiled o (nodes slots.new) (rings slots.new) heads unused.new (given_back p at.number) }
     ensures same_nodes { nodes slots.new ≡ nodes slots.old }
 {

@@ -12,16 +12,16 @@ use atlas_model::Size;
 use std::alloc::Allocator;
 
 impl<A: Allocator> Store<A> {
-    ghost use Rattle.atlas_store.specs.Store.Holdings.{shelf_of, HasSlotsFor, IsLooseLeaf};
+    ghost use Rattle.atlas_store.specs.Store.Holdings.{shelf_of, HasSlotsFor, IsDetachedLeaf};
     ghost use Rattle.atlas_store.specs.Store.StoreCalls.{IsUnusedSlot};
     ghost use Rattle.atlas_store.specs.Store.TopCalls.{IsAppendable, IsAppended, IsAppendedWith, IsEnlarged};
     ghost use Rattle.atlas_store.specs.Store.TopCalls.{IsExtendable};
     ghost use Rattle.atlas_store.specs.Store.TopCalls.{IsNestable, IsNested, IsStretched, IsTopWrappedWith};
     ghost use Rattle.atlas_store.specs.Store.TopCalls.{IsWrappable};
 
-    /// A loose leaf, the last member of the top sequence, reaches to the far corner of a size.
+    /// A detached leaf, the last member of the top sequence, reaches to the far corner of a size.
     pub fn stretch(&mut self, at: Link, size: Size)
-        requires ready { (h : Holding) × (d : ℕ) × IsLooseLeaf (shelf_of self.old) at.number h
+        requires ready { (h : Holding) × (d : ℕ) × IsDetachedLeaf (shelf_of self.old) at.number h
             × IsEnd (sides_of size) d at.number h }
         requires exact { size ≡ size_of (sides_of size) }
         ensures { IsStretched self.old self.new (sides_of size) at.number }
@@ -29,9 +29,9 @@ impl<A: Allocator> Store<A> {
         stretch_leaf(&mut self.slots, at, size);
     }
 
-    /// A loose leaf, the only member of the tree, becomes as large as a size.
+    /// A detached leaf, the only member of the tree, becomes as large as a size.
     pub fn stretch_whole(&mut self, at: Link, size: Size)
-        requires ready { (h : Holding) × IsLooseLeaf (shelf_of self.old) at.number h × IsLone at.number h }
+        requires ready { (h : Holding) × IsDetachedLeaf (shelf_of self.old) at.number h × IsLone at.number h }
         requires positive { IsPositive (sides_of size) }
         requires exact { size ≡ size_of (sides_of size) }
         ensures { IsEnlarged self.old self.new (sides_of size) at.number }
@@ -39,10 +39,10 @@ impl<A: Allocator> Store<A> {
         stretch_leaf(&mut self.slots, at, size);
     }
 
-    // The slot in hand becomes a loose leaf after the last member of the top sequence.
+    // The claimed slot becomes a detached leaf after the last member of the top sequence.
     fn append_with(&mut self, last: Link, fresh: Link, size: Size)
-        requires ready { (h : Holding) × (hand : ℕ → ℕ) × (d : ℕ)
-            × IsAppendable hand (shelf_of self.old) (sides_of size) last.number fresh.number d h }
+        requires ready { (h : Holding) × (claimed : ℕ → ℕ) × (d : ℕ)
+            × IsAppendable claimed (shelf_of self.old) (sides_of size) last.number fresh.number d h }
         requires fresh { IsUnusedSlot self.old fresh.number }
         requires exact { size ≡ size_of (sides_of size) }
         ensures { IsAppendedWith self.old self.new (sides_of size) last.number fresh.number }
@@ -50,10 +50,10 @@ impl<A: Allocator> Store<A> {
         append_leaf(&mut self.slots, last, fresh, size);
     }
 
-    // The slot in hand holds what was the top sequence, and is the only member of the new one.
+    // The claimed slot holds what was the top sequence, and is the only member of the new one.
     fn wrap_top_with(&mut self, first: Link, container: Link, size: Size)
-        requires ready { (h : Holding) × (hand : ℕ → ℕ)
-            × IsWrappable hand (shelf_of self.old) (sides_of size) first.number container.number h }
+        requires ready { (h : Holding) × (claimed : ℕ → ℕ)
+            × IsWrappable claimed (shelf_of self.old) (sides_of size) first.number container.number h }
         requires fresh { IsUnusedSlot self.old container.number }
         requires exact { size ≡ size_of (sides_of size) }
         ensures { IsTopWrappedWith self.old self.new (sides_of size) first.number container.number }
@@ -62,7 +62,7 @@ impl<A: Allocator> Store<A> {
     }
 
     /// The slot that is returned takes a free leaf after the last member of the top sequence, which reaches to the far
-    /// corner of a size. It is loose.
+    /// corner of a size. It is detached.
     pub fn append(&mut self, last: Link, size: Size) -> Link
         requires ready { (h : Holding) × (d : ℕ) × IsExtendable (shelf_of self.old) (sides_of size) last.number d h
             × HasSlotsFor 1 self.old h }
@@ -76,7 +76,7 @@ impl<A: Allocator> Store<A> {
 
     /// The top sequence, which begins at `first` and spans the size `inner`, is put into a new one along the other
     /// axis, and a free leaf after it reaches to the far corner of `size`. The answer is the slot that holds the old
-    /// sequence, and that of the leaf, which is taken before it and is loose. One pass along the old sequence.
+    /// sequence, and that of the leaf, which is taken before it and is detached. One pass along the old sequence.
     pub fn nest(&mut self, first: Link, inner: Size, size: Size) -> (Link, Link)
         requires ready { (h : Holding) × (d : ℕ)
             × IsNestable (shelf_of self.old) (sides_of inner) (sides_of size) first.number d h

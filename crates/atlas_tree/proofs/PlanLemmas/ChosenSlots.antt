@@ -17,11 +17,11 @@ use Rattle.atlas_store.specs.Slots.Numbered.{erase, id_of}
 use Rattle.atlas_store.specs.Slots.Reading.{extent_of}
 use Rattle.atlas_store.specs.Search.Picks.{AreFreeBoxes, IsFreeSlot, IsSearchable}
 use Rattle.atlas_store.specs.Stored.{Shelf, Holding, Holds, places_of}
-use Rattle.atlas_store.specs.Store.Holdings.{shelf_of, node_in, across_of, with_loose, with_held, IsLow}
+use Rattle.atlas_store.specs.Store.Holdings.{shelf_of, node_in, across_of, with_detached, with_free_lists, IsLow}
 use Rattle.atlas_store.specs.Search.Bands.{list_of, number_of}
 use Rattle.atlas_store.specs.Slots.Lists.{node_sides, node_top}
 use Rattle.atlas_tree.specs.Plans.Planning.{IsPlanFor, IsFeasible, IsPlanReady, IsPlanReadyWith, IsPlanDone, IsPlanned}
-use Rattle.atlas_store.specs.Store.StoreCalls.{IsListedAt, IsSharpened, IsUnlisted}
+use Rattle.atlas_store.specs.Store.StoreCalls.{IsListedAt, IsSharpened, UnlistsLeaf}
 use Rattle.atlas_tree.specs.Plans.Chosen.{IsAtRest, IsChosen, IsGrantable, IsGrantMade}
 use Rattle.atlas_store.proofs.StoreLemmas.Filing.{with_mark-same}
 use Rattle.atlas_store.proofs.SlotLemmas.JoiningWrites.{used-inside}
@@ -69,21 +69,21 @@ pub listed-chosen : {A : Type 0} {v : Store A} {r : Sides} {p : Chosen} {h : Hol
     → IsListedAt v p.at.number p.place
 listed-chosen {A} {v} {r} {p} {h} w = grind arith
 
--- Once the slot is loose, no other slot of its list lies above the strip that the search saw.
+-- Once the slot is detached, no other slot of its list lies above the strip that the search saw.
 chosen-low : (v u : Shelf) (r : Sides) (p : Chosen) → IsChosen v r p → nodes u.slots ≡ nodes v.slots → u.options ≡ v.options
-    → (h : Holding) → h.loose p.at.number ≡ true → IsLow u h (number_of p.place) p.low
-chosen-low v u r p w same options h is_loose i free kept list = grind arith
+    → (h : Holding) → h.detached p.at.number ≡ true → IsLow u h (number_of p.place) p.low
+chosen-low v u r p w same options h is_detached i free kept list = grind arith
 
 -- The slot leaves its list, for which another strip is kept then.
-pub unlisted-sharpened : {A : Type 0} {v u v' : Store A} {r : Sides} (p : Chosen) → IsChosen (shelf_of v) r p → IsUnlisted v u p.at.number
-    → IsSharpened u v' (number_of p.place) p.low → IsUnlisted v v' p.at.number
+pub unlisted-sharpened : {A : Type 0} {v u v' : Store A} {r : Sides} (p : Chosen) → IsChosen (shelf_of v) r p → UnlistsLeaf v u p.at.number
+    → IsSharpened u v' (number_of p.place) p.low → UnlistsLeaf v v' p.at.number
 unlisted-sharpened {A} {v} {u} {v'} {r} p w one two = record {
   kept = λ h holds listed.
       let left = one.kept h holds listed in
-      let now : Holding = with_loose p.at.number true (with_held left.0 h) in (
+      let now : Holding = with_detached p.at.number true (with_free_lists left.0 h) in (
         left.0,
         two.kept now left.1
-            (chosen-low (shelf_of v) (shelf_of u) r p w one.nodes one.room.options now (with_mark-same h.loose p.at.number true)),
+            (chosen-low (shelf_of v) (shelf_of u) r p w one.nodes one.room.options now (with_mark-same h.detached p.at.number true)),
       );
   nodes = ap (λ s. nodes s.items) two.slots ∙ one.nodes;
   room = grind arith;
@@ -91,12 +91,12 @@ unlisted-sharpened {A} {v} {u} {v'} {r} p w one two = record {
   turns = two.turns ∙ one.turns;
 }
 
-module _ {A : Type 0} {v v' : Store A} {r : Sides} {p : Chosen} {h : Holding} (w : IsGrantable v r p h) (u : IsUnlisted v v' p.at.number) where
-  left : (held : ℕ → List ℕ) × Holds (shelf_of v') (with_loose p.at.number true (with_held held h))
+module _ {A : Type 0} {v v' : Store A} {r : Sides} {p : Chosen} {h : Holding} (w : IsGrantable v r p h) (u : UnlistsLeaf v v' p.at.number) where
+  left : (free_lists : ℕ → List ℕ) × Holds (shelf_of v') (with_detached p.at.number true (with_free_lists free_lists h))
   left = u.kept h w.rest.holds (w.rest.listed p.at.number refl)
 
   abbrev unlisted : Holding
-  unlisted = with_loose p.at.number true (with_held left.0 h)
+  unlisted = with_detached p.at.number true (with_free_lists left.0 h)
 
   is_placeable : IsPlanReadyWith v' p.at.number p.plan unlisted
   is_placeable = grind (arith, left, with_mark-same, only-more, slots-kept)
@@ -127,7 +127,7 @@ module _ {A : Type 0} {v v' : Store A} {r : Sides} {p : Chosen} {h : Holding} (w
               tree = made.tree;
               sequence = made.sequence;
               granted = made.granted;
-              spare = made.spare;
+              unused_list = made.unused_list;
             };
             names = is ∙ ap (λ (n : Node). id_of to n.generation) same;
           },

@@ -15,7 +15,7 @@ use Rattle.atlas_model.specs.Trees.{total, is_one_free}
 use Rattle.atlas_model.specs.Changes.{lengthened_to, widened, grown_members}
 use Rattle.atlas_store.specs.Slots.{nodes}
 use Rattle.atlas_store.specs.Slots.Numbered.{erase, first_slot}
-use Rattle.atlas_store.specs.Stored.{Shelf, Holding, Holds, IsLooseOnly}
+use Rattle.atlas_store.specs.Stored.{Shelf, Holding, Holds, IsDetachedOnly}
 use Rattle.atlas_store.specs.Store.Holdings.{shelf_of, node_in, HasSlotsFor}
 use Rattle.atlas_store.specs.Slots.Growing.{IsEnd, IsSpanning, IsWider, last_slot}
 use Rattle.atlas_tree.specs.Plans.Growths.{IsGrowthOf, IsGrowable, IsGrownHolding, IsLengthenable, IsLonger, IsNeedOf, IsWidenable, IsWidenedTo, middle_of, strip_need}
@@ -115,11 +115,11 @@ module _ (v : Shelf) (old new : Sides) (h : Holding) (p : Growth) (w : IsGrowthO
 -- The tree has grown along its axis, and there are the slots to grow across it.
 pub record IsMidway {A : Type 0} (v : Store A) (old new : Sides) (first n : ℕ) (h h' : Holding) : Type 0 where
   pub holds : Holds (shelf_of v) h'
-  pub listed : IsLooseOnly [] h'
+  pub listed : IsDetachedOnly [] h'
   pub members : erase h'.tree ≡ lengthened_to (side h.sequence.axis old) (side h.sequence.axis new) (erase h.tree)
   pub sequence : h'.sequence ≡ h.sequence
   pub begins : first_slot h'.tree ≡ first
-  pub spare : length h'.spare - across_need old new h.sequence.axis ≡ length h.spare - n
+  pub unused_list : length h'.unused_list - across_need old new h.sequence.axis ≡ length h.unused_list - n
   pub slots : HasSlotsFor (across_need old new h.sequence.axis) v h'
 
 -- The same of a store.
@@ -162,7 +162,7 @@ module _ {A : Type 0} {v : Store A} {old new : Sides} {first n : ℕ} {p : Growt
         members = l.members ∙ sym (lengthened_to-more (side axis old) (side axis new) (erase h.tree) longer);
         sequence = l.sequence;
         begins = l.first ∙ w.tree.spans.begins;
-        spare = omega (arith, l.spare, need_longer);
+        unused_list = omega (arith, l.unused_list, need_longer);
         slots = l.slots;
       },
     )
@@ -226,6 +226,6 @@ module _ {A : Type 0} {v : Store A} {old new : Sides} {first n : ℕ} {p : Growt
             record {
               tree = grind (arith, total_midway, other_twice);
               grown = grind (arith, tree-by_parts, grown_is, widened-more);
-              spare = omega (arith, l.spare, m.spare, two);
+              unused_list = omega (arith, l.unused_list, m.unused_list, two);
             },
           )

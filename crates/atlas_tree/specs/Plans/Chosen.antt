@@ -14,14 +14,14 @@ use Rattle.atlas_store.specs.Slots.Reading.{extent_of}
 use Rattle.atlas_store.specs.Search.Bands.{list_of, number_of}
 use Rattle.atlas_store.specs.Slots.Lists.{node_sides, node_top}
 use Rattle.atlas_store.specs.Search.Picks.{AreFreeBoxes, IsFreeSlot}
-use Rattle.atlas_store.specs.Stored.{Shelf, Holding, Holds, IsLooseOnly}
+use Rattle.atlas_store.specs.Stored.{Shelf, Holding, Holds, IsDetachedOnly}
 use Rattle.atlas_store.specs.Store.Holdings.{shelf_of, node_in, across_of, HasSlotsFor, KeepsTakenOnce}
 use Rattle.atlas_tree.specs.Plans.Planning.{IsPlanFor, IsFeasible, IsPlanned, slots_of}
 
 -- The slots stand for a tree that begins at 0, and each free slot stands in its list.
 pub record IsAtRest (v : Shelf) (h : Holding) : Type 0 where
   pub holds : Holds v h
-  pub listed : IsLooseOnly [] h
+  pub listed : IsDetachedOnly [] h
   pub start : h.sequence.start ≡ 0
 
 -- The free slot that a request takes, the list where it stands, at most the `min.y` of each other slot of that list,

@@ -9,7 +9,7 @@ use Rattle.atlas_model.specs.Trees as tree
 use Rattle.atlas_model.specs.Changes.{grown_members, lengthened}
 use Rattle.atlas_store.specs.Slots.Lists.{is_free}
 use Rattle.atlas_store.specs.Slots.Numbered.{erase, first_slot, numbers}
-use Rattle.atlas_store.specs.Stored.{Shelf, Holding, Holds, IsLooseOnly}
+use Rattle.atlas_store.specs.Stored.{Shelf, Holding, Holds, IsDetachedOnly}
 use Rattle.atlas_store.specs.Store.Holdings.{shelf_of, node_in, HasSlotsFor, KeepsRoom}
 use Rattle.atlas_store.specs.Slots.Growing.{IsEnd, IsLone, IsSpanning, last_slot, top_along}
 use Rattle.atlas_store.specs.Store.TopCalls.{IsNestable}
@@ -18,7 +18,7 @@ use Rattle.atlas_store.specs.Store.TopCalls.{IsNestable}
 -- list.
 pub record IsTreeOf (v : Shelf) (size : Sides) (first : ℕ) (h : Holding) : Type 0 where
   pub holds : Holds v h
-  pub listed : IsLooseOnly [] h
+  pub listed : IsDetachedOnly [] h
   pub spans : IsSpanning size first h
 
 -- The size that has grown along an axis alone.
@@ -43,11 +43,11 @@ strip_need v last = strip_after (is_free (node_in v last).kind)
 -- The top sequence is d longer, by a slots.
 pub record IsLengthened {A : Type 0} (new : Store A) (n d a : ℕ) (h h' : Holding) : Type 0 where
   pub holds : Holds (shelf_of new) h'
-  pub listed : IsLooseOnly [] h'
+  pub listed : IsDetachedOnly [] h'
   pub members : erase h'.tree ≡ lengthened d (erase h.tree)
   pub sequence : h'.sequence ≡ h.sequence
   pub first : first_slot h'.tree ≡ first_slot h.tree
-  pub spare : length h'.spare ≡ length h.spare - a
+  pub unused_list : length h'.unused_list ≡ length h.unused_list - a
   -- So many slots can still be taken without memory.
   pub slots : HasSlotsFor n new h'
 
@@ -55,11 +55,11 @@ pub record IsLengthened {A : Type 0} (new : Store A) (n d a : ℕ) (h h' : Holdi
 -- other.
 pub record IsWidened (new : Shelf) (top d : ℕ) (h h' : Holding) : Type 0 where
   pub holds : Holds new h'
-  pub listed : IsLooseOnly [] h'
+  pub listed : IsDetachedOnly [] h'
   pub members : erase h'.tree ≡ tree.Seq h.sequence.width (erase h.tree) (tree.Free d tree.End)
   pub sequence : h'.sequence ≡ top_along (other h.sequence.axis) (tree.total (erase h.tree))
   pub first : first_slot h'.tree ≡ top
-  pub spare : length h'.spare ≡ length h.spare - 2
+  pub unused_list : length h'.unused_list ≡ length h.unused_list - 2
 
 -- A growth adds n members.
 abbrev pub IsNeedOf : (old new : Sides) → Holding → (n : ℕ) → Type 0
@@ -83,12 +83,12 @@ tree_held h = record { axis = h.sequence.axis; members = erase h.tree }
 pub record IsGrownHolding (v : Shelf) (old new : Sides) (first n : ℕ) (h h' : Holding) : Type 0 where
   pub tree : IsTreeOf v new first h'
   pub grown : tree_held h' ≡ grown_members old new h.sequence.axis (erase h.tree)
-  pub spare : length h'.spare ≡ length h.spare - n
+  pub unused_list : length h'.unused_list ≡ length h.unused_list - n
 
 -- Slot `last` holds the last member, which is to end d further on; n slots more than that takes can be taken.
 pub record IsLengthenable {A : Type 0} (s : Store A) (size : Sides) (last d n : ℕ) (h : Holding) : Type 0 where
   pub holds : Holds (shelf_of s) h
-  pub listed : IsLooseOnly [] h
+  pub listed : IsDetachedOnly [] h
   pub end : IsEnd size d last h
   pub more : 0 < d
   pub slots : HasSlotsFor (n + strip_need (shelf_of s) last) s h
@@ -104,7 +104,7 @@ pub record IsLonger {A : Type 0} (old new : Store A) (size : Sides) (last : ℕ)
 -- The top sequence begins at slot `first`, spans the size `inner`, and is to be the first of two that are d wider.
 pub record IsWidenable {A : Type 0} (s : Store A) (inner size : Sides) (first d : ℕ) (h : Holding) : Type 0 where
   pub nests : IsNestable (shelf_of s) inner size first d h
-  pub listed : IsLooseOnly [] h
+  pub listed : IsDetachedOnly [] h
   pub slots : HasSlotsFor 2 s h
 
 -- It is, and slot `top` holds it.

@@ -12,8 +12,8 @@ use Rattle.atlas_model.specs.Pixels.{box_of}
 use Rattle.atlas_store.specs.declared.slots.NodeKind.TheVariants as kind
 use Rattle.atlas_store.specs.Slots.{axis_of}
 use Rattle.atlas_store.specs.Slots.Reading.{extent_of}
-use Rattle.atlas_store.specs.Stored.{Shelf, Holding, Holds, IsLooseOnly}
-use Rattle.atlas_store.specs.Store.Holdings.{shelf_of, IsLooseLeaf, HasSlotsFor, KeepsTakenOnce, node_in, across_of}
+use Rattle.atlas_store.specs.Stored.{Shelf, Holding, Holds, IsDetachedOnly}
+use Rattle.atlas_store.specs.Store.Holdings.{shelf_of, IsDetachedLeaf, HasSlotsFor, KeepsTakenOnce, node_in, across_of}
 use Rattle.atlas_store.specs.Slots.Numbered.{Numbered, granted_at, split_at, wrapped_at}
 
 -- How many slots a plan takes.
@@ -66,10 +66,10 @@ IsPlannedTree (plan.CornerAcross p q) at width granted g old new =
     × (new ≡ granted_at granted g (split_at granted l p (wrapped_at c granted width
     (split_at c s q (wrapped_at at c width old)))))
 
--- Slot `at` is a loose leaf, the only one, for which the plan is feasible, and there are slots for it.
+-- Slot `at` is a detached leaf, the only one, for which the plan is feasible, and there are slots for it.
 pub record IsPlanReadyWith {A : Type 0} (s : Store A) (at : ℕ) (p : Plan) (h : Holding) : Type 0 where
-  pub leaf : IsLooseLeaf (shelf_of s) at h
-  pub only : IsLooseOnly (at ∷ []) h
+  pub leaf : IsDetachedLeaf (shelf_of s) at h
+  pub only : IsDetachedOnly (at ∷ []) h
   pub feasible : IsFeasible p (extent_of (node_in (shelf_of s) at)) (across_of (node_in (shelf_of s) at))
   pub slots : HasSlotsFor (slots_of p) s h
 
@@ -79,14 +79,14 @@ IsPlanReady s at p = (h : Holding) × IsPlanReadyWith s at p h
 -- Slot `to` is granted by a plan in place of the leaf of slot `at`, and each free slot stands in its list.
 pub record IsPlanned (new : Shelf) (at to : ℕ) (p : Plan) (h h' : Holding) : Type 0 where
   pub holds : Holds new h'
-  pub listed : IsLooseOnly [] h'
+  pub listed : IsDetachedOnly [] h'
   pub tree : IsPlannedTree p at h.sequence.width to (node_in new to).generation h.tree h'.tree
   pub sequence : h'.sequence ≡ h.sequence
   pub granted : (node_in new to).kind ≡ kind.Alloc
   -- The slots come from the unused ones as long as there are any.
-  pub spare : length h'.spare ≡ length h.spare - slots_of p
+  pub unused_list : length h'.unused_list ≡ length h.unused_list - slots_of p
 
--- A plan was carried out in the loose leaf of slot `at`, and slot `to` is granted.
+-- A plan was carried out in the detached leaf of slot `at`, and slot `to` is granted.
 pub record IsPlanDone {A : Type 0} (old new : Store A) (at to : ℕ) (p : Plan) : Type 0 where
   pub kept : (h : Holding) → IsPlanReadyWith old at p h → (h' : Holding) × IsPlanned (shelf_of new) at to p h h'
   pub once : KeepsTakenOnce old new

@@ -11,7 +11,7 @@ use Rattle.atlas_store.specs.declared.slots.Link.{Link}
 use Rattle.atlas_store.specs.declared.search.table.ListHead.{ListHead}
 use Rattle.atlas_store.specs.Search.Bands.{list_of, number_of}
 use Rattle.atlas_model.specs.Boxes.{Box, AreSameBoxes, same_box}
-use Rattle.guillotiere.specs.FreeBoxes.BoxShelves.{has_width, stored_item, free_item_boxes, free_count, idle_item, with_after, AreKept, IsInHand}
+use Rattle.guillotiere.specs.FreeBoxes.BoxShelves.{has_width, stored_item, free_item_boxes, free_count, idle_item, with_after, AreKept, IsClaimed}
 use Rattle.atlas_model.specs.Choice.{Options, AreValid}
 use Rattle.atlas_store.specs.Search.Items.{Item, no_item, item_at, item_box, item_sides, IsPath}
 use Rattle.atlas_store.specs.Slots.Links.{IsSolid}
@@ -26,7 +26,7 @@ use Rattle.atlas_store.proofs.SearchLemmas.ItemPaths.{path-frame, path-next, pat
 use Rattle.atlas_store.proofs.ListLemmas.Occurrences.{same-self, same-ne}
 use Rattle.atlas_model.proofs.TreeLemmas.TreeBasics.{same_box-true, same_box-itself}
 use Rattle.atlas_store.proofs.SearchLemmas.Showing.{path-inside}
-use Rattle.guillotiere.proofs.SimpleLemmas.EntryCounts.{count-of_free, count-of_idle, kept-idle, spare-idle}
+use Rattle.guillotiere.proofs.SimpleLemmas.EntryCounts.{count-of_free, count-of_idle, kept-idle, unused_list-idle}
 
 -- ---- counts of free boxes
 
@@ -110,13 +110,13 @@ past-idle (t ∷ es) = past-idle es
 -- A new entry at the end.
 pub taken-new : (o : Options) (heads : List ListHead) (es : List Item) (unused : Link) (used : ℕ) → length es < no_slot
     → AreKept o (record { entries = es; heads = heads; unused = unused; used = used })
-    → IsInHand o (record { entries = es ++ no_item ∷ []; heads = heads; unused = unused; used = used + 1 }) (length es)
+    → IsClaimed o (record { entries = es ++ no_item ∷ []; heads = heads; unused = unused; used = used + 1 }) (length es)
 taken-new o heads es unused used short kept =
     record {
       kept = record {
         listed = grind (arith, listed-same, item_at-more, length-more);
-        spare = kept.spare;
-        chain = path-frame es (es ++ no_item ∷ []) unused.number kept.spare no_slot (omega (arith, length-more es))
+        unused_list = kept.unused_list;
+        chain = path-frame es (es ++ no_item ∷ []) unused.number kept.unused_list no_slot (omega (arith, length-more es))
             (λ i h. ap (λ (t : Item). t.after) (item_at-more es i)) kept.chain;
         each = λ i l. each_by i l (cases_eq i (length es));
         used = omega (arith, kept.used, length-more es);
@@ -124,16 +124,16 @@ taken-new o heads es unused used short kept =
       inside = omega (arith, length-more es);
     }
   where
-    none : occurs (length es) kept.spare ≡ 0
+    none : occurs (length es) kept.unused_list ≡ 0
     none = grind (arith, path-inside)
 
     each_by : (i : ℕ) → i < length (es ++ no_item ∷ []) → (i ≡ length es) ⊎ (i ≢ length es)
-        → occurs i kept.spare + same i (length es) + free_count (item_at (es ++ no_item ∷ []) i) ≡ 1
+        → occurs i kept.unused_list + same i (length es) + free_count (item_at (es ++ no_item ∷ []) i) ≡ 1
     each_by i l (inl e) =
         omega (
           arith,
           none,
-          ap (λ n. occurs n kept.spare) e,
+          ap (λ n. occurs n kept.unused_list) e,
           ap (λ n. same n (length es)) e,
           same-self (length es),
           count-of_idle (item_at (es ++ no_item ∷ []) i) (ap (λ (t : Item). t.is_free) (item_at-more es i) ∙ (ap (λ n. (item_at es n).is_free) e ∙ past-idle es)),
@@ -143,7 +143,7 @@ taken-new o heads es unused used short kept =
 
 pub unused-inside : (o : Options) (heads : List ListHead) (es : List Item) (unused : Link) (used : ℕ) → unused.number ≢ no_slot
     → AreKept o (record { entries = es; heads = heads; unused = unused; used = used }) → unused.number < length es
-unused-inside o heads es unused used some kept = go kept.spare kept.chain
+unused-inside o heads es unused used some kept = go kept.unused_list kept.chain
   where
     go : (xs : List ℕ) → IsPath es unused.number xs no_slot → unused.number < length es
     go [] p = absurd (some p)
@@ -152,17 +152,17 @@ unused-inside o heads es unused used some kept = go kept.spare kept.chain
 -- The first of the unused entries.
 pub taken-again : (o : Options) (heads : List ListHead) (es : List Item) (unused after : Link) (used : ℕ) → unused.number ≢ no_slot
     → after.number ≡ (item_at es unused.number).after → AreKept o (record { entries = es; heads = heads; unused = unused; used = used })
-    → IsInHand o (record { entries = es; heads = heads; unused = after; used = used + 1 }) unused.number
-taken-again o heads es unused after used some leads kept = go kept.spare kept.chain kept.each kept.used
+    → IsClaimed o (record { entries = es; heads = heads; unused = after; used = used + 1 }) unused.number
+taken-again o heads es unused after used some leads kept = go kept.unused_list kept.chain kept.each kept.used
   where
     go : (xs : List ℕ) → IsPath es unused.number xs no_slot → ((i : ℕ) → i < length es → occurs i xs + 0 + free_count (item_at es i) ≡ 1)
-        → used + length xs ≡ length es → IsInHand o (record { entries = es; heads = heads; unused = after; used = used + 1 }) unused.number
+        → used + length xs ≡ length es → IsClaimed o (record { entries = es; heads = heads; unused = after; used = used + 1 }) unused.number
     go [] p each count = absurd (some p)
     go (x ∷ xs) p each count =
         record {
           kept = record {
             listed = kept.listed;
-            spare = xs;
+            unused_list = xs;
             chain = subst (λ n. IsPath es n xs no_slot) (ap (λ n. (item_at es n).after) (sym p.0) ∙ sym leads) p.2;
             each = λ i l. omega (arith, each i l, ap (λ n. same i n) p.0);
             used = omega (arith, count);
@@ -173,48 +173,48 @@ taken-again o heads es unused after used some leads kept = go kept.spare kept.ch
 -- ---- a box is put into an entry
 
 pub put-kept : (o : Options) (heads heads' : List ListHead) (es : List Item) (unused : Link) (used : ℕ) (x k : ℕ) (e : Item)
-    → (hand : IsInHand o (record { entries = es; heads = heads; unused = unused; used = used }) x)
+    → (claimed : IsClaimed o (record { entries = es; heads = heads; unused = unused; used = used }) x)
     → e.is_free ≡ true → e.after ≡ (head_of heads k).number → IsSolid e.area → list_of o (item_sides e) ≡ k → k < 2704
     → (head_of heads' k).number ≡ x → ((j : ℕ) → j ≢ k → head_of heads' j ≡ head_of heads j)
     → low_of heads' k ≤ (item_box e).min.y → (is_used_at heads k ≡ true → low_of heads' k ≤ low_of heads k)
     → ((j : ℕ) → j ≢ k → low_of heads' j ≡ low_of heads j)
     → AreKept o (record { entries = slice_set es x e; heads = heads'; unused = unused; used = used })
-put-kept o heads heads' es unused used x k e hand free after exact list few head other_heads low lower other_lows =
+put-kept o heads heads' es unused used x k e claimed free after exact list few head other_heads low lower other_lows =
     record {
       listed = grind (
         arith,
-        listed-with o heads heads' es (slice_set es x e) hand.kept.listed x k e idle hand.inside (length-set es x e) (item_at-same es x e hand.inside),
+        listed-with o heads heads' es (slice_set es x e) claimed.kept.listed x k e idle claimed.inside (length-set es x e) (item_at-same es x e claimed.inside),
         item_at-other es x,
       );
-      spare = hand.kept.spare;
-      chain = path-frame es (slice_set es x e) unused.number hand.kept.spare no_slot (omega (arith, length-set es x e))
-          (λ i h. ap (λ (t : Item). t.after) (item_at-other es x i e (not_spare i h))) hand.kept.chain;
+      unused_list = claimed.kept.unused_list;
+      chain = path-frame es (slice_set es x e) unused.number claimed.kept.unused_list no_slot (omega (arith, length-set es x e))
+          (λ i h. ap (λ (t : Item). t.after) (item_at-other es x i e (not_unused i h))) claimed.kept.chain;
       each = λ i l. each_by i l (cases_eq i x);
-      used = omega (arith, hand.kept.used, length-set es x e);
+      used = omega (arith, claimed.kept.used, length-set es x e);
     }
   where
-    here : occurs x hand.kept.spare + same x x + free_count (item_at es x) ≡ 1
-    here = hand.kept.each x hand.inside
+    here : occurs x claimed.kept.unused_list + same x x + free_count (item_at es x) ≡ 1
+    here = claimed.kept.each x claimed.inside
 
     idle : (item_at es x).is_free ≡ false
-    idle = kept-idle (λ i. same i x) o (record { entries = es; heads = heads; unused = unused; used = used }) hand.kept x hand.inside (omega (arith, same-self x))
+    idle = kept-idle (λ i. same i x) o (record { entries = es; heads = heads; unused = unused; used = used }) claimed.kept x claimed.inside (omega (arith, same-self x))
 
-    not_spare : (i : ℕ) → 0 < occurs i hand.kept.spare → i ≢ x
-    not_spare i h is = omega (arith, h, here, same-self x, ap (λ n. occurs n hand.kept.spare) is)
+    not_unused : (i : ℕ) → 0 < occurs i claimed.kept.unused_list → i ≢ x
+    not_unused i h is = omega (arith, h, here, same-self x, ap (λ n. occurs n claimed.kept.unused_list) is)
 
-    each_by : (i : ℕ) → i < length (slice_set es x e) → (i ≡ x) ⊎ (i ≢ x) → occurs i hand.kept.spare + 0 + free_count (item_at (slice_set es x e) i) ≡ 1
+    each_by : (i : ℕ) → i < length (slice_set es x e) → (i ≡ x) ⊎ (i ≢ x) → occurs i claimed.kept.unused_list + 0 + free_count (item_at (slice_set es x e) i) ≡ 1
     each_by i l (inl is) =
         omega (
           arith,
           here,
           same-self x,
-          ap (λ n. occurs n hand.kept.spare) is,
+          ap (λ n. occurs n claimed.kept.unused_list) is,
           ap (λ n. free_count (item_at (slice_set es x e) n)) is,
-          ap free_count (item_at-same es x e hand.inside),
+          ap free_count (item_at-same es x e claimed.inside),
           count-of_free e free,
         )
     each_by i l (inr ne) =
-        omega (arith, hand.kept.each i (omega (arith, l, length-set es x e)), same-ne i x ne, ap free_count (item_at-other es x i e ne))
+        omega (arith, claimed.kept.each i (omega (arith, l, length-set es x e)), same-ne i x ne, ap free_count (item_at-other es x i e ne))
 
 -- What an index reads.
 pub read-item : (bs : List FreeBox) (i : ℕ) (b : FreeBox) → i < length bs → b ≡ get_or bs i b → stored_item b ≡ item_at (map stored_item bs) i
@@ -265,33 +265,33 @@ module _ (o : Options) (heads heads' : List ListHead) (es es1 : List Item) (unus
   inside : x < length es
   inside = free-inside es x standing.free
 
-  not_spare : occurs x kept.spare ≡ 0
-  not_spare = omega (arith, kept.each x inside, count-of_free (item_at es x) standing.free)
+  not_unused : occurs x kept.unused_list ≡ 0
+  not_unused = omega (arith, kept.each x inside, count-of_free (item_at es x) standing.free)
 
-  in_list : 0 < occurs x (kept.listed.held k)
-  in_list = subst (λ n. 0 < occurs x (kept.listed.held n)) standing.list (kept.listed.each x standing.free)
+  in_list : 0 < occurs x (kept.listed.free_lists k)
+  in_list = subst (λ n. 0 < occurs x (kept.listed.free_lists n)) standing.list (kept.listed.each x standing.free)
 
   lows : (i : ℕ) → (item_at es i).is_free ≡ true → list_at o es i ≡ k → i ≢ x → low_of heads' k ≤ (item_box (item_at es i)).min.y
   lows i f e ne = subst (λ n. n ≤ (item_box (item_at es i)).min.y) (sym low_is) (standing.low i f e ne)
 
   finish : length es1 ≡ length es
       → ((i : ℕ) → ((item_at es1 i).area ≡ (item_at es i).area) × ((item_at es1 i).is_free ≡ (item_at es i).is_free))
-      → IsPath es' (head_of heads' k).number (without x (kept.listed.held k)) no_slot
-      → ((j i : ℕ) → j ≢ k → j < 2704 → 0 < occurs i (kept.listed.held j) → (item_at es1 i).after ≡ (item_at es i).after)
-      → ((i : ℕ) → 0 < occurs i kept.spare → (item_at es1 i).after ≡ (item_at es i).after)
+      → IsPath es' (head_of heads' k).number (without x (kept.listed.free_lists k)) no_slot
+      → ((j i : ℕ) → j ≢ k → j < 2704 → 0 < occurs i (kept.listed.free_lists j) → (item_at es1 i).after ≡ (item_at es i).after)
+      → ((i : ℕ) → 0 < occurs i kept.unused_list → (item_at es1 i).after ≡ (item_at es i).after)
       → AreKept o (record { entries = es'; heads = heads'; unused = found.at; used = used' })
-  finish long same_box here links spare_links =
+  finish long same_box here links unused_links =
       record {
         listed =
             listed-without o heads heads' es es' kept.listed x k standing.free standing.list (length-set es1 x _ ∙ long)
             (ap (λ (t : Item). t.is_free) this) same_kept (λ _. here) (λ j i ne l h. still i (in_other j i ne l h) ∙ links j i ne l h) heads_stay lows lows_stay;
-        spare = x ∷ kept.spare;
+        unused_list = x ∷ kept.unused_list;
         chain = (
           refl,
           omega (arith, length-set es1 x (idle_item unused.number), long, inside),
-          subst (λ n. IsPath es' n kept.spare no_slot) (ap (λ (t : Item). t.after) (sym this))
-              (path-frame es es' unused.number kept.spare no_slot (omega (arith, length-set es1 x (idle_item unused.number), long))
-              (λ i h. still i (not_x_spare i h) ∙ spare_links i h) kept.chain),
+          subst (λ n. IsPath es' n kept.unused_list no_slot) (ap (λ (t : Item). t.after) (sym this))
+              (path-frame es es' unused.number kept.unused_list no_slot (omega (arith, length-set es1 x (idle_item unused.number), long))
+              (λ i h. still i (not_x_unused i h) ∙ unused_links i h) kept.chain),
         );
         each = λ i l. each_by i l (cases_eq i x);
         used = omega (arith, kept.used, less, length-set es1 x (idle_item unused.number), long);
@@ -309,19 +309,19 @@ module _ (o : Options) (heads heads' : List ListHead) (es es1 : List Item) (unus
       same_kept : (i : ℕ) → i ≢ x → ((item_at es' i).area ≡ (item_at es i).area) × ((item_at es' i).is_free ≡ (item_at es i).is_free)
       same_kept i ne = (ap (λ (t : Item). t.area) (other i ne) ∙ (same_box i).0, ap (λ (t : Item). t.is_free) (other i ne) ∙ (same_box i).1)
 
-      in_other : (j i : ℕ) → j ≢ k → j < 2704 → 0 < occurs i (kept.listed.held j) → i ≢ x
+      in_other : (j i : ℕ) → j ≢ k → j < 2704 → 0 < occurs i (kept.listed.free_lists j) → i ≢ x
       in_other j i ne l h e = ne (sym (kept.listed.own j i l h).1 ∙ ap (list_at o es) e ∙ standing.list)
 
-      not_x_spare : (i : ℕ) → 0 < occurs i kept.spare → i ≢ x
-      not_x_spare i h e = omega (arith, h, not_spare, ap (λ n. occurs n kept.spare) e)
+      not_x_unused : (i : ℕ) → 0 < occurs i kept.unused_list → i ≢ x
+      not_x_unused i h e = omega (arith, h, not_unused, ap (λ n. occurs n kept.unused_list) e)
 
-      each_by : (i : ℕ) → i < length es' → (i ≡ x) ⊎ (i ≢ x) → occurs i (x ∷ kept.spare) + 0 + free_count (item_at es' i) ≡ 1
+      each_by : (i : ℕ) → i < length es' → (i ≡ x) ⊎ (i ≢ x) → occurs i (x ∷ kept.unused_list) + 0 + free_count (item_at es' i) ≡ 1
       each_by i l (inl e) =
           omega (
             arith,
             same-self x,
-            not_spare,
-            ap (λ n. occurs n (x ∷ kept.spare)) e,
+            not_unused,
+            ap (λ n. occurs n (x ∷ kept.unused_list)) e,
             ap (λ n. free_count (item_at es' n)) e,
             count-of_idle (item_at es' x) (ap (λ (t : Item). t.is_free) this),
           )
@@ -343,11 +343,11 @@ module _ (o : Options) (heads heads' : List ListHead) (es es1 : List Item) (unus
       → es1 ≡ with_after es b (item_at es x).after → AreKept o (record { entries = es'; heads = heads'; unused = found.at; used = used' })
   next-removed b b_free b_list b_next heads_same is =
       finish long same_box
-      (subst (λ h. IsPath es' h.number (without x (kept.listed.held k)) no_slot) (sym heads_same)
-      (path-bypassed es es' x b (head_of heads k).number (kept.listed.held k) no_slot (omega (arith, length-set es1 x (idle_item unused.number), long)) (λ z. omega (arith, z, inside, kept.listed.short))
+      (subst (λ h. IsPath es' h.number (without x (kept.listed.free_lists k)) no_slot) (sym heads_same)
+      (path-bypassed es es' x b (head_of heads k).number (kept.listed.free_lists k) no_slot (omega (arith, length-set es1 x (idle_item unused.number), long)) (λ z. omega (arith, z, inside, kept.listed.short))
       (λ i. kept.listed.once k i few) b_in b_next skip others_after (kept.listed.path k few)))
       (λ j i ne l h. other_after i (λ e. ne (sym (kept.listed.own j i l h).1 ∙ ap (list_at o es) e ∙ b_list)))
-      (λ i h. other_after i (λ e. both_ways _ (spare-idle (λ i. 0) o (record { entries = es; heads = heads; unused = unused; used = used }) kept i h) (ap (λ n. (item_at es n).is_free) e ∙ b_free)))
+      (λ i h. other_after i (λ e. both_ways _ (unused_list-idle (λ i. 0) o (record { entries = es; heads = heads; unused = unused; used = used }) kept i h) (ap (λ n. (item_at es n).is_free) e ∙ b_free)))
     where
       leads_to : Item
       leads_to = record (item_at es b) { after = (item_at es x).after }
@@ -355,8 +355,8 @@ module _ (o : Options) (heads heads' : List ListHead) (es es1 : List Item) (unus
       b_inside : b < length es
       b_inside = free-inside es b b_free
 
-      b_in : 0 < occurs b (kept.listed.held k)
-      b_in = subst (λ n. 0 < occurs b (kept.listed.held n)) b_list (kept.listed.each b b_free)
+      b_in : 0 < occurs b (kept.listed.free_lists k)
+      b_in = subst (λ n. 0 < occurs b (kept.listed.free_lists n)) b_list (kept.listed.each b b_free)
 
       long : length es1 ≡ length es
       long = ap length is ∙ length-set es b _
@@ -379,7 +379,7 @@ module _ (o : Options) (heads heads' : List ListHead) (es es1 : List Item) (unus
           ]
 
       apart : b ≢ x
-      apart e = no_loop (kept.listed.held k) (head_of heads k).number (λ i. kept.listed.once k i few) b_in (kept.listed.path k few)
+      apart e = no_loop (kept.listed.free_lists k) (head_of heads k).number (λ i. kept.listed.once k i few) b_in (kept.listed.path k few)
         where
           no_loop : (xs : List ℕ) (from : ℕ) → ((i : ℕ) → occurs i xs ≤ 1) → 0 < occurs b xs → IsPath es from xs no_slot → ⊥
           no_loop [] from once h p = omega (arith, h)
@@ -405,7 +405,7 @@ empty-kept o heads unused valid none last =
     record {
       listed =
           record {
-            held = λ k. [];
+            free_lists = λ k. [];
             valid = valid;
             short = omega arith;
             path = λ k l. eqb-true (head_of heads k).number no_slot (not-false ((head_of heads k).number == no_slot) (none k));
@@ -415,7 +415,7 @@ empty-kept o heads unused valid none last =
             exact = λ i f. absurd (both_ways false refl f);
             low = λ i f. absurd (both_ways false refl f);
           };
-      spare = [];
+      unused_list = [];
       chain = last;
       each = λ i l. absurd (omega (arith, l));
       used = refl;

@@ -24,13 +24,13 @@ pub idle-of_count : (t : Item) → free_count t ≡ 0 → t.is_free ≡ false
 idle-of_count t none = elim (cases_Bool t.is_free) [ inl f ↦ absurd (omega (arith, count-of_free t f)) | inr f ↦ f ]
 
 -- An entry that counts elsewhere isn't free.
-pub kept-idle : (hand : ℕ → ℕ) (o : Options) (v : BoxShelf) (kept : AreKeptWith hand o v) (i : ℕ) → i < length v.entries → 0 < occurs i kept.spare + hand i
+pub kept-idle : (claimed : ℕ → ℕ) (o : Options) (v : BoxShelf) (kept : AreKeptWith claimed o v) (i : ℕ) → i < length v.entries → 0 < occurs i kept.unused_list + claimed i
     → (item_at v.entries i).is_free ≡ false
-kept-idle hand o v kept i inside some = idle-of_count (item_at v.entries i) (omega (arith, kept.each i inside))
+kept-idle claimed o v kept i inside some = idle-of_count (item_at v.entries i) (omega (arith, kept.each i inside))
 
-pub spare-idle : (hand : ℕ → ℕ) (o : Options) (v : BoxShelf) (kept : AreKeptWith hand o v) (i : ℕ) → 0 < occurs i kept.spare → (item_at v.entries i).is_free ≡ false
-spare-idle hand o v kept i some =
-    kept-idle hand o v kept i (path-inside v.entries v.unused.number kept.spare no_slot kept.chain i some) (omega arith)
+pub unused_list-idle : (claimed : ℕ → ℕ) (o : Options) (v : BoxShelf) (kept : AreKeptWith claimed o v) (i : ℕ) → 0 < occurs i kept.unused_list → (item_at v.entries i).is_free ≡ false
+unused_list-idle claimed o v kept i some =
+    kept-idle claimed o v kept i (path-inside v.entries v.unused.number kept.unused_list no_slot kept.chain i some) (omega arith)
 
 -- ---- all entries
 
@@ -89,23 +89,23 @@ sums-free (t ∷ es) = omega (arith, sums-front (λ i. free_count (item_at (t �
 pub used-free : (o : Options) (v : BoxShelf) → AreKept o v → v.used ≡ length (free_item_boxes v.entries)
 used-free o v kept =
     let m : ℕ = length v.entries in
-    let f : ℕ → ℕ = λ i. occurs i kept.spare in
+    let f : ℕ → ℕ = λ i. occurs i kept.unused_list in
     let g : ℕ → ℕ = λ i. free_count (item_at v.entries i) in
     let all : sums (λ i. f i + g i) m ≡ m = sums-all (λ i. f i + g i) m (λ i l. omega (arith, kept.each i l)) in
-    let spare : sums f m ≡ length kept.spare = sums-occurs v.entries v.unused.number m kept.spare no_slot (omega arith) kept.chain in
-    omega (arith, all, sums-add f g m, spare, sums-free v.entries, kept.used)
+    let unused_list : sums f m ≡ length kept.unused_list = sums-occurs v.entries v.unused.number m kept.unused_list no_slot (omega arith) kept.chain in
+    omega (arith, all, sums-add f g m, unused_list, sums-free v.entries, kept.used)
 
 -- A free box is used.
 pub used-some : (o : Options) (v : BoxShelf) (i : ℕ) → AreKept o v → (item_at v.entries i).is_free ≡ true → 0 < v.used
 used-some o v i kept f = omega (arith, used-free o v kept, ((are-free v.entries).of_box i f).1)
 
 -- There are no more entries in use than entries.
-pub used-few : (hand : ℕ → ℕ) (o : Options) (v : BoxShelf) → AreKeptWith hand o v → v.used ≤ length v.entries
-used-few hand o v kept = omega (arith, kept.used)
+pub used-few : (claimed : ℕ → ℕ) (o : Options) (v : BoxShelf) → AreKeptWith claimed o v → v.used ≤ length v.entries
+used-few claimed o v kept = omega (arith, kept.used)
 
 -- Where none is unused, all are used.
 pub used-all : (o : Options) (v : BoxShelf) → AreKept o v → v.unused.number ≡ no_slot → v.used ≡ length v.entries
-used-all o v kept none = go kept.spare kept.chain kept.used
+used-all o v kept none = go kept.unused_list kept.chain kept.used
   where
     go : (xs : List ℕ) → IsPath v.entries v.unused.number xs no_slot → v.used + length xs ≡ length v.entries → v.used ≡ length v.entries
     go [] path count = omega arith
@@ -113,7 +113,7 @@ used-all o v kept none = go kept.spare kept.chain kept.used
 
 -- Where one is unused, not all are used.
 pub used-less : (o : Options) (v : BoxShelf) → AreKept o v → (v.unused.number ≡ no_slot → ⊥) → v.used < length v.entries
-used-less o v kept some = go kept.spare kept.chain kept.used
+used-less o v kept some = go kept.unused_list kept.chain kept.used
   where
     go : (xs : List ℕ) → IsPath v.entries v.unused.number xs no_slot → v.used + length xs ≡ length v.entries → v.used < length v.entries
     go [] path count = absurd (some path)

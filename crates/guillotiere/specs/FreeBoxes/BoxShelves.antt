@@ -50,21 +50,21 @@ free_item_boxes (e ∷ es) = if e.is_free then item_box e ∷ free_item_boxes es
 abbrev pub free_count : Item → ℕ
 free_count e = if e.is_free then 1 else 0
 
--- The free entries stand in their lists, and `spare` are the unused ones, from `unused` on. Each entry is a free one, an
--- unused one or in hand, exactly one of these, and once; `hand i` counts an entry that is taken and not used yet.
-pub record AreKeptWith (hand : ℕ → ℕ) (o : Options) (v : BoxShelf) : Type 0 where
+-- The free entries stand in their lists, and `unused_list` has the unused ones, from `unused` on. Each entry is a free one, an
+-- unused one or claimed, exactly one of these, and once; `claimed i` counts an entry that is taken and not used yet.
+pub record AreKeptWith (claimed : ℕ → ℕ) (o : Options) (v : BoxShelf) : Type 0 where
   pub listed : AreListed o v.heads v.entries
-  pub spare : List ℕ
-  pub chain : IsPath v.entries v.unused.number spare no_slot
-  pub each : (i : ℕ) → i < length v.entries → occurs i spare + hand i + free_count (item_at v.entries i) ≡ 1
-  pub used : v.used + length spare ≡ length v.entries
+  pub unused_list : List ℕ
+  pub chain : IsPath v.entries v.unused.number unused_list no_slot
+  pub each : (i : ℕ) → i < length v.entries → occurs i unused_list + claimed i + free_count (item_at v.entries i) ≡ 1
+  pub used : v.used + length unused_list ≡ length v.entries
 
--- The same with nothing in hand.
+-- The same with nothing claimed.
 abbrev pub AreKept : Options → BoxShelf → Type 0
 AreKept o v = AreKeptWith (λ i. 0) o v
 
--- An entry is in hand.
-pub record IsInHand (o : Options) (v : BoxShelf) (at : ℕ) : Type 0 where
+-- An entry is claimed.
+pub record IsClaimed (o : Options) (v : BoxShelf) (at : ℕ) : Type 0 where
   pub kept : AreKeptWith (λ i. same i at) o v
   pub inside : at < length v.entries
 

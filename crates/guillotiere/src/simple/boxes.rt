@@ -3,7 +3,7 @@ ghost use Rattle.std.specs.Prelude.{◌≡◌, ◌≢◌, ◌+◌, ◌<◌, ◌�
 ghost use Rattle.std.specs.Prelude.{vec_capacity, vec_len};
 ghost use Rattle.guillotiere.specs.FreeBoxes.BoxCalls.{AreFiledBoxes, HasEntriesFor, HasTakenEntries, IsLed};
 ghost use Rattle.guillotiere.specs.FreeBoxes.BoxCalls.{KeepsEntries};
-ghost use Rattle.guillotiere.specs.FreeBoxes.BoxShelves.{AreKept, IsInHand, box_shelf, free_item_boxes, idle_item};
+ghost use Rattle.guillotiere.specs.FreeBoxes.BoxShelves.{AreKept, IsClaimed, box_shelf, free_item_boxes, idle_item};
 ghost use Rattle.guillotiere.specs.FreeBoxes.BoxShelves.{stored_item};
 ghost use Rattle.atlas_model.specs.Boxes.{AreSameBoxes};
 ghost use Rattle.atlas_model.specs.Choice.{AreValid, Options};
@@ -102,7 +102,7 @@ impl<A: Allocator> FreeBoxes<A> {
     fn take(&mut self) -> Link
         requires kept { (o : Options) × AreKept o (box_shelf self.old) }
         requires room { HasEntriesFor 1 self.old }
-        ensures taken { (o : Options) → AreKept o (box_shelf self.old) → IsInHand o (box_shelf self.new) result.number }
+        ensures taken { (o : Options) → AreKept o (box_shelf self.old) → IsClaimed o (box_shelf self.new) result.number }
         ensures boxes { free_item_boxes (box_shelf self.new).entries ≡ free_item_boxes (box_shelf self.old).entries }
         ensures heads { self.new.table ≡ self.old.table }
         ensures entries { HasTakenEntries 1 self.old self.new }
@@ -119,10 +119,10 @@ impl<A: Allocator> FreeBoxes<A> {
         }
     }
 
-    // Puts a box into the entry that is in hand, and that into the box's list.
+    // Puts a box into the entry that is claimed, and that into the box's list.
     fn put(&mut self, at: Link, area: Rectangle, options: &Scale)
         requires exact { IsSolid area }
-        requires hand { IsInHand (options_of options.now) (box_shelf self.old) at.number }
+        requires claimed { IsClaimed (options_of options.now) (box_shelf self.old) at.number }
         ensures kept { AreKept (options_of options.now) (box_shelf self.new) }
         ensures boxes { AreSameBoxes (free_item_boxes (box_shelf self.new).entries)
             (box_of area ∷ free_item_boxes (box_shelf self.old).entries) }

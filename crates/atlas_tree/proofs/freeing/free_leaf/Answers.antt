@@ -1,6 +1,6 @@
 use Rattle.std.proofs.Common.{arith, ◌<◌, length}
 use Rattle.atlas_store.specs.Store.Holdings.{shelf_of, node_in}
-use Rattle.atlas_store.proofs.StoreLemmas.Turning.{freeing-marked, freeing-turned, freeing-short, freed-listed, loose-same, keeps-room}
+use Rattle.atlas_store.proofs.StoreLemmas.Turning.{freeing-marked, freeing-turned, freeing-short, freed-listed, detached-same, keeps-room}
 use Rattle.atlas_tree.proofs.freeing.free_leaf.Goals as goal
 
 pub loop-next-init : goal.loop-next-init
@@ -37,14 +37,14 @@ loop-next-preserved g c = record {
 }
 
 pub list-requires : goal.list-requires
-list-requires g c = grind (arith, loose-same)
+list-requires g c = grind (arith, detached-same)
 
 pub returns-clause-freed : goal.returns-clause-freed
 returns-clause-freed g c =
     λ h w.
     let t = c.loop-next.invariant.freeing h w in
-    let loose = loose-same (shelf_of c.loop-next.store) (shelf_of c.turn.new.store) c.loop-next.at.number t.0 (c.turn.ensures.settled c.in_default.is).same t.1.settling in
-    let k = c.list.ensures.kept t.0 loose in
+    let detached = detached-same (shelf_of c.loop-next.store) (shelf_of c.turn.new.store) c.loop-next.at.number t.0 (c.turn.ensures.settled c.in_default.is).same t.1.settling in
+    let k = c.list.ensures.kept t.0 detached in
     (_, freed-listed (shelf_of c.args.store.now) (shelf_of c.loop-next.store) (shelf_of c.list.new.self) c.args.slot.number c.loop-next.at.number c.loop-next.given h t.0 k.0 w t.1 ((c.turn.ensures.settled c.in_default.is).normal t.0 t.1.settling) k.1)
 
 pub returns-clause-turns : goal.returns-clause-turns

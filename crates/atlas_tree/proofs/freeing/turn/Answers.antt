@@ -32,7 +32,7 @@ join-requires-clause-ready g c =
     let f = c.is_free.ensures.0 c.if-is_free.true in
     let k = c.unlist.ensures.kept t.0 t.1.leaf.holds (next-listed v c.args.at.number x t.0 t.1 e f) in
     let w = joinable-next v (shelf_of c.unlist.new.self) c.args.at.number x t.0 k.0 t.1 e f c.unlist.ensures.nodes k.1 in
-    (_, record { holds = w.holds; kind = w.free; loose = w.loose }, rw w.next w.next_loose)
+    (_, record { holds = w.holds; kind = w.free; detached = w.detached }, rw w.next w.next_detached)
 
 pub returns-then-is_free-clause-turned : goal.returns-then-is_free-clause-turned
 returns-then-is_free-clause-turned g c =
@@ -46,7 +46,7 @@ returns-then-is_free-clause-turned g c =
       turned = λ h s.
           let k = c.unlist.ensures.kept h s.leaf.holds (next-listed v at x h s e f) in
           let w = joinable-next v u at x h k.0 s e f c.unlist.ensures.nodes k.1 in
-          let j = c.join.ensures.kept _ (record { holds = w.holds; kind = w.free; loose = w.loose }) (rw w.next w.next_loose) in
+          let j = c.join.ensures.kept _ (record { holds = w.holds; kind = w.free; detached = w.detached }) (rw w.next w.next_detached) in
           let r =
           settling-joined u (shelf_of c.join.new.self) at x at _ w j c.join.ensures.room.slots
           (c.join.ensures.calm at w.calm (rw w.next w.which)) c.join.ensures.free in
@@ -69,7 +69,7 @@ join-requires-then-is_free-2-clause-ready g c =
     let f = c.is_free-2.ensures.0 c.if-is_free-2.true in
     let k = c.unlist-then-is_free-2.ensures.kept t.0 t.1.leaf.holds (previous-listed v c.args.at.number x t.0 t.1 e f) in
     let w = joinable-previous v (shelf_of c.unlist-then-is_free-2.new.self) c.args.at.number x t.0 k.0 t.1 e f c.unlist-then-is_free-2.ensures.nodes k.1 in
-    (_, record { holds = w.holds; kind = w.free; loose = w.loose }, rw w.next w.next_loose)
+    (_, record { holds = w.holds; kind = w.free; detached = w.detached }, rw w.next w.next_detached)
 
 pub join-requires-then-is_free-2-clause-next_free : goal.join-requires-then-is_free-2-clause-next_free
 join-requires-then-is_free-2-clause-next_free g c =
@@ -96,7 +96,7 @@ returns-then-is_free-2-clause-turned g c =
       turned = λ h s.
           let k = unlist.kept h s.leaf.holds (previous-listed v at x h s e f) in
           let w = joinable-previous v u at x h k.0 s e f unlist.nodes k.1 in
-          let j = join.kept _ (record { holds = w.holds; kind = w.free; loose = w.loose }) (rw w.next w.next_loose) in
+          let j = join.kept _ (record { holds = w.holds; kind = w.free; detached = w.detached }) (rw w.next w.next_detached) in
           let r =
           settling-joined u (shelf_of c.join-then-is_free-2.new.self) x at at _ w j join.room.slots
           (join.calm at w.calm (rw w.next w.which)) join.free in

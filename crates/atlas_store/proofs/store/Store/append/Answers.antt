@@ -17,7 +17,7 @@ append_with-requires-clause-ready g c =
       r.1,
       record {
         holds = c.take-fresh.ensures.taken r.0 (λ i. 0) r.2.holds;
-        in_hand = with_count-same (λ i. 0) fresh 1;
+        is_claimed = with_count-same (λ i. 0) fresh 1;
         end = end-taken (sides_of c.args.size) r.1 c.args.last.number r.0 r.2.end;
         more = r.2.more;
       },
@@ -30,16 +30,16 @@ returns g c =
     let append = c.append_with.ensures in
     record {
       kept = λ d h n a slots. (
-        tail_of h.spare,
+        tail_of h.unused_list,
         used-taken (shelf_of c.append_with.new.self) k (λ i. 0) (after_append k d (after_take h)) refl
             (append.kept (after_take h) (with_count (λ i. 0) k 1) d (record {
               holds = take.taken h (λ i. 0) a.holds;
-              in_hand = with_count-same (λ i. 0) k 1;
+              is_claimed = with_count-same (λ i. 0) k 1;
               end = end-taken (sides_of c.args.size) d c.args.last.number h a.end;
               more = a.more;
             })),
         slots-kept c.take-fresh.new.self c.append_with.new.self n (after_take h) append.room (take.slots h (λ i. 0) n a.holds slots),
-        rest-length h.spare,
+        rest-length h.unused_list,
       );
       free = append.free;
       options = append.room.options ∙ take.options;

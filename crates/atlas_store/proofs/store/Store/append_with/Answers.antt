@@ -17,9 +17,9 @@ pub returns : goal.returns
 returns g c =
     let slots = are-slots c.args.self.now c.deref_mut.ensures.value c.deref_mut.ensures.len c.append_leaf.auto.slots in
     record {
-      kept = λ h hand d a.
+      kept = λ h claimed d a.
           appended-holds (shelf_of c.args.self.now) c.deref_mut.result.now c.append_leaf.new.slots _ c.args.last.number c.args.fresh.number
-          c.args.size slots (sides-fit c.args.size (search rules) (search rules)) c.requires.fresh.unused c.append_leaf.ensures h hand d a;
+          c.args.size slots (sides-fit c.args.size (search rules) (search rules)) c.requires.fresh.unused c.append_leaf.ensures h claimed d a;
       free = across-call (λ a b. (node_at (nodes b) c.args.fresh.number).kind ≡ Free) slots c.append_leaf.ensures.free;
       room = slots-room c.args.self.now _ slots refl refl;
       turns = refl;

@@ -3,7 +3,7 @@ use Rattle.atlas_model.specs.Pixels.{options_of}
 use Rattle.atlas_store.specs.Slots.{nodes, node_at}
 use Rattle.atlas_store.specs.Search.Bands.{list_of}
 use Rattle.atlas_store.specs.Slots.Lists.{node_sides}
-use Rattle.atlas_store.specs.Slots.Links.{held_with, with_mark}
+use Rattle.atlas_store.specs.Slots.Links.{lists_with, with_mark}
 use Rattle.atlas_store.specs.Stored.{places_of}
 use Rattle.atlas_store.specs.Store.Holdings.{shelf_of}
 use Rattle.atlas_store.proofs.StoreLemmas.StoreFacts.{are-slots, across-call, slots-room}
@@ -22,11 +22,11 @@ returns g c =
     record {
       kept = λ h leaf.
           let sides = node_sides (node_at (nodes c.deref_mut.result.now) c.args.at.number) in
-          let held : _ = held_with h.held (list_of (options_of c.args.self.now.options) sides) c.args.at.number in (
-            held,
-            listed-holds (shelf_of c.args.self.now) c.deref_mut.result.now c.enlist.new.slots _ c.enlist.new.lists h held
-                (with_mark h.loose c.args.at.number false) slots c.enlist.ensures.same_nodes
-                (λ filed. c.enlist.ensures.filed c.args.self.now.unused (places_of (λ i. 0) h) filed leaf.loose)
+          let free_lists : _ = lists_with h.free_lists (list_of (options_of c.args.self.now.options) sides) c.args.at.number in (
+            free_lists,
+            listed-holds (shelf_of c.args.self.now) c.deref_mut.result.now c.enlist.new.slots _ c.enlist.new.lists h free_lists
+                (with_mark h.detached c.args.at.number false) slots c.enlist.ensures.same_nodes
+                (λ filed. c.enlist.ensures.filed c.args.self.now.unused (places_of (λ i. 0) h) filed leaf.detached)
                 leaf.holds,
           );
       nodes = across-call (λ a b. nodes b ≡ nodes a) slots c.enlist.ensures.same_nodes;

@@ -5,8 +5,8 @@ use Rattle.atlas_store.specs.Stored.{Holding, HoldsWith}
 use Rattle.atlas_store.specs.Store.Holdings.{shelf_of, HasSlotsFor, after_take}
 use Rattle.atlas_store.specs.Slots.Growing.{IsSpanning, after_wrap_top, after_nest}
 use Rattle.atlas_store.proofs.StoreLemmas.Filing.{with_count-same}
-use Rattle.atlas_store.proofs.StoreLemmas.StoreSteps.{holds-hand}
-use Rattle.atlas_store.proofs.StoreLemmas.StoreTakes.{slots-kept, rest-length, two_hands, second-hand, no-hand}
+use Rattle.atlas_store.proofs.StoreLemmas.StoreSteps.{holds-claimed}
+use Rattle.atlas_store.proofs.StoreLemmas.StoreTakes.{slots-kept, rest-length, two_claimed, second-claimed, none-claimed}
 use Rattle.atlas_store.proofs.StoreLemmas.ExtendingSteps.{spanning-taken, end-topped}
 use Rattle.atlas_store.proofs.store.Store.nest.Goals as goal
 
@@ -27,11 +27,11 @@ wrap_top_with-requires-clause-ready g c =
     let inner = sides_of c.args.inner in
     let i : ℕ = c.args.first.number in (
       after_take (after_take r.0),
-      two_hands s w,
+      two_claimed s w,
       record {
         holds =
             c.take-container.ensures.taken (after_take r.0) (with_count (λ i. 0) s 1) (c.take-strip.ensures.taken r.0 (λ i. 0) r.2.holds);
-        in_hand = with_count-same (with_count (λ i. 0) s 1) w 1;
+        is_claimed = with_count-same (with_count (λ i. 0) s 1) w 1;
         spans = spanning-taken inner i (after_take r.0) (spanning-taken inner i r.0 r.2.spans);
       },
     )
@@ -45,20 +45,20 @@ append_with-requires-clause-ready g c =
     let i : ℕ = c.args.first.number in
     let k : Holding = after_take (after_take r.0) in
     let one = c.take-strip.ensures.taken r.0 (λ i. 0) r.2.holds in
-    let two : HoldsWith (two_hands s w) (shelf_of c.take-container.new.self) k =
+    let two : HoldsWith (two_claimed s w) (shelf_of c.take-container.new.self) k =
     c.take-container.ensures.taken (after_take r.0) (with_count (λ i. 0) s 1) one in
     let apart : w ≢ s =
     c.take-container.ensures.apart (after_take r.0) (with_count (λ i. 0) s 1) s one (omega (arith, with_count-same (λ i. 0) s 1)) c.take-strip.ensures.fresh.inside in
     let span : IsSpanning inner i k = spanning-taken inner i (after_take r.0) (spanning-taken inner i r.0 r.2.spans) in (
       after_wrap_top w k,
-      with_count (two_hands s w) w 0,
+      with_count (two_claimed s w) w 0,
       r.1,
       record {
         holds =
-            c.wrap_top_with.ensures.kept k (two_hands s w)
-            (record { holds = two; in_hand = with_count-same (with_count (λ i. 0) s 1) w 1; spans = span });
-        in_hand = second-hand s w apart;
-        end = end-topped inner (sides_of c.args.size) r.1 i w (two_hands s w) (shelf_of c.take-container.new.self) k two span r.2.wider;
+            c.wrap_top_with.ensures.kept k (two_claimed s w)
+            (record { holds = two; is_claimed = with_count-same (with_count (λ i. 0) s 1) w 1; spans = span });
+        is_claimed = second-claimed s w apart;
+        end = end-topped inner (sides_of c.args.size) r.1 i w (two_claimed s w) (shelf_of c.take-container.new.self) k two span r.2.wider;
         more = r.2.more;
       },
     )
@@ -91,25 +91,25 @@ returns g c =
           let k : Holding = after_take (after_take h) in
           let more : n + 2 ≡ n + 1 + 1 = omega arith in
           let one = strip.taken h (λ i. 0) a.holds in
-          let two : HoldsWith (two_hands s w) (shelf_of c.take-container.new.self) k = container.taken (after_take h) (with_count (λ i. 0) s 1) one in
+          let two : HoldsWith (two_claimed s w) (shelf_of c.take-container.new.self) k = container.taken (after_take h) (with_count (λ i. 0) s 1) one in
           let apart : w ≢ s =
           container.apart (after_take h) (with_count (λ i. 0) s 1) s one (omega (arith, with_count-same (λ i. 0) s 1)) strip.fresh.inside in
           let span : IsSpanning inner i k = spanning-taken inner i (after_take h) (spanning-taken inner i h a.spans) in
           let first = strip.slots h (λ i. 0) (n + 1) a.holds (subst (λ x. HasSlotsFor x c.args.self.now h) more slots) in
           let second = container.slots (after_take h) (with_count (λ i. 0) s 1) n one first in
           let topped =
-          wrap.kept k (two_hands s w) (record { holds = two; in_hand = with_count-same (with_count (λ i. 0) s 1) w 1; spans = span }) in (
-            tail_of (tail_of h.spare),
-            holds-hand (with_count (with_count (two_hands s w) w 0) s 0) (λ i. 0) (shelf_of c.append_with.new.self) (after_nest w s d k) (no-hand s w)
-                (append.kept (after_wrap_top w k) (with_count (two_hands s w) w 0) d (record {
+          wrap.kept k (two_claimed s w) (record { holds = two; is_claimed = with_count-same (with_count (λ i. 0) s 1) w 1; spans = span }) in (
+            tail_of (tail_of h.unused_list),
+            holds-claimed (with_count (with_count (two_claimed s w) w 0) s 0) (λ i. 0) (shelf_of c.append_with.new.self) (after_nest w s d k) (none-claimed s w)
+                (append.kept (after_wrap_top w k) (with_count (two_claimed s w) w 0) d (record {
                   holds = topped;
-                  in_hand = second-hand s w apart;
-                  end = end-topped inner (sides_of c.args.size) d i w (two_hands s w) (shelf_of c.take-container.new.self) k two span a.wider;
+                  is_claimed = second-claimed s w apart;
+                  end = end-topped inner (sides_of c.args.size) d i w (two_claimed s w) (shelf_of c.take-container.new.self) k two span a.wider;
                   more = a.more;
                 })),
             slots-kept c.wrap_top_with.new.self c.append_with.new.self n k append.room
                 (slots-kept c.take-container.new.self c.wrap_top_with.new.self n k wrap.room second),
-            omega (arith, rest-length (tail_of h.spare), rest-length h.spare),
+            omega (arith, rest-length (tail_of h.unused_list), rest-length h.unused_list),
           );
       free = append.free;
       options = append.room.options ∙ wrap.room.options ∙ container.options ∙ strip.options;

@@ -8,8 +8,8 @@ use Rattle.atlas_store.proofs.StoreLemmas.PlacingSteps.{across-front}
 use Rattle.atlas_store.proofs.StoreLemmas.StoreTakes.{ready-taken, used-taken, slots-kept, rest-length, apart-leaf}
 use Rattle.atlas_store.proofs.store.Store.split.Goals as goal
 
-pub split_with-requires-clause-hand : goal.split_with-requires-clause-hand
-split_with-requires-clause-hand g c =
+pub split_with-requires-clause-claimed : goal.split_with-requires-clause-claimed
+split_with-requires-clause-claimed g c =
     let take = c.take-fresh.ensures in
     let at : ℕ = c.args.at.number in
     let k : ℕ = c.take-fresh.result.number in
@@ -20,7 +20,7 @@ split_with-requires-clause-hand g c =
       ready = (
         after_take h,
         with_count (λ i. 0) k 1,
-        ready-taken (shelf_of c.take-fresh.new.self) at k (λ i. 0) h (take.taken h (λ i. 0) leaf.holds) leaf.loose,
+        ready-taken (shelf_of c.take-fresh.new.self) at k (λ i. 0) h (take.taken h (λ i. 0) leaf.holds) leaf.detached,
       );
       free = ap (λ (n : Node). n.kind) (take.others at apart) ∙ leaf.kind;
       fresh = take.fresh;
@@ -44,12 +44,12 @@ returns g c =
     let same : node_in (shelf_of mid) at ≡ node_in (shelf_of old) at = take.others at apart in
     record {
       kept = λ h n leaf slots. (
-        tail_of h.spare,
+        tail_of h.unused_list,
         used-taken (shelf_of new) k (λ i. 0) (after_split at k p (after_take h)) refl
             (cut.kept (after_take h) (with_count (λ i. 0) k 1)
-            (ready-taken (shelf_of mid) at k (λ i. 0) h (take.taken h (λ i. 0) leaf.holds) leaf.loose)),
+            (ready-taken (shelf_of mid) at k (λ i. 0) h (take.taken h (λ i. 0) leaf.holds) leaf.detached)),
         slots-kept mid new n (after_take h) cut.room (take.slots h (λ i. 0) n leaf.holds slots),
-        rest-length h.spare,
+        rest-length h.unused_list,
       );
       front = ap (λ (n : Node). n.kind) (cut.front ∙ ap (λ (n : Node). front_node n p c.take-fresh.result) same) ∙ leaf.kind;
       across = ap across_of cut.front ∙ across-front (node_in (shelf_of mid) at) p c.take-fresh.result ∙ ap across_of same;

@@ -16,8 +16,8 @@ returns g c =
       kept =
           split-holds (shelf_of c.args.self.now) _ c.args.at c.args.fresh p (long-over _ _ _ _ slots) split
           (record {
-            free = c.requires.hand.free;
-            unused = c.requires.hand.fresh.unused;
+            free = c.requires.claimed.free;
+            unused = c.requires.claimed.fresh.unused;
             positive = c.requires.positive;
             less = c.requires.less;
           });

@@ -1,7 +1,7 @@
 use Rattle.std.proofs.Common.{◌<◌, ◌^◌, ◌∙◌, refl, subst, sym, rules}
 use Rattle.atlas_model.specs.Pixels.{natural, options_of, sides_of}
 use Rattle.atlas_model.specs.Choice.{AreValid}
-use Rattle.atlas_store.specs.Store.Starts.{loose_holding}
+use Rattle.atlas_store.specs.Store.Starts.{detached_holding}
 use Rattle.atlas_store.proofs.StoreLemmas.Starting.{whole_leaf}
 use Rattle.atlas_store.proofs.StoreLemmas.TakenOnce.{once-whole}
 use Rattle.atlas_store.proofs.store.Store.start.Goals as goal
@@ -10,7 +10,7 @@ pub list-requires : goal.list-requires
 list-requires g c =
     let wide : natural c.args.size.width < 2 ^ 31 = search rules in
     let high : natural c.args.size.height < 2 ^ 31 = search rules in (
-      loose_holding (sides_of c.args.size),
+      detached_holding (sides_of c.args.size),
       whole_leaf _ c.args.size (record { slots = search rules; lists = c.clear-2.ensures; unused = refl; valid = subst (λ o. AreValid (options_of o)) (sym c.set.ensures) c.requires.options }) c.requires.size wide high,
     )
 
@@ -20,7 +20,7 @@ returns g c =
     let high : natural c.args.size.height < 2 ^ 31 = search rules in
     record {
       holds =
-          c.list.ensures.kept (loose_holding (sides_of c.args.size))
+          c.list.ensures.kept (detached_holding (sides_of c.args.size))
           (whole_leaf _ c.args.size (record { slots = search rules; lists = c.clear-2.ensures; unused = refl; valid = subst (λ o. AreValid (options_of o)) (sym c.set.ensures) c.requires.options }) c.requires.size wide high);
       slots = c.list.ensures.nodes ∙ search rules;
       one = c.list.ensures.room.slots ∙ search rules;

@@ -17,15 +17,15 @@ returns g c =
     let here : IsTaken (options_of old.options) old.slots.items c.take_slot.new.slots.items old.lists c.take_slot.new.unused (places_of c.requires.1 c.requires.0) k =
     call.taken (options_of old.options) old.lists (places_of c.requires.1 c.requires.0) c.requires.2.filed in
     record {
-      taken = λ h hand holds.
-          taken-holds (shelf_of old) c.take_slot.new.slots.items c.take_slot.new.unused k h hand
+      taken = λ h claimed holds.
+          taken-holds (shelf_of old) c.take_slot.new.slots.items c.take_slot.new.unused k h claimed
           (taken-short (shelf_of old) c.take_slot.new.slots.items (vec_capacity old.slots) k _ blank_slot
           c.requires.0 c.requires.1 c.requires.2 c.requires.3 (λ ne. (call.again ne).1) (λ e. (call.fresh e).1))
-          call.others (call.taken (options_of old.options) old.lists (places_of hand h) holds.filed) holds;
-      slots = λ h hand n holds room.
-          taken-room old new k _ blank_slot h hand n holds (λ ne. (call.again ne).1) (λ e. (call.fresh e).1) c.take_slot.ensures.capacity room;
-      apart = λ h hand j holds some inside.
-          (call.taken (options_of old.options) old.lists (places_of hand h) holds.filed).apart j inside some;
+          call.others (call.taken (options_of old.options) old.lists (places_of claimed h) holds.filed) holds;
+      slots = λ h claimed n holds room.
+          taken-room old new k _ blank_slot h claimed n holds (λ ne. (call.again ne).1) (λ e. (call.fresh e).1) c.take_slot.ensures.capacity room;
+      apart = λ h claimed j holds some inside.
+          (call.taken (options_of old.options) old.lists (places_of claimed h) holds.filed).apart j inside some;
       was_unused = here.was_unused;
       fresh = record { unused = here.is_unused; inside = here.inside };
       longer = taken-longer old new k _ blank_slot (λ ne. (call.again ne).1) (λ e. (call.fresh e).1);

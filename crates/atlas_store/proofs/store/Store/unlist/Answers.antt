@@ -1,5 +1,5 @@
 use Rattle.std.proofs.Common.{◌≡◌, true, refl}
-use Rattle.atlas_store.specs.Slots.Links.{held_without, with_mark}
+use Rattle.atlas_store.specs.Slots.Links.{lists_without, with_mark}
 use Rattle.atlas_store.specs.Slots.{nodes}
 use Rattle.atlas_store.specs.Stored.{places_of}
 use Rattle.atlas_store.specs.Store.Holdings.{shelf_of}
@@ -17,9 +17,9 @@ returns g c =
     let slots = are-slots c.args.self.now c.deref_mut.ensures.value c.deref_mut.ensures.len c.unlist.auto.slots in
     record {
       kept = λ h holds listed. (
-        held_without h.held c.args.at.number,
+        lists_without h.free_lists c.args.at.number,
         listed-holds (shelf_of c.args.self.now) c.deref_mut.result.now c.unlist.new.slots _ c.unlist.new.lists h
-            (held_without h.held c.args.at.number) (with_mark h.loose c.args.at.number true) slots c.unlist.ensures.same_nodes
+            (lists_without h.free_lists c.args.at.number) (with_mark h.detached c.args.at.number true) slots c.unlist.ensures.same_nodes
             (λ filed. c.unlist.ensures.filed c.args.self.now.unused (places_of (λ i. 0) h) filed listed)
             holds,
       );

@@ -2,7 +2,7 @@ use Rattle.std.proofs.Common.{◌≡◌, List, true, refl, subst, sym, arith}
 use Rattle.atlas_store.specs.declared.slots.Node.{Node}
 use Rattle.atlas_model.specs.Pixels.{options_of}
 use Rattle.atlas_store.specs.Search.Bands.{number_of}
-use Rattle.atlas_store.specs.Slots.Links.{held_without, unlisted, with_mark}
+use Rattle.atlas_store.specs.Slots.Links.{lists_without, unlisted, with_mark}
 use Rattle.atlas_store.specs.Slots.Lists.{AreFiled}
 use Rattle.atlas_store.specs.Slots.{nodes, rings}
 use Rattle.atlas_store.specs.Stored.{places_of}
@@ -27,9 +27,9 @@ returns g c =
           let F : List Node → Type 0 = λ ns.
           AreFiled (options_of own.options) ns (rings c.unlist_at.new.slots) c.unlist_at.new.lists own.unused
           (unlisted (places_of (λ i. 0) h) at) in (
-            held_without h.held at,
-            listed-holds (shelf_of own) c.deref_mut.result.now c.unlist_at.new.slots _ c.unlist_at.new.lists h (held_without h.held at)
-                (with_mark h.loose at true) slots call.same_nodes
+            lists_without h.free_lists at,
+            listed-holds (shelf_of own) c.deref_mut.result.now c.unlist_at.new.slots _ c.unlist_at.new.lists h (lists_without h.free_lists at)
+                (with_mark h.detached at true) slots call.same_nodes
                 (λ filed. subst F (sym call.same_nodes)
                 (call.filed (options_of own.options) (nodes c.deref_mut.result.now) own.unused (places_of (λ i. 0) h) filed
                 (belongs-before (shelf_of own) c.deref_mut.result.now (number_of c.args.place) at h c.deref_mut.ensures.value

@@ -21,7 +21,7 @@ wrap_with-requires g c =
       ready = (
         after_take h,
         with_count (λ i. 0) k 1,
-        ready-taken (shelf_of c.take-fresh.new.self) at k (λ i. 0) h (take.taken h (λ i. 0) leaf.holds) leaf.loose,
+        ready-taken (shelf_of c.take-fresh.new.self) at k (λ i. 0) h (take.taken h (λ i. 0) leaf.holds) leaf.detached,
       );
       free = ap (λ (n : Node). n.kind) (take.others at apart) ∙ leaf.kind;
       fresh = take.fresh;
@@ -41,12 +41,12 @@ returns g c =
     wrap.inner ∙ ap (λ (n : Node). inner_node n c.args.at (node_in (shelf_of mid) k)) (take.others at apart) in
     record {
       kept = λ h n leaf slots. (
-        tail_of h.spare,
+        tail_of h.unused_list,
         used-taken (shelf_of new) k (λ i. 0) (after_wrap at k (after_take h)) refl
             (wrap.kept (after_take h) (with_count (λ i. 0) k 1)
-            (ready-taken (shelf_of mid) at k (λ i. 0) h (take.taken h (λ i. 0) leaf.holds) leaf.loose)),
+            (ready-taken (shelf_of mid) at k (λ i. 0) h (take.taken h (λ i. 0) leaf.holds) leaf.detached)),
         slots-kept mid new n (after_take h) wrap.room (take.slots h (λ i. 0) n leaf.holds slots),
-        rest-length h.spare,
+        rest-length h.unused_list,
       );
       inner = ap (λ (n : Node). n.kind) inner;
       extent = ap extent_of inner ∙ extent-inner (node_in (shelf_of old) at) c.args.at (node_in (shelf_of mid) k);

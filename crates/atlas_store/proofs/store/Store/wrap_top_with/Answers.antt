@@ -12,9 +12,9 @@ returns g c =
     let slots = are-slots c.args.self.now c.deref_mut.ensures.value c.deref_mut.ensures.len c.wrap_top.auto.slots in
     let k : ℕ = c.args.container.number in
     record {
-      kept = λ h hand a.
+      kept = λ h claimed a.
           topped-holds (shelf_of c.args.self.now) c.deref_mut.result.now c.wrap_top.new.slots _ c.args.first.number k c.args.size slots
-          c.requires.fresh.unused c.wrap_top.ensures h hand a;
+          c.requires.fresh.unused c.wrap_top.ensures h claimed a;
       unused = grind (arith, across-call);
       room = slots-room c.args.self.now _ slots refl refl;
       turns = refl;

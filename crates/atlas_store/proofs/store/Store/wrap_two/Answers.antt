@@ -5,9 +5,9 @@ use Rattle.atlas_store.specs.Slots.Links.{with_count, tail_of}
 use Rattle.atlas_store.specs.Stored.{Holding}
 use Rattle.atlas_store.specs.Store.Holdings.{shelf_of, node_in, HasSlotsFor, after_take, after_split, after_wrap}
 use Rattle.atlas_store.proofs.StoreLemmas.Filing.{with_count-same}
-use Rattle.atlas_store.proofs.StoreLemmas.StoreSteps.{holds-hand}
+use Rattle.atlas_store.proofs.StoreLemmas.StoreSteps.{holds-claimed}
 use Rattle.atlas_store.proofs.StoreLemmas.PlacingSteps.{across-front, across-inner, extent-inner}
-use Rattle.atlas_store.proofs.StoreLemmas.StoreTakes.{ready-taken, ready-wrapped, slots-kept, rest-length, apart-leaf, two_hands, no-hand}
+use Rattle.atlas_store.proofs.StoreLemmas.StoreTakes.{ready-taken, ready-wrapped, slots-kept, rest-length, apart-leaf, two_claimed, none-claimed}
 use Rattle.atlas_store.proofs.store.Store.wrap_two.Goals as goal
 
 pub take-front-requires : goal.take-front-requires
@@ -34,16 +34,16 @@ wrap_with-requires g c =
     record {
       ready = (
         after_take (after_take h),
-        two_hands b f,
+        two_claimed b f,
         ready-taken (shelf_of c.take-front.new.self) at f (with_count (λ i. 0) b 1) (after_take h)
-            (c.take-front.ensures.taken (after_take h) (with_count (λ i. 0) b 1) taken) leaf.loose,
+            (c.take-front.ensures.taken (after_take h) (with_count (λ i. 0) b 1) taken) leaf.detached,
       );
       free = ap (λ (n : Node). n.kind) (c.take-front.ensures.others at at_f) ∙ mid_free;
       fresh = c.take-front.ensures.fresh;
     }
 
-pub split_with-requires-clause-hand : goal.split_with-requires-clause-hand
-split_with-requires-clause-hand g c =
+pub split_with-requires-clause-claimed : goal.split_with-requires-clause-claimed
+split_with-requires-clause-claimed g c =
     let b : ℕ = c.take-back.result.number in
     let f : ℕ = c.take-front.result.number in
     let at : ℕ = c.args.at.number in
@@ -59,11 +59,11 @@ split_with-requires-clause-hand g c =
     record {
       ready = (
         after_wrap at f (after_take (after_take h)),
-        with_count (two_hands b f) f 0,
+        with_count (two_claimed b f) f 0,
         ready-wrapped (shelf_of c.wrap_with.new.self) at f b (after_take (after_take h)) f_b (λ e. at_f (sym e))
-            (wrap.kept (after_take (after_take h)) (two_hands b f)
+            (wrap.kept (after_take (after_take h)) (two_claimed b f)
             (ready-taken (shelf_of c.take-front.new.self) at f (with_count (λ i. 0) b 1) (after_take h)
-            (c.take-front.ensures.taken (after_take h) (with_count (λ i. 0) b 1) taken) leaf.loose)),
+            (c.take-front.ensures.taken (after_take h) (with_count (λ i. 0) b 1) taken) leaf.detached)),
       );
       free = ap (λ (n : Node). n.kind) wrap.inner;
       fresh = grind arith;
@@ -101,17 +101,17 @@ returns g c =
           let first = back.slots h (λ i. 0) (n + 1) leaf.holds (subst (λ k. HasSlotsFor k old h) more slots) in
           let second = front.slots (after_take h) (with_count (λ i. 0) b 1) n taken first in
           let wrapped =
-          wrap.kept (after_take (after_take h)) (two_hands b f)
+          wrap.kept (after_take (after_take h)) (two_claimed b f)
           (ready-taken (shelf_of c.take-front.new.self) at f (with_count (λ i. 0) b 1) (after_take h)
-          (front.taken (after_take h) (with_count (λ i. 0) b 1) taken) leaf.loose) in (
-            tail_of (tail_of h.spare),
-            holds-hand (with_count (with_count (two_hands b f) f 0) b 0) (λ i. 0) (shelf_of new)
-                (after_split f b p (after_wrap at f (after_take (after_take h)))) (no-hand b f)
-                (cut.kept (after_wrap at f (after_take (after_take h))) (with_count (two_hands b f) f 0)
+          (front.taken (after_take h) (with_count (λ i. 0) b 1) taken) leaf.detached) in (
+            tail_of (tail_of h.unused_list),
+            holds-claimed (with_count (with_count (two_claimed b f) f 0) b 0) (λ i. 0) (shelf_of new)
+                (after_split f b p (after_wrap at f (after_take (after_take h)))) (none-claimed b f)
+                (cut.kept (after_wrap at f (after_take (after_take h))) (with_count (two_claimed b f) f 0)
                 (ready-wrapped (shelf_of c.wrap_with.new.self) at f b (after_take (after_take h)) f_b (λ e. at_f (sym e)) wrapped)),
             slots-kept c.wrap_with.new.self new n (after_take (after_take h)) cut.room
                 (slots-kept c.take-front.new.self c.wrap_with.new.self n (after_take (after_take h)) wrap.room second),
-            omega (arith, rest-length (tail_of h.spare), rest-length h.spare),
+            omega (arith, rest-length (tail_of h.unused_list), rest-length h.unused_list),
           );
       front = ap (λ (n : Node). n.kind) cut.front ∙ ap (λ (n : Node). n.kind) inner;
       across = grind (arith, across-front, across-inner);

@@ -21,7 +21,7 @@ returns-clause-kept g c =
     let low = subst (λ n. low_of c.push.new.self k ≤ n) c.top_in.ensures c.push.ensures.low in
     subst (λ (ts : List Item). AreKept o (record { entries = ts; heads = c.push.new.self; unused = c.args.self.now.unused; used = c.args.self.now.used }))
     (sym (map-set stored_item c.args.self.now.entries.items c.args.at.number (record { area = c.args.area; after = c.head-after.result })))
-    (put-kept o c.args.self.now.table c.push.new.self es c.args.self.now.unused c.args.self.now.used c.args.at.number k e c.requires.hand
+    (put-kept o c.args.self.now.table c.push.new.self es c.args.self.now.unused c.args.self.now.used c.args.at.number k e c.requires.claimed
     (exact-width c.args.area c.requires.exact) (ap (λ (l : Link). l.number) c.head-after.ensures) c.requires.exact list few
     (ap (λ (l : Link). l.number) c.push.ensures.head) c.push.ensures.heads low c.push.ensures.lower c.push.ensures.lows)
 

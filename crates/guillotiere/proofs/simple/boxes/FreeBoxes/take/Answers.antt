@@ -1,7 +1,7 @@
 use Rattle.std.proofs.Common.{◌≡◌, ℕ, ◌+◌, ◌<◌, List, [], ◌∷◌, ◌++◌, map, max, length, vec_len, refl, sym, ap, subst₂, ◌∙◌, arith}
 use Rattle.std.proofs.Math.Nat.{max-eq_left, max-eq_right}
 use Rattle.std.proofs.lemmas.List.{map-append, length-map}
-use Rattle.guillotiere.specs.FreeBoxes.BoxShelves.{IsInHand, box_shelf, stored_item}
+use Rattle.guillotiere.specs.FreeBoxes.BoxShelves.{IsClaimed, box_shelf, stored_item}
 use Rattle.atlas_store.specs.Search.Items.{Item, no_item}
 use Rattle.atlas_store.specs.Slots.{no_slot}
 use Rattle.guillotiere.proofs.SimpleLemmas.BoxStoring.{taken-new, taken-again, unused-inside, boxes-more, read-item}
@@ -31,7 +31,7 @@ returns-then-at-clause-taken g c o kept =
     let is : map stored_item c.push_reserved.new.self.items ≡ map stored_item bs ++ no_item ∷ [] =
     ap (map stored_item) c.push_reserved.ensures.items ∙ (map-append stored_item bs (c.unused_box.result ∷ []) ∙ ap (λ (t : Item). map stored_item bs ++ t ∷ []) c.unused_box.ensures) in
     let last : c.len-number.result ≡ length (map stored_item bs) = omega (arith, c.len-number.ensures, c.args.self.now.entries.ok, length-map bs stored_item) in
-    subst₂ (λ (ts : List Item) (n : ℕ). IsInHand o (record { entries = ts; heads = heads; unused = unused; used = used + 1 }) n) (sym is) (sym last)
+    subst₂ (λ (ts : List Item) (n : ℕ). IsClaimed o (record { entries = ts; heads = heads; unused = unused; used = used + 1 }) n) (sym is) (sym last)
     (taken-new o heads (map stored_item bs) unused used short kept)
 
 pub returns-then-at-clause-boxes : goal.returns-then-at-clause-boxes

@@ -51,13 +51,13 @@ sums-tallies n zero = refl
 sums-tallies n (suc m) = omega (arith, sums-tallies n m)
 
 -- Each slot is unused or a member.
-pub spare-count : (v : Shelf) (h : Holding) → Holds v h → length h.spare + numbers h.tree ≡ length v.slots
-spare-count v h holds =
+pub unused_list-count : (v : Shelf) (h : Holding) → Holds v h → length h.unused_list + numbers h.tree ≡ length v.slots
+unused_list-count v h holds =
     let ns = nodes v.slots in
     let m : ℕ = length v.slots in
     let nl : length ns ≡ length v.slots = simp length-map in
     let rl : length (rings v.slots) ≡ length v.slots = simp length-map in
-    let all : sums (λ i. occurs i h.spare + tally i h.tree) m ≡ m =
-    sums-all (λ i. occurs i h.spare + tally i h.tree) (length v.slots) (λ i l. omega (arith, holds.filed.each i (omega arith), holds.stands.numbered i)) in
+    let all : sums (λ i. occurs i h.unused_list + tally i h.tree) m ≡ m =
+    sums-all (λ i. occurs i h.unused_list + tally i h.tree) (length v.slots) (λ i l. omega (arith, holds.filed.each i (omega arith), holds.stands.numbered i)) in
     let below : (k : ℕ) → 0 < tally k h.tree → k < length v.slots = (λ k l. let inside : k < length (nodes v.slots) = used-inside (nodes v.slots) k (rw (← holds.stands.numbered k) l) in omega arith) in
-    omega (arith, all, sums-add (λ i. occurs i h.spare) (λ i. tally i h.tree) m, sums-occurs (rings v.slots) m h.spare (omega arith) holds.filed.line, sums-tallies h.tree m, tallies-numbers m h.tree below)
+    omega (arith, all, sums-add (λ i. occurs i h.unused_list) (λ i. tally i h.tree) m, sums-occurs (rings v.slots) m h.unused_list (omega arith) holds.filed.line, sums-tallies h.tree m, tallies-numbers m h.tree below)
