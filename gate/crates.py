@@ -20,7 +20,7 @@ class Crate:
     all = {}
 
     def __init__(self, name, words):
-        self.name, self.folder = name, CRATES / name
+        self.name, self.folder = name.rpartition("/")[2], CRATES / name
         self.is_static = "staticlib" in words[0]
         self.deps = words[1].split()
         self.root = "src/main.rt" if (self.folder / "src/main.rt").is_file() else "src/lib.rt"
@@ -41,7 +41,8 @@ class Crate:
     def words(self, kit):
         words = ["--crate-name", self.name, self.root, "--extern", f"std={kit}/rlibs/std.rlib", "-L", f"dependency={kit}/rlibs"]
         for dep in self.deps:
-            words += ["--extern", f"{dep}={Crate.all[dep].rlib() if dep in Crate.all else f'{kit}/rlibs/{dep}.rlib'}"]
+            own = Crate.all.get(dep)
+            words += ["--extern", f"{own.name}={own.rlib()}" if own else f"{dep}={kit}/rlibs/{dep}.rlib"]
         for dep in self.below().values():
             words += ["-L", f"dependency={dep.rlib().parent}"]
         words += ["--antt-project", f"{kit}/rattle/logic/antt-project.json", "--logic-built", f"{kit}/logic_built"]
