@@ -1,4 +1,5 @@
 //! The cache: small traces worked by hand.
+use crate::asking::{begin_frame, get, insert, peek, remove};
 use atlas_cache::{CacheChange, CacheOptions, Place, TextureCache};
 use guillotiere::{DEFAULT_OPTIONS, Rectangle, Size, point2, size2};
 use std::alloc::Global;
@@ -57,13 +58,10 @@ fn one_page(alloc: Global) -> Result<TextureCache<u32>, Fail> {
 fn a_key_has_a_place(rt: HostRuntime) -> Result<(), Fail> {
     let mut cache = small(rt.alloc())?;
     let mut changes = Vec::new(rt.alloc());
-    assert_eq!(rt;
-        cache.insert(7, size2(8, 8), &mut changes)?,
-        Some(first_place())
-    );
-    assert_eq!(rt; cache.get(&7), Some(first_place()));
-    assert_eq!(rt; cache.peek(&8), None);
-    assert_eq!(rt; cache.len(), 1);
+    assert!(rt; insert(&mut cache, 7, size2(8, 8), &mut changes)? == Some(first_place()));
+    assert!(rt; get(&mut cache, 7) == Some(first_place()));
+    assert!(rt; peek(&cache, 8) == None);
+    assert!(rt; cache.len() == 1);
     Ok(())
 }
 
@@ -71,8 +69,8 @@ fn a_key_has_a_place(rt: HostRuntime) -> Result<(), Fail> {
 fn a_page_is_added_and_grows(rt: HostRuntime) -> Result<(), Fail> {
     let mut cache = small(rt.alloc())?;
     let mut changes = Vec::new(rt.alloc());
-    let _first = cache.insert(1, size2(14, 14), &mut changes)?;
-    let _second = cache.insert(2, size2(14, 14), &mut changes)?;
+    let _first = insert(&mut cache, 1, size2(14, 14), &mut changes)?;
+    let _second = insert(&mut cache, 2, size2(14, 14), &mut changes)?;
     let added = CacheChange::PageAdded {
         page: 0,
         size: size2(16, 16),
@@ -81,7 +79,7 @@ fn a_page_is_added_and_grows(rt: HostRuntime) -> Result<(), Fail> {
         page: 0,
         size: size2(32, 16),
     };
-    assert_eq!(rt; changes.as_slice(), [added, grown].as_slice());
+    assert!(rt; changes.as_slice() == [added, grown].as_slice());
     Ok(())
 }
 
@@ -89,12 +87,9 @@ fn a_page_is_added_and_grows(rt: HostRuntime) -> Result<(), Fail> {
 fn what_this_frame_used_stays(rt: HostRuntime) -> Result<(), Fail> {
     let mut cache = one_page(rt.alloc())?;
     let mut changes = Vec::new(rt.alloc());
-    assert_eq!(rt;
-        cache.insert(1, size2(16, 16), &mut changes)?,
-        Some(whole_page())
-    );
-    assert_eq!(rt; cache.insert(2, size2(16, 16), &mut changes)?, None);
-    assert_eq!(rt; cache.peek(&1), Some(whole_page()));
+    assert!(rt; insert(&mut cache, 1, size2(16, 16), &mut changes)? == Some(whole_page()));
+    assert!(rt; insert(&mut cache, 2, size2(16, 16), &mut changes)? == None);
+    assert!(rt; peek(&cache, 1) == Some(whole_page()));
     Ok(())
 }
 
@@ -102,12 +97,9 @@ fn what_this_frame_used_stays(rt: HostRuntime) -> Result<(), Fail> {
 fn the_oldest_goes(rt: HostRuntime) -> Result<(), Fail> {
     let mut cache = one_page(rt.alloc())?;
     let mut changes = Vec::new(rt.alloc());
-    let _first = cache.insert(1, size2(16, 16), &mut changes)?;
-    cache.begin_frame();
-    assert_eq!(rt;
-        cache.insert(2, size2(16, 16), &mut changes)?,
-        Some(whole_page())
-    );
+    let _first = insert(&mut cache, 1, size2(16, 16), &mut changes)?;
+    begin_frame(&mut cache);
+    assert!(rt; insert(&mut cache, 2, size2(16, 16), &mut changes)? == Some(whole_page()));
     let added = CacheChange::PageAdded {
         page: 0,
         size: size2(16, 16),
@@ -116,7 +108,7 @@ fn the_oldest_goes(rt: HostRuntime) -> Result<(), Fail> {
         key: 1,
         place: whole_page(),
     };
-    assert_eq!(rt; changes.as_slice(), [added, gone].as_slice());
+    assert!(rt; changes.as_slice() == [added, gone].as_slice());
     Ok(())
 }
 
@@ -124,12 +116,9 @@ fn the_oldest_goes(rt: HostRuntime) -> Result<(), Fail> {
 fn a_key_goes(rt: HostRuntime) -> Result<(), Fail> {
     let mut cache = one_page(rt.alloc())?;
     let mut changes = Vec::new(rt.alloc());
-    let _first = cache.insert(1, size2(16, 16), &mut changes)?;
-    assert_eq!(rt; cache.remove(&1), Some(whole_page()));
-    assert_eq!(rt;
-        cache.insert(2, size2(16, 16), &mut changes)?,
-        Some(whole_page())
-    );
-    assert!(rt; cache.get(&1).is_none());
+    let _first = insert(&mut cache, 1, size2(16, 16), &mut changes)?;
+    assert!(rt; remove(&mut cache, 1) == Some(whole_page()));
+    assert!(rt; insert(&mut cache, 2, size2(16, 16), &mut changes)? == Some(whole_page()));
+    assert!(rt; get(&mut cache, 1).is_none());
     Ok(())
 }

@@ -1,6 +1,7 @@
 //! Calls that tell what a cache does, or take from it: small traces worked by hand.
 ghost use Rattle.std.specs.Prelude.{◌≡◌};
 
+use crate::asking::{begin_frame, clear, get, insert, peek, trim};
 use atlas_cache::{CacheChange, CacheError, CacheOptions, Counts, Place, TextureCache};
 use guillotiere::{DEFAULT_OPTIONS, Rectangle, point2, size2};
 use std::alloc::Global;
@@ -27,8 +28,8 @@ fn three(alloc: Global) -> Result<TextureCache<u32>, Fail> {
     let mut cache = TextureCache::new(alloc, options())?;
     let mut changes = Vec::new(alloc);
     for key in 1..4u32 {
-        cache.begin_frame();
-        let _place = cache.insert(key, size2(16, 16), &mut changes)?;
+        begin_frame(&mut cache);
+        let _place = insert(&mut cache, key, size2(16, 16), &mut changes)?;
     }
     Ok(cache)
 }
@@ -59,31 +60,31 @@ fn after_the_last_frame(cache: &mut TextureCache<u32>)
 fn another_size_is_refused(rt: HostRuntime) -> Result<(), Fail> {
     let mut cache = three(rt.alloc())?;
     let mut changes = Vec::new(rt.alloc());
-    let refused = cache.insert(1, size2(8, 8), &mut changes);
+    let refused = insert(&mut cache, 1, size2(8, 8), &mut changes);
     assert!(rt; matches!(refused, Err(CacheError::OtherSize)));
-    assert_eq!(rt; cache.peek(&1), Some(whole(0)));
+    assert!(rt; peek(&cache, 1) == Some(whole(0)));
     Ok(())
 }
 
 #[test]
 fn the_options_are_told(rt: HostRuntime) -> Result<(), Fail> {
     let cache = three(rt.alloc())?;
-    assert_eq!(rt; cache.options(), options());
+    assert!(rt; cache.options() == options());
     Ok(())
 }
 
 #[test]
 fn uses_are_counted(rt: HostRuntime) -> Result<(), Fail> {
     let mut cache = three(rt.alloc())?;
-    let _hit = cache.get(&1);
-    let _again = cache.get(&1);
-    let _miss = cache.get(&4);
+    let _hit = get(&mut cache, 1);
+    let _again = get(&mut cache, 1);
+    let _miss = get(&mut cache, 4);
     let counts = Counts {
         hits: 2,
         misses: 1,
         evictions: 0,
     };
-    assert_eq!(rt; cache.statistics(), counts);
+    assert!(rt; cache.statistics() == counts);
     Ok(())
 }
 
@@ -91,22 +92,22 @@ fn uses_are_counted(rt: HostRuntime) -> Result<(), Fail> {
 fn areas_are_told(rt: HostRuntime) -> Result<(), Fail> {
     let mut cache = empty(rt.alloc())?;
     let mut changes = Vec::new(rt.alloc());
-    let _place = cache.insert(1, size2(16, 4), &mut changes)?;
-    assert_eq!(rt; cache.live_area(0), Some(64));
-    assert_eq!(rt; cache.free_area(0), Some(192));
-    assert_eq!(rt; cache.live_area(1), None);
-    assert_eq!(rt; cache.free_area(1), None);
+    let _place = insert(&mut cache, 1, size2(16, 4), &mut changes)?;
+    assert!(rt; cache.live_area(0) == Some(64));
+    assert!(rt; cache.free_area(0) == Some(192));
+    assert!(rt; cache.live_area(1) == None);
+    assert!(rt; cache.free_area(1) == None);
     Ok(())
 }
 
 #[test]
 fn all_keys_go(rt: HostRuntime) -> Result<(), Fail> {
     let mut cache = three(rt.alloc())?;
-    cache.clear();
-    assert_eq!(rt; cache.len(), 0);
-    assert!(rt; cache.peek(&1).is_none());
-    assert_eq!(rt; cache.pages(), 3);
-    assert_eq!(rt; cache.live_area(2), Some(0));
+    clear(&mut cache);
+    assert!(rt; cache.len() == 0);
+    assert!(rt; peek(&cache, 1).is_none());
+    assert!(rt; cache.pages() == 3);
+    assert!(rt; cache.live_area(2) == Some(0));
     Ok(())
 }
 
@@ -114,7 +115,7 @@ fn all_keys_go(rt: HostRuntime) -> Result<(), Fail> {
 fn what_was_not_used_goes(rt: HostRuntime) -> Result<(), Fail> {
     let mut cache = three(rt.alloc())?;
     let mut changes = Vec::new(rt.alloc());
-    cache.trim(1, &mut changes)?;
+    trim(&mut cache, 1, &mut changes)?;
     let first = CacheChange::Evicted {
         key: 1,
         place: whole(0),
@@ -123,8 +124,8 @@ fn what_was_not_used_goes(rt: HostRuntime) -> Result<(), Fail> {
         key: 2,
         place: whole(1),
     };
-    assert_eq!(rt; changes.as_slice(), [first, second].as_slice());
-    assert_eq!(rt; cache.peek(&3), Some(whole(2)));
+    assert!(rt; changes.as_slice() == [first, second].as_slice());
+    assert!(rt; peek(&cache, 3) == Some(whole(2)));
     Ok(())
 }
 
@@ -132,10 +133,10 @@ fn what_was_not_used_goes(rt: HostRuntime) -> Result<(), Fail> {
 fn what_was_used_since_stays(rt: HostRuntime) -> Result<(), Fail> {
     let mut cache = three(rt.alloc())?;
     let mut changes = Vec::new(rt.alloc());
-    cache.trim(2, &mut changes)?;
-    assert_eq!(rt; changes.len(), 1);
-    assert_eq!(rt; cache.peek(&2), Some(whole(1)));
-    assert_eq!(rt; cache.statistics().evictions, 1);
+    trim(&mut cache, 2, &mut changes)?;
+    assert!(rt; changes.len() == 1);
+    assert!(rt; peek(&cache, 2) == Some(whole(1)));
+    assert!(rt; cache.statistics().evictions == 1);
     Ok(())
 }
 
@@ -143,8 +144,8 @@ fn what_was_used_since_stays(rt: HostRuntime) -> Result<(), Fail> {
 fn all_go_with_0_frames(rt: HostRuntime) -> Result<(), Fail> {
     let mut cache = three(rt.alloc())?;
     let mut changes = Vec::new(rt.alloc());
-    cache.trim(0, &mut changes)?;
-    assert_eq!(rt; changes.len(), 3);
+    trim(&mut cache, 0, &mut changes)?;
+    assert!(rt; changes.len() == 3);
     assert!(rt; cache.is_empty());
     Ok(())
 }
@@ -153,20 +154,20 @@ fn all_go_with_0_frames(rt: HostRuntime) -> Result<(), Fail> {
 fn room_changes_nothing(rt: HostRuntime) -> Result<(), Fail> {
     let mut cache = three(rt.alloc())?;
     cache.reserve(100)?;
-    assert_eq!(rt; cache.len(), 3);
-    assert_eq!(rt; cache.peek(&2), Some(whole(1)));
+    assert!(rt; cache.len() == 3);
+    assert!(rt; peek(&cache, 2) == Some(whole(1)));
     Ok(())
 }
 
 #[test]
 fn keys_come_in_the_order_of_use(rt: HostRuntime) -> Result<(), Fail> {
     let mut cache = three(rt.alloc())?;
-    let _used = cache.get(&1);
-    assert_eq!(rt; cache.newest(), Some((1, whole(0))));
-    assert_eq!(rt; cache.older(&1), Some((3, whole(2))));
-    assert_eq!(rt; cache.older(&3), Some((2, whole(1))));
-    assert_eq!(rt; cache.older(&2), None);
-    assert_eq!(rt; cache.oldest(), Some((2, whole(1))));
+    let _used = get(&mut cache, 1);
+    assert!(rt; cache.newest() == Some((1, whole(0))));
+    assert!(rt; cache.older(&1) == Some((3, whole(2))));
+    assert!(rt; cache.older(&3) == Some((2, whole(1))));
+    assert!(rt; cache.older(&2) == None);
+    assert!(rt; cache.oldest() == Some((2, whole(1))));
     Ok(())
 }
 
@@ -183,11 +184,8 @@ fn an_empty_cache_has_no_first_key(rt: HostRuntime) -> Result<(), Fail> {
 fn a_new_frame_has_room(rt: HostRuntime) -> Result<(), Fail> {
     let mut cache = three(rt.alloc())?;
     let mut changes = Vec::new(rt.alloc());
-    let _last = cache.insert(4, size2(16, 16), &mut changes)?;
-    cache.begin_frame();
-    assert_eq!(rt;
-        cache.insert(5, size2(16, 16), &mut changes)?,
-        Some(whole(0))
-    );
+    let _last = insert(&mut cache, 4, size2(16, 16), &mut changes)?;
+    begin_frame(&mut cache);
+    assert!(rt; insert(&mut cache, 5, size2(16, 16), &mut changes)? == Some(whole(0)));
     Ok(())
 }

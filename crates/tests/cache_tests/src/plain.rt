@@ -2,6 +2,7 @@
 //! goes and what grows, but not where a new key comes: it only looks at where it came.
 ghost use Rattle.std.specs.Prelude.{◌<◌, length, IfSome};
 
+use crate::asking::peek;
 use atlas_cache::entries::DefaultHasher;
 use atlas_cache::{CacheChange, CacheError, CacheOptions, Place, TextureCache};
 use guillotiere::{Rectangle, Size};
@@ -291,7 +292,7 @@ impl Plain {
         cache: &TextureCache<u32, DefaultHasher, A>,
     ) -> bool {
         for held in &self.held {
-            if cache.peek(&held.key) != Some(held.place) {
+            if peek(cache, held.key) != Some(held.place) {
                 return false;
             }
         }

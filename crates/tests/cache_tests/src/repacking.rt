@@ -1,4 +1,5 @@
 //! A page's entries placed anew, worked by hand.
+use crate::asking::{insert, peek, remove, repack};
 use atlas_cache::{CacheChange, CacheOptions, Place, TextureCache};
 use guillotiere::{DEFAULT_OPTIONS, Rectangle, point2, size2};
 use std::alloc::Global;
@@ -19,8 +20,8 @@ fn options() -> CacheOptions {
 fn two(alloc: Global) -> Result<TextureCache<u32>, Fail> {
     let mut cache = TextureCache::new(alloc, options())?;
     let mut changes = Vec::new(alloc);
-    let _first = cache.insert(1, size2(16, 16), &mut changes)?;
-    let _second = cache.insert(2, size2(16, 16), &mut changes)?;
+    let _first = insert(&mut cache, 1, size2(16, 16), &mut changes)?;
+    let _second = insert(&mut cache, 2, size2(16, 16), &mut changes)?;
     Ok(cache)
 }
 
@@ -41,14 +42,11 @@ fn whole(page: u32) -> Place {
 fn what_fills_a_page_stays_and_is_told(rt: HostRuntime) -> Result<(), Fail> {
     let mut cache = two(rt.alloc())?;
     let mut changes = Vec::new(rt.alloc());
-    let there = cache.repack(1, &mut changes)?;
+    let there = repack(&mut cache, 1, &mut changes)?;
     assert!(rt; there);
-    assert_eq!(rt; changes.len(), 1);
+    assert!(rt; changes.len() == 1);
     let (from, to) = (whole(1), whole(1));
-    assert_eq!(rt;
-        changes.first().copied(),
-        Some(CacheChange::Moved { key: 2, from, to })
-    );
+    assert!(rt; changes.first().copied() == Some(CacheChange::Moved { key: 2, from, to }));
     Ok(())
 }
 
@@ -56,10 +54,10 @@ fn what_fills_a_page_stays_and_is_told(rt: HostRuntime) -> Result<(), Fail> {
 fn other_pages_keep_their_places(rt: HostRuntime) -> Result<(), Fail> {
     let mut cache = two(rt.alloc())?;
     let mut changes = Vec::new(rt.alloc());
-    let _there = cache.repack(1, &mut changes)?;
-    assert_eq!(rt; cache.peek(&1), Some(whole(0)));
-    assert_eq!(rt; cache.peek(&2), Some(whole(1)));
-    assert_eq!(rt; cache.statistics().evictions, 0);
+    let _there = repack(&mut cache, 1, &mut changes)?;
+    assert!(rt; peek(&cache, 1) == Some(whole(0)));
+    assert!(rt; peek(&cache, 2) == Some(whole(1)));
+    assert!(rt; cache.statistics().evictions == 0);
     Ok(())
 }
 
@@ -67,9 +65,9 @@ fn other_pages_keep_their_places(rt: HostRuntime) -> Result<(), Fail> {
 fn a_page_that_is_not_there_changes_nothing(rt: HostRuntime) -> Result<(), Fail> {
     let mut cache = two(rt.alloc())?;
     let mut changes = Vec::new(rt.alloc());
-    let there = cache.repack(2, &mut changes)?;
+    let there = repack(&mut cache, 2, &mut changes)?;
     assert!(rt; !there);
-    assert_eq!(rt; changes.len(), 0);
+    assert!(rt; changes.len() == 0);
     Ok(())
 }
 
@@ -78,13 +76,10 @@ fn a_page_that_is_not_there_changes_nothing(rt: HostRuntime) -> Result<(), Fail>
 fn what_is_alone_comes_to_the_corner(rt: HostRuntime) -> Result<(), Fail> {
     let mut cache = TextureCache::new(rt.alloc(), options())?;
     let mut changes = Vec::new(rt.alloc());
-    let _first = cache.insert(1, size2(8, 8), &mut changes)?;
-    let _second = cache.insert(2, size2(8, 8), &mut changes)?;
-    let _gone = cache.remove(&1);
-    let _there = cache.repack(0, &mut changes)?;
-    assert_eq!(rt;
-        cache.peek(&2).map(|place| place.rectangle.min),
-        Some(point2(0, 0))
-    );
+    let _first = insert(&mut cache, 1, size2(8, 8), &mut changes)?;
+    let _second = insert(&mut cache, 2, size2(8, 8), &mut changes)?;
+    let _gone = remove(&mut cache, 1);
+    let _there = repack(&mut cache, 0, &mut changes)?;
+    assert!(rt; peek(&cache, 2).map(|place| place.rectangle.min) == Some(point2(0, 0)));
     Ok(())
 }

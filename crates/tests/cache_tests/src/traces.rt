@@ -1,4 +1,5 @@
 //! Random traces, call by call beside a plain model.
+use crate::asking::{begin_frame, clear, get, insert, peek, remove, trim};
 use crate::plain::Plain;
 use atlas_cache::entries::DefaultHasher;
 use atlas_cache::{CacheError, CacheOptions, Changes, TextureCache};
@@ -59,7 +60,7 @@ impl<A: Allocator + Copy> Played<A> {
     }
 
     fn begin_frame(&mut self) {
-        self.cache.begin_frame();
+        begin_frame(&mut self.cache);
         self.plain.frame = self.plain.frame.wrapping_add(1);
     }
 
@@ -74,7 +75,7 @@ impl<A: Allocator + Copy> Played<A> {
 
     // Inserts a key that is held; `false` where the answer or what was told was wrong.
     fn insert_held(&mut self, key: u32, held: Size, size: Size) -> Result<bool, CacheError> {
-        let answer = self.cache.insert(key, size, &mut self.changes);
+        let answer = insert(&mut self.cache, key, size, &mut self.changes);
         if size != held {
             return Ok(answer == Err(CacheError::OtherSize) && self.changes.is_empty());
         }
@@ -84,7 +85,7 @@ impl<A: Allocator + Copy> Played<A> {
 
     // The same with a key that isn't. The model follows what was told also where memory was refused, the error then.
     fn insert_new(&mut self, key: u32, size: Size) -> Result<bool, CacheError> {
-        let answer = self.cache.insert(key, size, &mut self.changes);
+        let answer = insert(&mut self.cache, key, size, &mut self.changes);
         if !self.plain.can_stand(size) {
             return Ok(answer == Ok(None) && self.changes.is_empty());
         }
@@ -112,7 +113,7 @@ impl<A: Allocator + Copy> Played<A> {
     // refused, the error then.
     fn trim(&mut self, frames: u64) -> Result<bool, CacheError> {
         self.changes.clear();
-        self.cache.trim(frames, &mut self.changes)?;
+        trim(&mut self.cache, frames, &mut self.changes)?;
         Ok(self.plain.trim(frames, &self.changes))
     }
 
@@ -120,7 +121,7 @@ impl<A: Allocator + Copy> Played<A> {
     fn turn_seldom(&mut self, key: u32, word: u64) -> Result<bool, CacheError> {
         match (word >> 48) % 16 {
             0 => {
-                self.cache.clear();
+                clear(&mut self.cache);
                 self.plain.clear();
                 Ok(true)
             }
@@ -134,9 +135,9 @@ impl<A: Allocator + Copy> Played<A> {
         let key = ((word >> 8) % KEYS) as u32;
         match word % 16 {
             0 => self.begin_frame(),
-            1..=5 => return Ok(self.cache.get(&key) == self.plain.touch(key)?),
-            6 => return Ok(self.cache.peek(&key) == self.plain.place_of(key)),
-            7 => return Ok(self.cache.remove(&key) == self.plain.remove(key)),
+            1..=5 => return Ok(get(&mut self.cache, key) == self.plain.touch(key)?),
+            6 => return Ok(peek(&self.cache, key) == self.plain.place_of(key)),
+            7 => return Ok(remove(&mut self.cache, key) == self.plain.remove(key)),
             8 => return self.turn_seldom(key, word),
             _ => return self.insert(key, asked_size(key, word)),
         }
@@ -228,8 +229,9 @@ impl<A: Allocator + Copy> Played<A> {
     fn empties(&mut self) -> bool {
         for key in 0..KEYS as u32 {
             let place = self.plain.remove(key);
-            let is_right = self.cache.get(&key) == place && self.cache.remove(&key) == place;
-            if !is_right || self.cache.peek(&key).is_some() {
+            let is_right = get(&mut self.cache, key) == place
+                && remove(&mut self.cache, key) == place;
+            if !is_right || peek(&self.cache, key).is_some() {
                 return false;
             }
         }
@@ -248,7 +250,7 @@ impl<A: Allocator + Copy> Played<A> {
                 size.width.saturating_sub(border),
                 size.height.saturating_sub(border),
             );
-            let placed = self.cache.insert(page, whole, &mut self.changes)?;
+            let placed = insert(&mut self.cache, page, whole, &mut self.changes)?;
             if !placed.is_some_and(|place| place.page == page) {
                 return Ok(false);
             }
