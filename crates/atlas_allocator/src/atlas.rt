@@ -184,8 +184,8 @@ impl<A: Allocator + Copy> AtlasAllocator<A> {
         first.kind == NodeKind::Free && first.next.number == NO_SLOT
     }
 
-    /// How many slots are used, the most that were used at once since the last start, and how many may be used. There is
-    /// memory for the second number at least.
+    /// How many slots are used, the most that were used at once since the last start, and how many may be used. There
+    /// is memory for the second number at least.
     pub fn slots(&self) -> SlotCount
         ensures used { result.used ≡ used_in (state_of self.now) }
         ensures kept { result.kept ≡ (state_of self.now).kept }
@@ -213,8 +213,8 @@ impl<A: Allocator + Copy> AtlasAllocator<A> {
     /// Grants a request: the part of the rounded size at the `min` of the free rectangle that is picked. None if the
     /// size is empty or, rounded up, fits no free rectangle. `Slots` if more slots would be used than the limit allows;
     /// `Memory` if more would be used than ever since the last start, and memory for them is refused. Unless something
-    /// is granted, nothing changes. Takes no turns. At most 4 more slots are used: with 4 in reserve the answer is never
-    /// `Memory`.
+    /// is granted, nothing changes. Takes no turns. At most 4 more slots are used: with 4 in reserve the answer is
+    /// never `Memory`.
     pub fn allocate(&mut self, requested_size: Size) -> Result<Option<Allocation>, AtlasError>
         ensures step { Step (state_of self.old) (Allocate (sides_of requested_size)) (allocate_reply result)
             (state_of self.new) }
@@ -290,8 +290,8 @@ impl<A: Allocator + Copy> AtlasAllocator<A> {
     /// appended, and then, across it, a free strip along the whole side (docs/MODEL.md, "Changes of a tree"); each only
     /// if that side grows. `Slots` if more slots would be used than the limit allows; `Memory` if more would be used
     /// than ever since the last start, and memory for them is refused; then nothing changes. Takes no turns, and one
-    /// pass along the top sequence for each side that grows. At most 3 more slots are used: with 3 in reserve the answer
-    /// is never `Memory`.
+    /// pass along the top sequence for each side that grows. At most 3 more slots are used: with 3 in reserve the
+    /// answer is never `Memory`.
     pub fn grow(&mut self, new_size: Size) -> Result<(), AtlasError>
         requires { Fits (state_of self.old).size (sides_of new_size) }
         ensures step { Step (state_of self.old) (Grow (sides_of new_size)) (done_reply result) (state_of self.new) }
@@ -337,9 +337,9 @@ impl<A: Allocator + Copy> AtlasAllocator<A> {
     /// Places what is allocated anew in an empty atlas of this size, the largest first; the options and the limit stay.
     /// Asks a size that isn't empty. The rectangles are taken in order of descending area, where areas count up to
     /// 2147483647, and of descending slot, the low 24 bits of the id, where areas are equal; each is placed where it
-    /// then fits, or else listed as a failure, whose id is live no more. All former ids are void, and each slot is in its
-    /// first generation. `Slots` if on the way more slots would be used than the limit allows; `Memory` if memory is
-    /// refused; then nothing changes. Takes no turns.
+    /// then fits, or else listed as a failure, whose id is live no more. All former ids are void, and each slot is in
+    /// its first generation. `Slots` if on the way more slots would be used than the limit allows; `Memory` if memory
+    /// is refused; then nothing changes. Takes no turns.
     pub fn resize_and_rearrange(&mut self, new_size: Size) -> Result<ChangeList<A>, AtlasError>
         requires { IsPositive (sides_of new_size) }
         ensures step { Step (state_of self.old) (ResizeAndRearrange (sides_of new_size)) (change_reply result)
@@ -427,7 +427,8 @@ impl<A: Allocator + Copy> AtlasAllocator<A> {
         ensures sound { IsSound (state_of self.new) }
         ensures idle { live_in (state_of self.new) ≡ [] }
         ensures slots { UsesAtMost 0 self.old self.new }
-        ensures frame { HasFrame (state_of self.new) (sides_of size) (options_of options.now) (state_of self.old).limit }
+        ensures frame { HasFrame (state_of self.new) (sides_of size) (options_of options.now)
+            (state_of self.old).limit }
     {
         self.restart(size, options);
         Ok(())

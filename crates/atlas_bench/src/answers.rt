@@ -1,6 +1,7 @@
 //! What a workload was answered.
 ghost use Rattle.std.specs.Prelude.{◌≡◌, ◌<◌, ◌+◌, ◌^◌, fold};
-ghost use Rattle.atlas_bench.specs.Checksums.{with_word, with_box, with_grant, with_moved, with_list, with_place, with_evicted, point_word};
+ghost use Rattle.atlas_bench.specs.Checksums.{with_word, with_box, with_grant, with_moved, with_list, with_place};
+ghost use Rattle.atlas_bench.specs.Checksums.{with_evicted, point_word};
 
 use atlas_cache::Place;
 use guillotiere::{Allocation, Change, ChangeList, Point, Rectangle};

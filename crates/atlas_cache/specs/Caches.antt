@@ -1,5 +1,6 @@
 -- What a cache holds, and what it keeps.
-use Rattle.std.specs.Prelude.{◌≡◌, ◌+◌, ◌<◌, ◌≤◌, ◌==◌, ◌&&◌, ℕ, ℤ, Bool, false, List, [], ◌∷◌, length, map, find, if◌then◌else◌}
+use Rattle.std.specs.Prelude.{◌≡◌, ◌+◌, ◌<◌, ◌≤◌, ◌==◌, ◌&&◌, ℕ, ℤ, Bool, false, List, [], ◌∷◌, length, map, find}
+use Rattle.std.specs.Prelude.{if◌then◌else◌}
 use Rattle.std.specs.Prelude.{Option, Some, option_map, slice_get}
 use Rattle.std.specs.List.{AllByRecursion}
 use Rattle.guillotiere.specs.declared.Rectangle.{Rectangle}
@@ -110,7 +111,8 @@ module _ {K : Type 0} where
   -- There is a page under each entry, and the entry lies within it, its padding included.
   abbrev pub EntriesLieWithin : List AtlasValue → List (Entry K) → Type 0
   EntriesLieWithin pages es =
-      AllByRecursion (λ e. (a : AtlasValue) × (slice_get pages e.page ≡ Some a) × IsWithin (state_of a).size (box_of e.rectangle)) es
+      AllByRecursion (λ e. (a : AtlasValue) × (slice_get pages e.page ≡ Some a)
+      × IsWithin (state_of a).size (box_of e.rectangle)) es
 
   -- How many changes an insert can still make at most.
   abbrev pub steps_left : CacheState K → ℕ

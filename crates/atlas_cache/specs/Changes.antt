@@ -102,7 +102,8 @@ module _ {K : Type 0} where
       (next : CacheState K) × HasNoPageFor asked s × Does c s next × Leads asked cs next t
 
   -- A new entry of this key and size, used in this frame, is on the first page that has room for what was asked.
-  pub record GetsPlace (asked : Size) (key : K) (size : Size) (frame : ℕ) (old new : List AtlasValue) (entry : Entry K) : Type 0 where
+  pub record GetsPlace (asked : Size) (key : K) (size : Size) (frame : ℕ) (old new : List AtlasValue)
+      (entry : Entry K) : Type 0 where
     pub named : entry.key ≡ key
     pub sized : entry.size ≡ size
     pub used : entry.frame ≡ frame
@@ -134,7 +135,8 @@ module _ {K : Type 0} where
     pub in_use : AreAllInUse s
 
   -- How an insert ends, once its changes are made: the key is added, or nothing can be done, or it is refused.
-  abbrev pub Ends : (asked : Size) (key : K) (size : Size) → Result (Option Place) CacheError → (s t : CacheState K) → Type 0
+  abbrev pub Ends : (asked : Size) (key : K) (size : Size) → Result (Option Place) CacheError → (s t : CacheState K)
+      → Type 0
   Ends asked key size (Ok (Some place)) s t = Adds asked key size place s t
   Ends asked key size (Ok None) s t = (s ≡ t) × IsExhausted asked s
   Ends asked key size (Err error) s t = LooksSame s t
@@ -159,8 +161,10 @@ module _ {K : Type 0} where
     pub frame : t.frame ≡ s.frame
 
   -- What an insert of a key does that is held: it is used, or nothing happens if it has another size.
-  pub record FindsKnown (entry : Entry K) (size : Size) (result : Result (Option Place) CacheError) (s t : CacheState K) : Type 0 where
-    pub same : entry.size ≡ size → (result ≡ Ok (Some (shown s.options.padding entry))) × Uses entry s t × (t.counts ≡ s.counts)
+  pub record FindsKnown (entry : Entry K) (size : Size) (result : Result (Option Place) CacheError)
+      (s t : CacheState K) : Type 0 where
+    pub same : entry.size ≡ size → (result ≡ Ok (Some (shown s.options.padding entry))) × Uses entry s t
+        × (t.counts ≡ s.counts)
     pub other : entry.size ≢ size → (result ≡ Err OtherSize) × (t ≡ s)
 
   -- An entry is gone with its rectangle; the others keep their order.

@@ -1,5 +1,6 @@
 -- What a repacking of a page makes of the entries of a cache, and what it tells.
-use Rattle.std.specs.Prelude.{◌≡◌, ◌==◌, ◌+◌, ◌-◌, ◌++◌, ℕ, ℤ, min, List, length, Option, None, Some, find, option_map, if◌then◌else◌}
+use Rattle.std.specs.Prelude.{◌≡◌, ◌==◌, ◌+◌, ◌-◌, ◌++◌, ℕ, ℤ, min, List, length, Option, None, Some, find, option_map}
+use Rattle.std.specs.Prelude.{if◌then◌else◌}
 use Rattle.std.specs.List.{filter_map}
 use Rattle.guillotiere.specs.declared.Change.{Change}
 use Rattle.guillotiere.specs.Pages.{KeepsPages}

@@ -1,5 +1,6 @@
 -- How links between entries keep an order. No public clause cites this module.
-use Rattle.std.specs.Prelude.{ℕ, ◌+◌, ◌≡◌, ◌<◌, ◌≤◌, ◌==◌, if◌then◌else◌, List, [], ◌∷◌, length, zero, suc, slice_index_or}
+use Rattle.std.specs.Prelude.{ℕ, ◌+◌, ◌≡◌, ◌<◌, ◌≤◌, ◌==◌, if◌then◌else◌, List, [], ◌∷◌, length, zero, suc}
+use Rattle.std.specs.Prelude.{slice_index_or}
 use Rattle.atlas_cache.specs.declared.recency.links.Link.{Link}
 use Rattle.atlas_cache.specs.Orders.{times_in}
 

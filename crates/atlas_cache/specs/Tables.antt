@@ -21,7 +21,8 @@ module _ {K : Type 0} where
     pub same : eq k entry.key ≡ true
 
   -- What the three keep: the map answers with the number of the entry with that key.
-  pub record AreKept {S : Type 0} (eq : K → K → Bool) (map : HashMap K ℕ S) (order : Order) (items : List (Entry K)) : Type 0 where
+  pub record AreKept {S : Type 0} (eq : K → K → Bool) (map : HashMap K ℕ S) (order : Order)
+      (items : List (Entry K)) : Type 0 where
     pub made : order.made ≤ length items
     pub inside : (n : ℕ) → IsEntry n order → n < length items
     pub once : (n : ℕ) → times_in n order.entries ≤ 1

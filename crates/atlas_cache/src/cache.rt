@@ -1,5 +1,6 @@
 //! The cache.
-ghost use Rattle.std.specs.Prelude.{◌≡◌, ◌≢◌, ◌↔◌, ◌<◌, [], false, length, slice_get, IfErr, IfOk, IfSome, IsOk, IsSome, IsTrue};
+ghost use Rattle.std.specs.Prelude.{◌≡◌, ◌≢◌, ◌↔◌, ◌<◌, [], false, length, slice_get, IfErr, IfOk, IfSome, IsOk};
+ghost use Rattle.std.specs.Prelude.{IsSome, IsTrue};
 ghost use Rattle.std.specs.Prelude.{None, Ok, OnErr, vec_capacity, vec_len};
 ghost use Rattle.guillotiere.specs.Pixels.{size_of};
 ghost use Rattle.atlas_cache.specs.Asking.{bordered, AreUsable, CanStand, IsFaultIn};
@@ -96,7 +97,8 @@ impl<K: Copy + Eq + Hash, S: BuildHasher + Drop, A: Allocator + Copy> TextureCac
 
 impl<K: Copy + Eq + Hash, S: BuildHasher, A: Allocator + Copy> TextureCache<K, S, A> {
     ghost use Rattle.atlas_cache.specs.Caches.{entry_for, place_for, steps_left, AreAllInUse, EntriesLieApart};
-    ghost use Rattle.atlas_cache.specs.Caches.{EntriesLieWithin, HasNoPageFor, HaveOwnKeys, IsFull, IsKept, IsNoneInUse};
+    ghost use Rattle.atlas_cache.specs.Caches.{EntriesLieWithin, HasNoPageFor, HaveOwnKeys, IsFull, IsKept};
+    ghost use Rattle.atlas_cache.specs.Caches.{IsNoneInUse};
     ghost use Rattle.atlas_cache.specs.Changes.{picture_of, placed, Adds, DoesOne, FindsKnown, Inserts, IsExhausted};
     ghost use Rattle.atlas_cache.specs.Changes.{LooksSame, Removes, ShowsSame, Uses};
     ghost use Rattle.atlas_cache.specs.Telling.{Tells};
@@ -142,9 +144,9 @@ impl<K: Copy + Eq + Hash, S: BuildHasher, A: Allocator + Copy> TextureCache<K, S
         }
     }
 
-    /// Says what each cache keeps, and does nothing: what is live on its pages is what the entries hold, each once; each
-    /// entry has its padding; two entries of one page lie apart, and each lies within its page, padding included; and
-    /// each has a key of its own.
+    /// Says what each cache keeps, and does nothing: what is live on its pages is what the entries hold, each once;
+    /// each entry has its padding; two entries of one page lie apart, and each lies within its page, padding included;
+    /// and each has a key of its own.
     pub fn prove_kept(&self)
         ensures kept { IsKept self.now }
         ensures apart { EntriesLieApart self.now.entries }
@@ -187,13 +189,14 @@ impl<K: Copy + Eq + Hash, S: BuildHasher, A: Allocator + Copy> TextureCache<K, S
         Some(place_of(entry, &self.rooms.options()))
     }
 
-    /// A place for a key, which is used in this frame. A key that is held keeps its place; asked with another size, it is
-    /// refused with `OtherSize`, and nothing changes. A new key comes on the first page with room for its size, in
-    /// pixels, with the padding. Where none has, a page grows; where none can, one is added; and where all are there, the
-    /// least recently used entry goes that this frame didn't use; and so on. None if the size is empty or doesn't fit
-    /// the largest page, and then nothing changes, or if all entries are in use and no page has room; so as long as this
-    /// frame has used nothing, whatever fits gets a place. What was done is added to the changes, also after an error:
-    /// `Memory`, `Slots` if those of a page don't suffice, or `Numbers` only where 4,294,967,295 entries are left.
+    /// A place for a key, which is used in this frame. A key that is held keeps its place; asked with another size, it
+    /// is refused with `OtherSize`, and nothing changes. A new key comes on the first page with room for its size, in
+    /// pixels, with the padding. Where none has, a page grows; where none can, one is added; and where all are there,
+    /// the least recently used entry goes that this frame didn't use; and so on. None if the size is empty or doesn't
+    /// fit the largest page, and then nothing changes, or if all entries are in use and no page has room; so as long as
+    /// this frame has used nothing, whatever fits gets a place. What was done is added to the changes, also after an
+    /// error: `Memory`, `Slots` if those of a page don't suffice, or `Numbers` only where 4,294,967,295 entries are
+    /// left.
     pub fn insert(
         &mut self,
         key: K,

@@ -1,7 +1,8 @@
 //! Entries under their keys, in the order of their use: each call takes a few steps and at most one look-up by a hash,
 //! however many entries there are.
 ghost use Rattle.std.specs.Prelude.{◌≡◌, ◌≢◌, ◌↔◌, ◌+◌, ◌<◌, ◌≤◌, max, None, Some, [], ◌∷◌, ◌++◌, ℕ, List, length};
-ghost use Rattle.std.specs.Prelude.{IfErr, IfOk, IfSome, IsNone, IsOkUnless, IsTrue, OnErr, nat_eq, slice_get, vec_capacity, vec_len};
+ghost use Rattle.std.specs.Prelude.{IfErr, IfOk, IfSome, IsNone, IsOkUnless, IsTrue, OnErr, nat_eq, slice_get};
+ghost use Rattle.std.specs.Prelude.{vec_capacity, vec_len};
 ghost use Rattle.std.specs.HashMap.{Updates, spare};
 ghost use Rattle.std.specs.List.{IsDistinct};
 ghost use Rattle.atlas_cache.specs.Orders.{newest_of, oldest_of};
@@ -94,7 +95,8 @@ impl<K: Copy + Eq + Hash, A: Allocator + Copy> Entries<K, DefaultHasher, A> {
 }
 
 impl<K: Copy + Eq + Hash, S: BuildHasher, A: Allocator + Copy> Entries<K, S, A> {
-    ghost use Rattle.atlas_cache.specs.Entries.{IsNumber, entry_at, keys, moved, number_of, numbers, touched, without_number};
+    ghost use Rattle.atlas_cache.specs.Entries.{IsNumber, entry_at, keys, moved, number_of, numbers, touched};
+    ghost use Rattle.atlas_cache.specs.Entries.{without_number};
 
     /// No entries, with a hasher for the keys. Takes no memory.
     pub fn with_hasher(alloc: A, hasher: S) -> Self
@@ -181,8 +183,8 @@ impl<K: Copy + Eq + Hash, S: BuildHasher, A: Allocator + Copy> Entries<K, S, A> 
         entry.frame = frame;
     }
 
-    /// An entry with a new key joins, the most recently used from now on: its number, which was none's. `Numbers` only if
-    /// all are in use, and `Memory` if memory is refused; then nothing changes.
+    /// An entry with a new key joins, the most recently used from now on: its number, which was none's. `Numbers` only
+    /// if all are in use, and `Memory` if memory is refused; then nothing changes.
     pub fn push(&mut self, entry: Entry<K>) -> Result<u32, CacheError>
         requires { IsNone (number_of K.eq entry.key self.old) }
         ensures new { IfOk result (λ number. IsNone (entry_at number self.old)) }

@@ -1,7 +1,9 @@
 //! Entries in the order of their use, by links between them: each call takes a few steps, however many entries there
 //! are.
-ghost use Rattle.std.specs.Prelude.{◌≡◌, ◌⊎◌, ◌+◌, ◌<◌, ◌≤◌, max, ℕ, List, [], ◌∷◌, ◌++◌, length, IsTrue, ◌↔◌, IfErr, IfOk, IfSome, IsOkUnless, OnErr};
-ghost use Rattle.atlas_cache.specs.Orders.{IsEntry, IsFreshNumber, newest_of, gone, with_newest, oldest_of, times_in, used, without_first};
+ghost use Rattle.std.specs.Prelude.{◌≡◌, ◌⊎◌, ◌+◌, ◌<◌, ◌≤◌, max, ℕ, List, [], ◌∷◌, ◌++◌, length, IsTrue, ◌↔◌, IfErr};
+ghost use Rattle.std.specs.Prelude.{IfOk, IfSome, IsOkUnless, OnErr};
+ghost use Rattle.atlas_cache.specs.Orders.{IsEntry, IsFreshNumber, newest_of, gone, with_newest, oldest_of, times_in};
+ghost use Rattle.atlas_cache.specs.Orders.{used, without_first};
 ghost use Rattle.atlas_cache.specs.Refusals.{IsWithoutNumber};
 ghost use Rattle.atlas_cache.specs.Rings.{HasSpare, IsInRing, IsRing, next_at, no_entry};
 ghost use Rattle.atlas_cache.specs.declared.error.CacheError.TheVariants.{Memory, Numbers};

@@ -1,5 +1,6 @@
 -- What a caller holds of an atlas: live boxes, which stay where they are and apart from one another.
-use Rattle.std.specs.Prelude.{◌≡◌, ◌≢◌, ℕ, ◌+◌, ◌≤◌, pos, ◌+ℤ◌, ◌≤ℤ◌, ◌<ℤ◌, ◌&&◌, ◌⊎◌, ◌↔◌, true, false, List, [], ◌∷◌, ◌++◌, map}
+use Rattle.std.specs.Prelude.{◌≡◌, ◌≢◌, ℕ, ◌+◌, ◌≤◌, pos, ◌+ℤ◌, ◌≤ℤ◌, ◌<ℤ◌, ◌&&◌, ◌⊎◌, ◌↔◌, true, false, List, [], ◌∷◌}
+use Rattle.std.specs.Prelude.{◌++◌, map}
 use Rattle.std.specs.Prelude.{length, All, Option, Some, None, Result, Ok, Err, IsSome, IfSome, option_map, ◌==◌}
 use Rattle.std.specs.Prelude.{if◌then◌else◌}
 use Rattle.atlas_model.specs.declared.allocation.Allocation.{Allocation}

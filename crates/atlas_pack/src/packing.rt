@@ -1,7 +1,8 @@
 //! What the library is asked, and what it answers.
 ghost use Rattle.std.specs.Prelude.{◌≡◌, ◌≤◌, false, map, true, flat_map, Bool, IfErr, IfOk, Some};
 ghost use Rattle.std.specs.List.{zip};
-ghost use Rattle.atlas_pack.specs.Runs.{IsFilled, IsFound, IsPackFault, allowed_of, frame_in, frame_of, left_in, sheet_options};
+ghost use Rattle.atlas_pack.specs.Runs.{IsFilled, IsFound, IsPackFault, allowed_of, frame_in, frame_of, left_in};
+ghost use Rattle.atlas_pack.specs.Runs.{sheet_options};
 ghost use Rattle.atlas_sheet.specs.Settings.{IsSheetFault};
 
 use atlas_model::Size;
@@ -116,8 +117,8 @@ fn tell<P: Write>(progress: &mut P, size: Size) {
     let _ = writeln!(progress, "sheet {} {}", size.width, size.height);
 }
 
-/// A sheet that takes all sprites, and their places. `NoSheet` where none is found. Where changes of the order are tried,
-/// `progress` has a line for each sheet as soon as it is found.
+/// A sheet that takes all sprites, and their places. `NoSheet` where none is found. Where changes of the order are
+/// tried, `progress` has a line for each sheet as soon as it is found.
 pub fn pack_all<P: Write>(
     alloc: Global,
     sizes: &[Size],

@@ -1,5 +1,6 @@
 -- The best of several ways to fill a sheet, and what is wrong with what was asked.
-use Rattle.std.specs.Prelude.{◌≡◌, ℕ, pos, ◌/◌, ◌<◌, ◌≤◌, max, min, map, List, length, All, Contains, Option, slice_index_or}
+use Rattle.std.specs.Prelude.{◌≡◌, ℕ, pos, ◌/◌, ◌<◌, ◌≤◌, max, min, map, List, length, All, Contains, Option}
+use Rattle.std.specs.Prelude.{slice_index_or}
 use Rattle.guillotiere.specs.declared.Size.{Size}
 use Rattle.guillotiere.specs.declared.Rectangle.{Rectangle}
 use Rattle.guillotiere.specs.Boxes.{Sides, IsPositive}

@@ -25,7 +25,8 @@ abbrev pub MayLie : (turn : Bool) → (sprite lying : Size) → Type 0
 MayLie turn sprite lying = (lying ≡ sprite) ⊎ ((turn ≡ true) × (lying ≡ turned_size sprite))
 
 -- A place for a sprite as it lies. It is turned only where that is allowed.
-pub record IsPlacedFor (sheet : Sides) (spacing : Spacing) (turn : Bool) (sprite : Size) (placed : Placed) : Type 0 where
+pub record IsPlacedFor (sheet : Sides) (spacing : Spacing) (turn : Bool) (sprite : Size)
+    (placed : Placed) : Type 0 where
   pub place : IsPlaceFor sheet spacing (lie placed.turned sprite) placed.area
   pub allowed : placed.turned ≡ true → turn ≡ true
 
@@ -46,8 +47,8 @@ pub record IsArrangement (sheet : Sides) (spacing : Spacing) (turn : Bool) (spri
   pub found : FindPlaces spacing (simple_start (inner_sides spacing sheet) (choice_options spacing choice))
       (with_places places order)
 
--- What a sheet shows: a place or none for each sprite as it lies. They are what the sprites find one after another in the
--- order of these numbers, with one choice among free boxes.
+-- What a sheet shows: a place or none for each sprite as it lies. They are what the sprites find one after another in
+-- the order of these numbers, with one choice among free boxes.
 pub record IsShown (sheet : Sides) (spacing : Spacing) (turn : Bool) (sprites : List Size) (order : List ℕ)
     (placed : List (Option Placed)) : Type 0 where
   pub each : AllZip (λ sprite p. IfSome p (IsPlacedFor sheet spacing turn sprite)) sprites placed

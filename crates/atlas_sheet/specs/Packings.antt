@@ -1,5 +1,6 @@
 -- Sheets that take all sprites.
-use Rattle.std.specs.Prelude.{◌≡◌, ℕ, ◌+◌, ◌≤◌, ◌⊎◌, ◌++◌, List, [], ◌∷◌, map, take, All, Contains, Option, Some, None, IsPermutation}
+use Rattle.std.specs.Prelude.{◌≡◌, ℕ, ◌+◌, ◌≤◌, ◌⊎◌, ◌++◌, List, [], ◌∷◌, map, take, All, Contains, Option, Some, None}
+use Rattle.std.specs.Prelude.{IsPermutation}
 use Rattle.std.specs.List.{FoldsTo, enumerate_from}
 use Rattle.guillotiere.specs.declared.Size.{Size}
 use Rattle.guillotiere.specs.declared.Rectangle.{Rectangle}
@@ -21,7 +22,8 @@ pub record IsOrderBy (way : Way) (sprites : List Size) (order : List (ℕ × Siz
 -- Places for all sprites of an order, which they find one after another in a new sheet.
 abbrev pub AllFindPlaces : (sheet : Sides) (spacing : Spacing) → Choice → List (ℕ × Size) → List Rectangle → Type 0
 AllFindPlaces sheet spacing choice order places =
-    FindPlaces spacing (simple_start (inner_sides spacing sheet) (choice_options spacing choice)) (with_places (map Some places) order)
+    FindPlaces spacing (simple_start (inner_sides spacing sheet) (choice_options spacing choice))
+    (with_places (map Some places) order)
 
 -- The first `many` of an order ask one after another in a new sheet, and one of them has no place then.
 pub record LeavesOne (sheet : Sides) (spacing : Spacing) (choice : Choice) (order : List (ℕ × Size)) : Type 0 where
@@ -74,7 +76,8 @@ pub record IsPowerPacked (ways : List Way) (most sum : ℕ) (spacing : Spacing) 
 -- Into no such sheet one of the ways packs all sprites.
 abbrev pub NoShapePacks : List Way → (most sum : ℕ) (spacing : Spacing) → List Size → Type 0
 NoShapePacks ways most sum spacing sprites =
-    (wide high : ℕ) → wide + high ≡ sum → wide ≤ most → high ≤ most → NoWayPacks ways (power_sides wide high) spacing sprites
+    (wide high : ℕ) → wide + high ≡ sum → wide ≤ most → high ≤ most
+    → NoWayPacks ways (power_sides wide high) spacing sprites
 
 -- None of the ways packs all sprites into the greatest sheet that is allowed.
 pub record NoneIsFound (ways : List Way) (by : Allowed) (spacing : Spacing) (sprites : List Size) : Type 0 where
@@ -86,7 +89,8 @@ pub record NoneIsFound (ways : List Way) (by : Allowed) (spacing : Spacing) (spr
 abbrev pub IsNoLarger : List Way → Allowed → Spacing → List Size → (sheet : Sides) → Type 0
 IsNoLarger ways by spacing sprites sheet =
     NoneIsFound ways by spacing sprites
-    ⊎ ((first : Sides) × (packed : Packed) × IsLeastFound ways by spacing sprites first packed × (pixels sheet ≤ pixels first))
+    ⊎ ((first : Sides) × (packed : Packed) × IsLeastFound ways by spacing sprites first packed
+    × (pixels sheet ≤ pixels first))
 
 -- A sheet that one of the ways finds first, with these places and in the order of these numbers.
 abbrev pub IsFirstFound : List Way → Allowed → Spacing → List Size → (sheet : Sides) → (order : List ℕ)

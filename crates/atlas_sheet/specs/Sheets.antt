@@ -1,5 +1,6 @@
 -- Sheets of sprites: what the places on a sheet keep to, and how sprites find them.
-use Rattle.std.specs.Prelude.{◌≡◌, ℕ, ◌+◌, ◌-◌, ◌%◌, ◌≤◌, max, ⊤, Bool, false, List, [], ◌∷◌, map, length, slice_index_or}
+use Rattle.std.specs.Prelude.{◌≡◌, ℕ, ◌+◌, ◌-◌, ◌%◌, ◌≤◌, max, ⊤, Bool, false, List, [], ◌∷◌, map, length}
+use Rattle.std.specs.Prelude.{slice_index_or}
 use Rattle.std.specs.Prelude.{Option, Some, None, IfSome, IsPermutation}
 use Rattle.std.specs.List.{AllZip, enumerate_from, count_by, sum_by}
 use Rattle.guillotiere.specs.declared.Size.{Size}
@@ -48,7 +49,8 @@ covers_place spacing x y None = false
 covers_place spacing x y (Some place) = covers x y (padded spacing.padding place)
 
 -- A place or none a sprite, in the order of the sprites; no unit square lies in two places with their padding.
-pub record ArePlaces (sheet : Sides) (spacing : Spacing) (sprites : List Size) (places : List (Option Rectangle)) : Type 0 where
+pub record ArePlaces (sheet : Sides) (spacing : Spacing) (sprites : List Size)
+    (places : List (Option Rectangle)) : Type 0 where
   pub each : AllZip (λ sprite place. IfSome place (IsPlaceFor sheet spacing sprite)) sprites places
   pub apart : (x y : ℕ) → count_by (covers_place spacing x y) places ≤ 1
 
@@ -78,7 +80,8 @@ GivesBox old asked (Some area) new = SimplyGrants old asked (box_of area) new ×
 
 -- A sprite that asks is granted a box, in whose corner its place lies with its padding, or finds no room.
 abbrev pub FindsPlace : (spacing : Spacing) → SimpleState → Size → Option Rectangle → SimpleState → Type 0
-FindsPlace spacing old sprite None new = HasNoRoom old.free old.options (asked_sides spacing.padding sprite) × (new ≡ old)
+FindsPlace spacing old sprite None new = HasNoRoom old.free old.options (asked_sides spacing.padding sprite)
+    × (new ≡ old)
 FindsPlace spacing old sprite (Some place) new =
     (box : Box) × SimplyGrants old (asked_sides spacing.padding sprite) box new
     × (padded spacing.padding place ≡ box_at box.min (asked_sides spacing.padding sprite))

@@ -84,8 +84,8 @@ fn changed<A: Allocator + Copy>(
     Ok(to)
 }
 
-/// Changes the order of an arrangement as long as there are tries and a sprite has no place. A change stays if the places
-/// have no fewer pixels with it.
+/// Changes the order of an arrangement as long as there are tries and a sprite has no place. A change stays if the
+/// places have no fewer pixels with it.
 pub fn improve<A: Allocator + Copy>(
     alloc: A,
     options: &SheetOptions,

@@ -121,7 +121,8 @@ fn squeeze<A: Allocator + Copy>(
     requires usable { IsUsable options.now.allowed }
     requires aligned { IsPositive (sides_of options.now.alignment) }
     requires packable { All (IsPackable (spacing_of options.now)) sprites.now }
-    ensures arranged { IfOk result (λ found. IfSome found (λ a. IsArrangement (sides_of a.size) (spacing_of options.now) options.now.turn
+    ensures arranged { IfOk result (λ found. IfSome found (λ a. IsArrangement (sides_of a.size)
+        (spacing_of options.now) options.now.turn
         sprites.now a.choice a.lying.items a.order.items a.places.items)) }
     ensures allowed { IfOk result (λ found. IfSome found (λ a. IsAllowed options.now.allowed (sides_of a.size))) }
     ensures whole { IfOk result (λ found. IfSome found (λ a. All IsSome a.places.items)) }
@@ -155,7 +156,8 @@ fn first_whole<A: Allocator + Copy>(
     requires usable { IsUsable options.now.allowed }
     requires aligned { IsPositive (sides_of options.now.alignment) }
     requires packable { All (IsPackable (spacing_of options.now)) sprites.now }
-    ensures arranged { IfOk result (λ found. IfSome found (λ a. IsArrangement (sides_of a.size) (spacing_of options.now) options.now.turn
+    ensures arranged { IfOk result (λ found. IfSome found (λ a. IsArrangement (sides_of a.size)
+        (spacing_of options.now) options.now.turn
         sprites.now a.choice a.lying.items a.order.items a.places.items)) }
     ensures allowed { IfOk result (λ found. IfSome found (λ a. IsAllowed options.now.allowed (sides_of a.size))) }
     ensures whole { IfOk result (λ found. IfSome found (λ a. All IsSome a.places.items)) }
@@ -181,8 +183,8 @@ fn first_whole<A: Allocator + Copy>(
     }
 }
 
-/// All sprites in the smallest sheet that the ways and the changes of the order find, of whose size `told` is told last.
-/// None only where no way packs them into the greatest one.
+/// All sprites in the smallest sheet that the ways and the changes of the order find, of whose size `told` is told
+/// last. None only where no way packs them into the greatest one.
 pub fn packed<A: Allocator + Copy, F: FnMut(Size)>(
     alloc: A,
     sprites: &[Size],
@@ -193,7 +195,8 @@ pub fn packed<A: Allocator + Copy, F: FnMut(Size)>(
     requires usable { IsUsable options.now.allowed }
     requires aligned { IsPositive (sides_of options.now.alignment) }
     requires packable { All (IsPackable (spacing_of options.now)) sprites.now }
-    ensures arranged { IfOk result (λ found. IfSome found (λ a. IsArrangement (sides_of a.size) (spacing_of options.now) options.now.turn
+    ensures arranged { IfOk result (λ found. IfSome found (λ a. IsArrangement (sides_of a.size)
+        (spacing_of options.now) options.now.turn
         sprites.now a.choice a.lying.items a.order.items a.places.items)) }
     ensures allowed { IfOk result (λ found. IfSome found (λ a. IsAllowed options.now.allowed (sides_of a.size))) }
     ensures whole { IfOk result (λ found. IfSome found (λ a. All IsSome a.places.items)) }

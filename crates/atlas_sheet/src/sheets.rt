@@ -1,6 +1,7 @@
 //! Sheets as callers see them.
 ghost use Rattle.std.specs.List.{AllZip};
-ghost use Rattle.std.specs.Prelude.{◌≡◌, false, length, map, take, All, IfErr, IfNone, IfOk, IfSome, IsOkUnless, IsSome, OnOk, Some};
+ghost use Rattle.std.specs.Prelude.{◌≡◌, false, length, map, take, All, IfErr, IfNone, IfOk, IfSome, IsOkUnless};
+ghost use Rattle.std.specs.Prelude.{IsSome, OnOk, Some};
 ghost use Rattle.guillotiere.specs.Boxes.{AreDisjoint, IsPositive, IsWithin, box_sides};
 ghost use Rattle.guillotiere.specs.Pixels.{box_of, sides_of};
 ghost use Rattle.atlas_sheet.specs.declared.error.SheetError.TheVariants.{Memory};
@@ -165,10 +166,10 @@ fn best_filled<A: Allocator + Copy>(
     Ok(best)
 }
 
-/// Places sprites in the greatest sheet that is allowed. The places have no fewer pixels than those that any of the first
-/// `ways_tried` of `WAYS` finds; without effort they are those of the best of these ways. With effort the order is
-/// changed so many times, and a change stays if it leaves no more pixels of sprites without a place. A sprite that found
-/// no room has no place.
+/// Places sprites in the greatest sheet that is allowed. The places have no fewer pixels than those that any of the
+/// first `ways_tried` of `WAYS` finds; without effort they are those of the best of these ways. With effort the order
+/// is changed so many times, and a change stays if it leaves no more pixels of sprites without a place. A sprite that
+/// found no room has no place.
 ///
 /// `EmptySheet` if the least allowed side is below 1, `EmptyRange` if the greatest is less than the least,
 /// `EmptyAlignment` if a side of the alignment is below 1; `EmptySprite` and `GreatSprite` name a sprite that can't be
@@ -215,9 +216,9 @@ fn sheet_of<A: Allocator + Copy>(alloc: A, filled: Filled<A>) -> Result<Sheet<A>
 
 /// Places all sprites in a sheet that is as small as the search finds. Without effort one of `WAYS` packs them into it,
 /// and none does into the allowed sheet that is a pixel lower (among powers of two: into any with fewer pixels). With
-/// effort so many more orders are tried, each a small change of the one before, on a sheet that is one step smaller than
-/// the best; the sheet is never larger than without effort. None only where no way, and no order that was tried, packs
-/// all sprites into the greatest sheet that is allowed.
+/// effort so many more orders are tried, each a small change of the one before, on a sheet that is one step smaller
+/// than the best; the sheet is never larger than without effort. None only where no way, and no order that was tried,
+/// packs all sprites into the greatest sheet that is allowed.
 ///
 /// `EmptySheet` if the least allowed side is below 1, `EmptyRange` if the greatest is less than the least,
 /// `EmptyAlignment` if a side of the alignment is below 1; `EmptySprite` and `GreatSprite` name a sprite that can't be
@@ -279,7 +280,8 @@ pub fn pack_telling<A: Allocator + Copy, F: FnMut(Size)>(
         (spacing_of options.now) sprites.now (sides_of sheet.size))) }
     ensures none { IfOk result (λ found. IfNone found
         (NoneIsFound WAYS options.now.allowed (spacing_of options.now) sprites.now)) }
-    ensures told { IfOk result (λ found. IfSome found (λ sheet. IsToldLast (λ p size q. F.step p size tt q) told sheet.size)) }
+    ensures told { IfOk result (λ found. IfSome found (λ sheet. IsToldLast
+        (λ p size q. F.step p size tt q) told sheet.size)) }
     ensures fault { IfErr result (λ e. IsSheetFault options.now sprites.now e) }
 {
     check_all(sprites, options)?;

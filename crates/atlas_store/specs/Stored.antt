@@ -48,8 +48,8 @@ state_of v =
       kept = length v.stored.shelf.slots;
     }
 
--- The numbered tree that slots stand for, and the lists that run through them: `unused_list` has the unused slots, `free_lists k`
--- those of list k, and `detached` the free slots that stand in no list.
+-- The numbered tree that slots stand for, and the lists that run through them: `unused_list` has the unused slots,
+-- `free_lists k` those of list k, and `detached` the free slots that stand in no list.
 pub record Holding : Type 0 where
   pub sequence : Sequence
   pub tree : Numbered
@@ -59,7 +59,8 @@ pub record Holding : Type 0 where
 
 -- Where slots stand, once `claimed i` counts a slot that is taken and not used yet.
 abbrev pub places_of : (claimed : ℕ → ℕ) → Holding → Places
-places_of claimed h = record { unused_list = h.unused_list; free_lists = h.free_lists; claimed = claimed; detached = h.detached }
+places_of claimed h =
+    record { unused_list = h.unused_list; free_lists = h.free_lists; claimed = claimed; detached = h.detached }
 
 -- The slots stand for a tree, and the lists are in order; `claimed i` counts a slot that is taken and not used yet.
 pub record HoldsWith (claimed : ℕ → ℕ) (v : Shelf) (h : Holding) : Type 0 where

@@ -32,7 +32,8 @@ pub struct Store<A: Allocator> {
 }
 
 impl<A: Allocator> Store<A> {
-    ghost use Rattle.atlas_store.specs.Store.Holdings.{shelf_of, node_in, across_of, HasSlotsFor, IsHeld, IsDetachedLeaf};
+    ghost use Rattle.atlas_store.specs.Store.Holdings.{shelf_of, node_in, across_of, HasSlotsFor, IsHeld};
+    ghost use Rattle.atlas_store.specs.Store.Holdings.{IsDetachedLeaf};
     ghost use Rattle.atlas_store.specs.Store.StoreCalls.{HasClaimed, GrantsLeaf, IsJoined, IsLifted, ListsLeaf};
     ghost use Rattle.atlas_store.specs.Store.StoreCalls.{IsListedAt, IsDetached, IsMarkedFree, IsReadyFor, IsSharpened};
     ghost use Rattle.atlas_store.specs.Store.StoreCalls.{IsSlotTaken, IsSplit, IsSplitWith, UnlistsLeaf, IsWrapped};
@@ -119,7 +120,8 @@ impl<A: Allocator> Store<A> {
 
     /// Takes an unused slot, the one given back last, or else a new one at the end. It is claimed.
     pub fn take(&mut self) -> Link
-        requires { (h : Holding) × (claimed : ℕ → ℕ) × HoldsWith claimed (shelf_of self.old) h × HasSlotsFor 1 self.old h }
+        requires { (h : Holding) × (claimed : ℕ → ℕ) × HoldsWith claimed (shelf_of self.old) h
+            × HasSlotsFor 1 self.old h }
         ensures { IsSlotTaken self.old self.new result.number }
     {
         take_slot(&mut self.slots, &mut self.unused)
@@ -157,7 +159,8 @@ impl<A: Allocator> Store<A> {
         fresh
     }
 
-    /// A detached leaf becomes a container; the slot that is returned is its lone child, as large, and detached in its place.
+    /// A detached leaf becomes a container; the slot that is returned is its lone child, as large, and detached in its
+    /// place.
     pub fn wrap(&mut self, at: Link) -> Link
         requires { IsReadyFor 1 self.old at.number }
         ensures { IsWrapped self.old self.new at.number result.number }
@@ -192,7 +195,8 @@ impl<A: Allocator> Store<A> {
         self.turns.tick();
     }
 
-    /// A detached leaf takes in the next one, which is detached too and whose slot is given back. One turn of a freeing.
+    /// A detached leaf takes in the next one, which is detached too and whose slot is given back. One turn of a
+    /// freeing.
     pub fn join(&mut self, at: Link)
         requires ready { (h : Holding) × IsDetachedLeaf (shelf_of self.old) at.number h
             × (h.detached (node_in (shelf_of self.old) at.number).next.number ≡ true) }
@@ -205,8 +209,8 @@ impl<A: Allocator> Store<A> {
         self.turns.tick();
     }
 
-    /// A detached leaf that is alone in its container takes its place; its own slot is given back. One turn of a freeing.
-    /// The answer is the container's slot, which is detached now.
+    /// A detached leaf that is alone in its container takes its place; its own slot is given back. One turn of a
+    /// freeing. The answer is the container's slot, which is detached now.
     pub fn lift(&mut self, child: Link) -> Link
         requires ready { IsDetached self.old child.number }
         requires first { (node_in (shelf_of self.old) child.number).previous.number ≡ no_slot }

@@ -10,7 +10,8 @@ use Rattle.atlas_text.specs.Steps.{SayAll}
 
 -- The size of a page.
 abbrev pub size_text : Size → List ℕ
-size_text size = codes "size " ++ (signed_decimal size.width ++ (codes " " ++ (signed_decimal size.height ++ codes "\n")))
+size_text size = codes "size " ++ (signed_decimal size.width ++ (codes " " ++ (signed_decimal size.height
+    ++ codes "\n")))
 
 -- A glyph: its key and its corners, padding included.
 abbrev pub box_text : Drawn → List ℕ
@@ -22,7 +23,8 @@ box_text d =
     ++ (codes " "
     ++ (signed_decimal d.place.rectangle.min.y
     ++ (codes " "
-    ++ (signed_decimal d.place.rectangle.max.x ++ (codes " " ++ (signed_decimal d.place.rectangle.max.y ++ codes "\n")))))))))
+    ++ (signed_decimal d.place.rectangle.max.x ++ (codes " " ++ (signed_decimal d.place.rectangle.max.y
+    ++ codes "\n")))))))))
 
 -- A page with these glyphs.
 abbrev pub page_text : Size → List Drawn → List ℕ

@@ -9,8 +9,8 @@ use crate::telling::all_lines;
 use std::alloc::Global;
 use std::io::{Read, Write};
 
-/// Reads a trace to its end, plays it, and writes the lines of each page. Nothing is written where a line can't be read or
-/// the cache refuses a call.
+/// Reads a trace to its end, plays it, and writes the lines of each page. Nothing is written where a line can't be read
+/// or the cache refuses a call.
 pub fn run<R: Read, W: Write>(alloc: Global, input: &mut R, output: &mut W) -> Result<(), TextError>
     ensures { OnOk result (Tells (R.remaining input.old) (W.contents output.old) (W.contents output.new)) }
 {

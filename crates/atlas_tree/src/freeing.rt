@@ -8,8 +8,9 @@ use atlas_store::slots::{Link, NO_SLOT};
 use atlas_store::store::Store;
 use std::alloc::Allocator;
 
-/// One turn of a freeing: the detached leaf of a slot joins a free neighbour, the next before the previous one, or takes
-/// the place of the container that it is alone in. The answer is the slot to go on with, or none where all is settled.
+/// One turn of a freeing: the detached leaf of a slot joins a free neighbour, the next before the previous one, or
+/// takes the place of the container that it is alone in. The answer is the slot to go on with, or none where all is
+/// settled.
 fn turn<A: Allocator>(store: &mut Store<A>, at: Link) -> Option<Link>
     requires { (h : Holding) × IsSettlingAt (shelf_of store.old) at.number h }
     ensures turned { IfSome result (λ next. IsTurnTo store.old store.new at.number next.number) }

@@ -113,7 +113,8 @@ pub fn plan_for(leaf: &Node, size: Size) -> Plan
     }
 }
 
-/// Carries out a plan in the detached leaf of a slot, for which there are slots. The answer is the slot that is granted.
+/// Carries out a plan in the detached leaf of a slot, for which there are slots. The answer is the slot that is
+/// granted.
 pub fn place<A: Allocator>(store: &mut Store<A>, at: Link, plan: Plan) -> Link
     requires { IsPlanReady store.old at.number plan }
     ensures { IsPlanDone store.old store.new at.number result.number plan }

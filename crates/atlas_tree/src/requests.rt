@@ -1,5 +1,6 @@
 //! Granting a request: the free slot that it takes, the slots that this needs, and the placing itself.
-ghost use Rattle.std.specs.Prelude.{◌≡◌, ◌+◌, ◌<◌, ◌≤◌, ◌⊎◌, List, None, IfSome, OnOk, OnErr, IfErr, Err, vec_capacity, length};
+ghost use Rattle.std.specs.Prelude.{◌≡◌, ◌+◌, ◌<◌, ◌≤◌, ◌⊎◌, List, None, IfSome, OnOk, OnErr, IfErr, Err, vec_capacity};
+ghost use Rattle.std.specs.Prelude.{length};
 ghost use Rattle.atlas_model.specs.Boxes.{Box, IsPositive};
 ghost use Rattle.atlas_model.specs.Choice.{IsFitting};
 ghost use Rattle.atlas_model.specs.Pixels.{sides_of};

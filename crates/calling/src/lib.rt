@@ -1,5 +1,5 @@
-//! What callers write first over an atlas. All is proved with no proof file but `apart::two` and `tiled`, which show how
-//! a clause and a law are cited.
+//! What callers write first over an atlas. All is proved with no proof file but `apart::two` and `tiled`, which show
+//! how a clause and a law are cited.
 #![tactic(auto)]
 
 mod apart;

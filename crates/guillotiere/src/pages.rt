@@ -1,7 +1,8 @@
 //! Pages of a texture array: several atlases in a list, each with ids of its own.
 ghost use Rattle.std.specs.Prelude.{◌≡◌, ◌<◌, ◌↔◌, None, Ok, length, IfNone, IfOk, IfSome, IsOkUnless, IsSome};
 ghost use Rattle.std.specs.Prelude.{IsTrue, OnErr};
-ghost use Rattle.guillotiere.specs.Pages.{rectangle_on, AddsBoxOn, AllLieApartOn, AllLieWithinOn, HasRoomFor, HasRoomOn};
+ghost use Rattle.guillotiere.specs.Pages.{rectangle_on, AddsBoxOn, AllLieApartOn, AllLieWithinOn, HasRoomFor};
+ghost use Rattle.guillotiere.specs.Pages.{HasRoomOn};
 ghost use Rattle.guillotiere.specs.Pages.{IsAnswerOn, LeavesNoBoxOn, NoneHasRoomBelow, PagesAreGivenBack};
 
 use crate::AtlasAllocator;

@@ -1,6 +1,7 @@
 -- What statuses and structs of numbers of a cache mean.
 use Rattle.std.specs.Prelude.{ℕ, ◌==◌, if◌then◌else◌, Option, Some, None, Result, Ok, Err}
-use Rattle.guillotiere_c.specs.declared.plain.TheConstants.{DONE, NO_ROOM, SLOTS, MEMORY, OTHER_SIZE, NUMBERS, EMPTY_PAGE}
+use Rattle.guillotiere_c.specs.declared.plain.TheConstants.{DONE, NO_ROOM, SLOTS, MEMORY, OTHER_SIZE, NUMBERS}
+use Rattle.guillotiere_c.specs.declared.plain.TheConstants.{EMPTY_PAGE}
 use Rattle.guillotiere_c.specs.declared.plain.TheConstants.{LARGEST_PAGE, NO_PAGES, BAD_PADDING, BAD_ATLAS}
 use Rattle.guillotiere_c.specs.declared.plain.TheConstants.{NOT_HELD, PAGE_ADDED, PAGE_GROWN, EVICTED, MOVED}
 use Rattle.guillotiere_c.specs.declared.plain_cache.PlainCacheChange.{PlainCacheChange}

@@ -1,5 +1,5 @@
--- What a handle owns. Where it holds nothing it is null and owns nothing; else it owns the allocator at its pointer, and
--- the right to free its block.
+-- What a handle owns. Where it holds nothing it is null and owns nothing; else it owns the allocator at its pointer,
+-- and the right to free its block.
 use Rattle.std.specs.Prelude.{Option, Some, None}
 use mir.Syntax.{Ty}
 use base.Fml.{Fml, feq}

@@ -1,7 +1,8 @@
 -- What the structs of numbers of a sheet mean.
 use Rattle.std.specs.Prelude.{ℕ, Bool, true, false, ◌==◌, nat_le, if◌then◌else◌, Option, Some, None, option_map}
 use Rattle.guillotiere_c.specs.declared.plain.TheConstants.{MEMORY, EMPTY_SHEET, EMPTY_RANGE, EMPTY_ALIGNMENT}
-use Rattle.guillotiere_c.specs.declared.plain.TheConstants.{EMPTY_SPRITE, GREAT_SPRITE, ONE_SIZE, SQUARES, POWERS, HEIGHTS}
+use Rattle.guillotiere_c.specs.declared.plain.TheConstants.{EMPTY_SPRITE, GREAT_SPRITE, ONE_SIZE, SQUARES, POWERS}
+use Rattle.guillotiere_c.specs.declared.plain.TheConstants.{HEIGHTS}
 use Rattle.guillotiere_c.specs.declared.plain_sheet.PlainPlaced.{PlainPlaced}
 use Rattle.guillotiere_c.specs.declared.plain_sheet.PlainSheetOptions.{PlainSheetOptions}
 use Rattle.guillotiere_c.specs.Numbers.{corners_in}

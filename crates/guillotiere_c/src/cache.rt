@@ -22,7 +22,8 @@ use guillotiere::size2;
 use std::alloc::Global;
 
 /// Makes a cache with these options, where the handle holds nothing. `DONE`; `EMPTY_PAGE`, `LARGEST_PAGE`, `NO_PAGES`,
-/// `BAD_PADDING` or `BAD_ATLAS` if that is wrong with the options; `MEMORY`; `EMPTY` if the handle holds a cache already.
+/// `BAD_PADDING` or `BAD_ATLAS` if that is wrong with the options; `MEMORY`; `EMPTY` if the handle holds a cache
+/// already.
 #[unsafe(no_mangle)]
 pub extern "C" fn guillotiere_cache_new(
     alloc: Global,
@@ -142,9 +143,9 @@ pub extern "C" fn guillotiere_cache_peek(
 }
 
 /// A place for a key, which is used in this frame, as `TextureCache::insert` finds it. `DONE`; `NO_ROOM` if the size is
-/// empty or doesn't fit the largest page, or if each entry is in use and no page has room; `OTHER_SIZE` if the key is held
-/// with another size; `NUMBERS`, `SLOTS`, `MEMORY`. What was done is told by `guillotiere_cache_next_change`, also after
-/// `NO_ROOM` and after an error.
+/// empty or doesn't fit the largest page, or if each entry is in use and no page has room; `OTHER_SIZE` if the key is
+/// held with another size; `NUMBERS`, `SLOTS`, `MEMORY`. What was done is told by `guillotiere_cache_next_change`, also
+/// after `NO_ROOM` and after an error.
 #[unsafe(no_mangle)]
 pub extern "C" fn guillotiere_cache_insert(
     alloc: Global,
@@ -267,8 +268,8 @@ pub extern "C" fn guillotiere_cache_trim(alloc: Global, cache: &mut CacheHandle,
     }
 }
 
-/// Places the keys of a page anew, the largest first, so that what is free comes together. Each of them is told once, as
-/// moved or, where it found no room, as evicted; no other key changes. Pages are counted from 0. `DONE`; `NO_PAGE`;
+/// Places the keys of a page anew, the largest first, so that what is free comes together. Each of them is told once,
+/// as moved or, where it found no room, as evicted; no other key changes. Pages are counted from 0. `DONE`; `NO_PAGE`;
 /// `SLOTS`; `MEMORY`.
 #[unsafe(no_mangle)]
 pub extern "C" fn guillotiere_cache_repack(alloc: Global, cache: &mut CacheHandle, page: u32) -> u32

@@ -1,6 +1,7 @@
 //! What crosses to C of caches: options, places, changes and counts. All lengths are in pixels.
 ghost use Rattle.std.specs.Prelude.{◌≡◌, ◌≢◌, Err, Some};
-ghost use Rattle.guillotiere_c.specs.CacheNumbers.{cache_change_in, cache_error, cache_options_in, counts_in, insert_answer};
+ghost use Rattle.guillotiere_c.specs.CacheNumbers.{cache_change_in, cache_error, cache_options_in, counts_in};
+ghost use Rattle.guillotiere_c.specs.CacheNumbers.{insert_answer};
 ghost use Rattle.guillotiere_c.specs.CacheNumbers.{options_fault, place_in};
 ghost use Rattle.guillotiere_c.specs.declared.plain_cache.PlainPlace.{PlainPlace as Written};
 

@@ -1,5 +1,6 @@
 //! The export that packs sprites known beforehand into a sheet.
-ghost use Rattle.std.specs.Prelude.{◌≡◌, ◌≢◌, ◌≤◌, length, map, IfErr, IfNone, IfOk, IfSome, IsOkUnless, IsSomeAnd, None};
+ghost use Rattle.std.specs.Prelude.{◌≡◌, ◌≢◌, ◌≤◌, length, map, IfErr, IfNone, IfOk, IfSome, IsOkUnless, IsSomeAnd};
+ghost use Rattle.std.specs.Prelude.{None};
 ghost use Rattle.atlas_sheet.specs.declared.error.SheetError.TheVariants.{Memory};
 ghost use Rattle.atlas_sheet.specs.Settings.{IsSheetFault};
 ghost use Rattle.guillotiere_c.specs.Numbers.{size_in};
@@ -42,11 +43,11 @@ fn found(
     Ok(sheet)
 }
 
-/// Packs sprites into the smallest sheet that `atlas_sheet::pack` finds, and writes where each of them lies, in the order
-/// of the sprites, and the size of the sheet. `DONE`; `NO_ROOM` if no order that was tried packs them into the greatest
-/// sheet that is allowed; `BAD_CALL` if the sheets are of no kind, or the padding is above 65535; `SHORT` if there is room
-/// for fewer places than sprites; `EMPTY_SHEET`, `EMPTY_RANGE`, `EMPTY_ALIGNMENT`; `EMPTY_SPRITE` and `GREAT_SPRITE` of the
-/// sprite whose number is written then; `MEMORY`.
+/// Packs sprites into the smallest sheet that `atlas_sheet::pack` finds, and writes where each of them lies, in the
+/// order of the sprites, and the size of the sheet. `DONE`; `NO_ROOM` if no order that was tried packs them into the
+/// greatest sheet that is allowed; `BAD_CALL` if the sheets are of no kind, or the padding is above 65535; `SHORT` if
+/// there is room for fewer places than sprites; `EMPTY_SHEET`, `EMPTY_RANGE`, `EMPTY_ALIGNMENT`; `EMPTY_SPRITE` and
+/// `GREAT_SPRITE` of the sprite whose number is written then; `MEMORY`.
 #[unsafe(no_mangle)]
 pub extern "C" fn guillotiere_pack(
     alloc: Global,

@@ -255,8 +255,8 @@ impl<A: Allocator + Copy> RecordingAllocator<A> {
         self.atlas.for_each_free_rectangle(visit);
     }
 
-    /// Calls `visit` on each live name and its rectangle once, by rising name. Asks that `visit` may be called along that
-    /// list, and no more: nothing else is called. Takes no memory.
+    /// Calls `visit` on each live name and its rectangle once, by rising name. Asks that `visit` may be called along
+    /// that list, and no more: nothing else is called. Takes no memory.
     pub fn for_each_allocated_rectangle<F: FnMut(AllocId, &Rectangle)>(&self, visit: F)
         requires { (grants : List Grant) → AreBooked self.now.recording.events grants
             → IsCallableAlongGrants F.FnMut (λ (a : Grant). IsShownArea a.rectangle) visit grants }

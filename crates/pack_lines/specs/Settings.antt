@@ -1,5 +1,6 @@
 -- The first line may set what a sheet keeps to.
-use Rattle.std.specs.Prelude.{◌≡◌, ℕ, ◌<◌, nat_lt, ⊤, option_map, ℤ, pos, negsuc, true, if◌then◌else◌, List, [], ◌∷◌, ◌++◌, codes, Option, Some, None}
+use Rattle.std.specs.Prelude.{◌≡◌, ℕ, ◌<◌, nat_lt, ⊤, option_map, ℤ, pos, negsuc, true, if◌then◌else◌, List, [], ◌∷◌}
+use Rattle.std.specs.Prelude.{◌++◌, codes, Option, Some, None}
 use Rattle.std.specs.Str.{bytes_eq}
 use Rattle.atlas_words.specs.Words.{BeginsWithNumber, IsEmptyOrSpaced}
 use Rattle.pack_lines.specs.declared.settings.Setting.{Setting}
@@ -38,7 +39,8 @@ arguments setting.Json = []
 -- Numbers, each after one space, and what follows them.
 abbrev pub BeginsWithNumbers : List ℤ → (text rest : List ℕ) → Type 0
 BeginsWithNumbers [] text rest = (text ≡ rest) × IsEmptyOrSpaced rest
-BeginsWithNumbers (z ∷ zs) text rest = (middle : List ℕ) × BeginsWithNumber text z middle × BeginsWithNumbers zs middle rest
+BeginsWithNumbers (z ∷ zs) text rest = (middle : List ℕ) × BeginsWithNumber text z middle
+    × BeginsWithNumbers zs middle rest
 
 -- A padding has at most 65535 pixels.
 abbrev pub IsSmall : Setting → Type 0
@@ -100,4 +102,5 @@ setting_with_numbers word first second =
     if bytes_eq word (codes "one") then Some (setting.Allowed (sheets.One (record { width = first; height = second })))
     else (if bytes_eq word (codes "squares") then Some (setting.Allowed (sheets.Squares first second))
     else (if bytes_eq word (codes "width") then Some (setting.Allowed (sheets.Heights first second))
-    else (if bytes_eq word (codes "align") then Some (setting.Align (record { width = first; height = second })) else None)))
+    else (if bytes_eq word (codes "align") then Some (setting.Align
+    (record { width = first; height = second })) else None)))

@@ -23,7 +23,8 @@ place_line p =
     ++ (codes " "
     ++ (signed_decimal p.corner.y
     ++ (codes " "
-    ++ (signed_decimal p.sprite.size.width ++ (codes " " ++ (signed_decimal p.sprite.size.height ++ (turned_text p.turned ++ codes "\n")))))))))
+    ++ (signed_decimal p.sprite.size.width ++ (codes " " ++ (signed_decimal p.sprite.size.height
+    ++ (turned_text p.turned ++ codes "\n")))))))))
 
 -- How full the sheet is.
 abbrev pub full_text : ℕ → List ℕ

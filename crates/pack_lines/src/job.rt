@@ -41,8 +41,8 @@ fn read_first(text: &[u8]) -> Result<(Settings, usize, &[u8]), PackError>
 
 /// What the lines of a text ask for: settings, if the first line begins with the word `sheet`, and then a sprite each.
 ///
-/// `BadSettings` if the words after `sheet` are none; `BadLine` names the first line that is no sprite; `Twice` names the
-/// first line whose name stands on an earlier one; `Memory` if memory is refused.
+/// `BadSettings` if the words after `sheet` are none; `BadLine` names the first line that is no sprite; `Twice` names
+/// the first line whose name stands on an earlier one; `Memory` if memory is refused.
 pub fn read_job(alloc: Global, text: &[u8]) -> Result<Job<'_>, PackError>
     ensures asks { IfOk result (λ job. AsksFor text.now job.before job.settings job.sprites.items) }
     ensures few { IfOk result (λ job. job.before ≤ 1) }

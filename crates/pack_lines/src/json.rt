@@ -1,6 +1,7 @@
 //! A sheet as JSON.
 ghost use Rattle.std.specs.Prelude.{◌≡◌, ◌++◌, IfOk, codes, flat_map, string_bytes};
-ghost use Rattle.pack_lines.specs.Json.{corner_text, member_text, members_text, json_of, meta_text, quoted, rotated_text, sides_text};
+ghost use Rattle.pack_lines.specs.Json.{corner_text, member_text, members_text, json_of, meta_text, quoted};
+ghost use Rattle.pack_lines.specs.Json.{rotated_text, sides_text};
 
 use crate::frames::Frame;
 use atlas_model::{Point, Size};
@@ -81,8 +82,8 @@ fn meta(alloc: Global, sheet: Size) -> Result<String, AllocError>
     format!(in alloc; "\n}},\"meta\":{{\"size\":{{\"w\":{width},\"h\":{height}}}}}}}\n")
 }
 
-/// A sheet as a JSON object: `frames` by the names of the sprites, in order, each with its `frame` (`x`, `y`, `w`, `h`) and
-/// `rotated`; and `meta` with the `size` of the sheet (`w`, `h`). It takes memory for the text.
+/// A sheet as a JSON object: `frames` by the names of the sprites, in order, each with its `frame` (`x`, `y`, `w`, `h`)
+/// and `rotated`; and `meta` with the `size` of the sheet (`w`, `h`). It takes memory for the text.
 pub fn sheet_json(alloc: Global, sheet: Size, frames: &[Frame<'_>]) -> Result<Vec<u8>, AllocError>
     ensures { IfOk result (λ text. text.items ≡ json_of sheet frames.now) }
 {

@@ -1,7 +1,8 @@
 //! What the first line may set.
 ghost use Rattle.std.specs.Prelude.{◌≡◌, ℕ, List, [], ◌∷◌, Some, IfSome, IsSomeAnd};
 ghost use Rattle.pack_lines.specs.declared.settings.Setting.{Setting};
-ghost use Rattle.pack_lines.specs.Settings.{BeginsWithSetting, SpellsSettings, arguments, changed, changed_by, setting_name};
+ghost use Rattle.pack_lines.specs.Settings.{BeginsWithSetting, SpellsSettings, arguments, changed, changed_by};
+ghost use Rattle.pack_lines.specs.Settings.{setting_name};
 ghost use Rattle.pack_lines.specs.Settings.{from_zero, setting_alone, setting_with_number, setting_with_numbers};
 
 use atlas_model::{Size, size2};
@@ -186,12 +187,13 @@ fn next_setting(text: &[u8]) -> Option<(Setting, &[u8])>
     Some((with_numbers(word, first, second)?, rest))
 }
 
-/// What settings, each after one space, change of `DEFAULT_SETTINGS`; of two of one kind the later holds. None for every
-/// other text.
+/// What settings, each after one space, change of `DEFAULT_SETTINGS`; of two of one kind the later holds. None for
+/// every other text.
 pub fn read_settings(text: &[u8]) -> Option<Settings>
     ensures found { IfSome result (λ settings. (all : List Setting) × SpellsSettings all text.now
         × (settings ≡ changed_by DEFAULT_SETTINGS all)) }
-    ensures only { (all : List Setting) → SpellsSettings all text.now → result ≡ Some (changed_by DEFAULT_SETTINGS all) }
+    ensures only { (all : List Setting) → SpellsSettings all text.now
+        → result ≡ Some (changed_by DEFAULT_SETTINGS all) }
 {
     let mut settings = DEFAULT_SETTINGS;
     let mut rest = text;

@@ -35,8 +35,8 @@ fn read_name(word: &[u8]) -> Option<&str>
     str::from_utf8(word).ok()
 }
 
-/// The sprite that the bytes of a line, without its LF, name: NAME WIDTH HEIGHT, parted by single spaces. None for every
-/// other line.
+/// The sprite that the bytes of a line, without its LF, name: NAME WIDTH HEIGHT, parted by single spaces. None for
+/// every other line.
 pub fn read_sprite(line: &[u8]) -> Option<Sprite<'_>>
     ensures found { IfSome result (λ sprite. SpellsSprite sprite.name.now sprite.size line.now) }
     ensures all { (name : List ℕ) (size : Size) → SpellsSprite name size line.now

@@ -24,9 +24,9 @@ impl<K: Copy + Eq + Hash, S: BuildHasher, A: Allocator + Copy> TextureCache<K, S
         self.rooms.clear();
     }
 
-    /// The entries that weren't used for at least so many frames go: with 1, what this frame didn't use; with 0, all. Each
-    /// is added to the changes as `Evicted`, the least recently used first. The others stay. The list of changes is asked
-    /// for room for as many as there are entries; with `Memory`, if that is refused, nothing changes.
+    /// The entries that weren't used for at least so many frames go: with 1, what this frame didn't use; with 0, all.
+    /// Each is added to the changes as `Evicted`, the least recently used first. The others stay. The list of changes
+    /// is asked for room for as many as there are entries; with `Memory`, if that is refused, nothing changes.
     pub fn trim(&mut self, frames: u64, changes: &mut Changes<K, A>) -> Result<(), CacheError>
         ensures trims { OnOk result (Trims frames changes.old.items changes.new.items self.old self.new) }
         ensures told { TellsChanges K.eq changes.old.items changes.new.items self.old self.new }

@@ -26,8 +26,8 @@ impl<K: Copy + Eq + Hash, S: BuildHasher, A: Allocator + Copy> TextureCache<K, S
         self.counts
     }
 
-    /// The area of all entries of a page together, with their padding and what alignment added, in pixels; None if there
-    /// is no such page. Takes no memory, and one pass over the slots of the page.
+    /// The area of all entries of a page together, with their padding and what alignment added, in pixels; None if
+    /// there is no such page. Takes no memory, and one pass over the slots of the page.
     pub fn live_area(&self, page: u32) -> Option<u64>
         ensures { result ≡ slice_get (live_by_page self.now.pages) page }
     {

@@ -1,5 +1,6 @@
 //! Steps over the pages and the entries of a cache: what is live on the pages stays what the entries hold, each once.
-ghost use Rattle.std.specs.Prelude.{◌≡◌, [], ◌∷◌, ◌++◌, length, IfErr, IfNone, IfOk, IfSome, IsNone, None, Ok, OnErr, Some};
+ghost use Rattle.std.specs.Prelude.{◌≡◌, [], ◌∷◌, ◌++◌, length, IfErr, IfNone, IfOk, IfSome, IsNone, None, Ok, OnErr};
+ghost use Rattle.std.specs.Prelude.{Some};
 ghost use Rattle.guillotiere.specs.Pages.{HasSameRectangles, LeavesNoBoxOn, NoneHasRoomBelow};
 ghost use Rattle.atlas_cache.specs.Asking.{IsBorderedBy};
 ghost use Rattle.atlas_cache.specs.Caches.{entries_of, entry_for, shown, HoldsEntries, IsFound};

@@ -102,9 +102,9 @@ fn settle_all<K: Copy + Eq + Hash, S: BuildHasher, A: Allocator + Copy>(
 
 impl<K: Copy + Eq + Hash, S: BuildHasher, A: Allocator + Copy> TextureCache<K, S, A> {
     /// Places the rectangles of a page anew, the largest first, so that what is free comes together; the page doesn't
-    /// grow. Whether there is such a page; if not, nothing changes. Each entry of the page is added to the changes once,
-    /// the most recently used first: as `Moved`, also where it stays in its place, or as `Evicted`, which is counted,
-    /// where it found no room. Every other entry stays, and so do the order of use, the frame and the options.
+    /// grow. Whether there is such a page; if not, nothing changes. Each entry of the page is added to the changes
+    /// once, the most recently used first: as `Moved`, also where it stays in its place, or as `Evicted`, which is
+    /// counted, where it found no room. Every other entry stays, and so do the order of use, the frame and the options.
     ///
     /// A place that an entry moves to can overlap one that a later change moves from: copy all pixels from the page as
     /// it was before the call. `Slots` if the page has too few of them, `Memory` if memory is refused; then nothing

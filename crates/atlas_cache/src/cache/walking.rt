@@ -67,7 +67,8 @@ impl<K: Copy + Eq + Hash, S: BuildHasher, A: Allocator + Copy> TextureCache<K, S
     }
 
     /// The key that was used next before this one, and its place; None if this one is the least recently used, or isn't
-    /// held. It counts as no use. From `newest` on, this gives each key once, in the order of use, with one look-up each.
+    /// held. It counts as no use. From `newest` on, this gives each key once, in the order of use, with one look-up
+    /// each.
     pub fn older(&self, key: &K) -> Option<(K, Place)>
         ensures next { IfSome (entry_for K.eq key.now self.now.entries) (λ e. ShowsOlder e result self.now) }
         ensures none { entry_for K.eq key.now self.now.entries ≡ None → result ≡ None }

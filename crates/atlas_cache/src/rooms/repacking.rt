@@ -47,11 +47,11 @@ fn rearrange_on<A: Allocator + Copy>(
 }
 
 impl<A: Allocator + Copy> Rooms<A> {
-    /// Places the rectangles of a page anew, the largest first, as `rearrange` of its atlas does; the page doesn't grow.
-    /// Asks that there is such a page. The list tells each rectangle of the page once: those that were placed anew, with
-    /// their former and their new ids, and those that found no room, whose ids are live no more. All former ids of the
-    /// page are void. Other pages stay as they are. `Slots` if the page has too few of them, `Memory` if memory is
-    /// refused; then nothing changes.
+    /// Places the rectangles of a page anew, the largest first, as `rearrange` of its atlas does; the page doesn't
+    /// grow. Asks that there is such a page. The list tells each rectangle of the page once: those that were placed
+    /// anew, with their former and their new ids, and those that found no room, whose ids are live no more. All former
+    /// ids of the page are void. Other pages stay as they are. `Slots` if the page has too few of them, `Memory` if
+    /// memory is refused; then nothing changes.
     pub fn repack(&mut self, page: u32) -> Result<ChangeList<A>, CacheError>
         requires { page < length self.old.pages }
         ensures repacks { IfOk result (RepacksPage self.old.pages self.new.pages page) }

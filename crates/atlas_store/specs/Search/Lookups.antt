@@ -1,5 +1,6 @@
 -- The search through lists of entries: what it needs, and what it answers. No public clause cites this module.
-use Rattle.std.specs.Prelude.{ℕ, ◌+◌, ◌≡◌, ◌≢◌, ◌<◌, ◌≤◌, ◌==◌, ◌⊎◌, ◌++◌, Bool, true, List, Contains, slice_index_or, length}
+use Rattle.std.specs.Prelude.{ℕ, ◌+◌, ◌≡◌, ◌≢◌, ◌<◌, ◌≤◌, ◌==◌, ◌⊎◌, ◌++◌, Bool, true, List, Contains, slice_index_or}
+use Rattle.std.specs.Prelude.{length}
 use Rattle.atlas_store.specs.declared.search.Request.{Request}
 use Rattle.atlas_store.specs.declared.search.bands.Borders.{Borders}
 use Rattle.atlas_store.specs.declared.search.bands.Place.{Place}

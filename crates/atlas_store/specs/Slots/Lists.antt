@@ -72,8 +72,8 @@ pub record IsFiled (o : Options) (ns : List Node) (rs : List Ring) (heads : List
   pub each : (i : ℕ) → occurs i xs ≡ (if detached i then 0 else filed o k (node_at ns i))
   pub low : (i : ℕ) → 0 < occurs i xs → low_of heads k ≤ node_top (node_at ns i)
 
--- Where slots stand: `unused_list` has the unused ones, `free_lists k` those of list k, `claimed i` counts a slot that is taken and
--- not used yet, and `detached` are the free ones that stand in no list.
+-- Where slots stand: `unused_list` has the unused ones, `free_lists k` those of list k, `claimed i` counts a slot that
+-- is taken and not used yet, and `detached` are the free ones that stand in no list.
 pub record Places : Type 0 where
   pub unused_list : List ℕ
   pub free_lists : ℕ → List ℕ

@@ -92,7 +92,8 @@ after_split i k p h = with_detached k true (with_numbered (split_at i k p h.tree
 
 -- Slot k is the lone child of what was the detached leaf of slot i.
 abbrev pub after_wrap : (i k : ℕ) → Holding → Holding
-after_wrap i k h = with_detached i false (with_detached k true (with_numbered (wrapped_at i k h.sequence.width h.tree) h))
+after_wrap i k h =
+    with_detached i false (with_detached k true (with_numbered (wrapped_at i k h.sequence.width h.tree) h))
 
 -- The granted leaf of slot i is free, and detached.
 abbrev pub after_mark : (i : ℕ) → Holding → Holding
@@ -105,7 +106,8 @@ after_join i j h = with_unused_list (j ∷ h.unused_list) (with_detached j false
 -- The container of slot i has given way to its lone child of slot c, which is unused.
 abbrev pub after_lift : (i c : ℕ) → Holding → Holding
 after_lift i c h =
-    with_unused_list (c ∷ h.unused_list) (with_detached c false (with_detached i true (with_numbered (lifted i h.tree) h)))
+    with_unused_list (c ∷ h.unused_list) (with_detached c false
+    (with_detached i true (with_numbered (lifted i h.tree) h)))
 
 -- The side of a leaf across the sequence that holds it.
 abbrev pub across_of : Node → ℕ

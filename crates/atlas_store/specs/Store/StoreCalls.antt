@@ -145,7 +145,8 @@ abbrev pub TakesSlots : {A : Type 0} → (old new : Store A) → (m : ℕ) → (
     → (after : Holding → Holding) → Type 0
 TakesSlots old new m before after =
     (h : Holding) (n : ℕ) → before h → HasSlotsFor (n + m) old h
-    → (unused_list : List ℕ) × Holds (shelf_of new) (with_unused_list unused_list (after h)) × HasSlotsFor n new (with_unused_list unused_list h)
+    → (unused_list : List ℕ) × Holds (shelf_of new) (with_unused_list unused_list (after h))
+    × HasSlotsFor n new (with_unused_list unused_list h)
     × (length unused_list ≡ length h.unused_list - m)
 
 -- The detached leaf of slot `at` keeps p of its extent, and slot k takes the rest; both are detached.
@@ -174,8 +175,8 @@ pub record IsWrapped {A : Type 0} (old new : Store A) (at k : ℕ) : Type 0 wher
   pub once : KeepsTakenOnce old new
   pub turns : new.turns ≡ old.turns
 
--- The detached leaf of slot `at` is a container of slot k, which keeps p of it, and slot l, which has the rest; both are
--- detached.
+-- The detached leaf of slot `at` is a container of slot k, which keeps p of it, and slot l, which has the rest; both
+-- are detached.
 pub record IsWrappedTwo {A : Type 0} (old new : Store A) (at k l p : ℕ) : Type 0 where
   pub kept : TakesSlots old new 2 (IsDetachedLeaf (shelf_of old) at) (λ h. after_split k l p (after_wrap at k h))
   pub front : (node_in (shelf_of new) k).kind ≡ kind.Free
@@ -199,7 +200,8 @@ pub record IsMarkedFree {A : Type 0} (old new : Store A) (i : ℕ) : Type 0 wher
 
 -- The detached leaf of slot i took in the next one, of slot j; a turn was taken.
 pub record IsJoined {A : Type 0} (old new : Store A) (i j : ℕ) : Type 0 where
-  pub kept : (h : Holding) → IsDetachedLeaf (shelf_of old) i h → h.detached j ≡ true → Holds (shelf_of new) (after_join i j h)
+  pub kept : (h : Holding) → IsDetachedLeaf (shelf_of old) i h → h.detached j ≡ true
+      → Holds (shelf_of new) (after_join i j h)
   pub calm : (k : ℕ) → IsCalmBut (nodes old.slots.items) k → (k ≡ i) ⊎ (k ≡ j) → IsCalmBut (nodes new.slots.items) i
   pub free : (node_in (shelf_of new) i).kind ≡ kind.Free
   pub room : KeepsRoom old new

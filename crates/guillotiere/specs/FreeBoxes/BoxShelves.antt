@@ -50,8 +50,9 @@ free_item_boxes (e ∷ es) = if e.is_free then item_box e ∷ free_item_boxes es
 abbrev pub free_count : Item → ℕ
 free_count e = if e.is_free then 1 else 0
 
--- The free entries stand in their lists, and `unused_list` has the unused ones, from `unused` on. Each entry is a free one, an
--- unused one or claimed, exactly one of these, and once; `claimed i` counts an entry that is taken and not used yet.
+-- The free entries stand in their lists, and `unused_list` has the unused ones, from `unused` on. Each entry is a free
+-- one, an unused one or claimed, exactly one of these, and once; `claimed i` counts an entry that is taken and not used
+-- yet.
 pub record AreKeptWith (claimed : ℕ → ℕ) (o : Options) (v : BoxShelf) : Type 0 where
   pub listed : AreListed o v.heads v.entries
   pub unused_list : List ℕ

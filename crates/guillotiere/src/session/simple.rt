@@ -97,8 +97,8 @@ fn reset<A: Allocator + Copy>(
     done(simple.reset(size, options))
 }
 
-// Makes a call of a simple allocator. Where the condition of the call doesn't hold it answers `BadCall`. Unless the reply
-// says that something was done, nothing changes.
+// Makes a call of a simple allocator. Where the condition of the call doesn't hold it answers `BadCall`. Unless the
+// reply says that something was done, nothing changes.
 fn make<A: Allocator + Copy>(
     simple: &mut SimpleAtlasAllocator<A>,
     source: &AtlasAllocator<A>,
@@ -116,8 +116,8 @@ fn make<A: Allocator + Copy>(
 }
 
 /// Makes calls of a simple allocator in turn, and appends a reply for each; `Start` takes over from `source`. Room for
-/// all replies comes first: `Memory` is the only error, if `replies` has less, and after it allocator and replies are as
-/// before. So the rectangles granted since the last start never overlap each other or what the source then held live
+/// all replies comes first: `Memory` is the only error, if `replies` has less, and after it allocator and replies are
+/// as before. So the rectangles granted since the last start never overlap each other or what the source then held live
 /// (docs/MODEL.md, "The simple allocator").
 pub fn run_simple<A: Allocator + Copy>(
     simple: &mut SimpleAtlasAllocator<A>,

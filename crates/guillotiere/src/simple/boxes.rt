@@ -102,7 +102,8 @@ impl<A: Allocator> FreeBoxes<A> {
     fn take(&mut self) -> Link
         requires kept { (o : Options) × AreKept o (box_shelf self.old) }
         requires room { HasEntriesFor 1 self.old }
-        ensures taken { (o : Options) → AreKept o (box_shelf self.old) → IsClaimed o (box_shelf self.new) result.number }
+        ensures taken { (o : Options) → AreKept o (box_shelf self.old)
+            → IsClaimed o (box_shelf self.new) result.number }
         ensures boxes { free_item_boxes (box_shelf self.new).entries ≡ free_item_boxes (box_shelf self.old).entries }
         ensures heads { self.new.table ≡ self.old.table }
         ensures entries { HasTakenEntries 1 self.old self.new }
@@ -135,8 +136,8 @@ impl<A: Allocator> FreeBoxes<A> {
         self.table.push(place, at, top_in(area));
     }
 
-    /// Makes it sure that n more entries can be used. The only error is `Memory`, where that is more than there are, and
-    /// nothing changes but the room.
+    /// Makes it sure that n more entries can be used. The only error is `Memory`, where that is more than there are,
+    /// and nothing changes but the room.
     pub fn make_room(&mut self, n: u32) -> Result<(), AtlasError>
         requires few { n ≤ 2 }
         requires kept { (o : Options) × AreKept o (box_shelf self.old) }

@@ -1,5 +1,5 @@
-//! A cache's calls, each in a function without a contract: a long contract takes its time to prove wherever it is used, and a test,
-//! which looks at the answer, has no use for it.
+//! A cache's calls, each in a function without a contract: a long contract takes its time to prove wherever it is used,
+//! and a test, which looks at the answer, has no use for it.
 use atlas_cache::entries::DefaultHasher;
 use atlas_cache::{CacheError, Changes, Place, TextureCache};
 use guillotiere::Size;

@@ -189,7 +189,8 @@ fn place_of(list: &[(u32, u64)], key: u32) -> Option<usize>
     None
 }
 
-// One call on both, with one of 60 keys: a new entry, or else a use or a removal. `false` if one of them alone has the key.
+// One call on both, with one of 60 keys: a new entry, or else a use or a removal. `false` if one of them alone has the
+// key.
 fn turn(
     entries: &mut Entries<u32>,
     list: &mut Vec<(u32, u64)>,

@@ -1,4 +1,5 @@
-//! How many entries a simple allocator uses and keeps, and a start whose free boxes are all narrower than the alignment.
+//! How many entries a simple allocator uses and keeps, and a start whose free boxes are all narrower than the
+//! alignment.
 
 use guillotiere::{AllocId, AtlasAllocator, AtlasError, SimpleAtlasAllocator, SlotCount, size2};
 use std::alloc::Global;
