@@ -93,16 +93,6 @@ pub fn write_node(slots: &mut [Slot], at: Link, node: Node)
     slot.node = node;
 }
 
-/// Writes the lists' part of a slot.
-pub fn write_ring(slots: &mut [Slot], at: Link, ring: Ring)
-    requires { at.number < length slots.old }
-    ensures written { rings slots.new ≡ slice_set (rings slots.old) at.number ring }
-    ensures same_nodes { nodes slots.new ≡ nodes slots.old }
-{
-    let slot = &mut slots[at.number as usize];
-    slot.ring = ring;
-}
-
 /// What a slot is used for from now on.
 pub fn set_kind(slots: &mut [Slot], at: Link, kind: NodeKind)
     requires { at.number < length slots.old }

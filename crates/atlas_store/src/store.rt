@@ -14,7 +14,7 @@ pub mod turns;
 
 use crate::search::bands::{Place, Scale};
 use crate::search::table::Table;
-use crate::slots::lists::{enlist, give_back, take_slot, unlist, unlist_at};
+use crate::slots::lists::{enlist, give_back, take_slot, unlist};
 use crate::slots::placing::{grant_leaf, split_leaf, wrap_leaf};
 use crate::slots::{Link, NO_SLOT, Node, NodeKind, Slot, join_next, lift, mark_free, read_node};
 use crate::store::turns::Turns;
@@ -35,7 +35,7 @@ impl<A: Allocator> Store<A> {
     ghost use Rattle.atlas_store.specs.Store.Holdings.{shelf_of, node_in, across_of, HasSlotsFor, IsHeld};
     ghost use Rattle.atlas_store.specs.Store.Holdings.{IsDetachedLeaf};
     ghost use Rattle.atlas_store.specs.Store.StoreCalls.{HasClaimed, GrantsLeaf, IsJoined, IsLifted, ListsLeaf};
-    ghost use Rattle.atlas_store.specs.Store.StoreCalls.{IsListedAt, IsDetached, IsMarkedFree, IsReadyFor, IsSharpened};
+    ghost use Rattle.atlas_store.specs.Store.StoreCalls.{IsDetached, IsMarkedFree, IsReadyFor, IsSharpened};
     ghost use Rattle.atlas_store.specs.Store.StoreCalls.{IsSlotTaken, IsSplit, IsSplitWith, UnlistsLeaf, IsWrapped};
     ghost use Rattle.atlas_store.specs.Store.StoreCalls.{IsWrappedTwo, IsWrappedWith};
 
@@ -81,15 +81,7 @@ impl<A: Allocator> Store<A> {
         requires free { (node_in (shelf_of self.old) at.number).kind ≡ Free }
         ensures { UnlistsLeaf self.old self.new at.number }
     {
-        unlist(&mut self.slots, &mut self.lists, &self.options, at);
-    }
-
-    /// Takes a free leaf out of the list where it stands.
-    pub fn unlist_at(&mut self, at: Link, place: Place)
-        requires { IsListedAt self.old at.number place }
-        ensures { UnlistsLeaf self.old self.new at.number }
-    {
-        unlist_at(&mut self.slots, &mut self.lists, at, place);
+        unlist(&mut self.slots, &mut self.lists, at);
     }
 
     /// `low` is at most the `min.y` of each slot of a list.

@@ -84,7 +84,7 @@ pub fn grant<A: Allocator>(store: &mut Store<A>, chosen: Chosen) -> AllocId
     requires { CanGrant store.old chosen }
     ensures { IsRequestGranted store.old store.new chosen result }
 {
-    store.unlist_at(chosen.at, chosen.place);
+    store.unlist(chosen.at);
     store.sharpen(chosen.place, chosen.low);
     let slot = place(store, chosen.at, chosen.plan);
     let node = store.node(slot);

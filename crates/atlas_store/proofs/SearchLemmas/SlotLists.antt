@@ -11,7 +11,7 @@ use Rattle.atlas_model.specs.Choice.{Options, IsPick}
 use Rattle.atlas_model.specs.Pixels.{box_of}
 use Rattle.atlas_store.specs.Search.Items.{Item, item_at, item_box, item_sides, IsPath}
 use Rattle.atlas_store.specs.Slots.Links.{IsSolid}
-use Rattle.atlas_store.specs.Slots.Lists.{Chain, front, is_free, node_sides, node_top, occurs}
+use Rattle.atlas_store.specs.Slots.Lists.{Chain, front, is_free, node_sides, node_top, occurs, tag_of}
 use Rattle.atlas_store.specs.Search.Lookups.{AreListed, AreFreeItems, IsStanding}
 use Rattle.atlas_store.specs.Search.Picks.{slot_item, item_of, IsFreeSlot, IsPickedSlot, IsSearchable, AreFreeBoxes}
 use Rattle.atlas_store.specs.Slots.{nodes, rings, node_at, ring_at, no_slot}
@@ -54,7 +54,7 @@ listed-slots o slots heads s =
       free_lists = s.places.free_lists;
       valid = s.valid;
       short = omega (arith, s.short, length-map slots slot_item);
-      path = λ k l. path-of slots no_slot (head_of heads k).number (s.places.free_lists k) ((s.filed.free k l).links.chain) ((s.filed.free k l).links.begins);
+      path = λ k l. path-of slots (tag_of k) (head_of heads k).number (s.places.free_lists k) ((s.filed.free k l).links.chain) ((s.filed.free k l).links.begins);
       own = λ k i l h. (
         free-item slots i (listed-kind o ns (rings slots) heads s.unused s.places s.filed k i l h),
         ap (list_of o) (sides-is slots i) ∙ sym (listed-list o ns (rings slots) heads s.unused s.places s.filed k i l h),

@@ -1,5 +1,5 @@
 -- A table after one of its heads is written.
-use Rattle.std.proofs.Common.{◌≡◌, ◌≢◌, ℕ, ◌+◌, ◌*◌, ◌<◌, ◌≤◌, ◌⊎◌, inl, inr, Bool, true, false, not, ◌==◌, List, length, get_or, slice_set, replicate, refl, ap, ◌∙◌, arith}
+use Rattle.std.proofs.Common.{◌≡◌, ◌≢◌, ℕ, ◌+◌, ◌*◌, ◌/◌, ◌%◌, ◌<◌, ◌≤◌, ◌⊎◌, inl, inr, Bool, true, false, not, ◌==◌, List, length, get_or, slice_set, replicate, refl, ap, subst, ◌∙◌, arith}
 use Rattle.std.proofs.lemmas.List.{get_or-set_same, get_or-set_other, get_or-replicate, get_or_read, length-set, length-replicate}
 use Rattle.std.proofs.Math.ListN.{get_or-eq_default}
 use Rattle.std.proofs.lemmas.Bool.{cases_lt, ne_eqb, eq-eqb}
@@ -80,6 +80,22 @@ module _ (heads : List ListHead) (rows rows' : List Mask) (i j : ℕ) (e : ListH
 pub kept-table : (heads : List ListHead) (rows : List Mask) (i j : ℕ) (e : ListHead) → IsTable heads rows → i < 52 → j < 52
     → is_used_at heads (52 * i + j) ≡ is_slot e.first → IsTable (slice_set heads (52 * i + j) e) rows
 kept-table heads rows i j e is row column same = written-table heads rows rows i j e is row column (is.marked i j row column ∙ same) (λ k l _. refl)
+
+-- A list by its number.
+parts : (k : ℕ) → 52 * (k / 52) + k % 52 ≡ k
+parts k = omega arith
+
+module _ (heads : List ListHead) (rows : List Mask) (k : ℕ) (e : ListHead) (is : IsTable heads rows) (below : k < 2704) where
+  pub written-number : (rows' : List Mask) → is_marked_at rows' (k / 52) (k % 52) ≡ is_slot e.first
+      → ((i j : ℕ) → (i ≢ k / 52) ⊎ (j ≢ k % 52) → is_marked_at rows' i j ≡ is_marked_at rows i j) → IsTable (slice_set heads k e) rows'
+  written-number rows' this others =
+      subst (λ n. IsTable (slice_set heads n e) rows') (parts k)
+      (written-table heads rows rows' (k / 52) (k % 52) e is (omega arith) (omega arith) this others)
+
+  pub kept-number : is_used_at heads k ≡ is_slot e.first → IsTable (slice_set heads k e) rows
+  kept-number =
+      subst (λ n. is_used_at heads n ≡ is_slot e.first → IsTable (slice_set heads n e) rows) (parts k)
+      (kept-table heads rows (k / 52) (k % 52) e is (omega arith) (omega arith))
 
 -- ---- no list has a slot
 

@@ -17,13 +17,14 @@ use Rattle.atlas_model.specs.Pixels.{sides_of, box_of}
 use Rattle.atlas_model.specs.Choice.{Options}
 use Rattle.atlas_store.specs.Slots.{nodes, rings, node_at, ring_at, use_count}
 use Rattle.atlas_store.specs.Slots.Numbered.{same}
-use Rattle.atlas_store.specs.Slots.Lists.{IsList, IsFiled, AreFiled, Places, occurs, without, filed, node_sides, node_top, is_free}
+use Rattle.atlas_store.specs.Slots.Standing.{IsSlot}
+use Rattle.atlas_store.specs.Slots.Lists.{IsList, IsFiled, AreFiled, Places, occurs, without, filed, node_sides, node_top, is_free, tag_of}
 use Rattle.atlas_store.specs.Search.Bands.{list_of, number_of}
 use Rattle.atlas_store.specs.Search.Tables.{head_of, low_of, is_used_at}
-use Rattle.atlas_store.specs.Slots.Links.{IsFiledSlot, IsDetachedSlot, IsListed, IsUnlisted, with_mark, with_count, lists_with, unlisted, listed}
+use Rattle.atlas_store.specs.Slots.Links.{IsBefore, IsFiledSlot, IsDetachedSlot, IsUnlisted, first_after, with_mark, with_count, with_next, with_ring_previous, lists_with, unlisted, listed}
 use Rattle.atlas_store.proofs.ListLemmas.Occurrences.{same-self, same-ne, ne-from_occurs, without-none, occurs-without}
 use Rattle.atlas_store.proofs.SearchLemmas.BandLaws.{list_of-most}
-use Rattle.atlas_store.proofs.StoreLemmas.Unlinking.{IsList-kept, Line-kept, Line-inside}
+use Rattle.atlas_store.proofs.StoreLemmas.Unlinking.{CanUnlink, IsList-kept, IsList-unlinked, Line-kept, Line-inside, can-unlink, others-unlinked, unlinked-by}
 pub use Rattle.atlas_store.proofs.SlotLemmas.Frames.{past-unused, used-inside}
 
 -- The list that a node belongs in if it is free.
@@ -128,19 +129,19 @@ module _ (o : Options) (ns : List Node) (rs : List Ring) (heads : List ListHead)
 -- A list stays as it was: its slots keep their rings.
 pub IsFiled-kept : (o : Options) (ns : List Node) (rs ts : List Ring) (heads heads' : List ListHead) (k : ℕ) (xs ys : List ℕ) (detached detached' : ℕ → Bool) → head_of heads' k ≡ head_of heads k → low_of heads' k ≡ low_of heads k → ys ≡ xs → length rs ≤ length ts → ((j : ℕ) → 0 < occurs j xs → ring_at ts j ≡ ring_at rs j) → ((j : ℕ) → unless_detached (detached' j) (filed o k (node_at ns j)) ≡ unless_detached (detached j) (filed o k (node_at ns j))) → IsFiled o ns rs heads k xs detached → IsFiled o ns ts heads' k ys detached'
 IsFiled-kept o ns rs ts heads heads' k xs ys detached detached' eh el ey lt same_at marks h =
-    grind (arith, IsList-kept rs ts (head_of heads k) xs lt same_at h.links)
+    grind (arith, IsList-kept rs ts (tag_of k) (head_of heads k) xs lt same_at h.links)
 
--- Slot i left a list.
-pub record IsTakenOut (rs ts : List Ring) (first new : Link) (i : ℕ) : Type 0 where
+-- Slot i left the list that comes after `before`.
+pub record IsTakenOut (rs ts : List Ring) (before : ℕ) (first new : Link) (i : ℕ) : Type 0 where
   pub same_length : length ts ≡ length rs
-  pub links : (xs : List ℕ) → IsList rs first xs → 0 < occurs i xs → IsList ts new (without i xs)
-  pub others : (xs : List ℕ) (k : ℕ) → IsList rs first xs → 0 < occurs i xs → occurs k xs ≡ 0 → ring_at ts k ≡ ring_at rs k
+  pub links : (xs : List ℕ) → IsList rs before first xs → 0 < occurs i xs → IsList ts before new (without i xs)
+  pub others : (xs : List ℕ) (k : ℕ) → IsList rs before first xs → 0 < occurs i xs → occurs k xs ≡ 0 → ring_at ts k ≡ ring_at rs k
 
--- Slot i joined a list in front.
-pub record IsPutIn (rs ts : List Ring) (first new : Link) (i : ℕ) : Type 0 where
+-- Slot i joined the list that comes after `before`, in front.
+pub record IsPutIn (rs ts : List Ring) (before : ℕ) (first new : Link) (i : ℕ) : Type 0 where
   pub same_length : length ts ≡ length rs
-  pub links : (xs : List ℕ) → IsList rs first xs → occurs i xs ≡ 0 → IsList ts new (i ∷ xs)
-  pub others : (xs : List ℕ) (k : ℕ) → IsList rs first xs → (k ≡ i → ⊥) → occurs k xs ≡ 0 → ring_at ts k ≡ ring_at rs k
+  pub links : (xs : List ℕ) → IsList rs before first xs → occurs i xs ≡ 0 → IsList ts before new (i ∷ xs)
+  pub others : (xs : List ℕ) (k : ℕ) → IsList rs before first xs → (k ≡ i → ⊥) → occurs k xs ≡ 0 → ring_at ts k ≡ ring_at rs k
 
 -- The lists but list m stay.
 pub record ChangesList (heads heads' : List ListHead) (m : ℕ) : Type 0 where
@@ -160,13 +161,13 @@ module _ (o : Options) (ns : List Node) (rs ts : List Ring) (heads heads' : List
   marks : (k : ℕ) (mark : Bool) → (k ≡ m → ⊥) → (j : ℕ) → unless_detached (with_mark p.detached i mark j) (filed o k (node_at ns j)) ≡ unless_detached (p.detached j) (filed o k (node_at ns j))
   marks k mark ne j = grind (arith, filed-other, unless-le, with_mark-other)
 
-  pub AreFiled-unlisted : p.detached i ≡ false → IsTakenOut rs ts (head_of heads m) (head_of heads' m) i → low_of heads' m ≡ low_of heads m → AreFiled o ns ts heads' unused (unlisted p i)
+  pub AreFiled-unlisted : p.detached i ≡ false → IsTakenOut rs ts (tag_of m) (head_of heads m) (head_of heads' m) i → low_of heads' m ≡ low_of heads m → AreFiled o ns ts heads' unused (unlisted p i)
   AreFiled-unlisted kept w same_low =
       let mine = f.free m below in
       let one : occurs i (p.free_lists m) ≡ 1 = rw em (listed-one o ns rs heads unused p f i is_free kept) in
       let on : 0 < occurs i (p.free_lists m) = omega arith in
       let same_at : (j : ℕ) → occurs j (p.free_lists m) ≡ 0 → ring_at ts j ≡ ring_at rs j = (λ j z. w.others (p.free_lists m) j mine.links on z) in
-      let links : IsList ts (head_of heads' m) (without i (p.free_lists m)) = w.links (p.free_lists m) mine.links on in
+      let links : IsList ts (tag_of m) (head_of heads' m) (without i (p.free_lists m)) = w.links (p.free_lists m) mine.links on in
       let changed : IsFiled o ns ts heads' m (without i (p.free_lists m)) (with_mark p.detached i true) =
       grind (arith, unless-detached, with_mark-same, occurs-without, same-self, same-ne, with_mark-other) in
       record {
@@ -179,7 +180,7 @@ module _ (o : Options) (ns : List Node) (rs ts : List Ring) (heads heads' : List
         each = λ j l. f.each j (omega (arith, w.same_length));
       }
 
-  pub AreFiled-listed : p.detached i ≡ true → IsPutIn rs ts (head_of heads m) (head_of heads' m) i → low_of heads' m ≤ node_top (node_at ns i) → ((j : ℕ) → 0 < occurs j (p.free_lists m) → low_of heads' m ≤ low_of heads m) → AreFiled o ns ts heads' unused (listed p m i)
+  pub AreFiled-listed : p.detached i ≡ true → IsPutIn rs ts (tag_of m) (head_of heads m) (head_of heads' m) i → low_of heads' m ≤ node_top (node_at ns i) → ((j : ℕ) → 0 < occurs j (p.free_lists m) → low_of heads' m ≤ low_of heads m) → AreFiled o ns ts heads' unused (listed p m i)
   AreFiled-listed kept w low lower =
       let mine = f.free m below in
       let none : occurs i (p.free_lists m) ≡ 0 = detached-nowhere o ns rs heads unused p f m i below kept in
@@ -225,34 +226,87 @@ AreFiled-sharpened o ns rs heads heads' unused p m low firsts lows here below f 
 pub number-is : (o : Options) (place : Place) (size : Size) (node n : Node) → number_of place ≡ list_of o (sides_of size) → sides_of size ≡ box_sides (box_of node.area) → node ≡ n → number_of place ≡ list_for o n
 number-is o place size node n e s r = e ∙ ap (list_of o) s ∙ ap (list_for o) r
 
--- A free slot that is not detached stands in a list.
-pub is-listed : (o : Options) (slots : List Slot) (heads : List ListHead) (i : ℕ) → IsFiledSlot o slots heads i → (node_at (nodes slots) i).kind ≡ kind.Free → IsListed (rings slots) i
-is-listed o slots heads i k free =
-    let m = list_for o (node_at (nodes slots) i) in
-    let below : m < 2704 = list_of-most o (node_sides (node_at (nodes slots) i)) in
-    let one : occurs i (k.places.free_lists m) ≡ 1 = listed-one o _ _ heads k.unused k.places k.filed i free k.kept in
-    (head_of heads m, k.places.free_lists m, (k.filed.free m below).links, omega arith)
-
 -- No list holds a detached slot.
-pub is-unlisted : (o : Options) (slots : List Slot) (heads : List ListHead) (i m : ℕ) → IsDetachedSlot o slots heads i → m ≡ list_for o (node_at (nodes slots) i) → IsUnlisted (rings slots) (head_of heads m) i
+pub is-unlisted : (o : Options) (slots : List Slot) (heads : List ListHead) (i m : ℕ) → IsDetachedSlot o slots heads i → m ≡ list_for o (node_at (nodes slots) i) → IsUnlisted (rings slots) (tag_of m) (head_of heads m) i
 is-unlisted o slots heads i m k em =
     let below : m < 2704 = rw em (list_of-most o (node_sides (node_at (nodes slots) i))) in
     (k.places.free_lists m, (k.filed.free m below).links, detached-nowhere o _ _ heads k.unused k.places k.filed m i below k.is_detached)
 
 -- A slot that stands in a list makes it one that is used.
-is-used : (rs : List Ring) (heads : List ListHead) (k j : ℕ) (xs : List ℕ) → length rs < 4294967295 → IsList rs (head_of heads k) xs → 0 < occurs j xs → is_used_at heads k ≡ true
+pub is-used : (rs : List Ring) (heads : List ListHead) (k j : ℕ) (xs : List ℕ) → length rs < 4294967295 → IsList rs (tag_of k) (head_of heads k) xs → 0 < occurs j xs → is_used_at heads k ≡ true
 is-used rs heads k j [] short h l = absurd (omega arith)
 is-used rs heads k j (x ∷ xs) short h l = grind (arith, ne_eqb)
 
-pub unlisted-by : (o : Options) (ns ms : List Node) (rs ts : List Ring) (heads heads' : List ListHead) (i m : ℕ) (new : Link) → ms ≡ ns → m ≡ list_for o (node_at ns i) → (node_at ns i).kind ≡ kind.Free
-    → ChangesList heads heads' m → head_of heads' m ≡ new → low_of heads' m ≡ low_of heads m → IsTakenOut rs ts (head_of heads m) new i
-    → (unused : Link) (p : Places) → AreFiled o ns rs heads unused p → p.detached i ≡ false → AreFiled o ms ts heads' unused (unlisted p i)
-unlisted-by o ns ms rs ts heads heads' i m new en em free changes first low w unused p f kept =
-    grind (arith, AreFiled-unlisted o ns rs ts heads heads' unused p f i m em free changes kept)
+-- A free slot stands in its list.
+module _ (o : Options) (ns : List Node) (rs : List Ring) (heads : List ListHead) (unused : Link) (p : Places) (f : AreFiled o ns rs heads unused p)
+    (i : ℕ) (free : (node_at ns i).kind ≡ kind.Free) (kept : p.detached i ≡ false) (short : length rs < 2147483648) where
+  abbrev own : ℕ
+  own = list_for o (node_at ns i)
+
+  own-below : own < 2704
+  own-below = list_of-most o (node_sides (node_at ns i))
+
+  own-links : IsList rs (tag_of own) (head_of heads own) (p.free_lists own)
+  own-links = (f.free own own-below).links
+
+  own-stands : 0 < occurs i (p.free_lists own)
+  own-stands = omega (arith, listed-one o ns rs heads unused p f i free kept)
+
+  can-leave : CanUnlink rs (tag_of own) i
+  can-leave = can-unlink rs (tag_of own) i (head_of heads own) (p.free_lists own) own-links own-stands (omega arith)
+
+  -- What comes before it is a slot, or tells its list.
+  before-is : IsBefore (length rs) heads (ring_at rs i).previous.number
+  before-is = elim can-leave.previous [
+    | inl e ↦ inr (own, own-below, e, is-used rs heads own i (p.free_lists own) (omega arith) own-links own-stands)
+    | inr l ↦ inl l
+  ]
+
+  -- Once what comes before it goes on with what comes after it, it has left the list.
+  module _ (ss ts : List Ring) (heads' : List ListHead) (ring : Ring) (er : ring ≡ ring_at rs i)
+      (firsts : (k : ℕ) → head_of heads' k ≡ first_after ring.previous ring.next (tag_of k) (head_of heads k))
+      (lows : (k : ℕ) → low_of heads' k ≡ low_of heads k) where
+    other_firsts : (k : ℕ) → k ≢ own → head_of heads' k ≡ head_of heads k
+    other_firsts k ne = grind (arith, can-leave, cond-false, ne_eqb)
+
+    pub unlisted-by : (ms : List Node) → ms ≡ ns → ss ≡ with_next rs ring.previous.number ring.next
+        → ts ≡ with_ring_previous ss ring.next.number ring.previous → AreFiled o ms ts heads' unused (unlisted p i)
+    unlisted-by ms en es et =
+        let w = unlinked-by rs ss ts (tag_of own) i ring (omega arith) can-leave er es et in
+        rw en (AreFiled-unlisted o ns rs ts heads heads' unused p f i own refl free
+        (record { firsts = other_firsts; lows = λ k _. lows k }) kept
+        (record {
+          same_length = w.same_length;
+          links = IsList-unlinked rs ts (tag_of own) (head_of heads own) (head_of heads' own) i ring (omega arith) (omega arith) w er (firsts own);
+          others = others-unlinked rs ts (tag_of own) (head_of heads own) (head_of heads' own) i ring (omega arith) (omega arith) w er;
+        })
+        (lows own))
+
+-- What a call needs of it.
+module _ {o : Options} {slots : List Slot} {heads : List ListHead} {i : ℕ} (k : IsFiledSlot o slots heads i) (free : (node_at (nodes slots) i).kind ≡ kind.Free)
+    (short : length slots < 2147483648) where
+  same_count : length (rings slots) ≡ length slots
+  same_count = length-map slots (λ (s : Slot). s.ring)
+
+  pub few-rings : length (rings slots) < 2147483648
+  few-rings = omega (arith, same_count)
+
+  leaves : CanUnlink (rings slots) (tag_of (list_for o (node_at (nodes slots) i))) i
+  leaves = can-leave o (nodes slots) (rings slots) heads k.unused k.places k.filed i free k.kept few-rings
+
+  pub leaves-inside : i < length slots
+  leaves-inside = omega (arith, leaves.inside, same_count)
+
+  module _ (ring : Ring) (er : ring ≡ ring_at (rings slots) i) where
+    pub leaves-before : IsBefore (length slots) heads ring.previous.number
+    leaves-before = rw (er, ← same_count) (before-is o (nodes slots) (rings slots) heads k.unused k.places k.filed i free k.kept few-rings)
+
+    pub leaves-next : (count : ℕ) → count ≡ length slots → IsSlot count ring.next.number
+    leaves-next count ec = rw (er, ec, ← same_count) leaves.next
 
 pub listed-by : (o : Options) (ns ms : List Node) (rs ts : List Ring) (heads heads' : List ListHead) (i m top : ℕ) (new : Link) → length rs < 4294967295 → ms ≡ ns → m ≡ list_for o (node_at ns i) → (node_at ns i).kind ≡ kind.Free
     → ChangesList heads heads' m → head_of heads' m ≡ new → top ≡ node_top (node_at ns i) → low_of heads' m ≤ top
-    → (is_used_at heads m ≡ true → low_of heads' m ≤ low_of heads m) → IsPutIn rs ts (head_of heads m) new i
+    → (is_used_at heads m ≡ true → low_of heads' m ≤ low_of heads m) → IsPutIn rs ts (tag_of m) (head_of heads m) new i
     → (unused : Link) (p : Places) → AreFiled o ns rs heads unused p → p.detached i ≡ true → AreFiled o ms ts heads' unused (listed p (list_for o (node_at ns i)) i)
 listed-by o ns ms rs ts heads heads' i m top new short en em free changes first es low lower w unused p f kept =
     grind (

@@ -15,13 +15,12 @@ use Rattle.atlas_store.specs.Slots.Numbered.{Numbered, joined, lifted, granted_a
 use Rattle.atlas_store.specs.Slots.Standing.{Sequence, Stands}
 use Rattle.atlas_store.specs.Slots.SlotCalls.{CanSplitInto, IsLeafFreed, IsLeafGranted, IsNextJoined, IsChildLifted, IsLeafSplit, IsLeafWrapped}
 use Rattle.atlas_store.proofs.SlotLemmas.Frames.{Standing-same}
-use Rattle.atlas_store.specs.Search.Bands.{list_of}
-use Rattle.atlas_store.specs.Slots.Lists.{AreFiled, Places, Line, front, is_free, node_sides}
+use Rattle.atlas_store.specs.Slots.Lists.{AreFiled, Places, Line, front, is_free}
 use Rattle.std.proofs.lemmas.List.{length-map, length_push}
-use Rattle.atlas_store.specs.Slots.Links.{BelongsIn, IsListed, with_mark, with_count, given_back, IsSolid, IsTaken}
+use Rattle.atlas_store.specs.Slots.Links.{with_mark, with_count, given_back, IsSolid, IsTaken}
 use Rattle.atlas_store.specs.Stored.{Shelf, Holding, Holds, HoldsWith, places_of}
 use Rattle.atlas_store.specs.Store.Holdings.{node_in, IsLow, IsDetachedLeaf, IsReadyWith, after_take, after_grant, after_mark, after_join, after_lift, after_split, after_wrap}
-use Rattle.atlas_store.proofs.StoreLemmas.Filing.{AreFiled-sharpened, is-listed, with_mark-same, with_mark-other, with_count-same, with_count-other}
+use Rattle.atlas_store.proofs.StoreLemmas.Filing.{AreFiled-sharpened, with_mark-same, with_mark-other, with_count-same, with_count-other}
 use Rattle.atlas_store.proofs.StoreLemmas.Taking.{AreFiled-moved, AreFiled-nodes, IsMoved}
 use Rattle.atlas_store.proofs.SlotLemmas.NumberedCuts.{IsRecut, recut-marked, recut-granted, recut-joined, recut-lifted, recut-split, recut-wrapped}
 use Rattle.atlas_store.proofs.SlotLemmas.SlotBoxes.{slot-exact}
@@ -161,19 +160,6 @@ sharpened-holds v heads m low h firsts lows here below holds = grind (arith, Are
 pub leaf-exact : (v : Shelf) (old : List Slot) (at : ℕ) (h : Holding) → old ≡ v.slots → Holds v h → (node_in v at).kind ≡ kind.Free
     → IsSolid (node_at (nodes old) at).area
 leaf-exact v old at h e holds free = grind (arith, slot-exact)
-
--- A free slot that is not detached stands in a list.
-pub is-held-listed : (v : Shelf) (old : List Slot) (at : ℕ) (h : Holding) → old ≡ v.slots → Holds v h
-    → (node_in v at).kind ≡ kind.Free → h.detached at ≡ false → IsListed (rings old) at
-is-held-listed v old at h e holds free kept =
-    let P : List Slot → Type 0 = λ slots. IsListed (rings slots) at in
-    subst P (sym e) (is-listed (options_of v.options) v.slots v.heads at
-    (record { unused = v.unused; places = places_of (λ i. 0) h; filed = holds.filed; kept = kept }) free)
-
-pub belongs-before : (v : Shelf) (old : List Slot) (m at : ℕ) (h : Holding) → old ≡ v.slots
-    → (node_in v at).kind ≡ kind.Free → h.detached at ≡ false → m ≡ list_of (options_of v.options) (node_sides (node_in v at))
-    → BelongsIn (options_of v.options) (nodes old) (places_of (λ i. 0) h) m at
-belongs-before v old m at h e free kept list = grind arith
 
 -- Slot j, which was claimed, is given back.
 pub record GivesBack (v : Shelf) (old new : List Slot) (unused : Link) (j : ℕ) : Type 0 where

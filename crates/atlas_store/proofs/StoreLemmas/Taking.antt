@@ -11,7 +11,7 @@ use Rattle.atlas_store.specs.declared.slots.NodeKind.TheVariants as kind
 use Rattle.atlas_store.specs.declared.search.table.ListHead.{ListHead}
 use Rattle.atlas_model.specs.Choice.{Options}
 use Rattle.atlas_store.specs.Slots.{nodes, rings, node_at, ring_at, use_count, no_slot, blank_node, blank_ring, blank_slot}
-use Rattle.atlas_store.specs.Slots.Lists.{AreFiled, Places, IsList, Line, occurs, front, filed, is_free}
+use Rattle.atlas_store.specs.Slots.Lists.{AreFiled, Places, IsList, Line, occurs, front, filed, is_free, tag_of}
 use Rattle.atlas_store.specs.Search.Tables.{head_of, is_used_at}
 use Rattle.atlas_store.specs.Slots.Links.{with_count, with_mark, tail_of, renewed, given_back, IsTaken, TakesFirst}
 use Rattle.atlas_store.proofs.ListLemmas.Occurrences.{same-self, same-ne, ne-from_occurs}
@@ -59,7 +59,7 @@ module _ (o : Options) (ns : List Node) (rs : List Ring) (heads : List ListHead)
       let ms = ns ++ blank_node ∷ [] in
       let moved = AreFiled-nodes o ns ms rs heads unused p p.claimed p.detached (λ k i. ap (λ n. unless_detached (p.detached i) (filed o k n)) (node_at-grown ns i)) (λ i l. ap (λ (n : Node). p.claimed i + use_count n.kind) (node_at-grown ns i)) (λ k i l h. ap (λ (n : Node). n.area) (node_at-grown ns i)) f in
       record {
-        free = λ k l. let mine = moved.free k l in record { links = IsList-kept rs (rs ++ blank_ring ∷ []) (head_of heads k) (p.free_lists k) (omega arith) (λ j h. ring_at-grown j) mine.links; each = mine.each; low = mine.low };
+        free = λ k l. let mine = moved.free k l in record { links = IsList-kept rs (rs ++ blank_ring ∷ []) (tag_of k) (head_of heads k) (p.free_lists k) (omega arith) (λ j h. ring_at-grown j) mine.links; each = mine.each; low = mine.low };
         line = Line-kept rs (rs ++ blank_ring ∷ []) p.unused_list (omega arith) (λ j h. ring_at-grown j) f.line;
         begins = f.begins;
         each = grind (arith, node_at-grown, past-unused, with_count-same, Line-inside, with_count-other);
@@ -78,7 +78,7 @@ module _ (o : Options) (ns : List Node) (rs : List Ring) (heads : List ListHead)
       let same_at : (j : ℕ) → (j ≡ i → ⊥) → ring_at ts j ≡ ring_at rs j = (λ j ne. rw et (get_or-set_other rs i j ring blank_ring ne)) in
       let none : occurs i p.unused_list ≡ 0 = omega arith in
       record {
-        free = λ k l. let mine = f.free k l in record { links = IsList-kept rs ts (head_of heads k) (p.free_lists k) (omega arith) (λ j h. same_at j (ne-from_occurs i j (p.free_lists k) (unused-nowhere o ns rs heads unused p f k i l unused_now) h)) mine.links; each = mine.each; low = mine.low };
+        free = λ k l. let mine = f.free k l in record { links = IsList-kept rs ts (tag_of k) (head_of heads k) (p.free_lists k) (omega arith) (λ j h. same_at j (ne-from_occurs i j (p.free_lists k) (unused-nowhere o ns rs heads unused p f k i l unused_now) h)) mine.links; each = mine.each; low = mine.low };
         line = Line-given rs ts i ring li et p.unused_list f.line (ap (λ (l : Link). l.number) er ∙ f.begins) none;
         begins = en;
         each = grind (arith, with_count-same, same-self, with_count-other, same-ne);
@@ -166,8 +166,8 @@ given-by o old new heads unused at ring li er en es p f h =
     let inside : at.number < length (rings old) = rw (length-map old (λ (s : Slot). s.ring)) li in
     rw en (AreFiled-given o (nodes old) (rings old) heads unused p f (rings new) at.number ring at inside h er es refl)
 
-empty-list : (rs : List Ring) (first : Link) → first.number ≡ no_slot → IsList rs first []
-empty-list rs first none = record { chain = tt; begins = none; once = λ k. omega arith }
+empty-list : (rs : List Ring) (b : ℕ) (first : Link) → first.number ≡ no_slot → IsList rs b first []
+empty-list rs b first none = record { chain = tt; begins = none; once = λ k. omega arith }
 
 -- Slot 0 is detached, and nothing else stands anywhere.
 abbrev pub one_detached : Places

@@ -8,7 +8,7 @@ use Rattle.atlas_store.specs.Slots.{ring_at, blank_ring, no_slot}
 use Rattle.atlas_store.specs.Slots.Numbered.{same}
 use Rattle.atlas_store.specs.Slots.Standing.{IsSlot}
 use Rattle.atlas_store.specs.Slots.Lists.{IsList, Chain, Line, occurs, without, front}
-use Rattle.atlas_store.specs.Slots.Links.{IsListed, first_without, with_next, with_ring_previous}
+use Rattle.atlas_store.specs.Slots.Links.{first_after, with_next, with_ring_previous}
 use Rattle.atlas_store.proofs.ListLemmas.Occurrences.{same-self, same-ne, ne-from_occurs, ne-from_same, front_in, front_of, is_first, front-without, occurs-without, length-without}
 
 -- A list stands where the rings of its slots are the same, and no slot is gone.
@@ -20,8 +20,8 @@ Chain-kept rs ts b (x ∷ xs) e same_at h =
 pub Chain-same : (rs ts : List Ring) (b : ℕ) (xs : List ℕ) → length ts ≡ length rs → ((k : ℕ) → 0 < occurs k xs → ring_at ts k ≡ ring_at rs k) → Chain rs b xs → Chain ts b xs
 Chain-same rs ts b xs e same_at h = Chain-kept rs ts b xs (omega arith) same_at h
 
-pub IsList-kept : (rs ts : List Ring) (first : Link) (xs : List ℕ) → length rs ≤ length ts → ((k : ℕ) → 0 < occurs k xs → ring_at ts k ≡ ring_at rs k) → IsList rs first xs → IsList ts first xs
-IsList-kept rs ts first xs e same_at h = grind (arith, Chain-kept)
+pub IsList-kept : (rs ts : List Ring) (b : ℕ) (first : Link) (xs : List ℕ) → length rs ≤ length ts → ((k : ℕ) → 0 < occurs k xs → ring_at ts k ≡ ring_at rs k) → IsList rs b first xs → IsList ts b first xs
+IsList-kept rs ts b first xs e same_at h = grind (arith, Chain-kept)
 
 pub Chain-inside : (rs : List Ring) (b i : ℕ) (xs : List ℕ) → Chain rs b xs → 0 < occurs i xs → i < length rs
 Chain-inside rs b i [] h l = absurd (omega arith)
@@ -46,23 +46,23 @@ front-without_first : (rs : List Ring) (b i : ℕ) (xs : List ℕ) → Chain rs 
 front-without_first rs b i [] h l e = absurd (omega arith)
 front-without_first rs b i (x ∷ xs) h l e = grind (arith, cond-true, eq-eqb)
 
--- The rings ts are rs after the neighbours of i let it go.
-pub record IsUnlinked (rs ts : List Ring) (i p n : ℕ) : Type 0 where
+-- The rings ts are rs after the neighbours of i let it go; `tag` comes before the first of its list.
+pub record IsUnlinked (rs ts : List Ring) (tag i p n : ℕ) : Type 0 where
   pub same_length : length ts ≡ length rs
   pub previous : (ring_at rs i).previous.number ≡ p
   pub next : (ring_at rs i).next.number ≡ n
-  pub before : (p ≡ no_slot → ⊥) → ring_at ts p ≡ record (ring_at rs p) { next = (ring_at rs i).next }
+  pub before : (p ≡ tag → ⊥) → ring_at ts p ≡ record (ring_at rs p) { next = (ring_at rs i).next }
   pub after : (n ≡ no_slot → ⊥) → ring_at ts n ≡ record (ring_at rs n) { previous = (ring_at rs i).previous }
   pub others : (k : ℕ) → (k ≡ p → ⊥) → (k ≡ n → ⊥) → ring_at ts k ≡ ring_at rs k
 
-module _ (rs ts : List Ring) (i p n : ℕ) (w : IsUnlinked rs ts i p n) where
+module _ (rs ts : List Ring) (tag i p n : ℕ) (w : IsUnlinked rs ts tag i p n) where
   rest_after : (b : ℕ) (xs : List ℕ) → p ≡ b → front xs ≡ n → occurs p xs ≡ 0 → occurs no_slot xs ≡ 0 → ((k : ℕ) → occurs k xs ≤ 1) → Chain rs i xs → Chain ts b xs
   rest_after b [] eb en zp none once h = tt
   rest_after b (y ∷ ys) eb en zp none once h = grind (arith, ne-from_same, Chain-same, ne-from_occurs, same-self)
 
-  pub Chain-unlinked : (b : ℕ) (xs : List ℕ) → ((k : ℕ) → occurs k xs ≤ 1) → occurs b xs ≡ 0 → occurs no_slot xs ≡ 0 → 0 < occurs i xs → Chain rs b xs → Chain ts b (without i xs)
-  Chain-unlinked b [] once nb none l h = absurd (omega arith)
-  Chain-unlinked b (x ∷ xs) once nb none l h =
+  pub Chain-unlinked : (b : ℕ) (xs : List ℕ) → ((k : ℕ) → occurs k xs ≤ 1) → occurs b xs ≡ 0 → occurs no_slot xs ≡ 0 → occurs tag xs ≡ 0 → 0 < occurs i xs → Chain rs b xs → Chain ts b (without i xs)
+  Chain-unlinked b [] once nb none apart l h = absurd (omega arith)
+  Chain-unlinked b (x ∷ xs) once nb none apart l h =
       cond_both (eqb i x) xs (x ∷ without i xs) (λ ys. Chain ts b ys) (λ t.
       let q : x ≡ i = sym (eqb-true i x t) in
       let h2 : Chain rs b (i ∷ xs) = rw q at h in
@@ -70,15 +70,15 @@ module _ (rs ts : List Ring) (i p n : ℕ) (w : IsUnlinked rs ts i p n) where
       rest_after b xs pb (sym h2.2 ∙ w.next) (ap (λ v. occurs v xs) pb ∙ (let z : occurs b xs ≡ 0 = omega arith in z)) (omega arith) (λ k. omega (arith, once k)) h2.3) (λ f.
       let lx : 0 < occurs i xs = omega (arith, same-ne i x (eqb-false i x f)) in
       let zx : occurs x xs ≡ 0 = omega (arith, once x, same-self x) in
-      let tail = Chain-unlinked x xs (λ k. omega (arith, once k)) zx (omega arith) lx h.3 in
+      let tail = Chain-unlinked x xs (λ k. omega (arith, once k)) zx (omega arith) (omega arith) lx h.3 in
       elim (cases_eq (front xs) i) [
         | inl e ↦ grind (arith, previous-first, ne-from_same, front-without_first)
         | inr ne ↦ grind (arith, previous-in_list, ne-from_occurs, next-in_list, ne-from_same, front-without)
       ])
 
 -- A list has no slot past the end.
-pub none-occurs : (rs : List Ring) (b : ℕ) (xs : List ℕ) → length rs < 4294967295 → Chain rs b xs → occurs no_slot xs ≡ 0
-none-occurs rs b xs short h = grind (arith, Chain-inside)
+pub none-occurs : (rs : List Ring) (b past : ℕ) (xs : List ℕ) → length rs ≤ past → Chain rs b xs → occurs past xs ≡ 0
+none-occurs rs b past xs short h = grind (arith, Chain-inside)
 
 -- The two neighbours differ, where there are any.
 neighbours-apart : (rs : List Ring) (b i : ℕ) (xs : List ℕ) → ((k : ℕ) → occurs k xs ≤ 1) → occurs b xs ≡ 0 → 0 < occurs i xs → Chain rs b xs → (ring_at rs i).next.number ≡ (ring_at rs i).previous.number → (ring_at rs i).next.number ≡ no_slot
@@ -86,55 +86,59 @@ neighbours-apart rs b i [] once nb l h e = absurd (omega arith)
 neighbours-apart rs b i (x ∷ xs) once nb l h e =
     grind (arith, front_in, ne-from_occurs, neighbours-apart rs x i xs, same-self, same-ne)
 
-pub record CanUnlink (rs : List Ring) (i : ℕ) : Type 0 where
+-- Slot i stands in a list whose first comes after `tag`.
+pub record CanUnlink (rs : List Ring) (tag i : ℕ) : Type 0 where
   pub inside : i < length rs
-  pub previous : IsSlot (length rs) (ring_at rs i).previous.number
+  pub previous : ((ring_at rs i).previous.number ≡ tag) ⊎ ((ring_at rs i).previous.number < length rs)
   pub next : IsSlot (length rs) (ring_at rs i).next.number
   pub apart : (ring_at rs i).next.number ≡ (ring_at rs i).previous.number → (ring_at rs i).next.number ≡ no_slot
 
-pub can-unlink : (rs : List Ring) (i : ℕ) → IsListed rs i → length rs < 4294967295 → CanUnlink rs i
-can-unlink rs i t short =
+pub can-unlink : (rs : List Ring) (tag i : ℕ) (first : Link) (xs : List ℕ) → IsList rs tag first xs → 0 < occurs i xs → length rs ≤ tag → CanUnlink rs tag i
+can-unlink rs tag i first xs h l short =
     grind (
       arith,
-      Chain-inside rs no_slot i,
-      previous-first rs no_slot i,
-      Chain-inside rs no_slot,
-      previous-in_list rs no_slot i,
-      next-in_list rs no_slot i,
-      neighbours-apart rs no_slot i,
-      none-occurs rs no_slot,
+      Chain-inside rs tag i,
+      previous-first rs tag i,
+      Chain-inside rs tag,
+      previous-in_list rs tag i,
+      next-in_list rs tag i,
+      neighbours-apart rs tag i,
+      none-occurs rs tag tag,
     )
 
 slot_inside : (n i : ℕ) → IsSlot n i → (i ≡ no_slot → ⊥) → i < n
 slot_inside n i (inl e) ne = absurd (ne e)
 slot_inside n i (inr l) ne = l
 
-pub unlinked-by : (rs ss ts : List Ring) (i : ℕ) (ring : Ring) → CanUnlink rs i → ring ≡ ring_at rs i → ss ≡ with_next rs ring.previous.number ring.next → ts ≡ with_ring_previous ss ring.next.number ring.previous → IsUnlinked rs ts i (ring_at rs i).previous.number (ring_at rs i).next.number
-unlinked-by rs ss ts i ring c er es et = grind (arith, length-set, get_or-set_other, get_or-set_same, slot_inside)
+pub unlinked-by : (rs ss ts : List Ring) (tag i : ℕ) (ring : Ring) → length rs < 4294967295 → CanUnlink rs tag i → ring ≡ ring_at rs i → ss ≡ with_next rs ring.previous.number ring.next → ts ≡ with_ring_previous ss ring.next.number ring.previous → IsUnlinked rs ts tag i (ring_at rs i).previous.number (ring_at rs i).next.number
+unlinked-by rs ss ts tag i ring short c er es et = grind (arith, length-set, get_or-set_other, get_or-set_same, slot_inside)
 
 number-of : (l m : Link) → l ≡ m → l.number ≡ m.number
 number-of l m e = ap (λ (k : Link). k.number) e
 
-pub IsList-unlinked : (rs ts : List Ring) (first : Link) (i : ℕ) (ring : Ring) → length rs < 4294967295 → IsUnlinked rs ts i (ring_at rs i).previous.number (ring_at rs i).next.number → ring ≡ ring_at rs i → (xs : List ℕ) → IsList rs first xs → 0 < occurs i xs → IsList ts (first_without ring first) (without i xs)
-IsList-unlinked rs ts first i ring short w er xs h l =
-    let none = none-occurs rs no_slot xs short h.chain in
-    let previous : ring.previous.number ≡ (ring_at rs i).previous.number = ap (λ (r : Ring). r.previous.number) er in
-    let next : ring.next.number ≡ (ring_at rs i).next.number = ap (λ (r : Ring). r.next.number) er in
-    record {
-      chain = Chain-unlinked rs ts i _ _ w no_slot xs h.once none none l h.chain;
-      begins = elim (cases_eq (front xs) i) [
-        | inl e ↦ grind (arith, previous-first, number-of, cond-true, eq-eqb, front-without_first)
-        | inr ne ↦ grind (arith, ne-from_occurs, previous-in_list, number-of, cond-false, ne_eqb, front-without)
-      ];
-      once = λ k. omega (arith, occurs-without i xs l k, h.once k);
-    }
+module _ (rs ts : List Ring) (tag : ℕ) (first first' : Link) (i : ℕ) (ring : Ring) (short : length rs < 4294967295) (past : length rs ≤ tag)
+    (w : IsUnlinked rs ts tag i (ring_at rs i).previous.number (ring_at rs i).next.number) (er : ring ≡ ring_at rs i) where
+  pub IsList-unlinked : first' ≡ first_after ring.previous ring.next tag first → (xs : List ℕ) → IsList rs tag first xs → 0 < occurs i xs → IsList ts tag first' (without i xs)
+  IsList-unlinked ef xs h l =
+      let none = none-occurs rs tag no_slot xs (omega arith) h.chain in
+      let apart = none-occurs rs tag tag xs past h.chain in
+      let previous : ring.previous.number ≡ (ring_at rs i).previous.number = ap (λ (r : Ring). r.previous.number) er in
+      let next : ring.next.number ≡ (ring_at rs i).next.number = ap (λ (r : Ring). r.next.number) er in
+      record {
+        chain = Chain-unlinked rs ts tag i _ _ w tag xs h.once apart none apart l h.chain;
+        begins = number-of _ _ ef ∙ elim (cases_eq (front xs) i) [
+          | inl e ↦ grind (arith, previous-first, number-of, cond-true, eq-eqb, front-without_first)
+          | inr ne ↦ grind (arith, ne-from_occurs, previous-in_list, number-of, cond-false, ne_eqb, front-without)
+        ];
+        once = λ k. omega (arith, occurs-without i xs l k, h.once k);
+      }
 
-pub others-unlinked : (rs ts : List Ring) (first : Link) (i : ℕ) → length rs < 4294967295 → IsUnlinked rs ts i (ring_at rs i).previous.number (ring_at rs i).next.number → (xs : List ℕ) (k : ℕ) → IsList rs first xs → 0 < occurs i xs → occurs k xs ≡ 0 → ring_at ts k ≡ ring_at rs k
-others-unlinked rs ts first i short w xs k h l z =
-    grind (arith, get_or_past, previous-first, ne-from_occurs, previous-in_list, next-in_list)
+  pub others-unlinked : (xs : List ℕ) (k : ℕ) → IsList rs tag first xs → 0 < occurs i xs → occurs k xs ≡ 0 → ring_at ts k ≡ ring_at rs k
+  others-unlinked xs k h l z =
+      grind (arith, get_or_past, previous-first, ne-from_occurs, previous-in_list, next-in_list)
 
-pub IsList-pushed : (rs ss ts : List Ring) (head slot : Link) (ring : Ring) → length rs < 4294967295 → slot.number < length rs → ring.previous.number ≡ no_slot → ring.next ≡ head → ss ≡ set rs slot.number ring → ts ≡ with_ring_previous ss head.number slot → (xs : List ℕ) → IsList rs head xs → occurs slot.number xs ≡ 0 → IsList ts slot (slot.number ∷ xs)
-IsList-pushed rs ss ts head slot ring short inside ep en es et xs h z =
+pub IsList-pushed : (rs ss ts : List Ring) (b : ℕ) (head slot : Link) (ring : Ring) → length rs < 4294967295 → slot.number < length rs → ring.previous.number ≡ b → ring.next ≡ head → ss ≡ set rs slot.number ring → ts ≡ with_ring_previous ss head.number slot → (xs : List ℕ) → IsList rs b head xs → occurs slot.number xs ≡ 0 → IsList ts b slot (slot.number ∷ xs)
+IsList-pushed rs ss ts b head slot ring short inside ep en es et xs h z =
     let i = slot.number in
     let mid = set rs i ring in
     let is : ts ≡ with_ring_previous mid head.number slot = rw (et, es) refl in
@@ -144,14 +148,14 @@ IsList-pushed rs ss ts head slot ring short inside ep en es et xs h z =
     let first : ring_at ts i ≡ ring = rw (is, get_or-set_other mid head.number i _ blank_ring hi) (get_or-set_same rs i ring blank_ring inside) in
     let other : (k : ℕ) → (k ≡ i → ⊥) → (k ≡ head.number → ⊥) → ring_at ts k ≡ ring_at rs k = (λ k ki kh. rw (is, get_or-set_other mid head.number k _ blank_ring kh) (get_or-set_other rs i k ring blank_ring ki)) in
     record {
-      chain = (rw lt inside, rw first ep, rw first (number-of _ _ en ∙ h.begins), rest rs mid ts head slot is lt ly (get_or-set_other rs i head.number ring blank_ring (λ q. hi (sym q))) other xs h z);
+      chain = (rw lt inside, rw first ep, rw first (number-of _ _ en ∙ h.begins), rest rs mid ts b head slot is lt ly (get_or-set_other rs i head.number ring blank_ring (λ q. hi (sym q))) other xs h z);
       begins = refl;
       once = λ k. elim (cases_eq k i) [ inl e ↦ omega (arith, same-self i, z, ap (λ v. same v i) e, ap (λ v. occurs v xs) e) | inr ne ↦ omega (arith, same-ne k i ne, h.once k) ];
     }
   where
-    rest : (rs mid ts : List Ring) (head slot : Link) → ts ≡ with_ring_previous mid head.number slot → length ts ≡ length rs → length mid ≡ length rs → ring_at mid head.number ≡ ring_at rs head.number → ((k : ℕ) → (k ≡ slot.number → ⊥) → (k ≡ head.number → ⊥) → ring_at ts k ≡ ring_at rs k) → (xs : List ℕ) → IsList rs head xs → occurs slot.number xs ≡ 0 → Chain ts slot.number xs
-    rest rs mid ts head slot is lt ly at other [] h z = tt
-    rest rs mid ts head slot is lt ly at other (x ∷ xs) h z =
+    rest : (rs mid ts : List Ring) (b : ℕ) (head slot : Link) → ts ≡ with_ring_previous mid head.number slot → length ts ≡ length rs → length mid ≡ length rs → ring_at mid head.number ≡ ring_at rs head.number → ((k : ℕ) → (k ≡ slot.number → ⊥) → (k ≡ head.number → ⊥) → ring_at ts k ≡ ring_at rs k) → (xs : List ℕ) → IsList rs b head xs → occurs slot.number xs ≡ 0 → Chain ts slot.number xs
+    rest rs mid ts b head slot is lt ly at other [] h z = tt
+    rest rs mid ts b head slot is lt ly at other (x ∷ xs) h z =
         let hx : head.number ≡ x = h.begins in
         let one = h.once x in
         let there : ring_at ts x ≡ record (ring_at rs x) { previous = slot } = rw (← hx, is, get_or-set_same mid head.number _ blank_ring (rw (ly, hx) h.chain.0), at) refl in (
@@ -162,8 +166,8 @@ IsList-pushed rs ss ts head slot ring short inside ep en es et xs h z =
         )
 
 -- The ring of a slot that neither joins nor stands in the list stays.
-pub others-pushed : (rs ss ts : List Ring) (head slot : Link) (ring : Ring) → length rs < 4294967295 → ss ≡ set rs slot.number ring → ts ≡ with_ring_previous ss head.number slot → (xs : List ℕ) (k : ℕ) → IsList rs head xs → (k ≡ slot.number → ⊥) → occurs k xs ≡ 0 → ring_at ts k ≡ ring_at rs k
-others-pushed rs ss ts head slot ring short es et xs k h ki z =
+pub others-pushed : (rs ss ts : List Ring) (b : ℕ) (head slot : Link) (ring : Ring) → length rs < 4294967295 → ss ≡ set rs slot.number ring → ts ≡ with_ring_previous ss head.number slot → (xs : List ℕ) (k : ℕ) → IsList rs b head xs → (k ≡ slot.number → ⊥) → occurs k xs ≡ 0 → ring_at ts k ≡ ring_at rs k
+others-pushed rs ss ts b head slot ring short es et xs k h ki z =
     grind (arith, length-set, get_or-set_other, front_in, get_or_past, ne-from_occurs)
 
 -- Distinct slots below n are at most n.

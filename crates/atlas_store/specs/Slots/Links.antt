@@ -1,5 +1,5 @@
 -- What the calls on lists of slots make of rings, lists and marks. No public clause cites this module.
-use Rattle.std.specs.Prelude.{ℕ, ◌+◌, ◌%◌, ◌≡◌, ◌≢◌, ◌<◌, ◌==◌, Bool, true, false, if◌then◌else◌}
+use Rattle.std.specs.Prelude.{ℕ, ◌+◌, ◌%◌, ◌≡◌, ◌≢◌, ◌<◌, ◌==◌, ◌⊎◌, Bool, true, false, if◌then◌else◌}
 use Rattle.std.specs.Prelude.{List, [], ◌∷◌, ◌++◌, length, slice_set}
 use Rattle.atlas_store.specs.declared.slots.Slot.{Slot}
 use Rattle.atlas_store.specs.declared.slots.Link.{Link}
@@ -14,20 +14,21 @@ use Rattle.atlas_model.specs.Pixels.{box_of}
 use Rattle.atlas_store.specs.Rectangles.{IsUnsigned}
 use Rattle.atlas_model.specs.Choice.{Options}
 use Rattle.atlas_store.specs.Slots.{nodes, rings, node_at, ring_at, blank_slot, no_slot, AreTakenOnce}
-use Rattle.atlas_store.specs.Search.Bands.{list_of}
-use Rattle.atlas_store.specs.Slots.Lists.{IsList, AreFiled, Line, Places, front, node_sides, occurs, without}
+use Rattle.atlas_store.specs.Search.Tables.{is_used_at}
+use Rattle.atlas_store.specs.Slots.Lists.{IsList, AreFiled, Line, Places, front, occurs, tag_of, without}
 
--- Slot i stands in a list that is in order.
-abbrev pub IsListed : List Ring → ℕ → Type 0
-IsListed rs i = (first : Link) × (xs : List ℕ) × IsList rs first xs × (0 < occurs i xs)
+-- The list that begins with this link, after `before`, is in order, and slot i does not stand in it.
+abbrev pub IsUnlisted : List Ring → (before : ℕ) → Link → ℕ → Type 0
+IsUnlisted rs before first i = (xs : List ℕ) × IsList rs before first xs × (occurs i xs ≡ 0)
 
--- The list that begins with this link is in order, and slot i does not stand in it.
-abbrev pub IsUnlisted : List Ring → Link → ℕ → Type 0
-IsUnlisted rs first i = (xs : List ℕ) × IsList rs first xs × (occurs i xs ≡ 0)
+-- This is one of n slots, or comes before the first slot of a list that has one.
+abbrev pub IsBefore : (n : ℕ) → List ListHead → ℕ → Type 0
+IsBefore n heads before =
+    (before < n) ⊎ ((k : ℕ) × (k < 2704) × (before ≡ tag_of k) × (is_used_at heads k ≡ true))
 
--- What a list begins with once a slot with these neighbours left it.
-abbrev pub first_without : Ring → Link → Link
-first_without ring first = if ring.previous.number == no_slot then ring.next else first
+-- What a list begins with once `next` comes after `before`; `tag` comes before its first slot, which was `first`.
+abbrev pub first_after : (before next : Link) → (tag : ℕ) → (first : Link) → Link
+first_after before next tag first = if before.number == tag then next else first
 
 -- `link` comes after slot i in its list; nothing happens where i is no slot.
 abbrev pub with_next : List Ring → ℕ → Link → List Ring
@@ -76,12 +77,6 @@ pub record IsDetachedSlot (o : Options) (slots : List Slot) (heads : List ListHe
 pub record IsInTable (place : Place) : Type 0 where
   pub row : place.row < 52
   pub column : place.column < 52
-
--- Slot i is free and not detached, and its rectangle belongs in list k.
-pub record BelongsIn (o : Options) (ns : List Node) (p : Places) (k i : ℕ) : Type 0 where
-  pub free : (node_at ns i).kind ≡ kind.Free
-  pub kept : p.detached i ≡ false
-  pub list : k ≡ list_of o (node_sides (node_at ns i))
 
 -- The list but for its first.
 abbrev pub tail_of : List ℕ → List ℕ

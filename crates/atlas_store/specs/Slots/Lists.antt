@@ -37,9 +37,13 @@ Chain rs before (x ∷ xs) =
     (x < length rs) × ((ring_at rs x).previous.number ≡ before) × ((ring_at rs x).next.number ≡ front xs)
     × Chain rs x xs
 
--- The list that begins with this link holds the slots xs, each at most once.
-pub record IsList (rs : List Ring) (first : Link) (xs : List ℕ) : Type 0 where
-  pub chain : Chain rs no_slot xs
+-- What comes before the first slot of list k: no slot, but a number that tells the list.
+abbrev pub tag_of : ℕ → ℕ
+tag_of k = 2147483648 + k
+
+-- The list that begins with this link holds the slots xs, each at most once; `before` comes before its first.
+pub record IsList (rs : List Ring) (before : ℕ) (first : Link) (xs : List ℕ) : Type 0 where
+  pub chain : Chain rs before xs
   pub begins : first.number ≡ front xs
   pub once : (k : ℕ) → occurs k xs ≤ 1
 
@@ -68,7 +72,7 @@ filed o k n = if is_free n.kind && list_of o (node_sides n) == k then 1 else 0
 -- each is at least the bound that is kept of the list.
 pub record IsFiled (o : Options) (ns : List Node) (rs : List Ring) (heads : List ListHead) (k : ℕ) (xs : List ℕ)
     (detached : ℕ → Bool) : Type 0 where
-  pub links : IsList rs (head_of heads k) xs
+  pub links : IsList rs (tag_of k) (head_of heads k) xs
   pub each : (i : ℕ) → occurs i xs ≡ (if detached i then 0 else filed o k (node_at ns i))
   pub low : (i : ℕ) → 0 < occurs i xs → low_of heads k ≤ node_top (node_at ns i)
 

@@ -1,14 +1,10 @@
 -- What each call of the store does, in one word. No public clause cites this module.
 use Rattle.std.specs.Prelude.{ℕ, ◌+◌, ◌-◌, ◌<◌, ◌≤◌, ◌≡◌, ◌≢◌, ◌⊎◌, List, length, true, false, vec_capacity}
 use Rattle.atlas_store.specs.declared.store.Store.{Store}
-use Rattle.atlas_store.specs.declared.search.bands.Place.{Place}
 use Rattle.atlas_store.specs.declared.slots.Link.{Link}
 use Rattle.atlas_store.specs.declared.slots.NodeKind.TheVariants as kind
 use Rattle.atlas_store.specs.Slots.Calm.{IsCalmAt, IsCalmBut}
-use Rattle.atlas_store.specs.Search.Bands.{list_of, number_of}
-use Rattle.atlas_model.specs.Pixels.{options_of}
-use Rattle.atlas_store.specs.Slots.Links.{IsInTable, with_count}
-use Rattle.atlas_store.specs.Slots.Lists.{node_sides}
+use Rattle.atlas_store.specs.Slots.Links.{with_count}
 use Rattle.atlas_store.specs.Slots.Parts.{front_node, back_node, inner_node}
 use Rattle.atlas_store.specs.Slots.Reading.{extent_of}
 use Rattle.atlas_store.specs.Slots.{nodes, KeepsUse}
@@ -53,13 +49,6 @@ pub record HasClaimed {A : Type 0} (s : Store A) (i k : ℕ) : Type 0 where
   pub ready : (h : Holding) × (claimed : ℕ → ℕ) × IsReadyWith claimed (shelf_of s) i k h
   pub free : (node_in (shelf_of s) i).kind ≡ kind.Free
   pub fresh : IsUnusedSlot s k
-
--- Slot i is a free leaf, and stands in the list at this place.
-pub record IsListedAt {A : Type 0} (s : Store A) (i : ℕ) (place : Place) : Type 0 where
-  pub kept : (h : Holding) × Holds (shelf_of s) h × (h.detached i ≡ false)
-  pub free : (node_in (shelf_of s) i).kind ≡ kind.Free
-  pub list : number_of place ≡ list_of (options_of s.options) (node_sides (node_in (shelf_of s) i))
-  pub inside : IsInTable place
 
 -- The free leaf of slot i left its list.
 pub record UnlistsLeaf {A : Type 0} (old new : Store A) (i : ℕ) : Type 0 where

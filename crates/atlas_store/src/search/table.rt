@@ -132,6 +132,23 @@ impl<A: Allocator> Table<A> {
         }
     }
 
+    /// Another slot, or none, comes first in the list of this number, which has a slot.
+    pub fn set_first(&mut self, number: usize, first: Link)
+        requires number { number < LISTS }
+        requires used { is_used_at self.old number ≡ true }
+        ensures head { head_of self.new number ≡ first }
+        ensures heads { (k : ℕ) → k ≢ number → head_of self.new k ≡ head_of self.old k }
+        ensures lows { (k : ℕ) → low_of self.new k ≡ low_of self.old k }
+    {
+        self.heads[number].first = first;
+        if first.number == NO_SLOT {
+            self.marks.unmark(Place {
+                row: number / BANDS,
+                column: number % BANDS,
+            });
+        }
+    }
+
     /// Another bound is kept of a list.
     pub fn set_low(&mut self, at: Place, low: u32)
         requires row { at.row < BANDS }

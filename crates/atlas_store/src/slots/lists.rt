@@ -1,90 +1,94 @@
 //! The lists of free slots, by the bands of both sides, and the list of unused slots: links inside the slots.
 ghost use Rattle.std.specs.Prelude.{◌≡◌, ◌<◌, ℕ, true, false, List, ◌∷◌, length, slice_set, vec_capacity};
 ghost use Rattle.atlas_store.specs.Search.Bands.{list_of, number_of};
+ghost use Rattle.atlas_store.specs.Search.Tables.{head_of, low_of};
 ghost use Rattle.atlas_model.specs.Boxes.{IsPositive, box_sides};
 ghost use Rattle.atlas_model.specs.Choice.{Options};
 ghost use Rattle.atlas_model.specs.Pixels.{box_of, options_of, sides_of};
 ghost use Rattle.atlas_store.specs.Slots.{blank_slot, nodes, rings, node_at, ring_at};
 ghost use Rattle.atlas_store.specs.Slots.Standing.{IsSlot};
 ghost use Rattle.atlas_store.specs.declared.slots.Link.{Link};
-ghost use Rattle.atlas_store.specs.declared.slots.Node.{Node};
 ghost use Rattle.atlas_store.specs.declared.search.table.ListHead.{ListHead};
-ghost use Rattle.atlas_store.specs.Slots.Lists.{AreFiled, IsList, Places, node_sides, occurs, without};
+ghost use Rattle.atlas_store.specs.Slots.Lists.{AreFiled, IsList, Places, node_sides, occurs, tag_of};
 ghost use Rattle.atlas_store.specs.declared.slots.NodeKind.TheVariants.{Free};
-ghost use Rattle.atlas_store.specs.Slots.Links.{BelongsIn, CanTake, IsInTable, IsSolid, IsFiledSlot, IsListed};
-ghost use Rattle.atlas_store.specs.Slots.Links.{IsDetachedSlot, IsUnlisted, TakesFirst};
-ghost use Rattle.atlas_store.specs.Slots.Links.{first_without, given_back, listed, renewed, unlisted, with_next};
+ghost use Rattle.atlas_store.specs.Slots.Links.{CanTake, IsBefore, IsFiledSlot, IsInTable, IsDetachedSlot, IsSolid};
+ghost use Rattle.atlas_store.specs.Slots.Links.{IsUnlisted, TakesFirst};
+ghost use Rattle.atlas_store.specs.Slots.Links.{first_after, given_back, listed, renewed, unlisted, with_next};
 ghost use Rattle.atlas_store.specs.Slots.Links.{with_ring_previous};
 
 use crate::cut::Orientation;
-use crate::search::bands::{Place, Scale};
+use crate::search::bands::{BANDS, Place, Scale};
 use crate::search::table::Table;
-use crate::slots::{
-    Link, NO_SLOT, Node, NodeKind, Ring, Slot, read_node, read_ring, write_node, write_ring,
-};
+use crate::slots::{Link, NO_SLOT, Node, NodeKind, Ring, Slot, read_node, read_ring, write_node};
 use atlas_model::{Rectangle, Size, point2};
 use std::alloc::Allocator;
 
-/// `next` comes after `at` in its list; nothing happens where `at` is no slot.
-pub fn set_ring_next(slots: &mut [Slot], at: Link, next: Link)
-    requires inside { IsSlot (length slots.old) at.number }
-    requires short { length slots.old < NO_SLOT }
-    ensures written { rings slots.new ≡ with_next (rings slots.old) at.number next }
-    ensures same_nodes { nodes slots.new ≡ nodes slots.old }
+// From this number on, what comes before a slot is none: the slot is the first of the list with the rest as its number.
+const FIRST: u32 = 2147483648;
+
+// What comes before the first slot of a list.
+fn before_first(place: Place) -> Link
+    requires { IsInTable place }
+    ensures { result.number ≡ tag_of (number_of place) }
 {
-    if at.number != NO_SLOT {
-        let mut ring = read_ring(slots, at);
-        ring.next = next;
-        write_ring(slots, at, ring);
+    Link {
+        number: FIRST + (BANDS * place.row + place.column) as u32,
     }
 }
 
-/// `previous` comes before `at` in its list; nothing happens where `at` is no slot.
-pub fn set_ring_previous(slots: &mut [Slot], at: Link, previous: Link)
+// `next` comes after `at` in its list.
+fn set_ring_next(slots: &mut [Slot], at: Link, next: Link)
+    requires { at.number < length slots.old }
+    ensures written { rings slots.new ≡ with_next (rings slots.old) at.number next }
+    ensures same_nodes { nodes slots.new ≡ nodes slots.old }
+{
+    let slot = &mut slots[at.number as usize];
+    slot.ring.next = next;
+}
+
+// `previous` comes before `at` in its list; nothing happens where `at` is no slot.
+fn set_ring_previous(slots: &mut [Slot], at: Link, previous: Link)
     requires inside { IsSlot (length slots.old) at.number }
     requires short { length slots.old < NO_SLOT }
     ensures written { rings slots.new ≡ with_ring_previous (rings slots.old) at.number previous }
     ensures same_nodes { nodes slots.new ≡ nodes slots.old }
 {
     if at.number != NO_SLOT {
-        let mut ring = read_ring(slots, at);
-        ring.previous = previous;
-        write_ring(slots, at, ring);
+        let slot = &mut slots[at.number as usize];
+        slot.ring.previous = previous;
     }
 }
 
-/// The neighbours of a slot let it go.
-fn unlink(slots: &mut [Slot], at: Link, ring: Ring)
-    requires listed { IsListed (rings slots.old) at.number }
-    requires ring { ring ≡ ring_at (rings slots.old) at.number }
-    requires short { length slots.old < NO_SLOT }
-    ensures list { (first : Link) (xs : List ℕ) → IsList (rings slots.old) first xs → 0 < occurs at.number xs
-        → IsList (rings slots.new) (first_without ring first) (without at.number xs) }
-    ensures others { (first : Link) (xs : List ℕ) (k : ℕ) → IsList (rings slots.old) first xs → 0 < occurs at.number xs
+// `next` comes after `before`: in its list if `before` is a slot, or else first in the list that it tells.
+fn lead<A: Allocator>(slots: &mut [Slot], lists: &mut Table<A>, before: Link, next: Link)
+    requires before { IsBefore (length slots.old) lists.old before.number }
+    requires short { length slots.old < FIRST }
+    ensures written { rings slots.new ≡ with_next (rings slots.old) before.number next }
+    ensures same_nodes { nodes slots.new ≡ nodes slots.old }
+    ensures heads { (k : ℕ) → head_of lists.new k ≡ first_after before next (tag_of k) (head_of lists.old k) }
+    ensures lows { (k : ℕ) → low_of lists.new k ≡ low_of lists.old k }
+{
+    if before.number < FIRST {
+        set_ring_next(slots, before, next);
+    } else {
+        lists.set_first((before.number - FIRST) as usize, next);
+    }
+}
+
+// Puts a slot in front of the list that begins with `first`, and after `before`.
+fn push_front(slots: &mut [Slot], before: Link, first: Link, at: Link)
+    requires inside { at.number < length slots.old }
+    requires list { IsUnlisted (rings slots.old) before.number first at.number }
+    requires short { length slots.old < FIRST }
+    ensures list { (xs : List ℕ) → IsList (rings slots.old) before.number first xs → occurs at.number xs ≡ 0
+        → IsList (rings slots.new) before.number at (at.number ∷ xs) }
+    ensures others { (xs : List ℕ) (k : ℕ) → IsList (rings slots.old) before.number first xs → (k ≡ at.number → ⊥)
         → occurs k xs ≡ 0 → ring_at (rings slots.new) k ≡ ring_at (rings slots.old) k }
     ensures same_nodes { nodes slots.new ≡ nodes slots.old }
 {
-    set_ring_next(slots, ring.previous, ring.next);
-    set_ring_previous(slots, ring.next, ring.previous);
-}
-
-/// Puts a slot in front of the list that begins with `first`.
-fn push_front(slots: &mut [Slot], first: Link, at: Link)
-    requires inside { at.number < length slots.old }
-    requires list { IsUnlisted (rings slots.old) first at.number }
-    requires short { length slots.old < NO_SLOT }
-    ensures list { (xs : List ℕ) → IsList (rings slots.old) first xs → occurs at.number xs ≡ 0
-        → IsList (rings slots.new) at (at.number ∷ xs) }
-    ensures others { (xs : List ℕ) (k : ℕ) → IsList (rings slots.old) first xs → (k ≡ at.number → ⊥) → occurs k xs ≡ 0
-        → ring_at (rings slots.new) k ≡ ring_at (rings slots.old) k }
-    ensures same_nodes { nodes slots.new ≡ nodes slots.old }
-{
-    let none = Link::NONE;
-    let ring = Ring {
-        previous: none,
-        next: first,
-    };
-    write_ring(slots, at, ring);
+    let slot = &mut slots[at.number as usize];
+    slot.ring.previous = before;
+    slot.ring.next = first;
     set_ring_previous(slots, first, at);
 }
 
@@ -105,44 +109,20 @@ fn top_in(area: Rectangle) -> u32
     area.min.y as u32
 }
 
-/// Takes a free slot, whose rectangle is exact, out of its list; it is detached from then on.
+/// Takes a free slot out of its list; it is detached from then on.
 #[inline(always)]
-pub fn unlist<A: Allocator>(slots: &mut [Slot], lists: &mut Table<A>, options: &Scale, at: Link)
+pub fn unlist<A: Allocator>(slots: &mut [Slot], lists: &mut Table<A>, at: Link)
     requires free { (node_at (nodes slots.old) at.number).kind ≡ Free }
-    requires exact { IsSolid (node_at (nodes slots.old) at.number).area }
-    requires kept { IsFiledSlot (options_of options.now) slots.old lists.old at.number }
-    requires short { length slots.old < NO_SLOT }
-    ensures filed { (unused : Link) (p : Places)
-        → AreFiled (options_of options.now) (nodes slots.old) (rings slots.old) lists.old unused p
-        → p.detached at.number ≡ false
-        → AreFiled (options_of options.now) (nodes slots.new) (rings slots.new) lists.new unused
-        (unlisted p at.number) }
+    requires kept { (o : Options) × IsFiledSlot o slots.old lists.old at.number }
+    requires short { length slots.old < FIRST }
+    ensures filed { (o : Options) (unused : Link) (p : Places)
+        → AreFiled o (nodes slots.old) (rings slots.old) lists.old unused p → p.detached at.number ≡ false
+        → AreFiled o (nodes slots.new) (rings slots.new) lists.new unused (unlisted p at.number) }
     ensures same_nodes { nodes slots.new ≡ nodes slots.old }
 {
     let ring = read_ring(slots, at);
-    unlink(slots, at, ring);
-    if ring.previous.number == NO_SLOT {
-        let node = read_node(slots, at);
-        let place = options.place_for(exact_size(node.area));
-        lists.set_head(place, ring.next);
-    }
-}
-
-/// Takes a slot out of the list where it stands; it is detached from then on.
-pub fn unlist_at<A: Allocator>(slots: &mut [Slot], lists: &mut Table<A>, at: Link, place: Place)
-    requires listed { IsListed (rings slots.old) at.number }
-    requires place { IsInTable place }
-    requires short { length slots.old < NO_SLOT }
-    ensures filed { (o : Options) (ns : List Node) (unused : Link) (p : Places)
-        → AreFiled o ns (rings slots.old) lists.old unused p → BelongsIn o ns p (number_of place) at.number
-        → AreFiled o ns (rings slots.new) lists.new unused (unlisted p at.number) }
-    ensures same_nodes { nodes slots.new ≡ nodes slots.old }
-{
-    let ring = read_ring(slots, at);
-    unlink(slots, at, ring);
-    if ring.previous.number == NO_SLOT {
-        lists.set_head(place, ring.next);
-    }
+    lead(slots, lists, ring.previous, ring.next);
+    set_ring_previous(slots, ring.next, ring.previous);
 }
 
 /// Puts a free and detached slot, whose rectangle is exact, into its list.
@@ -151,7 +131,7 @@ pub fn enlist<A: Allocator>(slots: &mut [Slot], lists: &mut Table<A>, options: &
     requires free { (node_at (nodes slots.old) at.number).kind ≡ Free }
     requires exact { IsSolid (node_at (nodes slots.old) at.number).area }
     requires detached { IsDetachedSlot (options_of options.now) slots.old lists.old at.number }
-    requires short { length slots.old < NO_SLOT }
+    requires short { length slots.old < FIRST }
     ensures filed { (unused : Link) (p : Places)
         → AreFiled (options_of options.now) (nodes slots.old) (rings slots.old) lists.old unused p
         → p.detached at.number ≡ true
@@ -163,7 +143,7 @@ pub fn enlist<A: Allocator>(slots: &mut [Slot], lists: &mut Table<A>, options: &
     let place = options.place_for(exact_size(node.area));
     let first = lists.head(place);
     lists.push(place, at, top_in(node.area));
-    push_front(slots, first, at);
+    push_front(slots, before_first(place), first, at);
 }
 
 // A slot that was never taken.
@@ -232,11 +212,6 @@ pub fn give_back(slots: &mut [Slot], unused: &mut Link, at: Link)
         → AreFiled o (nodes slots.new) (rings slots.new) heads unused.new (given_back p at.number) }
     ensures same_nodes { nodes slots.new ≡ nodes slots.old }
 {
-    let none = Link::NONE;
-    let ring = Ring {
-        previous: none,
-        next: *unused,
-    };
-    write_ring(slots, at, ring);
+    set_ring_next(slots, at, *unused);
     *unused = at;
 }

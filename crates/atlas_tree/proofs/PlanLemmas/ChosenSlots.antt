@@ -1,5 +1,5 @@
 -- The free slot that a request takes, and how it is granted.
-use Rattle.std.proofs.Common.{ℕ, ◌<◌, ◌≤◌, ◌≡◌, ◌≢◌, List, length, true, refl, sym, ap, subst, ◌∙◌, arith}
+use Rattle.std.proofs.Common.{ℕ, ◌<◌, ◌≤◌, ◌≡◌, ◌≢◌, List, length, true, false, refl, sym, ap, subst, ◌∙◌, arith}
 use Rattle.std.proofs.lemmas.List.{length-map}
 use Rattle.atlas_store.specs.declared.store.Store.{Store}
 use Rattle.atlas_store.specs.declared.slots.Slot.{Slot}
@@ -21,7 +21,7 @@ use Rattle.atlas_store.specs.Store.Holdings.{shelf_of, node_in, across_of, with_
 use Rattle.atlas_store.specs.Search.Bands.{list_of, number_of}
 use Rattle.atlas_store.specs.Slots.Lists.{node_sides, node_top}
 use Rattle.atlas_tree.specs.Plans.Planning.{IsPlanFor, IsFeasible, IsPlanReady, IsPlanReadyWith, IsPlanDone, IsPlanned}
-use Rattle.atlas_store.specs.Store.StoreCalls.{IsListedAt, IsSharpened, UnlistsLeaf}
+use Rattle.atlas_store.specs.Store.StoreCalls.{IsSharpened, UnlistsLeaf}
 use Rattle.atlas_tree.specs.Plans.Chosen.{IsAtRest, IsChosen, IsGrantable, IsGrantMade}
 use Rattle.atlas_store.proofs.StoreLemmas.Filing.{with_mark-same}
 use Rattle.atlas_store.proofs.SlotLemmas.JoiningWrites.{used-inside}
@@ -64,10 +64,10 @@ module _ (v : Shelf) (h : Holding) (rest : IsAtRest v h) where
         → IsChosen v r (record { at = found.at; area = found.rectangle; place = found.place; low = found.low; plan = plan })
     found-chosen plan line feasible place low = grind (arith, free_here, area_here, picked_here)
 
--- It stands in the list at its place.
+-- It stands in its list.
 pub listed-chosen : {A : Type 0} {v : Store A} {r : Sides} {p : Chosen} {h : Holding} → IsGrantable v r p h
-    → IsListedAt v p.at.number p.place
-listed-chosen {A} {v} {r} {p} {h} w = grind arith
+    → (h : Holding) × Holds (shelf_of v) h × (h.detached p.at.number ≡ false)
+listed-chosen {A} {v} {r} {p} {h} w = (h, w.rest.holds, w.rest.listed p.at.number refl)
 
 -- Once the slot is detached, no other slot of its list lies above the strip that the search saw.
 chosen-low : (v u : Shelf) (r : Sides) (p : Chosen) → IsChosen v r p → nodes u.slots ≡ nodes v.slots → u.options ≡ v.options

@@ -2,28 +2,28 @@ use Rattle.std.proofs.Common.{◌∙◌, ap, vec_capacity}
 use Rattle.atlas_tree.proofs.PlanLemmas.ChosenSlots.{listed-chosen, unlisted-sharpened, placeable-chosen, granted-inside, granted-short, grant-made}
 use Rattle.atlas_tree.proofs.requests.grant.Goals as goal
 
-pub unlist_at-requires : goal.unlist_at-requires
-unlist_at-requires g c = listed-chosen c.requires.2
+pub unlist-requires-clause-ready : goal.unlist-requires-clause-ready
+unlist-requires-clause-ready g c = listed-chosen c.requires.2
 
 pub place-slot-requires : goal.place-slot-requires
-place-slot-requires g c = placeable-chosen c.requires.2 (unlisted-sharpened c.args.chosen c.requires.2.chosen c.unlist_at.ensures c.sharpen.ensures)
+place-slot-requires g c = placeable-chosen c.requires.2 (unlisted-sharpened c.args.chosen c.requires.2.chosen c.unlist.ensures c.sharpen.ensures)
 
 pub node-node-requires : goal.node-node-requires
 node-node-requires g c =
-    granted-inside c.requires.2 (unlisted-sharpened c.args.chosen c.requires.2.chosen c.unlist_at.ensures c.sharpen.ensures) c.place-slot.ensures
+    granted-inside c.requires.2 (unlisted-sharpened c.args.chosen c.requires.2.chosen c.unlist.ensures c.sharpen.ensures) c.place-slot.ensures
 
 pub slot_id-requires : goal.slot_id-requires
 slot_id-requires g c =
-    granted-short c.requires.2 (unlisted-sharpened c.args.chosen c.requires.2.chosen c.unlist_at.ensures c.sharpen.ensures) c.place-slot.ensures
+    granted-short c.requires.2 (unlisted-sharpened c.args.chosen c.requires.2.chosen c.unlist.ensures c.sharpen.ensures) c.place-slot.ensures
 
 pub returns : goal.returns
 returns g c = record {
   granted = λ r h w.
-      grant-made w (unlisted-sharpened c.args.chosen w.chosen c.unlist_at.ensures c.sharpen.ensures) c.place-slot.ensures
+      grant-made w (unlisted-sharpened c.args.chosen w.chosen c.unlist.ensures c.sharpen.ensures) c.place-slot.ensures
       c.slot_id.result c.node-node.result c.node-node.ensures c.slot_id.ensures;
-  once = λ f. c.place-slot.ensures.once (c.sharpen.ensures.once (c.unlist_at.ensures.once f));
-  options = c.place-slot.ensures.options ∙ c.sharpen.ensures.options ∙ c.unlist_at.ensures.room.options;
+  once = λ f. c.place-slot.ensures.once (c.sharpen.ensures.once (c.unlist.ensures.once f));
+  options = c.place-slot.ensures.options ∙ c.sharpen.ensures.options ∙ c.unlist.ensures.room.options;
   capacity =
-      c.place-slot.ensures.capacity ∙ ap (λ v. vec_capacity v) c.sharpen.ensures.slots ∙ c.unlist_at.ensures.room.capacity;
-  turns = c.place-slot.ensures.turns ∙ c.sharpen.ensures.turns ∙ c.unlist_at.ensures.turns;
+      c.place-slot.ensures.capacity ∙ ap (λ v. vec_capacity v) c.sharpen.ensures.slots ∙ c.unlist.ensures.room.capacity;
+  turns = c.place-slot.ensures.turns ∙ c.sharpen.ensures.turns ∙ c.unlist.ensures.turns;
 }
