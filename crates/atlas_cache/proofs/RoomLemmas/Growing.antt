@@ -87,10 +87,6 @@ growth_less o sizes page old new is more within =
     let sum = sum_by-set (short_of o) sizes page new old inside in
     rw (length-set sizes page new) (omega (arith, rw was at sum, more, within))
 
--- One page fewer that isn't there.
-one_fewer : (m n l : ℕ) → n < m → (m - n) * l ≡ (m - (n + 1)) * l + l
-one_fewer m n l less = let step : m - n ≡ (m - (n + 1)) + 1 = omega arith in ap (λ k. k * l) step ∙ omega arith
-
 -- What is known of a page that isn't at its largest.
 pub record Growth (r : RoomsState) (page : ℕ) (old : Size) : Type 0 where
   pub within : page < length r.pages

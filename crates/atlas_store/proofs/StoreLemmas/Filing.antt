@@ -21,7 +21,7 @@ use Rattle.atlas_store.specs.Slots.Standing.{IsSlot}
 use Rattle.atlas_store.specs.Slots.Lists.{IsList, IsFiled, AreFiled, Places, occurs, without, filed, node_sides, node_top, is_free, tag_of}
 use Rattle.atlas_store.specs.Search.Bands.{list_of, number_of}
 use Rattle.atlas_store.specs.Search.Tables.{head_of, low_of, is_used_at}
-use Rattle.atlas_store.specs.Slots.Links.{IsBefore, IsFiledSlot, IsDetachedSlot, IsUnlisted, first_after, with_mark, with_count, with_next, with_ring_previous, lists_with, unlisted, listed}
+use Rattle.atlas_store.specs.Slots.Links.{IsSlotOrTag, IsFiledSlot, IsDetachedSlot, IsUnlisted, first_after, with_mark, with_count, with_next, with_ring_previous, lists_with, unlisted, listed}
 use Rattle.atlas_store.proofs.ListLemmas.Occurrences.{same-self, same-ne, ne-from_occurs, without-none, occurs-without}
 use Rattle.atlas_store.proofs.SearchLemmas.BandLaws.{list_of-most}
 use Rattle.atlas_store.proofs.StoreLemmas.Unlinking.{CanUnlink, IsList-kept, IsList-unlinked, Line-kept, Line-inside, can-unlink, others-unlinked, unlinked-by}
@@ -256,7 +256,7 @@ module _ (o : Options) (ns : List Node) (rs : List Ring) (heads : List ListHead)
   can-leave = can-unlink rs (tag_of own) i (head_of heads own) (p.free_lists own) own-links own-stands (omega arith)
 
   -- What comes before it is a slot, or tells its list.
-  before-is : IsBefore (length rs) heads (ring_at rs i).previous.number
+  before-is : IsSlotOrTag (length rs) heads (ring_at rs i).previous.number
   before-is = elim can-leave.previous [
     | inl e ↦ inr (own, own-below, e, is-used rs heads own i (p.free_lists own) (omega arith) own-links own-stands)
     | inr l ↦ inl l
@@ -298,7 +298,7 @@ module _ {o : Options} {slots : List Slot} {heads : List ListHead} {i : ℕ} (k 
   leaves-inside = omega (arith, leaves.inside, same_count)
 
   module _ (ring : Ring) (er : ring ≡ ring_at (rings slots) i) where
-    pub leaves-before : IsBefore (length slots) heads ring.previous.number
+    pub leaves-before : IsSlotOrTag (length slots) heads ring.previous.number
     leaves-before = rw (er, ← same_count) (before-is o (nodes slots) (rings slots) heads k.unused k.places k.filed i free k.kept few-rings)
 
     pub leaves-next : (count : ℕ) → count ≡ length slots → IsSlot count ring.next.number

@@ -22,8 +22,8 @@ abbrev pub IsUnlisted : List Ring → (before : ℕ) → Link → ℕ → Type 0
 IsUnlisted rs before first i = (xs : List ℕ) × IsList rs before first xs × (occurs i xs ≡ 0)
 
 -- This is one of n slots, or comes before the first slot of a list that has one.
-abbrev pub IsBefore : (n : ℕ) → List ListHead → ℕ → Type 0
-IsBefore n heads before =
+abbrev pub IsSlotOrTag : (n : ℕ) → List ListHead → ℕ → Type 0
+IsSlotOrTag n heads before =
     (before < n) ⊎ ((k : ℕ) × (k < 2704) × (before ≡ tag_of k) × (is_used_at heads k ≡ true))
 
 -- What a list begins with once `next` comes after `before`; `tag` comes before its first slot, which was `first`.

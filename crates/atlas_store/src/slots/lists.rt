@@ -11,7 +11,7 @@ ghost use Rattle.atlas_store.specs.declared.slots.Link.{Link};
 ghost use Rattle.atlas_store.specs.declared.search.table.ListHead.{ListHead};
 ghost use Rattle.atlas_store.specs.Slots.Lists.{AreFiled, IsList, Places, node_sides, occurs, tag_of};
 ghost use Rattle.atlas_store.specs.declared.slots.NodeKind.TheVariants.{Free};
-ghost use Rattle.atlas_store.specs.Slots.Links.{CanTake, IsBefore, IsFiledSlot, IsInTable, IsDetachedSlot, IsSolid};
+ghost use Rattle.atlas_store.specs.Slots.Links.{CanTake, IsSlotOrTag, IsFiledSlot, IsInTable, IsDetachedSlot, IsSolid};
 ghost use Rattle.atlas_store.specs.Slots.Links.{IsUnlisted, TakesFirst};
 ghost use Rattle.atlas_store.specs.Slots.Links.{first_after, given_back, listed, renewed, unlisted, with_next};
 ghost use Rattle.atlas_store.specs.Slots.Links.{with_ring_previous};
@@ -61,7 +61,7 @@ fn set_ring_previous(slots: &mut [Slot], at: Link, previous: Link)
 
 // `next` comes after `before`: in its list if `before` is a slot, or else first in the list that it tells.
 fn lead<A: Allocator>(slots: &mut [Slot], lists: &mut Table<A>, before: Link, next: Link)
-    requires before { IsBefore (length slots.old) lists.old before.number }
+    requires before { IsSlotOrTag (length slots.old) lists.old before.number }
     requires short { length slots.old < FIRST }
     ensures written { rings slots.new ≡ with_next (rings slots.old) before.number next }
     ensures same_nodes { nodes slots.new ≡ nodes slots.old }
