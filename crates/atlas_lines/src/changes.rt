@@ -7,9 +7,8 @@ ghost use Rattle.atlas_lines.specs.Replies.{reply_text, corners_text, change_lin
 
 use crate::listing::{BLOCK, Waiting, make_room};
 use crate::replies::{LINE, push_corners};
-use atlas_words::buffer::FixedBytes;
+use atlas_words::buffer::{FixedBytes, push_unsigned};
 use atlas_words::devices::ToolOutput;
-use atlas_words::digits::push_unsigned;
 use guillotiere::{Allocation, Change};
 
 // Adds an id and a rectangle at the end.

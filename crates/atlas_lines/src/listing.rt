@@ -11,9 +11,8 @@ ghost use Rattle.atlas_lines.specs.Replies.{reply_text, line_text, bad_line_text
 
 use crate::changes::send_changes;
 use crate::replies::{Answer, LINE, Reply, push_bad_line, push_corners, push_reply};
-use atlas_words::buffer::FixedBytes;
+use atlas_words::buffer::{FixedBytes, push_unsigned};
 use atlas_words::devices::{ToolOutput, write_all};
-use atlas_words::digits::push_unsigned;
 use guillotiere::{Allocation, Rectangle};
 use std::alloc::Allocator;
 

@@ -3,8 +3,7 @@ ghost use Rattle.std.specs.Prelude.{◌≡◌, ◌≤◌, ◌+◌, ◌++◌, len
 ghost use Rattle.atlas_lines.specs.Replies.{spaced_number, line_text, bad_line_text, corners_text, refusal_text};
 ghost use Rattle.atlas_lines.specs.Replies.{counted_text, counts_text, fault_text, replay_text};
 
-use atlas_words::buffer::FixedBytes;
-use atlas_words::digits::{push_signed, push_unsigned};
+use atlas_words::buffer::{FixedBytes, push_signed, push_unsigned};
 use guillotiere::{Allocation, AtlasError, ChangeList, Rectangle, Size};
 use guillotiere_recording::ReplayFault;
 use std::alloc::Allocator;

@@ -4,5 +4,4 @@
 
 pub mod freeing;
 pub mod growth;
-pub mod plans;
 pub mod requests;

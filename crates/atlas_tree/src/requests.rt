@@ -1,22 +1,29 @@
-//! Granting a request: the free slot that it takes, the slots that this needs, and the placing itself.
+//! Granting a request: the free slot that it takes, how its leaf gives way (a plan), the slots that this needs, and the
+//! placing itself, by the calls of `store`.
 ghost use Rattle.std.specs.Prelude.{◌≡◌, ◌+◌, ◌<◌, ◌≤◌, ◌⊎◌, List, None, IfSome, OnOk, OnErr, IfErr, Err, vec_capacity};
 ghost use Rattle.std.specs.Prelude.{length};
-ghost use Rattle.atlas_model.specs.Boxes.{Box, IsPositive};
+ghost use Rattle.atlas_model.specs.Boxes.{Box, IsPositive, Fits, Sides, box_sides, side, other};
 ghost use Rattle.atlas_model.specs.Choice.{IsFitting};
-ghost use Rattle.atlas_model.specs.Pixels.{sides_of};
-ghost use Rattle.atlas_store.specs.Slots.{nodes};
+ghost use Rattle.atlas_model.specs.Pixels.{sides_of, box_of, rectangle_of};
+ghost use Rattle.atlas_store.specs.Slots.{nodes, axis_of};
 ghost use Rattle.atlas_model.specs.Trees.{most_slots};
 ghost use Rattle.atlas_store.specs.Search.Picks.{AreFreeBoxes};
 ghost use Rattle.atlas_store.specs.Stored.{Holding};
-ghost use Rattle.atlas_store.specs.Store.Holdings.{shelf_of};
+ghost use Rattle.atlas_store.specs.Store.Holdings.{shelf_of, across_of};
 ghost use Rattle.atlas_tree.specs.Plans.Chosen.{CanGrant, IsAtRest, IsChosen, IsRequestGranted, IsShortOf, KeepsShelf};
+ghost use Rattle.atlas_store.specs.declared.slots.Node.{Node};
+ghost use Rattle.atlas_model.specs.Cuts.{cut};
+ghost use Rattle.atlas_model.specs.Cuts.Cut.{Whole, Strip, Corner};
+ghost use Rattle.atlas_store.specs.Slots.Reading.{extent_of};
+ghost use Rattle.atlas_tree.specs.Plans.Planning.{slots_of, IsPlanFor, IsFeasible, IsPlanReady, IsPlanDone};
 
-use crate::plans::{Plan, place, plan_for};
 use atlas_model::{AllocId, AtlasError, Rectangle, Size};
+use atlas_store::cut::{Orientation, orientation_of};
 use atlas_store::search::bands::Place;
-use atlas_store::slots::Link;
+use atlas_store::slots::lists::exact_size;
 use atlas_store::slots::pick::pick;
 use atlas_store::slots::walks::slot_id;
+use atlas_store::slots::{Link, Node};
 use atlas_store::store::Store;
 use std::alloc::Allocator;
 
@@ -89,4 +96,164 @@ pub fn grant<A: Allocator>(store: &mut Store<A>, chosen: Chosen) -> AllocId
     let slot = place(store, chosen.at, chosen.plan);
     let node = store.node(slot);
     slot_id(slot.number as usize, node.generation)
+}
+
+/// How a free leaf gives way to a request that fits it, with the request's pixels along the leaf's sequence and across
+/// it (docs/MODEL.md, "Changes of a tree").
+#[derive(Clone, Copy, Debug, PartialEq, Eq)]
+pub enum Plan {
+    /// The leaf is granted whole.
+    Whole,
+    /// The leaf is cut along its sequence.
+    StripAlong(u32),
+    /// It is cut along its sequence, and its first part across.
+    CornerAlong(u32, u32),
+    /// It becomes a container, and is cut across.
+    StripAcross(u32),
+    /// It becomes a container, is cut across, and its first part along.
+    CornerAcross(u32, u32),
+}
+
+/// How many slots a plan takes.
+pub fn slots_needed(plan: Plan) -> u32
+    ensures { result ≡ slots_of plan }
+{
+    match plan {
+        Plan::Whole => 0,
+        Plan::StripAlong(_) => 1,
+        Plan::CornerAlong(_, _) => 3,
+        Plan::StripAcross(_) => 2,
+        Plan::CornerAcross(_, _) => 4,
+    }
+}
+
+// The pixels of a size along an axis, and those across it.
+fn along_and_across(size: Size, axis: Orientation) -> (u32, u32)
+    requires { IsPositive (sides_of size) }
+    ensures along { result.0 ≡ side (axis_of axis) (sides_of size) }
+    ensures across { result.1 ≡ side (other (axis_of axis)) (sides_of size) }
+{
+    let width = size.width as u32;
+    let height = size.height as u32;
+    match axis {
+        Orientation::Horizontal => (width, height),
+        Orientation::Vertical => (height, width),
+    }
+}
+
+// The plan for a request that has all pixels of a leaf but on one axis.
+fn strip(leaf: &Node, axis: Orientation, pixels: u32) -> Plan
+    ensures line { (r : Sides) → cut (box_sides (box_of leaf.now.area)) r ≡ Strip (axis_of axis)
+        → pixels ≡ side (axis_of axis) r → IsPlanFor leaf.now r result }
+    ensures feasible { 0 < pixels → pixels < side (axis_of axis) (box_sides (box_of leaf.now.area))
+        → IsFeasible result (extent_of leaf.now) (across_of leaf.now) }
+{
+    if axis == leaf.axis {
+        Plan::StripAlong(pixels)
+    } else {
+        Plan::StripAcross(pixels)
+    }
+}
+
+// The plan for a request that is smaller than a leaf on both axes.
+fn corner(leaf: &Node, whole: Size, size: Size) -> Plan
+    requires whole { sides_of whole ≡ box_sides (box_of leaf.now.area) }
+    requires positive { IsPositive (sides_of size) }
+    requires narrower { (sides_of size).width < (sides_of whole).width }
+    requires lower { (sides_of size).height < (sides_of whole).height }
+    ensures line { IsPlanFor leaf.now (sides_of size) result }
+    ensures feasible { IsFeasible result (extent_of leaf.now) (across_of leaf.now) }
+{
+    let (along, across) = along_and_across(size, leaf.axis);
+    if orientation_of(whole, size) == leaf.axis {
+        Plan::CornerAlong(along, across)
+    } else {
+        Plan::CornerAcross(along, across)
+    }
+}
+
+/// The plan for a request that fits a leaf.
+pub fn plan_for(leaf: &Node, size: Size) -> Plan
+    requires exact { leaf.now.area ≡ rectangle_of (box_of leaf.now.area) }
+    requires positive { IsPositive (sides_of size) }
+    requires fits { Fits (sides_of size) (box_sides (box_of leaf.now.area)) }
+    ensures line { IsPlanFor leaf.now (sides_of size) result }
+    ensures feasible { IsFeasible result (extent_of leaf.now) (across_of leaf.now) }
+{
+    let whole = exact_size(leaf.area);
+    if whole.width == size.width {
+        if whole.height == size.height {
+            Plan::Whole
+        } else {
+            strip(leaf, Orientation::Vertical, size.height as u32)
+        }
+    } else if whole.height == size.height {
+        strip(leaf, Orientation::Horizontal, size.width as u32)
+    } else {
+        corner(leaf, whole, size)
+    }
+}
+
+/// Carries out a plan in the detached leaf of a slot, for which there are slots. The answer is the slot that is
+/// granted.
+pub fn place<A: Allocator>(store: &mut Store<A>, at: Link, plan: Plan) -> Link
+    requires { IsPlanReady store.old at.number plan }
+    ensures { IsPlanDone store.old store.new at.number result.number plan }
+{
+    match plan {
+        Plan::Whole => {
+            store.grant(at);
+            at
+        }
+        Plan::StripAlong(along) => strip_along(store, at, along),
+        Plan::CornerAlong(along, across) => corner_along(store, at, along, across),
+        Plan::StripAcross(across) => strip_across(store, at, across),
+        Plan::CornerAcross(along, across) => corner_across(store, at, along, across),
+    }
+}
+
+fn strip_along<A: Allocator>(store: &mut Store<A>, at: Link, along: u32) -> Link
+    requires { IsPlanReady store.old at.number (Plan.StripAlong along) }
+    ensures { IsPlanDone store.old store.new at.number result.number (Plan.StripAlong along) }
+{
+    let split = store.split(at, along);
+    store.grant(at);
+    store.list(split);
+    at
+}
+
+fn corner_along<A: Allocator>(store: &mut Store<A>, at: Link, along: u32, across: u32) -> Link
+    requires { IsPlanReady store.old at.number (Plan.CornerAlong along across) }
+    ensures { IsPlanDone store.old store.new at.number result.number (Plan.CornerAlong along across) }
+{
+    let split = store.split(at, along);
+    let granted = store.wrap(at);
+    let leftover = store.split(granted, across);
+    store.grant(granted);
+    store.list(split);
+    store.list(leftover);
+    granted
+}
+
+fn strip_across<A: Allocator>(store: &mut Store<A>, at: Link, across: u32) -> Link
+    requires { IsPlanReady store.old at.number (Plan.StripAcross across) }
+    ensures { IsPlanDone store.old store.new at.number result.number (Plan.StripAcross across) }
+{
+    let (granted, split) = store.wrap_two(at, across);
+    store.grant(granted);
+    store.list(split);
+    granted
+}
+
+fn corner_across<A: Allocator>(store: &mut Store<A>, at: Link, along: u32, across: u32) -> Link
+    requires { IsPlanReady store.old at.number (Plan.CornerAcross along across) }
+    ensures { IsPlanDone store.old store.new at.number result.number (Plan.CornerAcross along across) }
+{
+    let (container, split) = store.wrap_two(at, across);
+    let granted = store.wrap(container);
+    let leftover = store.split(granted, along);
+    store.grant(granted);
+    store.list(split);
+    store.list(leftover);
+    granted
 }

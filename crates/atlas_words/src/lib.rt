@@ -5,7 +5,6 @@
 pub mod buffer;
 pub mod commands;
 pub mod devices;
-pub mod digits;
 pub mod standard;
 pub mod standard_output;
 pub mod words;

@@ -14,8 +14,7 @@ use crate::atlas::AtlasAllocator;
 use atlas_model::{Allocation, AtlasError, Size};
 use atlas_store::choice::rounded;
 use atlas_store::cut::granted;
-use atlas_tree::plans::slots_needed;
-use atlas_tree::requests::{choose, grant, make_room};
+use atlas_tree::requests::{choose, grant, make_room, slots_needed};
 use std::alloc::Allocator;
 
 impl<A: Allocator + Copy> AtlasAllocator<A> {

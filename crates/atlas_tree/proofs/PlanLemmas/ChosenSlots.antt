@@ -7,7 +7,7 @@ use Rattle.atlas_store.specs.declared.slots.Node.{Node}
 use Rattle.atlas_store.specs.declared.slots.NodeKind.TheVariants as kind
 use Rattle.atlas_store.specs.declared.search.best.Found.{Found}
 use Rattle.atlas_tree.specs.declared.requests.Chosen.{Chosen}
-use Rattle.atlas_tree.specs.declared.plans.Plan.{Plan}
+use Rattle.atlas_tree.specs.declared.requests.Plan.{Plan}
 use Rattle.atlas_model.specs.Boxes.{Sides, Box, origin, box_sides, Fits}
 use Rattle.atlas_model.specs.Pixels.{box_of, rectangle_of, options_of}
 use Rattle.atlas_model.specs.Choice.{IsPick}

@@ -2,8 +2,8 @@
 use Rattle.std.proofs.Common.{ℕ, ◌-◌, ◌<◌, ◌≤◌, ◌≡◌, ◌≢◌, [], ◌∷◌, length, true, false, refl, sym, ap, ◌∙◌, inl, inr, arith}
 use Rattle.atlas_store.specs.declared.store.Store.{Store}
 use Rattle.atlas_store.specs.declared.slots.Node.{Node}
-use Rattle.atlas_tree.specs.declared.plans.Plan.{Plan}
-use Rattle.atlas_tree.specs.declared.plans.Plan.TheVariants as plan
+use Rattle.atlas_tree.specs.declared.requests.Plan.{Plan}
+use Rattle.atlas_tree.specs.declared.requests.Plan.TheVariants as plan
 use Rattle.atlas_store.specs.Slots.{nodes, node_at}
 use Rattle.atlas_store.specs.Slots.Numbered.{granted_at, split_at, wrapped_at}
 use Rattle.atlas_store.specs.Slots.Links.{with_mark}

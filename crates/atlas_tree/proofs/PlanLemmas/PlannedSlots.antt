@@ -1,7 +1,7 @@
 -- The slot that a plan grants was not allocated, and the first slot stays.
 use Rattle.std.proofs.Common.{ℕ, ◌<◌, ◌≤◌, ◌≡◌, ◌⊎◌, inl, inr, ap, ◌∙◌, arith}
-use Rattle.atlas_tree.specs.declared.plans.Plan.{Plan}
-use Rattle.atlas_tree.specs.declared.plans.Plan.TheVariants as plan
+use Rattle.atlas_tree.specs.declared.requests.Plan.{Plan}
+use Rattle.atlas_tree.specs.declared.requests.Plan.TheVariants as plan
 use Rattle.atlas_store.specs.declared.slots.NodeKind.TheVariants as kind
 use Rattle.atlas_store.specs.Slots.Numbered.{Numbered, tally, first_slot, is_free_at, split_at, wrapped_at}
 use Rattle.atlas_store.specs.Stored.{Shelf, Holding, Holds}

@@ -1,7 +1,7 @@
 -- What a plan carried out in a store makes of the tree that is read from it.
 use Rattle.std.proofs.Common.{ℕ, ◌+◌, ◌<◌, ◌≡◌, arith}
 use Rattle.std.proofs.lemmas.List.{length-map}
-use Rattle.atlas_tree.specs.declared.plans.Plan.{Plan}
+use Rattle.atlas_tree.specs.declared.requests.Plan.{Plan}
 use Rattle.atlas_store.specs.declared.slots.NodeKind.TheVariants as kind
 use Rattle.atlas_model.specs.Boxes.{Sides, other, side, box_sides, Fits, IsPositive}
 use Rattle.atlas_model.specs.Pixels.{box_of}

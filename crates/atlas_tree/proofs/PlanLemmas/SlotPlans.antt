@@ -1,7 +1,7 @@
 -- A plan carried out in the leaf of a slot is the model's placing.
 use Rattle.std.proofs.Common.{ℕ, ◌+◌, ◌<◌, ◌≤◌, ◌≡◌, ◌≢◌, true, false, List, refl, sym, ap, ◌∙◌, arith}
-use Rattle.atlas_tree.specs.declared.plans.Plan.{Plan}
-use Rattle.atlas_tree.specs.declared.plans.Plan.TheVariants as plan
+use Rattle.atlas_tree.specs.declared.requests.Plan.{Plan}
+use Rattle.atlas_tree.specs.declared.requests.Plan.TheVariants as plan
 use Rattle.atlas_store.specs.declared.slots.Node.{Node}
 use Rattle.atlas_model.specs.Boxes.{Axis, Sides, Box, other, same_axis, side}
 use Rattle.atlas_model.specs.Boxes.Axis.{Horizontal, Vertical}

@@ -2,8 +2,8 @@
 -- module.
 use Rattle.std.specs.Prelude.{ℕ, ◌≡◌, ◌-◌, ◌<◌, ◌∷◌, [], length, vec_capacity}
 use Rattle.atlas_store.specs.declared.store.Store.{Store}
-use Rattle.atlas_tree.specs.declared.plans.Plan.{Plan}
-use Rattle.atlas_tree.specs.declared.plans.Plan.TheVariants as plan
+use Rattle.atlas_tree.specs.declared.requests.Plan.{Plan}
+use Rattle.atlas_tree.specs.declared.requests.Plan.TheVariants as plan
 use Rattle.atlas_store.specs.declared.slots.Node.{Node}
 use Rattle.atlas_model.specs.Boxes.{Sides, other, side, box_sides}
 use Rattle.atlas_model.specs.Cuts.{cut}

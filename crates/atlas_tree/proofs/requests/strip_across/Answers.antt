@@ -1,6 +1,6 @@
 use Rattle.std.proofs.Common.{◌∙◌}
 use Rattle.atlas_tree.proofs.PlanLemmas.PlacingChains.{strip_across-grant, strip_across-list, strip_across-planned}
-use Rattle.atlas_tree.proofs.plans.strip_across.Goals as goal
+use Rattle.atlas_tree.proofs.requests.strip_across.Goals as goal
 
 pub grant-requires : goal.grant-requires
 grant-requires g c = strip_across-grant c.wrap_two.ensures c.requires.1

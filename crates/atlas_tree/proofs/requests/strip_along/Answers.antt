@@ -1,6 +1,6 @@
 use Rattle.std.proofs.Common.{◌∙◌}
 use Rattle.atlas_tree.proofs.PlanLemmas.PlacingChains.{strip_along-grant, strip_along-list, strip_along-planned}
-use Rattle.atlas_tree.proofs.plans.strip_along.Goals as goal
+use Rattle.atlas_tree.proofs.requests.strip_along.Goals as goal
 
 pub grant-requires : goal.grant-requires
 grant-requires g c = strip_along-grant c.split-split.ensures c.requires.1

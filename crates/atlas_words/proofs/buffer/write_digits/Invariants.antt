@@ -1,5 +1,5 @@
 use Rattle.std.proofs.Common.{◌≡◌, ◌≤◌, ◌++◌, length, drop, decimal}
-use Rattle.atlas_words.proofs.digits.write_digits.Given as goal
+use Rattle.atlas_words.proofs.buffer.write_digits.Given as goal
 
 abbrev pub invariant-loop-left : goal.invariant-loop-left
 invariant-loop-left l = record {

@@ -2,7 +2,7 @@ use Rattle.std.proofs.Common.{◌∙◌, ◌++◌, decimal, ap, arith, append-ni
 use Rattle.std.proofs.lemmas.Fmt.{decimal_nonempty}
 use Rattle.std.proofs.lemmas.List.{drop_all}
 use Rattle.atlas_words.proofs.Decimals.{short_decimal, length_step, one_digit_more, last_digit}
-use Rattle.atlas_words.proofs.digits.write_digits.Goals as goal
+use Rattle.atlas_words.proofs.buffer.write_digits.Goals as goal
 
 pub loop-left-init : goal.loop-left-init
 loop-left-init c = record {

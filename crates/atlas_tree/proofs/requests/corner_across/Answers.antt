@@ -1,6 +1,6 @@
 use Rattle.std.proofs.Common.{◌∙◌}
 use Rattle.atlas_tree.proofs.PlanLemmas.PlacingChains.{corner_across-wrap, corner_across-split, corner_across-less, corner_across-grant, corner_across-list, corner_across-list_last, corner_across-planned}
-use Rattle.atlas_tree.proofs.plans.corner_across.Goals as goal
+use Rattle.atlas_tree.proofs.requests.corner_across.Goals as goal
 
 pub wrap-granted-requires : goal.wrap-granted-requires
 wrap-granted-requires g c = corner_across-wrap c.wrap_two.ensures c.requires.1

@@ -1,6 +1,6 @@
 use Rattle.std.proofs.Common.{◌∙◌}
 use Rattle.atlas_tree.proofs.PlanLemmas.PlacingChains.{corner_along-wrap, corner_along-split, corner_along-less, corner_along-grant, corner_along-list, corner_along-list_last, corner_along-planned}
-use Rattle.atlas_tree.proofs.plans.corner_along.Goals as goal
+use Rattle.atlas_tree.proofs.requests.corner_along.Goals as goal
 
 pub wrap-granted-requires : goal.wrap-granted-requires
 wrap-granted-requires g c = corner_along-wrap c.split-split.ensures c.requires.1
