@@ -4,10 +4,10 @@ ghost use Rattle.atlas_model.specs.Boxes.{Fits, IsNonempty, IsPositive, box_side
 ghost use Rattle.atlas_model.specs.Choice.{AreValid, class_of, least_margin, reaches, rounded, up};
 ghost use Rattle.atlas_model.specs.Pixels.{box_of, natural, options_of, sides_of, size_of};
 ghost use Rattle.atlas_store.specs.Rectangles.{IsUnsigned};
-ghost use Rattle.atlas_store.specs.Search.Requests.{CanBeRounded, IsBefore};
+ghost use Rattle.atlas_store.specs.Search.Requests.{CanBeRounded};
 
 use crate::search::bands::Scale;
-use atlas_model::{Point, Rectangle, Size};
+use atlas_model::{Rectangle, Size};
 
 // The least multiple of the alignment that is at least `side`, if an `i32` can hold it.
 fn rounded_side(side: i32, alignment: i32) -> Option<i32>
@@ -64,13 +64,6 @@ pub fn class(size: Size, options: &Scale) -> usize
     } else {
         0
     }
-}
-
-// Whether a box whose `min` is `point` comes before a box whose `min` is `other`.
-pub fn is_before(point: Point, other: Point) -> bool
-    ensures { IsTrue result ↔ IsBefore point other }
-{
-    point.y < other.y || (point.y == other.y && point.x < other.x)
 }
 
 // What a side leaves of a stretch, which is below 0 exactly if it does not fit.

@@ -52,20 +52,20 @@ pub trait Entry {
 
 // Shows the boxes of a list to a search.
 #[inline(always)]
-fn show_list<E: Entry>(entries: &[E], head: Link, place: Place, best: &mut Best)
+fn show_list<E: Entry>(entries: &[E], head: Link, list: usize, best: &mut Best)
     requires { IsShowable (map E.item entries.now) head.number }
-    ensures { HasShown (map E.item entries.now) head.number place best.old best.new }
+    ensures { HasShown (map E.item entries.now) head.number list best.old best.new }
 {
-    best.begin_list();
+    let mut least = 4294967295;
     let mut at = head;
     let mut before = Link::NONE;
     while at.number != NO_SLOT {
         let entry = &entries[at.number as usize];
-        best.look(entry.rectangle(), at, before, place);
+        least = best.look(entry.rectangle(), at, before, list, least);
         before = at;
         at = entry.after();
     }
-    best.end_list();
+    best.end_list(list, least);
 }
 
 // Shows the list at a place to a search, unless nothing in it can be the best.
@@ -85,7 +85,8 @@ fn search_list<A: Allocator, E: Entry>(
         best.new }
 {
     if !best.settles(table.low(place)) {
-        show_list(entries, table.head(place), place, best);
+        let list = BANDS * place.row + place.column;
+        show_list(entries, table.head(place), list, best);
     }
 }
 
@@ -287,8 +288,9 @@ pub fn pick<A: Allocator, E: Entry>(
     };
     let first = class_from(least_from(table, own), borders).max(own_class);
     for number in first..3 {
-        if let Some(found) = search_class(entries, table, request, number).best() {
-            return Some(found);
+        if let Some(spot) = search_class(entries, table, request, number).spot() {
+            let entry = &entries[spot.at.number as usize];
+            return Some(spot.found(entry.rectangle()));
         }
     }
     None

@@ -1,11 +1,11 @@
 -- What a search knows once it was shown lists of a table.
-use Rattle.std.proofs.Common.{◌≡◌, ℕ, ◌+◌, ◌*◌, ◌<◌, ◌≤◌, ◌⊎◌, Bool, true, List, ◌++◌, refl, sym, subst, inl, inr, append_assoc, arith}
+use Rattle.std.proofs.Common.{◌≡◌, ℕ, ◌+◌, ◌*◌, ◌/◌, ◌<◌, ◌≤◌, ◌⊎◌, Bool, true, List, ◌++◌, refl, sym, subst, inl, inr, append_assoc, arith}
 use Rattle.std.specs.List.{Contains}
 use Rattle.std.proofs.lemmas.Bool.{ne_eqb}
 use Rattle.std.proofs.lemmas.List.Elements.{Contains-append_left, Contains-append_right, Contains-append_cases}
 use Rattle.atlas_store.specs.declared.search.bands.Place.{Place}
 use Rattle.atlas_store.specs.declared.search.best.Best.{Best}
-use Rattle.atlas_store.specs.declared.search.best.Found.{Found}
+use Rattle.atlas_store.specs.declared.search.best.Spot.{Spot}
 use Rattle.atlas_store.specs.declared.search.table.ListHead.{ListHead}
 use Rattle.atlas_store.specs.Search.Bands.{band_of, list_of, number_of, IsInWindow}
 use Rattle.atlas_store.specs.Search.Bests.{HasSeen, IsSameBest}
@@ -13,8 +13,7 @@ use Rattle.atlas_model.specs.Boxes.{Sides, IsPositive}
 use Rattle.atlas_model.specs.Choice.{Options, class_of}
 use Rattle.atlas_store.specs.Search.Items.{Item, item_at, item_box, item_sides, shown_item, shown_items, IsShowable}
 use Rattle.atlas_store.specs.Slots.Lists.{occurs}
-use Rattle.atlas_store.specs.Search.Lookups.{IsSpot, IsLowBut, HasShown, AreListed, IsStanding, HasAdded}
-use Rattle.atlas_model.specs.Pixels.{natural}
+use Rattle.atlas_store.specs.Search.Lookups.{IsSpot, IsLowBut, HasShown, AreListed, IsSameIn, IsStanding, HasAdded, found_in}
 use Rattle.atlas_store.specs.Search.Ranks.{no_rank}
 use Rattle.atlas_store.specs.Search.Searches.{Shown}
 use Rattle.atlas_store.specs.Search.Tables.{head_of, low_of, is_used_at}
@@ -108,7 +107,7 @@ module _ (o : Options) (heads : List ListHead) (es : List Item) (class : ℕ) (r
         has-each i free ec e = grind (arith, shown_items-has)
 
         -- The list is passed over.
-        pub added-passed : (s : Best) → s.rank ≡ 0 → natural s.found.rectangle.min.y < low_of heads (number_of place)
+        pub added-passed : (s : Best) → s.rank ≡ 0 → s.corner / 4294967296 < low_of heads (number_of place)
             → HasAdded o heads es class r (λ i j. (i ≡ place.row) × (j ≡ place.column)) s s
         added-passed s best_is beyond =
             record {
@@ -119,17 +118,22 @@ module _ (o : Options) (heads : List ListHead) (es : List Item) (class : ℕ) (r
                   let t = shown_items-in es xs c has in
                   let own = a.own (number_of place) t.0 number-below (subst (λ zs. 0 < occurs t.0 zs) same t.1) in
                   let low = subst (λ n. low_of heads n ≤ (item_box (item_at es t.0)).min.y) own.1 (a.low t.0 own.0) in
-                  subst (λ (d : Shown). natural s.found.rectangle.min.y < d.box.min.y) (sym t.2) (omega (arith, beyond, low)));
+                  subst (λ (d : Shown). s.corner / 4294967296 < d.box.min.y) (sym t.2) (omega (arith, beyond, low)));
               known = λ k. k;
             }
 
         -- The best of the list is known.
-        standing : (found : Found) → IsSpot es (head_of heads (number_of place)).number place xs found → IsLowBut es xs found.at.number found.low → IsStanding o heads es found
-        standing found spot low = grind (arith, number-below)
+        standing : (s : Spot) → IsSpot es (head_of heads (number_of place)).number (number_of place) xs s → IsLowBut es xs s.at.number s.low → IsStanding o heads es (found_in es s)
+        standing s spot low = grind (arith, number-below)
+
+        -- Another bound of its list.
+        standing-low : (s : Spot) (low : ℕ) → s.list ≡ number_of place → IsStanding o heads es (found_in es s) → IsLowBut es xs s.at.number low
+            → IsStanding o heads es (found_in es (record s { low = low }))
+        standing-low s low in_list k bound = grind (arith, number-below)
 
         -- The list was shown.
         pub added-shown : (s t : Best) → ((is_large : Bool) (r : Sides) (shown : List Shown) → HasSeen s is_large r shown → HasSeen t is_large r (shown ++ shown_items es xs))
-            → (IsSameBest s t ⊎ (IsSpot es (head_of heads (number_of place)).number place xs t.found × IsLowBut es xs t.found.at.number t.found.low))
+            → (IsSameBest s t ⊎ ((IsSpot es (head_of heads (number_of place)).number (number_of place) xs t.spot ⊎ IsSameIn (number_of place) s t) × IsLowBut es xs t.spot.at.number t.spot.low))
             → HasAdded o heads es class r (λ i j. (i ≡ place.row) × (j ≡ place.column)) s t
         added-shown s t seen found =
             record {
@@ -138,18 +142,22 @@ module _ (o : Options) (heads : List ListHead) (es : List Item) (class : ℕ) (r
               each = has-each;
               seen = λ is_large shown h. seen is_large r shown h;
               known = λ k some. elim found [
-                | inl kept ↦ subst (λ (f : Found). IsStanding o heads es f) (sym kept.found) (k (subst (λ n. n < no_rank) kept.rank some))
-                | inr new ↦ standing t.found new.0 new.1
+                | inl kept ↦ subst (λ (f : Spot). IsStanding o heads es (found_in es f)) (sym kept.spot) (k (subst (λ n. n < no_rank) kept.rank some))
+                | inr new ↦ elim new.0 [
+                  | inl spot ↦ standing t.spot spot new.1
+                  | inr same ↦ subst (λ (f : Spot). IsStanding o heads es (found_in es f)) (sym same.2)
+                      (standing-low s.spot t.spot.low same.0 (k (subst (λ n. n < no_rank) same.1 some)) (subst (λ (f : Spot). IsLowBut es xs f.at.number t.spot.low) same.2 new.1))
+                ]
               ];
             }
 
-      pub added-list : class < 3 → IsInWindow o class place.row place.column → (s t : Best) → HasShown es (head_of heads (number_of place)).number place s t
+      pub added-list : class < 3 → IsInWindow o class place.row place.column → (s t : Best) → HasShown es (head_of heads (number_of place)).number (number_of place) s t
           → HasAdded o heads es class r (λ i j. (i ≡ place.row) × (j ≡ place.column)) s t
       added-list few w s t h =
           added-shown few w h.xs (path-same es _ h.xs (a.free_lists (number_of place)) a.short h.path (a.path (number_of place) number-below)) s t h.seen h.found
 
       pub added-over : class < 3 → IsInWindow o class place.row place.column → (s : Best) → s.rank ≡ 0
-          → natural s.found.rectangle.min.y < low_of heads (number_of place)
+          → s.corner / 4294967296 < low_of heads (number_of place)
           → HasAdded o heads es class r (λ i j. (i ≡ place.row) × (j ≡ place.column)) s s
       added-over few w s best_is beyond = added-passed few w (a.free_lists (number_of place)) refl s best_is beyond
 

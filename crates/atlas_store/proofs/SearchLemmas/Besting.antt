@@ -1,24 +1,23 @@
 -- The best of the boxes that a search was shown.
-use Rattle.std.proofs.Common.{◌≡◌, ℕ, ◌-◌, ◌<◌, ◌≤◌, ◌⊎◌, Bool, true, false, List, [], ◌∷◌, ◌++◌, ℤ, pos, negsuc, ◌≤ℤ◌, FitsSigned, w32, refl, ap, sym, ◌∙◌, subst, inl, inr, arith}
+use Rattle.std.proofs.Common.{◌≡◌, ℕ, ◌-◌, ◌/◌, ◌<◌, ◌≤◌, ◌⊎◌, Bool, true, false, List, [], ◌∷◌, ◌++◌, ℤ, pos, negsuc, FitsSigned, w32, refl, ap, sym, ◌∙◌, subst, inl, inr, arith}
 use Rattle.std.specs.List.{Contains}
 use Rattle.std.proofs.lemmas.Int.{ints}
+use Rattle.std.proofs.lemmas.Bool.{cases_lt}
 use Rattle.std.proofs.lemmas.List.Elements.{Contains-push_cases, Contains-append_left, Contains-append_cases}
 use Rattle.atlas_store.specs.declared.search.best.Best.{Best}
-use Rattle.atlas_store.specs.declared.search.best.Found.{Found}
 use Rattle.atlas_model.specs.declared.geometry.Rectangle.{Rectangle}
-use Rattle.atlas_store.specs.Search.Bests.{IsAhead, IsKeptOf, HasSeen}
+use Rattle.atlas_store.specs.Search.Bests.{IsAhead, IsKeptOf, IsLeast, HasSeen}
 use Rattle.atlas_model.specs.Boxes.{Sides, Box, box_sides, Fits, IsPositive}
 use Rattle.atlas_model.specs.Choice.{least_margin, HasEqualSide, ComesFirst}
-use Rattle.atlas_model.specs.Pixels.{natural, box_of, sides_of}
-use Rattle.atlas_store.specs.Search.Ranks.{rank_of, no_rank}
-use Rattle.atlas_store.specs.Rectangles.{IsUnsigned}
-use Rattle.atlas_store.specs.Search.Requests.{IsBetterMargin, PrecedesBox}
+use Rattle.atlas_model.specs.Pixels.{natural, box_of, rectangle_of, sides_of}
+use Rattle.atlas_store.specs.Search.Ranks.{corner_of, rank_of, no_rank}
+use Rattle.atlas_store.specs.Search.Requests.{IsBefore, IsBetterMargin, PrecedesBox}
 use Rattle.atlas_store.specs.Search.Searches.{Shown, shown_at, IsAsGood, IsBestShown}
-use Rattle.atlas_store.proofs.SearchLemmas.Choosing.{precedes-good, not_precedes-good, none_more, best_kept, best_replaced, best_only, at_box, not_at_box, margin-equal_side, equal_side-margin}
+use Rattle.atlas_store.proofs.SearchLemmas.Choosing.{precedes-good, not_precedes-good, none_more, best_kept, best_replaced, best_only, margin-equal_side, equal_side-margin}
 
 -- Ranks and margins.
 
-rank-equal : (l : Bool) (m : ℕ) → m ≡ 0 → rank_of l m ≡ 0
+pub rank-equal : (l : Bool) (m : ℕ) → m ≡ 0 → rank_of l m ≡ 0
 rank-equal l m z = grind arith
 
 rank-large : (m : ℕ) → (m ≡ 0 → ⊥) → rank_of true m ≡ 2147483647 - m
@@ -43,12 +42,28 @@ rank-same true m n a b e = grind (arith, rank-equal, rank-large)
 pub rank-zero : (l : Bool) (m : ℕ) → m < no_rank → rank_of l m ≡ 0 → m ≡ 0
 rank-zero l m h e = rank-same l m 0 h (omega arith) (e ∙ sym (rank-equal l 0 refl))
 
-natural-most : (x : ℤ) → FitsSigned w32 x → natural x ≤ 2147483647
+pub natural-most : (x : ℤ) → FitsSigned w32 x → natural x ≤ 2147483647
 natural-most (pos n) h = omega (arith, ints)
 natural-most (negsuc n) h = omega arith
 
 pub margin-below : (r : Sides) (a : Rectangle) → IsPositive r → FitsSigned w32 a.max.x → least_margin r (box_of a) < no_rank
 margin-below r a p h = let most = natural-most a.max.x h in omega (arith, p.0, most)
+
+-- The order of corners is that of the boxes.
+
+pub corner-row : (b : Box) → b.min.x < 4294967296 → corner_of b / 4294967296 ≡ b.min.y
+corner-row b h = omega (arith, h)
+
+corner-before : (b c : Box) → b.min.x < 4294967296 → c.min.x < 4294967296 → corner_of b < corner_of c → IsBefore (rectangle_of b).min (rectangle_of c).min
+corner-before b c hb hc h =
+    elim (cases_lt b.min.y c.min.y) [
+      | inl l ↦ inl (omega (arith, ints, l))
+      | inr g ↦ let e : b.min.y ≡ c.min.y = omega (arith, h, g, hb, hc) in inr (ap pos e, omega (arith, ints, h, e))
+    ]
+
+before-corner : (b c : Box) → b.min.x < 4294967296 → c.min.x < 4294967296 → IsBefore (rectangle_of b).min (rectangle_of c).min → corner_of b < corner_of c
+before-corner b c hb hc (inl l) = let h : b.min.y < c.min.y = omega (arith, ints, l) in omega (arith, h, hb, hc)
+before-corner b c hb hc (inr e) = let h : b.min.x < c.min.x = omega (arith, ints, e.1) in let s : b.min.y ≡ c.min.y = omega (arith, ints, e.0) in omega (arith, h, s)
 
 -- A box that is ahead of the best one, and one that isn't.
 
@@ -57,38 +72,54 @@ module _ (s : Best) (is_large : Bool) (r : Sides) (shown : List Shown) (seen : H
   asked = ap sides_of seen.size
 
   -- The rank of a margin in the terms of the request.
-  pub ranked-asked : (a : Rectangle) (m : ℤ) (rank : ℕ) → m ≡ pos (least_margin (sides_of s.size) (box_of a)) → rank ≡ rank_of s.is_large (natural m)
-      → rank ≡ rank_of is_large (least_margin r (box_of a))
-  ranked-asked a m rank e f = grind (arith, asked)
+  pub ranked-asked : (b : Box) (m : ℤ) (rank : ℕ) → m ≡ pos (least_margin (sides_of s.size) b) → rank ≡ rank_of s.is_large (natural m)
+      → rank ≡ rank_of is_large (least_margin r b)
+  ranked-asked b m rank e f = grind (arith, asked)
 
-  kept-more : (c : Shown) → IsKeptOf is_large r shown s.rank s.found
-      → (Fits r (box_sides c.box) → IsAsGood is_large r (box_of s.found.rectangle) c.box × (IsAsGood is_large r c.box (box_of s.found.rectangle) → ComesFirst (box_of s.found.rectangle) c.box))
-      → IsKeptOf is_large r (shown ++ c ∷ []) s.rank s.found
-  kept-more c k worse =
-      grind (
-        arith,
-        best_kept is_large r shown (shown_at (box_of s.found.rectangle) s.found.at.number) c k.best worse,
-      )
+  kept-more : (at : ℕ) (c : Shown) (k : IsKeptOf is_large r shown s.rank s.corner at)
+      → (Fits r (box_sides c.box) → IsAsGood is_large r k.box c.box × (IsAsGood is_large r c.box k.box → ComesFirst k.box c.box))
+      → IsKeptOf is_large r (shown ++ c ∷ []) s.rank s.corner at
+  kept-more at c k worse =
+      record {
+        box = k.box;
+        narrow = k.narrow;
+        below = k.below;
+        ranked = k.ranked;
+        cornered = k.cornered;
+        best = best_kept is_large r shown (shown_at k.box at) c k.best worse;
+      }
 
   -- It does not fit.
   pub seen-unfit : (c : Shown) → (Fits r (box_sides c.box) → ⊥) → HasSeen s is_large r (shown ++ c ∷ [])
-  seen-unfit c misfit = grind (arith, none_more r shown c, kept-more c)
+  seen-unfit c misfit =
+      record {
+        positive = seen.positive;
+        size = seen.size;
+        large = seen.large;
+        best = elim seen.best [
+          | inl n ↦ inl (n.0, none_more r shown c n.1 misfit)
+          | inr k ↦ inr (k.0, kept-more s.spot.at.number c k.1 (λ fits. absurd (misfit fits)))
+        ];
+      }
 
-  module _ (a : Rectangle) (rank : ℕ) (u : IsUnsigned a) (below : least_margin r (box_of a) < no_rank)
-      (ranked : rank ≡ rank_of is_large (least_margin r (box_of a))) (fits : Fits r (box_sides (box_of a))) where
-    precedes : IsKeptOf is_large r shown s.rank s.found → IsAhead rank a.min s
-        → PrecedesBox is_large (pos (least_margin r (box_of a))) (pos (least_margin r (box_of s.found.rectangle))) a.min s.found.rectangle.min
-    precedes k (inl less) = inl (rank-better is_large _ _ below k.below (omega (arith, less, ranked, k.ranked)))
-    precedes k (inr same) = inr (ap pos (rank-same is_large _ _ below k.below (sym ranked ∙ same.0 ∙ k.ranked)), same.1)
+  module _ (b : Box) (rank corner : ℕ) (narrow : b.min.x < 4294967296) (below : least_margin r b < no_rank)
+      (ranked : rank ≡ rank_of is_large (least_margin r b)) (cornered : corner ≡ corner_of b) (fits : Fits r (box_sides b)) where
+    precedes : (at : ℕ) (k : IsKeptOf is_large r shown s.rank s.corner at) → IsAhead rank corner s
+        → PrecedesBox is_large (pos (least_margin r b)) (pos (least_margin r k.box)) (rectangle_of b).min (rectangle_of k.box).min
+    precedes at k (inl less) = inl (rank-better is_large _ _ below k.below (omega (arith, less, ranked, k.ranked)))
+    precedes at k (inr same) =
+        inr (ap pos (rank-same is_large _ _ below k.below (sym ranked ∙ same.0 ∙ k.ranked)), corner-before b k.box narrow k.narrow (omega (arith, same.1, cornered, k.cornered)))
 
-    ahead : IsKeptOf is_large r shown s.rank s.found
-        → PrecedesBox is_large (pos (least_margin r (box_of a))) (pos (least_margin r (box_of s.found.rectangle))) a.min s.found.rectangle.min
-        → IsAhead rank a.min s
-    ahead k (inl better) = let less = better-rank is_large _ _ below k.below better in inl (omega (arith, less, ranked, k.ranked))
-    ahead k (inr same) = grind arith
+    ahead : (at : ℕ) (k : IsKeptOf is_large r shown s.rank s.corner at)
+        → PrecedesBox is_large (pos (least_margin r b)) (pos (least_margin r k.box)) (rectangle_of b).min (rectangle_of k.box).min
+        → IsAhead rank corner s
+    ahead at k (inl better) = let less = better-rank is_large _ _ below k.below better in inl (omega (arith, less, ranked, k.ranked))
+    ahead at k (inr same) =
+        let e : least_margin r b ≡ least_margin r k.box = omega (arith, ints, same.0) in
+        inr (ranked ∙ ap (rank_of is_large) e ∙ sym k.ranked, omega (arith, before-corner b k.box narrow k.narrow same.1, cornered, k.cornered))
 
     -- The best one is kept.
-    pub seen-behind : (at : ℕ) → (IsAhead rank a.min s → ⊥) → HasSeen s is_large r (shown ++ shown_at (box_of a) at ∷ [])
+    pub seen-behind : (at : ℕ) → (IsAhead rank corner s → ⊥) → HasSeen s is_large r (shown ++ shown_at b at ∷ [])
     seen-behind at behind =
         record {
           positive = seen.positive;
@@ -98,92 +129,80 @@ module _ (s : Best) (is_large : Bool) (r : Sides) (shown : List Shown) (seen : H
             | inl n ↦ absurd (behind (inl (omega (arith, n.0, ranked, rank-below is_large _ below))))
             | inr k ↦ inr (
               k.0,
-              kept-more (shown_at (box_of a) at) k.1 (λ _. not_precedes-good is_large r (box_of a) (box_of s.found.rectangle) fits k.1.best.fits (λ h.
-                  behind (ahead k.1 (not_at_box is_large _ _ _ _ a s.found.rectangle refl refl u k.1.unsigned h)))),
+              kept-more s.spot.at.number (shown_at b at) k.1 (λ _. not_precedes-good is_large r b k.1.box fits k.1.best.fits (λ h. behind (ahead _ k.1 h))),
             )
           ];
         }
 
     -- It is the best one from now on.
-    pub seen-ahead : (t : Best) (at : ℕ) → IsAhead rank a.min s → t.size ≡ s.size → t.is_large ≡ s.is_large → t.rank ≡ rank → t.found.rectangle ≡ a
-        → t.found.at.number ≡ at → HasSeen t is_large r (shown ++ shown_at (box_of a) at ∷ [])
-    seen-ahead t at first size large ranks same here =
-        record {
-          positive = seen.positive;
-          size = size ∙ seen.size;
-          large = large ∙ seen.large;
-          best = inr (
-            omega (arith, ranks, ranked, rank-below is_large _ below),
-            record {
-              unsigned = subst IsUnsigned (sym same) u;
-              below = subst (λ (x : Rectangle). least_margin r (box_of x) < no_rank) (sym same) below;
-              ranked = ranks ∙ ranked ∙ ap (λ (x : Rectangle). rank_of is_large (least_margin r (box_of x))) (sym same);
-              best =
-                  subst (λ (x : Rectangle). IsBestShown is_large r (shown ++ shown_at (box_of a) at ∷ []) (shown_at (box_of x) t.found.at.number)) (sym same)
-                  (subst (λ (n : ℕ). IsBestShown is_large r (shown ++ shown_at (box_of a) at ∷ []) (shown_at (box_of a) n)) (sym here) is_best);
-            },
-          );
-        }
-      where
-        is_best : IsBestShown is_large r (shown ++ shown_at (box_of a) at ∷ []) (shown_at (box_of a) at)
-        is_best =
-            elim seen.best [
-              | inl n ↦ best_only is_large r shown (shown_at (box_of a) at) n.1 fits
-              | inr k ↦
-                  best_replaced is_large r shown (shown_at (box_of s.found.rectangle) s.found.at.number) (shown_at (box_of a) at) k.1.best fits
-                  (precedes-good is_large r (box_of a) (box_of s.found.rectangle) fits k.1.best.fits (at_box is_large _ _ _ _ a s.found.rectangle refl refl u k.1.unsigned (precedes k.1 first)))
-            ]
+    pub kept-ahead : (at : ℕ) → IsAhead rank corner s → (rank < no_rank) × IsKeptOf is_large r (shown ++ shown_at b at ∷ []) rank corner at
+    kept-ahead at first = (
+      omega (arith, ranked, rank-below is_large _ below),
+      record {
+        box = b;
+        narrow = narrow;
+        below = below;
+        ranked = ranked;
+        cornered = cornered;
+        best = elim seen.best [
+          | inl n ↦ best_only is_large r shown (shown_at b at) n.1 fits
+          | inr k ↦
+              best_replaced is_large r shown (shown_at k.1.box s.spot.at.number) (shown_at b at) k.1.best fits
+              (precedes-good is_large r b k.1.box fits k.1.best.fits (precedes _ k.1 first))
+        ];
+      },
+    )
 
   fits-cases : (b : Sides) → Fits r b ⊎ (Fits r b → ⊥)
   fits-cases b = grind arith
 
-  -- No box with this `min` is ahead of the best one.
-  pub seen-unbeaten : (a : Rectangle) → IsUnsigned a → least_margin r (box_of a) < no_rank → (at : ℕ)
-      → ((rank : ℕ) → IsAhead rank a.min s → ⊥) → HasSeen s is_large r (shown ++ shown_at (box_of a) at ∷ [])
-  seen-unbeaten a u below at behind =
-      elim (fits-cases (box_sides (box_of a))) [
-        | inl fits ↦ seen-behind a (rank_of is_large (least_margin r (box_of a))) u below refl fits at (behind _)
-        | inr misfit ↦ seen-unfit (shown_at (box_of a) at) misfit
+  -- No box with this corner is ahead of the best one.
+  pub seen-unbeaten : (b : Box) (corner : ℕ) → b.min.x < 4294967296 → least_margin r b < no_rank → corner ≡ corner_of b
+      → ((rank : ℕ) → IsAhead rank corner s → ⊥) → (at : ℕ) → HasSeen s is_large r (shown ++ shown_at b at ∷ [])
+  seen-unbeaten b corner narrow below cornered behind at =
+      elim (fits-cases (box_sides b)) [
+        | inl fits ↦ seen-behind b (rank_of is_large (least_margin r b)) corner narrow below refl cornered fits at (behind _)
+        | inr misfit ↦ seen-unfit (shown_at b at) misfit
       ]
 
--- The least `min.y` of the list that is shown.
+-- From the limit on no box is ahead of the best one.
+pub unbeaten : (s : Best) (b : Box) (corner : ℕ) → b.min.x ≤ 2147483647 → b.min.y ≤ 2147483647 → corner ≡ corner_of b → s.limit ≤ corner
+    → (rank : ℕ) → IsAhead rank corner s → ⊥
+unbeaten s b corner hx hy cornered past rank first =
+    let settled = s.limited (omega (arith, hx, hy, cornered, past)) in
+    elim first [ inl l ↦ omega (arith, l, settled.0) | inr e ↦ omega (arith, e.1, past, settled.1) ]
 
-pub natural-at : (y : ℤ) → pos 0 ≤ℤ y → pos (natural y) ≡ y
-natural-at (pos n) h = refl
-natural-at (negsuc n) h = absurd (omega (arith, ints))
+-- Before the limit each equal side is ahead of it.
+pub ahead-equal : (s : Best) (corner : ℕ) → corner < s.limit → IsAhead 0 corner s
+ahead-equal s corner below = elim (cases_lt 0 s.rank) [ inl l ↦ inl l | inr z ↦ let e : s.rank ≡ 0 = omega (arith, z) in inr (sym e, omega (arith, below, s.settled e)) ]
 
--- Each of these boxes is the best one and stands in the list that is shown, or has at least this `min.y`.
-abbrev pub AreLeast : (is_own : Bool) → Found → (least : ℤ) → (own : List Shown) → Type 0
-AreLeast is_own found least own =
-    (c : Shown) → Contains own c → ((is_own ≡ true) × (c ≡ shown_at (box_of found.rectangle) found.at.number)) ⊎ (least ≤ℤ pos c.box.min.y)
+-- The least `min.y` of a list.
 
 -- The box isn't the best.
-pub least-passed : (is_own : Bool) (found : Found) (least less : ℤ) (own : List Shown) (c : Shown) → AreLeast is_own found least own → less ≤ℤ least
-    → less ≤ℤ pos c.box.min.y → AreLeast is_own found less (own ++ c ∷ [])
-least-passed is_own found least less own c all lower low d has =
+pub least-passed : (s : Best) (list least less : ℕ) (own : List Shown) (c : Shown) → IsLeast s list least own → less ≤ least → less ≤ c.box.min.y
+    → IsLeast s list less (own ++ c ∷ [])
+least-passed s list least less own c all lower low d has =
     elim (Contains-push_cases own c d has) [
-      | inl earlier ↦ elim (all d earlier) [ inl e ↦ inl e | inr l ↦ inr (omega (arith, ints, l, lower)) ]
-      | inr e ↦ inr (subst (λ (x : Shown). less ≤ℤ pos x.box.min.y) e low)
+      | inl earlier ↦ elim (all d earlier) [ inl e ↦ inl e | inr l ↦ inr (omega (arith, l, lower)) ]
+      | inr e ↦ inr (subst (λ (x : Shown). less ≤ x.box.min.y) e low)
     ]
 
 -- The box is the best from now on.
-pub least-ahead : (is_own : Bool) (before found : Found) (least less : ℤ) (own : List Shown) → AreLeast is_own before least own
-    → pos 0 ≤ℤ before.rectangle.min.y → less ≤ℤ least → (is_own ≡ true → less ≤ℤ before.rectangle.min.y)
-    → AreLeast true found less (own ++ shown_at (box_of found.rectangle) found.at.number ∷ [])
-least-ahead is_own before found least less own all unsigned lower low d has =
-    elim (Contains-push_cases own (shown_at (box_of found.rectangle) found.at.number) d has) [
+pub least-ahead : (s : Best) (corner list least less : ℕ) (own : List Shown) (c : Shown) → IsLeast s list least own → less ≤ least
+    → (s.spot.list ≡ list → less ≤ s.corner / 4294967296) → corner / 4294967296 ≡ c.box.min.y
+    → (d : Shown) → Contains (own ++ c ∷ []) d → ((list ≡ list) × (d.at ≡ c.at) × (corner / 4294967296 ≡ d.box.min.y)) ⊎ (less ≤ d.box.min.y)
+least-ahead s corner list least less own c all lower low row d has =
+    elim (Contains-push_cases own c d has) [
       | inl earlier ↦ elim (all d earlier) [
-        | inl e ↦
-            let P : Shown → Type 0 = λ x. less ≤ℤ pos x.box.min.y in
-            inr (subst P (sym e.1) (subst (λ y. less ≤ℤ y) (sym (natural-at before.rectangle.min.y unsigned)) (low e.0)))
-        | inr l ↦ inr (omega (arith, ints, l, lower))
+        | inl e ↦ inr (omega (arith, low e.0, e.2))
+        | inr l ↦ inr (omega (arith, l, lower))
       ]
-      | inr e ↦ inl (refl, sym e)
+      | inr e ↦ inl (refl, ap (λ (x : Shown). x.at) (sym e), subst (λ (x : Shown). corner / 4294967296 ≡ x.box.min.y) e row)
     ]
 
 -- Boxes that are passed over: those with an equal side lie below the best, which has an equal side too.
 pub seen-passed : (s : Best) (is_large : Bool) (r : Sides) (shown more : List Shown) → HasSeen s is_large r shown → s.rank ≡ 0
-    → ((c : Shown) → Contains more c → HasEqualSide r c.box → natural s.found.rectangle.min.y < c.box.min.y)
+    → ((c : Shown) → Contains more c → HasEqualSide r c.box → s.corner / 4294967296 < c.box.min.y)
     → HasSeen s is_large r (shown ++ more)
 seen-passed s is_large r shown more seen zero below =
     record {
@@ -192,7 +211,10 @@ seen-passed s is_large r shown more seen zero below =
       large = seen.large;
       best = elim seen.best [
         | inl n ↦ absurd (omega (arith, zero, n.0))
-        | inr k ↦ inr (k.0, record { unsigned = k.1.unsigned; below = k.1.below; ranked = k.1.ranked; best = still k.1 })
+        | inr k ↦ inr (
+          k.0,
+          record { box = k.1.box; narrow = k.1.narrow; below = k.1.below; ranked = k.1.ranked; cornered = k.1.cornered; best = still k.1 },
+        )
       ];
     }
   where
@@ -205,9 +227,10 @@ seen-passed s is_large r shown more seen zero below =
     equal true b c fb fc e (inr h) = absurd (h.0 e)
     equal false b c fb fc e h = equal_side-margin r c fc (omega (arith, h, margin-equal_side r b fb e))
 
-    still : IsKeptOf is_large r shown s.rank s.found → IsBestShown is_large r (shown ++ more) (shown_at (box_of s.found.rectangle) s.found.at.number)
+    still : (k : IsKeptOf is_large r shown s.rank s.corner s.spot.at.number) → IsBestShown is_large r (shown ++ more) (shown_at k.box s.spot.at.number)
     still k =
-        let b = box_of s.found.rectangle in
+        let b = k.box in
+        let row : s.corner / 4294967296 ≡ b.min.y = ap (λ n. n / 4294967296) k.cornered ∙ corner-row b k.narrow in
         let e : HasEqualSide r b = equal_side-margin r b k.best.fits (rank-zero is_large _ k.below (sym k.ranked ∙ zero)) in
         record {
           is_shown = Contains-append_left shown more _ k.best.is_shown;
@@ -215,6 +238,6 @@ seen-passed s is_large r shown more seen zero below =
           best = grind (arith, Contains-append_cases);
           first = λ d has fits h. elim (Contains-append_cases shown more d has) [
             | inl earlier ↦ k.best.first d earlier fits h
-            | inr later ↦ inl (below d later (equal is_large b d.box k.best.fits fits e h))
+            | inr later ↦ inl (omega (arith, row, below d later (equal is_large b d.box k.best.fits fits e h)))
           ];
         }

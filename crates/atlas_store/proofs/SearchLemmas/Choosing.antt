@@ -3,12 +3,10 @@ use Rattle.std.proofs.Common.{◌≡◌, ℕ, ◌-◌, ◌≤◌, ◌↔◌, ◌
 use Rattle.std.proofs.lemmas.Int.{ints}
 use Rattle.std.proofs.lemmas.Bool.{cases_lt}
 use Rattle.std.proofs.lemmas.List.Elements.{Contains-push, Contains-push_cases, Contains-append_left}
-use Rattle.atlas_model.specs.declared.geometry.Rectangle.{Rectangle}
 use Rattle.atlas_model.specs.Boxes.{Sides, Box, box_sides, Fits}
 use Rattle.atlas_model.specs.Choice.{least_margin, HasEqualSide, ComesFirst}
-use Rattle.atlas_model.specs.Pixels.{natural, box_of, rectangle_of}
+use Rattle.atlas_model.specs.Pixels.{natural, rectangle_of}
 use Rattle.atlas_store.specs.Search.Requests.{IsBefore, IsBetterMargin, PrecedesBox}
-use Rattle.atlas_store.specs.Rectangles.{IsUnsigned}
 use Rattle.atlas_store.specs.Search.Searches.{Shown, IsAsGood, IsBestShown, FitsNone}
 
 -- What a side leaves of a stretch.
@@ -163,12 +161,3 @@ best_only is_large r shown c none fits = record {
         | inr same ↦ let P : Shown → Type 0 = λ s. ComesFirst c.box s.box in subst P same (inr (refl, omega arith))
       ];
 }
-
--- The margin and the place in the order of a rectangle that stands for a box.
-pub at_box : (is_large : Bool) (margin other : ℤ) (m n : ℕ) (a b : Rectangle) → margin ≡ pos m → other ≡ pos n → IsUnsigned a → IsUnsigned b
-    → PrecedesBox is_large margin other a.min b.min → PrecedesBox is_large (pos m) (pos n) (rectangle_of (box_of a)).min (rectangle_of (box_of b)).min
-at_box is_large margin other m n a b p q u v h = grind arith
-
-pub not_at_box : (is_large : Bool) (margin other : ℤ) (m n : ℕ) (a b : Rectangle) → margin ≡ pos m → other ≡ pos n → IsUnsigned a → IsUnsigned b
-    → PrecedesBox is_large (pos m) (pos n) (rectangle_of (box_of a)).min (rectangle_of (box_of b)).min → PrecedesBox is_large margin other a.min b.min
-not_at_box is_large margin other m n a b p q u v h = grind arith

@@ -1,18 +1,36 @@
 -- The best free entry of the lowest class with one that the request fits is the pick.
-use Rattle.std.proofs.Common.{ℕ, ◌+◌, ◌≤◌, ◌≡◌, ◌≢◌, List, sym, ap, ◌∙◌, arith, true, subst}
+use Rattle.std.proofs.Common.{ℕ, ◌+◌, ◌≤◌, ◌≡◌, ◌≢◌, ◌==◌, List, length, map, get_or, sym, ap, ◌∙◌, arith, true, subst, inl, inr}
 use Rattle.std.specs.Prelude.{Contains}
+use Rattle.std.proofs.lemmas.Bool.{cases_lt, true≢false}
+use Rattle.std.proofs.lemmas.List.{get_or_past, length-map}
 use Rattle.atlas_store.specs.declared.search.best.Best.{Best}
 use Rattle.atlas_store.specs.declared.search.best.Found.{Found}
+use Rattle.atlas_store.specs.declared.search.best.Spot.{Spot}
 use Rattle.atlas_store.specs.declared.search.table.ListHead.{ListHead}
+use Rattle.atlas_model.specs.declared.geometry.Rectangle.{Rectangle}
 use Rattle.atlas_model.specs.Boxes.{Sides, Box, Fits, box_sides}
 use Rattle.atlas_model.specs.Choice.{Options, class_of, IsFitting, IsPick}
-use Rattle.atlas_store.specs.Search.Items.{Item, item_at, item_box, item_sides}
-use Rattle.atlas_store.specs.Search.Lookups.{HasSearched, IsBestIn, FitsNoneIn, FitsItemsFrom, AreFreeItems}
+use Rattle.atlas_store.specs.Search.Bests.{found_at}
+use Rattle.atlas_store.specs.Search.Items.{Item, item_at, item_box, item_sides, no_item, shown_item}
+use Rattle.atlas_store.specs.Search.Lookups.{HasSearched, IsBestIn, FitsNoneIn, FitsItemsFrom, AreFreeItems, found_in}
 use Rattle.atlas_model.specs.Pixels.{box_of}
 use Rattle.atlas_store.specs.Search.Ranks.{no_rank}
-use Rattle.atlas_store.specs.Search.Searches.{Shown, shown_at, FitsOnlyFrom, AreOfClass}
+use Rattle.atlas_store.specs.Search.Searches.{Shown, shown_at, FitsOnlyFrom, AreOfClass, IsBestShown}
 use Rattle.atlas_store.proofs.SearchLemmas.BandLaws.{class_of-most}
+use Rattle.atlas_store.proofs.SearchLemmas.Showing.{item-read}
 use Rattle.atlas_store.proofs.SearchLemmas.Picking.{class_of-fits, pick_of_class}
+
+-- What is found with the rectangle that is read of the entry.
+pub found-read : {E : Type 0} (item : E → Item) (xs : List E) (spot : Spot) (x : E) (a : Rectangle) (found : Found)
+    → (item_at (map item xs) spot.at.number).is_free ≡ true → x ≡ get_or xs spot.at.number x → a ≡ (item x).area → found ≡ found_at a spot
+    → found ≡ found_in (map item xs) spot
+found-read item xs spot x a found free read area is =
+    elim (cases_lt spot.at.number (length xs)) [
+      | inl l ↦ is ∙ ap (λ (b : Rectangle). found_at b spot) (area ∙ ap (λ (e : Item). e.area) (item-read item xs spot.at.number x l read))
+      | inr past ↦
+          let none = get_or_past (map item xs) spot.at.number no_item (omega (arith, past, length-map xs item)) in
+          absurd (true≢false (sym free ∙ ap (λ (e : Item). e.is_free) none))
+    ]
 
 module _ (o : Options) (es : List Item) (r : Sides) where
   pub from-own : FitsItemsFrom o es (class_of o r) r
@@ -36,9 +54,21 @@ module _ (o : Options) (es : List Item) (r : Sides) where
   pub none-found : (heads : List ListHead) (class : ℕ) (search : Best) → HasSearched o heads es class r search → search.rank ≡ no_rank → FitsNoneIn o es class r
   none-found heads class search h e i free ec fits = grind arith
 
-  pub best-found : (heads : List ListHead) (class : ℕ) (search : Best) (found : Found) → HasSearched o heads es class r search → found ≡ search.found → search.rank ≢ no_rank
-      → IsBestIn o heads es class r found
-  best-found heads class search found h e ne = grind arith
+  pub best-found : (heads : List ListHead) (class : ℕ) (search : Best) (spot : Spot) → HasSearched o heads es class r search → spot ≡ search.spot → search.rank ≢ no_rank
+      → IsBestIn o heads es class r (found_in es spot)
+  best-found heads class s spot h e ne =
+      elim h.seen.best [
+        | inl n ↦ absurd (ne n.0)
+        | inr k ↦
+            let is : shown_at k.1.box s.spot.at.number ≡ shown_item es s.spot.at.number = (h.are_shown.of_class _ k.1.best.is_shown).1 in
+            subst (λ (f : Spot). IsBestIn o heads es class r (found_in es f)) (sym e)
+            (record {
+              shown = h.shown;
+              are_shown = h.are_shown;
+              best = subst (λ (b : Shown). IsBestShown (class_of o r == 2) r h.shown b) is k.1.best;
+              standing = h.known k.0;
+            })
+      ]
 
   pub pick-of_items : (heads : List ListHead) (class : ℕ) (found : Found) → FitsItemsFrom o es class r → IsBestIn o heads es class r found
       → (free : List Box) → AreFreeItems es free → IsPick free o r (box_of found.rectangle)

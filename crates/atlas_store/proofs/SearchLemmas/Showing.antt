@@ -1,13 +1,11 @@
 -- A search is shown a list of entries, from its first to its last.
-use Rattle.std.proofs.Common.{◌≡◌, ◌≢◌, ℕ, zero, suc, ◌+◌, ◌<◌, ◌≤◌, ◌⊎◌, Bool, true, false, List, [], ◌∷◌, ◌++◌, length, map, ℤ, pos, negsuc, ◌≤ℤ◌, refl, ap, sym, ◌∙◌, subst, inl, inr, append_assoc, get_or, arith}
+use Rattle.std.proofs.Common.{◌≡◌, ◌≢◌, ℕ, zero, suc, ◌+◌, ◌<◌, ◌≤◌, ◌⊎◌, Bool, List, [], ◌∷◌, ◌++◌, length, map, refl, ap, sym, ◌∙◌, subst, inl, inr, append_assoc, get_or, arith}
 use Rattle.std.specs.List.{Contains}
-use Rattle.std.proofs.lemmas.Int.{ints}
 use Rattle.std.specs.Prelude.{◌==◌, if◌then◌else◌}
 use Rattle.std.proofs.lemmas.Bool.{cases_eq, cond-true, cond-false, eq-eqb, ne_eqb}
 use Rattle.std.proofs.lemmas.List.{get_or-map}
 use Rattle.atlas_store.specs.declared.search.best.Best.{Best}
-use Rattle.atlas_store.specs.declared.search.best.Found.{Found}
-use Rattle.atlas_store.specs.declared.search.bands.Place.{Place}
+use Rattle.atlas_store.specs.declared.search.best.Spot.{Spot}
 use Rattle.atlas_model.specs.declared.geometry.Rectangle.{Rectangle}
 use Rattle.atlas_store.specs.declared.slots.Link.{Link}
 use Rattle.atlas_store.specs.Search.Bests.{HasSeen, IsLeast, IsLooked, IsSameBest}
@@ -17,7 +15,7 @@ use Rattle.atlas_store.specs.Slots.Links.{IsSolid}
 use Rattle.atlas_store.specs.Slots.Lists.{occurs}
 use Rattle.atlas_store.specs.Search.Lookups.{IsSpot, IsLowBut, HasShown}
 use Rattle.atlas_store.specs.Slots.Numbered.{same}
-use Rattle.atlas_model.specs.Pixels.{natural, box_of}
+use Rattle.atlas_model.specs.Pixels.{box_of}
 use Rattle.atlas_store.specs.Search.Searches.{Shown, shown_at}
 use Rattle.atlas_store.specs.Slots.{no_slot}
 use Rattle.atlas_store.proofs.ListLemmas.Occurrences.{same-self, same-ne}
@@ -89,7 +87,7 @@ path-same es from (x ∷ xs) (y ∷ ys) short p q =
     ap (λ z. z ∷ xs) e ∙ ap (λ zs. y ∷ zs) (path-same es (item_at es y).after xs ys short (subst (λ z. IsPath es (item_at es z).after xs no_slot) e p.2) q.2)
 
 -- The search has come to `at`, which stands after `before`.
-pub record IsAlong (es : List Item) (head : ℕ) (place : Place) (start : Best) (at before : ℕ) (now : Best) : Type 0 where
+pub record IsAlong (es : List Item) (head : ℕ) (list : ℕ) (start : Best) (at before : ℕ) (now : Best) (low : ℕ) : Type 0 where
   pub done : List ℕ
   pub rest : List ℕ
   pub short : length es ≤ no_slot
@@ -99,15 +97,14 @@ pub record IsAlong (es : List Item) (head : ℕ) (place : Place) (start : Best) 
   pub exact : (i : ℕ) → 0 < occurs i rest → IsSolid (item_at es i).area
   pub previous : IsPrevious es head done before at
   pub seen : (is_large : Bool) (r : Sides) (shown : List Shown) → HasSeen start is_large r shown → HasSeen now is_large r (shown ++ shown_items es done)
-  pub least : IsLeast now (shown_items es done)
-  pub found : ((now.is_own ≡ false) × IsSameBest start now) ⊎ ((now.is_own ≡ true) × IsSpot es head place done now.found)
+  pub least : IsLeast now list low (shown_items es done)
+  pub found : IsSameBest start now ⊎ IsSpot es head list done now.spot
 
 abbrev pub KeepsSeen : (before after : Best) → Type 0
 KeepsSeen s t = (is_large : Bool) (r : Sides) (shown : List Shown) → HasSeen s is_large r shown → HasSeen t is_large r shown
 
-pub along-begins : (es : List Item) (head : ℕ) (place : Place) (start now : Best) → IsShowable es head → KeepsSeen start now → IsLeast now []
-    → now.is_own ≡ false → IsSameBest start now → IsAlong es head place start head no_slot now
-along-begins es head place start now s seen least own same =
+pub along-begins : (es : List Item) (head list : ℕ) (start : Best) (low : ℕ) → IsShowable es head → IsAlong es head list start head no_slot start low
+along-begins es head list start low s =
     record {
       done = [];
       rest = s.xs;
@@ -117,27 +114,26 @@ along-begins es head place start now s seen least own same =
       once = λ i. omega (arith, s.once i);
       exact = s.exact;
       previous = inl (refl, refl);
-      seen = λ is_large r shown h. subst (λ (list : List Shown). HasSeen now is_large r list) (append-none shown) (seen is_large r shown h);
-      least = least;
-      found = inl (own, same);
+      seen = λ is_large r shown h. subst (λ (xs : List Shown). HasSeen start is_large r xs) (append-none shown) h;
+      least = λ c h. absurd (omega (arith, h.1));
+      found = inl (record { rank = refl; spot = refl });
     }
 
 previous-push : (es : List Item) (head : ℕ) (xs : List ℕ) (x before at : ℕ) → IsPrevious es head xs before at → IsPrevious es head (xs ++ x ∷ []) before at
 previous-push es head xs x before at (inl p) = inl p
 previous-push es head xs x before at (inr p) = inr (omega (arith, p.0, occurs-push before x xs), p.1)
 
-spot-push : (es : List Item) (head : ℕ) (place : Place) (xs : List ℕ) (x : ℕ) (f g : Found) → g ≡ f → IsSpot es head place xs f → IsSpot es head place (xs ++ x ∷ []) g
-spot-push es head place xs x f g e s =
-    subst (λ (h : Found). IsSpot es head place (xs ++ x ∷ []) h) (sym e)
+spot-push : (es : List Item) (head : ℕ) (list : ℕ) (xs : List ℕ) (x : ℕ) (f g : Spot) → g ≡ f → IsSpot es head list xs f → IsSpot es head list (xs ++ x ∷ []) g
+spot-push es head list xs x f g e s =
+    subst (λ (h : Spot). IsSpot es head list (xs ++ x ∷ []) h) (sym e)
     (record {
       inside = omega (arith, s.inside, occurs-push f.at.number x xs);
-      area = s.area;
-      at_place = s.at_place;
+      in_list = s.in_list;
       before = previous-push es head xs x f.before.number f.at.number s.before;
     })
 
-module _ (es : List Item) (head : ℕ) (place : Place) (start now : Best) (at before : Link) (w : IsAlong es head place start at.number before.number now)
-    (more : at.number ≢ no_slot) where
+module _ (es : List Item) (head : ℕ) (list : ℕ) (start now : Best) (low : ℕ) (at before : Link)
+    (w : IsAlong es head list start at.number before.number now low) (more : at.number ≢ no_slot) where
   rest_is : (ys : List ℕ) × (w.rest ≡ at.number ∷ ys) × (at.number < length es) × IsPath es (item_at es at.number).after ys no_slot
   rest_is = path-more es at.number w.rest w.left more
 
@@ -148,12 +144,12 @@ module _ (es : List Item) (head : ℕ) (place : Place) (start now : Best) (at be
   along-exact = w.exact at.number (subst (λ ys. 0 < occurs at.number ys) (sym rest_is.1) (omega (arith, same-self at.number)))
 
   -- The entry is shown, and the search goes on to the next.
-  pub along-goes_on : (next : Best) (a : Rectangle) (after : ℕ) → a ≡ (item_at es at.number).area → after ≡ (item_at es at.number).after
+  pub along-goes_on : (next : Best) (next_low : ℕ) (a : Rectangle) (after : ℕ) → a ≡ (item_at es at.number).area → after ≡ (item_at es at.number).after
       → ((is_large : Bool) (r : Sides) (shown : List Shown) → HasSeen now is_large r shown → HasSeen next is_large r (shown ++ shown_at (box_of a) at.number ∷ []))
-      → ((own : List Shown) → IsLeast now own → IsLeast next (own ++ shown_at (box_of a) at.number ∷ []))
-      → IsLooked now next (record { rectangle = a; at = at; before = before; place = place; low = 0 })
-      → IsAlong es head place start after at.number next
-  along-goes_on next a after ea ef seen least found =
+      → ((own : List Shown) → IsLeast now list low own → IsLeast next list next_low (own ++ shown_at (box_of a) at.number ∷ []))
+      → IsLooked now next (record { at = at; before = before; list = list; low = now.spot.low })
+      → IsAlong es head list start after at.number next next_low
+  along-goes_on next next_low a after ea ef seen least found =
       let this = at.number in
       let ys = rest_is.0 in
       let shows : shown_at (box_of a) this ≡ shown_item es this = ap (λ (x : Rectangle). shown_at (box_of x) this) ea in
@@ -171,23 +167,19 @@ module _ (es : List Item) (head : ℕ) (place : Place) (start now : Best) (at be
             subst (λ (s : List Shown). HasSeen next is_large r s) all
             (subst (λ (b : Shown). HasSeen next is_large r ((shown ++ shown_items es w.done) ++ b ∷ [])) shows (seen is_large r (shown ++ shown_items es w.done) (w.seen is_large r shown h)));
         least =
-            subst (λ (s : List Shown). IsLeast next s) (sym (shown-push es this w.done))
-            (subst (λ (b : Shown). IsLeast next (shown_items es w.done ++ b ∷ [])) shows (least (shown_items es w.done) w.least));
+            subst (λ (s : List Shown). IsLeast next list next_low s) (sym (shown-push es this w.done))
+            (subst (λ (b : Shown). IsLeast next list next_low (shown_items es w.done ++ b ∷ [])) shows (least (shown_items es w.done) w.least));
         found = elim found [
           | inl kept ↦ elim w.found [
-            | inl none ↦ inl (kept.0 ∙ none.0, record { rank = kept.1.rank ∙ none.1.rank; found = kept.1.found ∙ none.1.found })
-            | inr some ↦ inr (kept.0 ∙ some.0, spot-push es head place w.done this now.found next.found kept.1.found some.1)
+            | inl none ↦ inl (record { rank = kept.rank ∙ none.rank; spot = kept.spot ∙ none.spot })
+            | inr some ↦ inr (spot-push es head list w.done this now.spot next.spot kept.spot some)
           ]
-          | inr new ↦ inr (
-            new.0,
-            subst (λ (f : Found). IsSpot es head place (w.done ++ this ∷ []) f) (sym new.1)
-                (record {
-                  inside = omega (arith, occurs-push this this w.done, same-self this);
-                  area = sym ea;
-                  at_place = refl;
-                  before = previous-push es head w.done this before.number this w.previous;
-                }),
-          )
+          | inr new ↦ inr (subst (λ (f : Spot). IsSpot es head list (w.done ++ this ∷ []) f) (sym new)
+              (record {
+                inside = omega (arith, occurs-push this this w.done, same-self this);
+                in_list = refl;
+                before = previous-push es head w.done this before.number this w.previous;
+              }))
         ];
       }
 
@@ -208,9 +200,9 @@ entries-path es (suc bound) at (x ∷ xs) short p l =
     cond-false (at == no_slot) 0 _ (ne_eqb at no_slot ne) ∙ ap suc (entries-path es bound (item_at es at).after xs short rest (omega (arith, l)))
 
 -- Each step leaves fewer entries.
-pub fewer-left : (es : List Item) (head : ℕ) (place : Place) (start now : Best) (at before : Link) → IsAlong es head place start at.number before.number now
+pub fewer-left : (es : List Item) (head : ℕ) (list : ℕ) (start now : Best) (low : ℕ) (at before : Link) → IsAlong es head list start at.number before.number now low
     → at.number ≢ no_slot → entries_from es (length es) (item_at es at.number).after < entries_from es (length es) at.number
-fewer-left es head place start now at before w more =
+fewer-left es head list start now low at before w more =
     let r = path-more es at.number w.rest w.left more in
     let few = length-distinct (length es) w.rest (λ k. omega (arith, w.once k)) (λ k h. path-inside es at.number w.rest no_slot w.left k h) in
     let here = entries-path es (length es) at.number w.rest w.short w.left few in
@@ -218,35 +210,38 @@ fewer-left es head place start now at before w more =
     let next = entries-path es (length es) (item_at es at.number).after r.0 w.short r.3 (omega (arith, few, size)) in
     omega (arith, here, next, size)
 
-natural-below : (x : ℤ) (y : ℕ) → x ≤ℤ pos y → natural x ≤ y
-natural-below (pos n) y h = omega (arith, ints)
-natural-below (negsuc n) y h = omega arith
-
 -- The least `min.y` of the others is their bound.
-low-of_least : (es : List Item) (now : Best) (xs : List ℕ) → IsLeast now (shown_items es xs) → IsLowBut es xs now.found.at.number (natural now.least)
-low-of_least es now xs least i h ne =
-    elim (least (shown_item es i) (shown_items-has es xs i h)) [
-      | inl e ↦ absurd (ne (ap (λ (s : Shown). s.at) e.1))
-      | inr l ↦ natural-below now.least _ l
-    ]
+low-of_least : (es : List Item) (now : Best) (list low : ℕ) (xs : List ℕ) → IsLeast now list low (shown_items es xs) → IsLowBut es xs now.spot.at.number low
+low-of_least es now list low xs least i h ne = elim (least (shown_item es i) (shown_items-has es xs i h)) [ inl e ↦ absurd (ne e.1) | inr l ↦ l ]
 
-pub along-ends : (es : List Item) (head : ℕ) (place : Place) (start now after : Best) (at before : ℕ) → IsAlong es head place start at before now
-    → at ≡ no_slot → KeepsSeen now after → (now.is_own ≡ false → IsSameBest now after)
-    → (now.is_own ≡ true → after.found ≡ record now.found { low = natural now.least })
-    → HasShown es head place start after
-along-ends es head place start now after at before w here seen other own =
+pub along-ends : (es : List Item) (head list : ℕ) (start now after : Best) (low at before : ℕ) → IsAlong es head list start at before now low
+    → at ≡ no_slot → KeepsSeen now after → after.rank ≡ now.rank → (now.spot.list ≢ list → after.spot ≡ now.spot)
+    → (now.spot.list ≡ list → after.spot ≡ record now.spot { low = low })
+    → HasShown es head list start after
+along-ends es head list start now after low at before w here seen rank other own =
     record {
       xs = w.done;
       path = subst (λ n. IsPath es head w.done n) here w.came;
       seen = λ is_large r shown h. seen is_large r _ (w.seen is_large r shown h);
-      found = elim w.found [
-        | inl kept ↦ let same = other kept.0 in inl (record { rank = same.rank ∙ kept.1.rank; found = same.found ∙ kept.1.found })
-        | inr new ↦
-            let f : Found = record now.found { low = natural now.least } in
-            let P : Found → Type 0 = λ g. IsSpot es head place w.done g × IsLowBut es w.done g.at.number g.low in
-            inr (subst P (sym (own new.0)) (
-              record { inside = new.1.inside; area = new.1.area; at_place = new.1.at_place; before = new.1.before },
-              low-of_least es now w.done w.least,
-            ))
+      found = elim (cases_eq now.spot.list list) [
+        | inl e ↦
+            let spot = own e in
+            let bound : IsLowBut es w.done after.spot.at.number after.spot.low =
+            subst (λ (g : Spot). IsLowBut es w.done g.at.number g.low) (sym spot) (low-of_least es now list low w.done w.least) in
+            inr (
+              elim w.found [
+                | inl kept ↦ inr (
+                  subst (λ (g : Spot). g.list ≡ list) kept.spot e,
+                  rank ∙ kept.rank,
+                  grind (arith, spot, kept),
+                )
+                | inr some ↦ inl (subst (λ (g : Spot). IsSpot es head list w.done g) (sym spot) (record { inside = some.inside; in_list = some.in_list; before = some.before }))
+              ],
+              bound,
+            )
+        | inr ne ↦ elim w.found [
+          | inl kept ↦ inl (record { rank = rank ∙ kept.rank; spot = other ne ∙ kept.spot })
+          | inr some ↦ absurd (ne some.in_list)
+        ]
       ];
     }

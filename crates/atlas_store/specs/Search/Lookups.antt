@@ -3,14 +3,14 @@ use Rattle.std.specs.Prelude.{ℕ, ◌+◌, ◌≡◌, ◌≢◌, ◌<◌, ◌�
 use Rattle.std.specs.Prelude.{length}
 use Rattle.atlas_store.specs.declared.search.Request.{Request}
 use Rattle.atlas_store.specs.declared.search.bands.Borders.{Borders}
-use Rattle.atlas_store.specs.declared.search.bands.Place.{Place}
 use Rattle.atlas_store.specs.declared.search.bands.Window.{Window}
 use Rattle.atlas_store.specs.declared.search.best.Best.{Best}
 use Rattle.atlas_store.specs.declared.search.best.Found.{Found}
+use Rattle.atlas_store.specs.declared.search.best.Spot.{Spot}
 use Rattle.atlas_store.specs.declared.search.masks.Mask.{Mask}
 use Rattle.atlas_store.specs.declared.search.table.ListHead.{ListHead}
 use Rattle.atlas_store.specs.Search.Bands.{band_of, list_of, number_of, start_of}
-use Rattle.atlas_store.specs.Search.Bests.{HasSeen, IsSameBest}
+use Rattle.atlas_store.specs.Search.Bests.{HasSeen, IsSameBest, found_at}
 use Rattle.atlas_model.specs.Boxes.{Sides, Box, Fits, IsPositive}
 use Rattle.atlas_model.specs.Choice.{Options, AreValid, class_of}
 use Rattle.atlas_store.specs.Search.Items.{Item, item_at, item_box, item_sides, shown_item, shown_items, IsPath}
@@ -25,24 +25,29 @@ use Rattle.atlas_store.specs.Slots.{no_slot}
 use Rattle.atlas_store.specs.Search.Tables.{head_of, low_of}
 
 -- The best stands in the list xs that begins at `head`.
-pub record IsSpot (es : List Item) (head : ℕ) (place : Place) (xs : List ℕ) (found : Found) : Type 0 where
-  pub inside : 0 < occurs found.at.number xs
-  pub area : (item_at es found.at.number).area ≡ found.rectangle
-  pub at_place : found.place ≡ place
-  pub before : IsPrevious es head xs found.before.number found.at.number
+pub record IsSpot (es : List Item) (head : ℕ) (list : ℕ) (xs : List ℕ) (spot : Spot) : Type 0 where
+  pub inside : 0 < occurs spot.at.number xs
+  pub in_list : spot.list ≡ list
+  pub before : IsPrevious es head xs spot.before.number spot.at.number
 
 -- `low` is at most the `min.y` of each other entry of the list xs.
 abbrev pub IsLowBut : List Item → List ℕ → (at low : ℕ) → Type 0
 IsLowBut es xs at low = (i : ℕ) → 0 < occurs i xs → i ≢ at → low ≤ (item_box (item_at es i)).min.y
 
+-- The best is the same and stands in this list, with another bound.
+abbrev pub IsSameIn : (list : ℕ) (before after : Best) → Type 0
+IsSameIn list s t =
+    (s.spot.list ≡ list) × (t.rank ≡ s.rank) × (t.spot ≡ record s.spot { low = t.spot.low })
+
 -- A search was shown the list that begins at `head`.
-pub record HasShown (es : List Item) (head : ℕ) (place : Place) (before after : Best) : Type 0 where
+pub record HasShown (es : List Item) (head : ℕ) (list : ℕ) (before after : Best) : Type 0 where
   pub xs : List ℕ
   pub path : IsPath es head xs no_slot
   pub seen : (is_large : Bool) (r : Sides) (shown : List Shown) → HasSeen before is_large r shown
       → HasSeen after is_large r (shown ++ shown_items es xs)
   pub found : IsSameBest before after
-      ⊎ (IsSpot es head place xs after.found × IsLowBut es xs after.found.at.number after.found.low)
+      ⊎ ((IsSpot es head list xs after.spot ⊎ IsSameIn list before after)
+      × IsLowBut es xs after.spot.at.number after.spot.low)
 
 -- Each free entry stands once in the list of its sides, and nothing else stands in a list; its rectangle is exact, and
 -- its `min.y` is at least the list's bound.
@@ -75,9 +80,13 @@ pub record IsStanding (o : Options) (heads : List ListHead) (es : List Item) (fo
       → i ≢ found.at.number
       → found.low ≤ (item_box (item_at es i)).min.y
 
+-- What is found there, with the rectangle of its entry.
+abbrev pub found_in : List Item → Spot → Found
+found_in es s = found_at (item_at es s.at.number).area s
+
 -- The best is known, if there is one.
 abbrev pub IsKnown : Options → List ListHead → List Item → Best → Type 0
-IsKnown o heads es s = s.rank < no_rank → IsStanding o heads es s.found
+IsKnown o heads es s = s.rank < no_rank → IsStanding o heads es (found_in es s.spot)
 
 -- The free entries of a class in these rows and columns were shown to a search, or can't be the best.
 pub record HasAdded (o : Options) (heads : List ListHead) (es : List Item) (class : ℕ) (r : Sides)

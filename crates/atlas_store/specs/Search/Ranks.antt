@@ -1,5 +1,6 @@
 -- The rank of a box among those that a request fits. No public clause cites this module.
-use Rattle.std.specs.Prelude.{ℕ, ◌-◌, ◌&&◌, nat_lt, Bool, if◌then◌else◌}
+use Rattle.std.specs.Prelude.{ℕ, ◌+◌, ◌*◌, ◌-◌, ◌&&◌, nat_lt, Bool, if◌then◌else◌}
+use Rattle.atlas_model.specs.Boxes.{Box}
 
 -- A rank that no box has.
 abbrev pub no_rank : ℕ
@@ -8,3 +9,11 @@ no_rank = 2147483647
 -- The rank of a box with this least margin: the lesser the better, and 0 for an equal side.
 abbrev pub rank_of : (is_large : Bool) → (margin : ℕ) → ℕ
 rank_of is_large margin = if is_large && nat_lt 0 margin then 2147483647 - margin else margin
+
+-- The `min` of a box as one number, the greater the later the box comes: the y, and below it the x.
+abbrev pub corner_of : Box → ℕ
+corner_of b = b.min.y * 4294967296 + b.min.x
+
+-- More than the corner of each box.
+abbrev pub no_corner : ℕ
+no_corner = 18446744073709551615

@@ -1,15 +1,16 @@
 //! The best free box that a search was shown, and what the search learns of its list on the way.
-ghost use Rattle.std.specs.Prelude.{◌≡◌, ◌≢◌, ◌<◌, ◌++◌, ◌∷◌, [], ℕ, Bool, true, false, List, pos, ◌≤ℤ◌, ◌↔◌, IsTrue};
-ghost use Rattle.std.specs.Prelude.{IfSome, None};
+ghost use Rattle.std.specs.Prelude.{◌≡◌, ◌≢◌, ◌/◌, ◌<◌, ◌≤◌, ◌++◌, ◌∷◌, [], ℕ, Bool, true, false, List, pos};
+ghost use Rattle.std.specs.Prelude.{◌≤ℤ◌, ◌↔◌, IsTrue, IfSome, None};
 ghost use Rattle.atlas_model.specs.Boxes.{IsNonempty, IsPositive, Sides};
 ghost use Rattle.atlas_model.specs.Pixels.{box_of, natural, sides_of};
-ghost use Rattle.atlas_store.specs.Search.Ranks.{no_rank, rank_of};
+ghost use Rattle.atlas_store.specs.Search.Ranks.{corner_of, no_corner, no_rank, rank_of};
 ghost use Rattle.atlas_store.specs.Rectangles.{IsUnsigned};
 
-use crate::choice::{is_before, margin_in};
-use crate::search::bands::Place;
+use crate::choice::margin_in;
+use crate::search::bands::{BANDS, Place};
+use crate::search::table::LISTS;
 use crate::slots::Link;
-use atlas_model::{Point, Rectangle, Size, point2};
+use atlas_model::{Rectangle, Size};
 
 /// The free box that a request takes, and where it stands.
 #[derive(Clone, Copy)]
@@ -25,8 +26,20 @@ pub struct Found {
     pub low: u32,
 }
 
-// The rank of no box.
+/// Where the best box stands, as `Found` has it.
+#[derive(Clone, Copy)]
+pub struct Spot {
+    pub at: Link,
+    pub before: Link,
+    /// The number of its list.
+    pub list: usize,
+    pub low: u32,
+}
+
+// The rank of no box, and the corner of none.
 const NO_RANK: u32 = 2147483647;
+
+const NO_CORNER: u64 = 18446744073709551615;
 
 /// The best of the boxes that a search was shown, list by list.
 #[derive(Clone, Copy)]
@@ -35,14 +48,14 @@ pub struct Best {
     is_large: bool,
     // The lesser the better, and 0 for an equal side; `NO_RANK` as long as no box was shown that the request fits.
     rank: u32,
-    found: Found,
-    // At most the `min.y` of each box of the list that is shown now, but for the best.
-    least: i32,
-    // Whether the best stands in the list that is shown now.
-    is_own: bool,
+    // Its `min`, as `corner` has it.
+    corner: u64,
+    // The corner once there is an equal side: no box from there on is better.
+    limit: u64,
+    spot: Spot,
     ghost positive: { IsPositive (sides_of size) },
-    ghost least_unsigned: { pos 0 ≤ℤ least },
-    ghost found_unsigned: { pos 0 ≤ℤ found.rectangle.min.y },
+    ghost limited: { limit < no_corner → (rank ≡ 0) × (limit ≡ corner) },
+    ghost settled: { rank ≡ 0 → limit ≡ corner },
 }
 
 // The rank of a box with this least margin.
@@ -57,8 +70,16 @@ fn rank(is_large: bool, margin: i32) -> u32
     }
 }
 
+// The `min` of a box as one number, the greater the later the box comes: the y, and below it the x.
+fn corner(rectangle: Rectangle) -> u64
+    requires { IsUnsigned rectangle }
+    ensures { result ≡ corner_of (box_of rectangle) }
+{
+    rectangle.min.y as u32 as u64 * 4294967296 + rectangle.min.x as u32 as u64
+}
+
 impl Best {
-    ghost use Rattle.atlas_store.specs.Search.Bests.{HasSeen, IsAhead, IsLeast, IsLooked, IsSameBest};
+    ghost use Rattle.atlas_store.specs.Search.Bests.{HasSeen, IsAhead, IsLeast, IsLooked, IsPassed, IsTaken};
     ghost use Rattle.atlas_store.specs.Search.Searches.{Shown, shown_at};
 
     /// No box was shown yet for a request of this rounded size.
@@ -66,128 +87,117 @@ impl Best {
         requires { IsPositive (sides_of size) }
         ensures { HasSeen result is_large (sides_of size) [] }
     {
-        let none = Link::NONE;
-        let corner = point2(0, 0);
         Best {
             size,
             is_large,
             rank: NO_RANK,
-            found: Found {
-                rectangle: Rectangle {
-                    min: corner,
-                    max: corner,
-                },
-                at: none,
-                before: none,
-                place: Place { row: 0, column: 0 },
+            corner: NO_CORNER,
+            limit: NO_CORNER,
+            spot: Spot {
+                at: Link::NONE,
+                before: Link::NONE,
+                list: LISTS,
                 low: 0,
             },
-            least: 2147483647,
-            is_own: false,
         }
     }
 
-    // Whether a box of this rank with this `min` is to be kept rather than the best one.
-    fn is_beaten_by(&self, rank: u32, point: Point) -> bool
-        ensures { IsTrue result ↔ IsAhead rank point self.now }
+    // Whether a box of this rank with this corner is to be kept rather than the best one.
+    fn is_beaten_by(&self, rank: u32, corner: u64) -> bool
+        ensures { IsTrue result ↔ IsAhead rank corner self.now }
     {
-        rank < self.rank || (rank == self.rank && is_before(point, self.found.rectangle.min))
+        rank < self.rank || (rank == self.rank && corner < self.corner)
     }
 
-    // Whether no box with this `min` is to be kept rather than the best one,
-    // which has an equal side and comes before it.
-    fn is_unbeaten_by(&self, corner: Point) -> bool
-        ensures { result ≡ true → (rank : ℕ) → IsAhead rank corner self.now → ⊥ }
+    // The rank of a box with this corner, if it is to be kept rather than the best one.
+    fn rank_ahead(&self, rectangle: Rectangle, corner: u64) -> Option<u32>
+        requires unsigned { IsUnsigned rectangle }
+        requires nonempty { IsNonempty (box_of rectangle) }
+        requires corner { corner ≡ corner_of (box_of rectangle) }
+        ensures passed { result ≡ None → IsPassed self.now (box_of rectangle) }
+        ensures lesser { IfSome result (λ rank. rank ≤ self.now.rank) }
+        ensures taken { IfSome result (λ rank. IsTaken self.now (box_of rectangle) rank corner) }
     {
-        let best = self.found.rectangle.min;
-        self.rank == 0 && (corner.y > best.y || !is_before(corner, best))
-    }
-
-    // A box with this `min.y` isn't the best.
-    fn pass(&mut self, y: i32)
-        requires { pos 0 ≤ℤ y }
-        ensures seen { (is_large : Bool) (r : Sides) (shown : List Shown) → HasSeen self.old is_large r shown
-            → HasSeen self.new is_large r shown }
-        ensures least { (own : List Shown) (c : Shown) → pos c.box.min.y ≡ y → IsLeast self.old own
-            → IsLeast self.new (own ++ c ∷ []) }
-        ensures own { self.new.is_own ≡ self.old.is_own }
-        ensures same { IsSameBest self.old self.new }
-    {
-        self.least = self.least.min(y);
-    }
-
-    // The least `min.y` once the best is no longer the best.
-    fn least_with_best(&self) -> i32
-        ensures unsigned { pos 0 ≤ℤ result }
-        ensures least { result ≤ℤ self.now.least }
-        ensures own { self.now.is_own ≡ true → result ≤ℤ self.now.found.rectangle.min.y }
-    {
-        if self.is_own {
-            self.least.min(self.found.rectangle.min.y)
+        if corner >= self.limit {
+            return None;
+        }
+        let margin = margin_in(rectangle, self.size);
+        if margin < 0 {
+            return None;
+        }
+        if margin == 0 {
+            return Some(0);
+        }
+        let rank = rank(self.is_large, margin);
+        if self.is_beaten_by(rank, corner) {
+            Some(rank)
         } else {
-            self.least
+            None
         }
     }
 
-    /// Shows a box of the list that is shown now.
-    pub fn look(&mut self, rectangle: Rectangle, at: Link, before: Link, place: Place)
+    // The least `min.y` of a list once the best is no longer the best.
+    fn least_with_best(&self, list: usize, least: u32) -> u32
+        ensures least { result ≤ least }
+        ensures own { self.now.spot.list ≡ list → result ≤ self.now.corner / 4294967296 }
+    {
+        if self.spot.list == list {
+            least.min((self.corner / 4294967296) as u32)
+        } else {
+            least
+        }
+    }
+
+    /// Shows a box of a list, of which those shown but the best have at least this `min.y`. Answers the same of them
+    /// and this one.
+    pub fn look(
+        &mut self,
+        rectangle: Rectangle,
+        at: Link,
+        before: Link,
+        list: usize,
+        least: u32,
+    ) -> u32
         requires unsigned { IsUnsigned rectangle }
         requires nonempty { IsNonempty (box_of rectangle) }
         ensures seen { (is_large : Bool) (r : Sides) (shown : List Shown) → HasSeen self.old is_large r shown
             → HasSeen self.new is_large r (shown ++ shown_at (box_of rectangle) at.number ∷ []) }
-        ensures least { (own : List Shown) → IsLeast self.old own
-            → IsLeast self.new (own ++ shown_at (box_of rectangle) at.number ∷ []) }
+        ensures least { (own : List Shown) → IsLeast self.old list least own
+            → IsLeast self.new list result (own ++ shown_at (box_of rectangle) at.number ∷ []) }
         ensures found { IsLooked self.old self.new
-            (record { rectangle = rectangle; at = at; before = before; place = place; low = 0 }) }
+            (record { at = at; before = before; list = list; low = self.old.spot.low }) }
     {
-        if self.is_unbeaten_by(rectangle.min) {
-            self.pass(rectangle.min.y);
-            return;
-        }
-        let margin = margin_in(rectangle, self.size);
-        if margin < 0 {
-            self.pass(rectangle.min.y);
-            return;
-        }
-        let rank = rank(self.is_large, margin);
-        if !self.is_beaten_by(rank, rectangle.min) {
-            self.pass(rectangle.min.y);
-            return;
-        }
-        self.least = self.least_with_best();
-        self.is_own = true;
-        self.rank = rank;
-        self.found = Found {
-            rectangle,
-            at,
-            before,
-            place,
-            low: 0,
+        let corner = corner(rectangle);
+        let Some(rank) = self.rank_ahead(rectangle, corner) else {
+            return least.min((corner / 4294967296) as u32);
         };
+        let rest = self.least_with_best(list, least);
+        *self = Best {
+            size: self.size,
+            is_large: self.is_large,
+            rank,
+            corner,
+            limit: if rank == 0 { corner } else { self.limit },
+            spot: Spot {
+                at,
+                before,
+                list,
+                low: self.spot.low,
+            },
+        };
+        rest
     }
 
-    /// From now on the boxes of another list are shown.
-    pub fn begin_list(&mut self)
+    /// All boxes of a list were shown, of which each but the best has at least this `min.y`.
+    pub fn end_list(&mut self, list: usize, least: u32)
         ensures seen { (is_large : Bool) (r : Sides) (shown : List Shown) → HasSeen self.old is_large r shown
             → HasSeen self.new is_large r shown }
-        ensures least { IsLeast self.new [] }
-        ensures not_own { self.new.is_own ≡ false }
-        ensures same { IsSameBest self.old self.new }
+        ensures rank { self.new.rank ≡ self.old.rank }
+        ensures other { self.old.spot.list ≢ list → self.new.spot ≡ self.old.spot }
+        ensures own { self.old.spot.list ≡ list → self.new.spot ≡ record self.old.spot { low = least } }
     {
-        self.least = 2147483647;
-        self.is_own = false;
-    }
-
-    /// All boxes of the list were shown.
-    pub fn end_list(&mut self)
-        ensures seen { (is_large : Bool) (r : Sides) (shown : List Shown) → HasSeen self.old is_large r shown
-            → HasSeen self.new is_large r shown }
-        ensures other { self.old.is_own ≡ false → IsSameBest self.old self.new }
-        ensures own { self.old.is_own ≡ true
-            → self.new.found ≡ record self.old.found { low = natural self.old.least } }
-    {
-        if self.is_own {
-            self.found.low = self.least as u32;
+        if self.spot.list == list {
+            self.spot.low = least;
         }
     }
 
@@ -201,21 +211,40 @@ impl Best {
     /// Whether the best has an equal side and its `min.y` is less than `low`:
     /// no box that begins there or below is better.
     pub fn settles(&self, low: u32) -> bool
-        ensures { IsTrue result
-            → (self.now.rank ≡ 0) × (natural self.now.found.rectangle.min.y < low) }
+        ensures { IsTrue result → (self.now.rank ≡ 0) × (self.now.corner / 4294967296 < low) }
     {
-        self.rank == 0 && (self.found.rectangle.min.y as u32) < low
+        ((self.limit / 4294967296) as u32) < low
     }
 
-    /// The best of the boxes shown.
-    pub fn best(&self) -> Option<Found>
+    /// Where the best of the boxes shown stands.
+    pub fn spot(&self) -> Option<Spot>
         ensures none { result ≡ None → self.now.rank ≡ no_rank }
-        ensures some { IfSome result (λ found. (found ≡ self.now.found) × (self.now.rank ≢ no_rank)) }
+        ensures some { IfSome result (λ spot. (spot ≡ self.now.spot) × (self.now.rank ≢ no_rank)) }
     {
         if self.rank == NO_RANK {
             None
         } else {
-            Some(self.found)
+            Some(self.spot)
+        }
+    }
+}
+
+impl Spot {
+    ghost use Rattle.atlas_store.specs.Search.Bests.{found_at};
+
+    /// What stands there, with its rectangle.
+    pub fn found(self, rectangle: Rectangle) -> Found
+        ensures { result ≡ found_at rectangle self }
+    {
+        Found {
+            rectangle,
+            at: self.at,
+            before: self.before,
+            place: Place {
+                row: self.list / BANDS,
+                column: self.list % BANDS,
+            },
+            low: self.low,
         }
     }
 }

@@ -1,8 +1,9 @@
 use Rattle.std.proofs.Common.{map, ℕ, subst, sym, arith}
-use Rattle.atlas_store.specs.Search.Lookups.{FitsItemsFrom}
+use Rattle.atlas_store.specs.declared.search.best.Found.{Found}
+use Rattle.atlas_store.specs.Search.Lookups.{FitsItemsFrom, IsBestIn, IsStanding}
 use Rattle.atlas_model.specs.Pixels.{options_of, sides_of}
 use Rattle.atlas_store.proofs.SearchLemmas.ClassSearching.{fits-from, from-both, search-of}
-use Rattle.atlas_store.proofs.SearchLemmas.ItemPicks.{best-found, from-own, from-next, none-found, none-from, no_room-of_items, pick-of_items}
+use Rattle.atlas_store.proofs.SearchLemmas.ItemPicks.{best-found, found-read, from-own, from-next, none-found, none-from, no_room-of_items, pick-of_items}
 use Rattle.atlas_store.proofs.search.pick.Goals as goal
 
 pub loop-number-init : goal.loop-number-init
@@ -33,20 +34,22 @@ loop-number-preserved g c =
     c.place_for-own.result c.borders-borders.result c.requires.listed c.requires.positive c.class-own_class.ensures c.place_for-own.ensures.row
     c.place_for-own.ensures.column c.borders-borders.ensures c.loop-number-test.true (omega (arith, c.loop-number.auto.number, c.max-first.ensures))) in
     from-next o es r c.loop-number.number c.loop-number.invariant
-    (none-found o es r c.args.table.now c.loop-number.number c.search_class.result searched (c.best.ensures.none c.in_default.is))
+    (none-found o es r c.args.table.now c.loop-number.number c.search_class.result searched (c.spot.ensures.none c.in_default.is))
 
 pub returns-in-Some-clause-picked : goal.returns-in-Some-clause-picked
 returns-in-Some-clause-picked g c =
     let o = options_of c.args.options.now in
     let es = map g.E.Entry.item c.args.entries.now in
     let r = sides_of c.args.size in
-    let found = c.in-Some.found in
     let is = c.in-Some.ensures.some in
-    let searched = c.search_class.ensures o (search-of (options_of c.args.options.now) c.args.table.now (map g.E.Entry.item c.args.entries.now) c.args.size c.class-own_class.result c.loop-number.number
+    let searched = c.search_class.ensures o (search-of o c.args.table.now es c.args.size c.class-own_class.result c.loop-number.number
     c.place_for-own.result c.borders-borders.result c.requires.listed c.requires.positive c.class-own_class.ensures c.place_for-own.ensures.row
     c.place_for-own.ensures.column c.borders-borders.ensures c.loop-number-test.true (omega (arith, c.loop-number.auto.number, c.max-first.ensures))) in
-    pick-of_items o es r c.args.table.now c.loop-number.number found c.loop-number.invariant
-    (best-found o es r c.args.table.now c.loop-number.number c.search_class.result found searched is.0 is.1)
+    let best = best-found o es r c.args.table.now c.loop-number.number c.search_class.result c.in-Some.spot searched is.0 is.1 in
+    let read = found-read g.E.Entry.item c.args.entries.now c.in-Some.spot c.index-entries-spot.result c.rectangle.result c.found.result best.standing.free
+    c.index-entries-spot.is c.rectangle.ensures c.found.ensures in
+    pick-of_items o es r c.args.table.now c.loop-number.number c.found.result c.loop-number.invariant
+    (subst (λ (f : Found). IsBestIn o c.args.table.now es c.loop-number.number r f) (sym read) best)
 
 pub returns-in-Some-clause-standing : goal.returns-in-Some-clause-standing
 returns-in-Some-clause-standing g c =
@@ -54,10 +57,13 @@ returns-in-Some-clause-standing g c =
     let es = map g.E.Entry.item c.args.entries.now in
     let r = sides_of c.args.size in
     let is = c.in-Some.ensures.some in
-    let searched = c.search_class.ensures o (search-of (options_of c.args.options.now) c.args.table.now (map g.E.Entry.item c.args.entries.now) c.args.size c.class-own_class.result c.loop-number.number
+    let searched = c.search_class.ensures o (search-of o c.args.table.now es c.args.size c.class-own_class.result c.loop-number.number
     c.place_for-own.result c.borders-borders.result c.requires.listed c.requires.positive c.class-own_class.ensures c.place_for-own.ensures.row
     c.place_for-own.ensures.column c.borders-borders.ensures c.loop-number-test.true (omega (arith, c.loop-number.auto.number, c.max-first.ensures))) in
-    (best-found o es r c.args.table.now c.loop-number.number c.search_class.result c.in-Some.found searched is.0 is.1).standing
+    let best = best-found o es r c.args.table.now c.loop-number.number c.search_class.result c.in-Some.spot searched is.0 is.1 in
+    let read = found-read g.E.Entry.item c.args.entries.now c.in-Some.spot c.index-entries-spot.result c.rectangle.result c.found.result best.standing.free
+    c.index-entries-spot.is c.rectangle.ensures c.found.ensures in
+    subst (λ (f : Found). IsStanding o c.args.table.now es f) (sym read) best.standing
 
 pub returns-clause-none : goal.returns-clause-none
 returns-clause-none g c =

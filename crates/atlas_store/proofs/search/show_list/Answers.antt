@@ -11,40 +11,39 @@ use Rattle.atlas_store.proofs.search.show_list.Goals as goal
 
 pub loop-at-init : goal.loop-at-init
 loop-at-init g c =
-    along-begins (map g.E.Entry.item c.args.entries.now) c.args.head.number c.args.place c.args.best.now c.begin_list.new.self c.requires
-    c.begin_list.ensures.seen c.begin_list.ensures.least c.begin_list.ensures.not_own c.begin_list.ensures.same
+    along-begins (map g.E.Entry.item c.args.entries.now) c.args.head.number c.args.list c.args.best.now 4294967295 c.requires
 
 pub offset_bounds-entries-at : goal.offset_bounds-entries-at
 offset_bounds-entries-at g c =
     let l = c.loop-at in
     let more : l.at.number ≢ no_slot = c.loop-at-test.true in
-    let inside = along-inside (map g.E.Entry.item c.args.entries.now) c.args.head.number c.args.place c.args.best.now l.best l.at l.before l.invariant more in
+    let inside = along-inside (map g.E.Entry.item c.args.entries.now) c.args.head.number c.args.list c.args.best.now l.best l.least l.at l.before l.invariant more in
     omega (arith, inside, length-map c.args.entries.now g.E.Entry.item)
 
 pub bounds-entries-at : goal.bounds-entries-at
 bounds-entries-at g c =
     let l = c.loop-at in
     let more : l.at.number ≢ no_slot = c.loop-at-test.true in
-    let inside = along-inside (map g.E.Entry.item c.args.entries.now) c.args.head.number c.args.place c.args.best.now l.best l.at l.before l.invariant more in
+    let inside = along-inside (map g.E.Entry.item c.args.entries.now) c.args.head.number c.args.list c.args.best.now l.best l.least l.at l.before l.invariant more in
     omega (arith, inside, length-map c.args.entries.now g.E.Entry.item)
 
-pub look-requires-clause-unsigned : goal.look-requires-clause-unsigned
-look-requires-clause-unsigned g c =
+pub look-least-requires-clause-unsigned : goal.look-least-requires-clause-unsigned
+look-least-requires-clause-unsigned g c =
     let l = c.loop-at in
     let es = map g.E.Entry.item c.args.entries.now in
     let more : l.at.number ≢ no_slot = c.loop-at-test.true in
-    let inside = along-inside es c.args.head.number c.args.place c.args.best.now l.best l.at l.before l.invariant more in
-    let exact = along-exact es c.args.head.number c.args.place c.args.best.now l.best l.at l.before l.invariant more in
+    let inside = along-inside es c.args.head.number c.args.list c.args.best.now l.best l.least l.at l.before l.invariant more in
+    let exact = along-exact es c.args.head.number c.args.list c.args.best.now l.best l.least l.at l.before l.invariant more in
     let e = item-read g.E.Entry.item c.args.entries.now l.at.number c.index-entries-at.result (omega (arith, inside, length-map c.args.entries.now g.E.Entry.item)) c.index-entries-at.is in
     subst IsUnsigned (sym (c.rectangle.ensures ∙ ap (λ (x : Item). x.area) e)) exact.unsigned
 
-pub look-requires-clause-nonempty : goal.look-requires-clause-nonempty
-look-requires-clause-nonempty g c =
+pub look-least-requires-clause-nonempty : goal.look-least-requires-clause-nonempty
+look-least-requires-clause-nonempty g c =
     let l = c.loop-at in
     let es = map g.E.Entry.item c.args.entries.now in
     let more : l.at.number ≢ no_slot = c.loop-at-test.true in
-    let inside = along-inside es c.args.head.number c.args.place c.args.best.now l.best l.at l.before l.invariant more in
-    let exact = along-exact es c.args.head.number c.args.place c.args.best.now l.best l.at l.before l.invariant more in
+    let inside = along-inside es c.args.head.number c.args.list c.args.best.now l.best l.least l.at l.before l.invariant more in
+    let exact = along-exact es c.args.head.number c.args.list c.args.best.now l.best l.least l.at l.before l.invariant more in
     let e = item-read g.E.Entry.item c.args.entries.now l.at.number c.index-entries-at.result (omega (arith, inside, length-map c.args.entries.now g.E.Entry.item)) c.index-entries-at.is in
     subst (λ (a : Rectangle). IsNonempty (box_of a)) (sym (c.rectangle.ensures ∙ ap (λ (x : Item). x.area) e)) exact.nonempty
 
@@ -53,23 +52,23 @@ loop-at-preserved g c =
     let l = c.loop-at in
     let es = map g.E.Entry.item c.args.entries.now in
     let more : l.at.number ≢ no_slot = c.loop-at-test.true in
-    let inside = along-inside es c.args.head.number c.args.place c.args.best.now l.best l.at l.before l.invariant more in
+    let inside = along-inside es c.args.head.number c.args.list c.args.best.now l.best l.least l.at l.before l.invariant more in
     let e = item-read g.E.Entry.item c.args.entries.now l.at.number c.index-entries-at.result (omega (arith, inside, length-map c.args.entries.now g.E.Entry.item)) c.index-entries-at.is in
-    along-goes_on es c.args.head.number c.args.place c.args.best.now l.best l.at l.before l.invariant more c.look.new.self c.rectangle.result c.after-at.result.number
-    (c.rectangle.ensures ∙ ap (λ (x : Item). x.area) e) (c.after-at.ensures ∙ ap (λ (x : Item). x.after) e) c.look.ensures.seen c.look.ensures.least c.look.ensures.found
+    along-goes_on es c.args.head.number c.args.list c.args.best.now l.best l.least l.at l.before l.invariant more c.look-least.new.self c.look-least.result c.rectangle.result c.after-at.result.number
+    (c.rectangle.ensures ∙ ap (λ (x : Item). x.area) e) (c.after-at.ensures ∙ ap (λ (x : Item). x.after) e) c.look-least.ensures.seen c.look-least.ensures.least c.look-least.ensures.found
 
 pub loop-at-smaller : goal.loop-at-smaller
 loop-at-smaller g c =
     let l = c.loop-at in
     let es = map g.E.Entry.item c.args.entries.now in
     let more : l.at.number ≢ no_slot = c.loop-at-test.true in
-    let inside = along-inside es c.args.head.number c.args.place c.args.best.now l.best l.at l.before l.invariant more in
+    let inside = along-inside es c.args.head.number c.args.list c.args.best.now l.best l.least l.at l.before l.invariant more in
     let e = item-read g.E.Entry.item c.args.entries.now l.at.number c.index-entries-at.result (omega (arith, inside, length-map c.args.entries.now g.E.Entry.item)) c.index-entries-at.is in
     subst (λ (n : ℕ). entries_from es (length es) n < entries_from es (length es) l.at.number) (sym (c.after-at.ensures ∙ ap (λ (x : Item). x.after) e))
-    (fewer-left es c.args.head.number c.args.place c.args.best.now l.best l.at l.before l.invariant more)
+    (fewer-left es c.args.head.number c.args.list c.args.best.now l.best l.least l.at l.before l.invariant more)
 
 pub returns : goal.returns
 returns g c =
     let l = c.loop-at in
-    along-ends (map g.E.Entry.item c.args.entries.now) c.args.head.number c.args.place c.args.best.now l.best c.end_list.new.self l.at.number l.before.number
-    l.invariant c.loop-at-test.false c.end_list.ensures.seen c.end_list.ensures.other c.end_list.ensures.own
+    along-ends (map g.E.Entry.item c.args.entries.now) c.args.head.number c.args.list c.args.best.now l.best c.end_list.new.self l.least l.at.number l.before.number
+    l.invariant c.loop-at-test.false c.end_list.ensures.seen c.end_list.ensures.rank c.end_list.ensures.other c.end_list.ensures.own
