@@ -39,8 +39,8 @@ IsPassed s b =
     → HasSeen s is_large r (shown ++ shown_at b at ∷ [])
 
 -- This box is the best once it is shown.
-abbrev pub IsTaken : Best → Box → (rank corner : ℕ) → Type 0
-IsTaken s b rank corner =
+abbrev pub BecomesBest : Best → Box → (rank corner : ℕ) → Type 0
+BecomesBest s b rank corner =
     (is_large : Bool) (r : Sides) (shown : List Shown) → HasSeen s is_large r shown → (at : ℕ)
     → (rank < no_rank) × IsKeptOf is_large r (shown ++ shown_at b at ∷ []) rank corner at
 

@@ -79,7 +79,7 @@ fn corner(rectangle: Rectangle) -> u64
 }
 
 impl Best {
-    ghost use Rattle.atlas_store.specs.Search.Bests.{HasSeen, IsAhead, IsLeast, IsLooked, IsPassed, IsTaken};
+    ghost use Rattle.atlas_store.specs.Search.Bests.{HasSeen, IsAhead, IsLeast, IsLooked, IsPassed, BecomesBest};
     ghost use Rattle.atlas_store.specs.Search.Searches.{Shown, shown_at};
 
     /// No box was shown yet for a request of this rounded size.
@@ -116,7 +116,7 @@ impl Best {
         requires corner { corner ≡ corner_of (box_of rectangle) }
         ensures passed { result ≡ None → IsPassed self.now (box_of rectangle) }
         ensures lesser { IfSome result (λ rank. rank ≤ self.now.rank) }
-        ensures taken { IfSome result (λ rank. IsTaken self.now (box_of rectangle) rank corner) }
+        ensures taken { IfSome result (λ rank. BecomesBest self.now (box_of rectangle) rank corner) }
     {
         if corner >= self.limit {
             return None;
