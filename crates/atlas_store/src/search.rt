@@ -1,10 +1,10 @@
 //! The search for the free box that a request takes, through the lists of a table.
 ghost use Rattle.std.specs.Prelude.{◌≡◌, ◌+◌, ◌*◌, ◌<◌, ◌≤◌, ◌⊎◌, ℕ, true, map, List, None, IfSome};
-ghost use Rattle.atlas_store.specs.Search.Bands.{IsInWindow};
+ghost use Rattle.atlas_store.specs.Search.Bands.{IsInWindow, start_of};
 ghost use Rattle.atlas_model.specs.Boxes.{Box, IsPositive, Sides};
 ghost use Rattle.atlas_model.specs.Choice.{IsFitting, IsPick, Options};
 ghost use Rattle.atlas_store.specs.Search.Items.{IsShowable};
-ghost use Rattle.atlas_store.specs.Search.Lookups.{AreFreeItems, AreListed, HasAdded, HasSearched};
+ghost use Rattle.atlas_store.specs.Search.Lookups.{AreFreeItems, AreListed, AreNoneFrom, HasAdded, HasSearched};
 ghost use Rattle.atlas_store.specs.Search.Lookups.{HasShown, IsBeyond, IsInColumn, IsInRow, IsInsideWindow};
 ghost use Rattle.atlas_store.specs.Search.Lookups.{IsSearch, IsStanding, IsWindowOf};
 ghost use Rattle.atlas_store.specs.Search.Masks.{IsMarked};
@@ -33,6 +33,13 @@ struct Request {
     is_large: bool,
     own: Place,
     borders: Borders,
+}
+
+// A search of a class, and whether no later class has a list in reach.
+#[derive(Clone, Copy)]
+struct Searched {
+    best: Best,
+    is_last: bool,
 }
 
 /// What a search reads of an entry of a list of free boxes.
@@ -224,6 +231,22 @@ fn least_from<A: Allocator>(table: &Table<A>, own: Place) -> usize
     columns.or(rows).first()
 }
 
+// Whether no list of those from a place on reaches the end of a window, where these are the rows with one to the right
+// and below.
+#[inline(always)]
+fn is_last<A: Allocator>(table: &Table<A>, own: Place, others: Mask, end: usize) -> bool
+    requires row { own.row < end }
+    requires column { own.column < end }
+    requires end { end ≤ BANDS }
+    requires others { (i j : ℕ) → i < BANDS → own.column + 1 ≤ j → j < BANDS → own.row + 1 ≤ i
+        → is_used_at table.now (52 * i + j) ≡ true → IsMarked others i }
+    ensures { result ≡ true → AreNoneFrom table.now own end }
+{
+    let columns = table.row(own.row).from(own.column);
+    let rows = table.column(own.column).from(own.row);
+    others.or(columns.or(rows).from(end)).is_empty()
+}
+
 // A search that was shown the free entries of a class: those with an equal side first, which stand in the request's row
 // and column, and the others only if none of those is free.
 #[inline(always)]
@@ -232,12 +255,14 @@ fn search_class<A: Allocator, E: Entry>(
     table: &Table<A>,
     request: Request,
     number: usize,
-) -> Best
+) -> Searched
     requires row { request.own.row < BANDS }
     requires column { request.own.column < BANDS }
     requires search { (o : Options) × IsSearch o table.now (map E.item entries.now) number request }
-    ensures { (o : Options) → IsSearch o table.now (map E.item entries.now) number request
-        → HasSearched o table.now (map E.item entries.now) number (sides_of request.size) result }
+    ensures best { (o : Options) → IsSearch o table.now (map E.item entries.now) number request
+        → HasSearched o table.now (map E.item entries.now) number (sides_of request.size) result.best }
+    ensures last { result.is_last ≡ true → (o : Options) → IsSearch o table.now (map E.item entries.now) number request
+        → AreNoneFrom table.now request.own (start_of o (number + 1)) }
 {
     let mut best = Best::new(request.size, request.is_large);
     let own = request.own;
@@ -246,19 +271,26 @@ fn search_class<A: Allocator, E: Entry>(
     search_row(entries, table, own.row, columns, &mut best);
     let rows = rows_in(table, window, own.column, own.row + 1);
     search_column(entries, table, own.column, rows, &mut best);
-    if !best.has_equal_side() {
-        let first = own.column + 1;
-        let others = rows_with(table, first, window.end).from(own.row + 1);
-        search_rows(
-            entries,
-            table,
-            window,
-            others.below(window.end),
-            first,
-            &mut best,
-        );
+    if best.has_equal_side() {
+        return Searched {
+            best,
+            is_last: false,
+        };
     }
-    best
+    let first = own.column + 1;
+    let others = rows_with(table, first, BANDS).from(own.row + 1);
+    search_rows(
+        entries,
+        table,
+        window,
+        others.below(window.end),
+        first,
+        &mut best,
+    );
+    Searched {
+        best,
+        is_last: is_last(table, own, others, window.end),
+    }
 }
 
 /// The free entry that a request of this rounded size takes.
@@ -288,9 +320,13 @@ pub fn pick<A: Allocator, E: Entry>(
     };
     let first = class_from(least_from(table, own), borders).max(own_class);
     for number in first..3 {
-        if let Some(spot) = search_class(entries, table, request, number).spot() {
+        let searched = search_class(entries, table, request, number);
+        if let Some(spot) = searched.best.spot() {
             let entry = &entries[spot.at.number as usize];
             return Some(spot.found(entry.rectangle()));
+        }
+        if searched.is_last {
+            return None;
         }
     }
     None

@@ -11,11 +11,11 @@ use Rattle.atlas_store.specs.declared.search.masks.Mask.{Mask}
 use Rattle.atlas_store.specs.declared.search.table.ListHead.{ListHead}
 use Rattle.atlas_store.specs.Search.Bands.{band_of, start_of}
 use Rattle.atlas_store.specs.Search.Bests.{HasSeen}
-use Rattle.atlas_model.specs.Boxes.{Sides, IsPositive}
+use Rattle.atlas_model.specs.Boxes.{Sides, Fits, IsPositive}
 use Rattle.atlas_model.specs.Choice.{Options, AreValid, class_of, HasEqualSide}
 use Rattle.atlas_store.specs.Search.Items.{Item, item_at, item_box, item_sides, shown_item, shown_items}
 use Rattle.atlas_store.specs.Slots.Lists.{occurs}
-use Rattle.atlas_store.specs.Search.Lookups.{AreBorders, AreListed, FitsItemsFrom, HasAdded, HasSearched, IsInRow, IsInColumn, IsBeyond, IsInsideWindow, IsSearch, IsWindowOf}
+use Rattle.atlas_store.specs.Search.Lookups.{AreBorders, AreListed, AreNoneFrom, FitsItemsFrom, HasAdded, HasSearched, IsInRow, IsInColumn, IsBeyond, IsInsideWindow, IsSearch, IsWindowOf}
 use Rattle.atlas_store.specs.Search.Masks.{has, IsMarked}
 use Rattle.atlas_model.specs.Pixels.{sides_of}
 use Rattle.atlas_store.specs.Search.Searches.{Shown}
@@ -84,6 +84,33 @@ pub least-reached : (heads : List ListHead) (row column least : ℕ) (in_row col
     → (i j : ℕ) → i < 52 → j < 52 → row ≤ i → column ≤ j → is_used_at heads (52 * i + j) ≡ true → (least ≤ i) ⊎ (least ≤ j)
 least-reached heads row column least in_row columns used rows both each_column right each_row later either first i j hi hj past under full =
     grind (arith, and_of, le_true, or_left, or_right)
+
+-- Where none is marked in the place's row and column from the end on, nor right and below, no used list reaches the end.
+pub none-reaches : (heads : List ListHead) (own : Place) (end : ℕ) (others in_row columns in_column rows both rest all : Mask) → own.row < end → own.column < end
+    → ((i j : ℕ) → i < 52 → own.column + 1 ≤ j → j < 52 → own.row + 1 ≤ i → is_used_at heads (52 * i + j) ≡ true → IsMarked others i)
+    → ((j : ℕ) → j < 52 → has in_row j ≡ is_used_at heads (52 * own.row + j)) → ((j : ℕ) → has columns j ≡ (has in_row j && nat_le own.column j))
+    → ((i : ℕ) → i < 52 → has in_column i ≡ is_used_at heads (52 * i + own.column)) → ((i : ℕ) → has rows i ≡ (has in_column i && nat_le own.row i))
+    → ((k : ℕ) → has both k ≡ (has columns k || has rows k)) → ((k : ℕ) → has rest k ≡ (has both k && nat_le end k))
+    → ((k : ℕ) → has all k ≡ (has others k || has rest k)) → ((k : ℕ) → has all k ≡ false)
+    → AreNoneFrom heads own end
+none-reaches heads own end others in_row columns in_column rows both rest all row_in column_in apart each_column right each_row under either late every empty i j hi hj past below full =
+    let beyond : (k : ℕ) → IsMarked both k → end ≤ k → ⊥ = (λ k h l.
+    true≢false (sym (or_right (has others k) (has rest k) (late k ∙ and_of _ _ h (le_true end k l))) ∙ sym (every k) ∙ empty k)) in
+    elim (cases_eq i own.row) [
+      | inl e ↦
+          let marked : IsMarked both j =
+          either j ∙ or_left _ (has rows j) (right j ∙ and_of _ _ (each_column j hj ∙ subst (λ k. is_used_at heads (52 * k + j) ≡ true) e full) (le_true own.column j below)) in
+          (omega (arith, e, row_in), elim (cases_lt j end) [ inl l ↦ l | inr g ↦ absurd (beyond j marked g) ])
+      | inr ne ↦ elim (cases_eq j own.column) [
+        | inl e ↦
+            let marked : IsMarked both i =
+            either i ∙ or_right (has columns i) _ (under i ∙ and_of _ _ (each_row i hi ∙ subst (λ k. is_used_at heads (52 * i + k) ≡ true) e full) (le_true own.row i past)) in
+            (elim (cases_lt i end) [ inl l ↦ l | inr g ↦ absurd (beyond i marked g) ], omega (arith, e, column_in))
+        | inr ne' ↦
+            let marked = apart i j hi (omega (arith, below, ne')) hj (omega (arith, past, ne)) full in
+            absurd (true≢false (sym (or_left (has others i) (has rest i) marked) ∙ sym (every i) ∙ empty i))
+      ]
+    ]
 
 -- A column more, of those that the marked rows have a list in.
 pub rows-next : (heads : List ListHead) (first column : ℕ) (rows here more : Mask)
@@ -218,6 +245,20 @@ fits-from o heads es r a row column least first er ec reached passed i free fits
           ])
       | inr g ↦ g
     ]
+
+-- Once no used list in reach is left for the classes above one, none of their entries is fitted.
+pub none-above : (o : Options) (heads : List ListHead) (es : List Item) (r : Sides) (listed : AreListed o heads es) (own : Place) (class : ℕ)
+    → own.row ≡ band_of o r.width → own.column ≡ band_of o r.height → AreNoneFrom heads own (start_of o (class + 1)) → FitsItemsFrom o es (class + 1) r
+    → (i : ℕ) → (item_at es i).is_free ≡ true → Fits r (item_sides (item_at es i)) → ⊥
+none-above o heads es r listed own class er ec none from i free fits =
+    let sides = item_sides (item_at es i) in
+    let above = class_of o sides in
+    let few = class_of-most o sides in
+    let within = (window_law o sides above listed.valid (positive-at o heads es above r listed i free) few).0 refl in
+    let far = start_mono o (class + 1) above listed.valid (from i free fits) (omega (arith, few)) in
+    let near = none (band_of o sides.width) (band_of o sides.height) (band_below o _) (band_below o _) (omega (arith, er, band_mono o _ _ fits.0))
+    (omega (arith, ec, band_mono o _ _ fits.1)) (used-at o heads es above r listed i free) in
+    elim within.begins [ inl h ↦ omega (arith, h, far, near.0) | inr h ↦ omega (arith, h, far, near.1) ]
 
 pub from-both : (o : Options) (es : List Item) (r : Sides) (a b : ℕ) → FitsItemsFrom o es a r → FitsItemsFrom o es b r → FitsItemsFrom o es (max a b) r
 from-both o es r a b x y i free fits = omega (arith, x i free fits, y i free fits)

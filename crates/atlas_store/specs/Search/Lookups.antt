@@ -1,8 +1,9 @@
 -- The search through lists of entries: what it needs, and what it answers. No public clause cites this module.
-use Rattle.std.specs.Prelude.{ℕ, ◌+◌, ◌≡◌, ◌≢◌, ◌<◌, ◌≤◌, ◌==◌, ◌⊎◌, ◌++◌, Bool, true, List, Contains, slice_index_or}
-use Rattle.std.specs.Prelude.{length}
+use Rattle.std.specs.Prelude.{ℕ, ◌+◌, ◌*◌, ◌≡◌, ◌≢◌, ◌<◌, ◌≤◌, ◌==◌, ◌⊎◌, ◌++◌, Bool, true, List, Contains}
+use Rattle.std.specs.Prelude.{slice_index_or, length}
 use Rattle.atlas_store.specs.declared.search.Request.{Request}
 use Rattle.atlas_store.specs.declared.search.bands.Borders.{Borders}
+use Rattle.atlas_store.specs.declared.search.bands.Place.{Place}
 use Rattle.atlas_store.specs.declared.search.bands.Window.{Window}
 use Rattle.atlas_store.specs.declared.search.best.Best.{Best}
 use Rattle.atlas_store.specs.declared.search.best.Found.{Found}
@@ -22,7 +23,7 @@ use Rattle.atlas_model.specs.Pixels.{box_of, sides_of}
 use Rattle.atlas_store.specs.Search.Ranks.{no_rank}
 use Rattle.atlas_store.specs.Search.Searches.{Shown, shown_at, IsBestShown}
 use Rattle.atlas_store.specs.Slots.{no_slot}
-use Rattle.atlas_store.specs.Search.Tables.{head_of, low_of}
+use Rattle.atlas_store.specs.Search.Tables.{head_of, low_of, is_used_at}
 
 -- The best stands in the list xs that begins at `head`.
 pub record IsSpot (es : List Item) (head : ℕ) (list : ℕ) (xs : List ℕ) (spot : Spot) : Type 0 where
@@ -163,6 +164,12 @@ pub record AreBorders (o : Options) (b : Borders) : Type 0 where
 -- The band of each side up to 256.
 abbrev pub AreBands : Options → List ℕ → Type 0
 AreBands o bands = (length bands ≡ 257) × ((n : ℕ) → 0 < n → n ≤ 256 → slice_index_or bands n 0 ≡ band_of o n)
+
+-- No list with a slot, of those from a place on, reaches this row or column.
+abbrev pub AreNoneFrom : List ListHead → (own : Place) → (end : ℕ) → Type 0
+AreNoneFrom heads own end =
+    (i j : ℕ) → i < 52 → j < 52 → own.row ≤ i → own.column ≤ j → is_used_at heads (52 * i + j) ≡ true
+    → (i < end) × (j < end)
 
 -- What a search computes of its request.
 pub record IsRequest (o : Options) (q : Request) : Type 0 where

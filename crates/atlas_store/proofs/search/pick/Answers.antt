@@ -2,7 +2,7 @@ use Rattle.std.proofs.Common.{map, ℕ, subst, sym, arith}
 use Rattle.atlas_store.specs.declared.search.best.Found.{Found}
 use Rattle.atlas_store.specs.Search.Lookups.{FitsItemsFrom, IsBestIn, IsStanding}
 use Rattle.atlas_model.specs.Pixels.{options_of, sides_of}
-use Rattle.atlas_store.proofs.SearchLemmas.ClassSearching.{fits-from, from-both, search-of}
+use Rattle.atlas_store.proofs.SearchLemmas.ClassSearching.{fits-from, from-both, none-above, search-of}
 use Rattle.atlas_store.proofs.SearchLemmas.ItemPicks.{best-found, found-read, from-own, from-next, none-found, none-from, no_room-of_items, pick-of_items}
 use Rattle.atlas_store.proofs.search.pick.Goals as goal
 
@@ -17,8 +17,8 @@ loop-number-init g c =
     let of_class = subst (λ (n : ℕ). FitsItemsFrom o es n r) (sym c.class-own_class.ensures) (from-own o es r) in
     subst (λ (n : ℕ). FitsItemsFrom o es n r) (sym c.max-first.ensures) (from-both o es r c.class_from.result c.class-own_class.result reached of_class)
 
-pub search_class-requires-clause-search : goal.search_class-requires-clause-search
-search_class-requires-clause-search g c = (
+pub search_class-searched-requires-clause-search : goal.search_class-searched-requires-clause-search
+search_class-searched-requires-clause-search g c = (
   options_of c.args.options.now,
   search-of (options_of c.args.options.now) c.args.table.now (map g.E.Entry.item c.args.entries.now) c.args.size c.class-own_class.result c.loop-number.number
       c.place_for-own.result c.borders-borders.result c.requires.listed c.requires.positive c.class-own_class.ensures c.place_for-own.ensures.row
@@ -30,11 +30,24 @@ loop-number-preserved g c =
     let o = options_of c.args.options.now in
     let es = map g.E.Entry.item c.args.entries.now in
     let r = sides_of c.args.size in
-    let searched = c.search_class.ensures o (search-of (options_of c.args.options.now) c.args.table.now (map g.E.Entry.item c.args.entries.now) c.args.size c.class-own_class.result c.loop-number.number
+    let searched = c.search_class-searched.ensures.best o (search-of (options_of c.args.options.now) c.args.table.now (map g.E.Entry.item c.args.entries.now) c.args.size c.class-own_class.result c.loop-number.number
     c.place_for-own.result c.borders-borders.result c.requires.listed c.requires.positive c.class-own_class.ensures c.place_for-own.ensures.row
     c.place_for-own.ensures.column c.borders-borders.ensures c.loop-number-test.true (omega (arith, c.loop-number.auto.number, c.max-first.ensures))) in
     from-next o es r c.loop-number.number c.loop-number.invariant
-    (none-found o es r c.args.table.now c.loop-number.number c.search_class.result searched (c.spot.ensures.none c.in_default.is))
+    (none-found o es r c.args.table.now c.loop-number.number c.search_class-searched.result.best searched (c.spot.ensures.none c.in_default.is))
+
+pub returns-then-searched-clause-none : goal.returns-then-searched-clause-none
+returns-then-searched-clause-none g c none =
+    let o = options_of c.args.options.now in
+    let heads = c.args.table.now in
+    let es = map g.E.Entry.item c.args.entries.now in
+    let r = sides_of c.args.size in
+    let search = search-of o heads es c.args.size c.class-own_class.result c.loop-number.number
+    c.place_for-own.result c.borders-borders.result c.requires.listed c.requires.positive c.class-own_class.ensures c.place_for-own.ensures.row
+    c.place_for-own.ensures.column c.borders-borders.ensures c.loop-number-test.true (omega (arith, c.loop-number.auto.number, c.max-first.ensures)) in
+    let passed = none-found o es r heads c.loop-number.number c.search_class-searched.result.best (c.search_class-searched.ensures.best o search) (c.spot.ensures.none c.in_default.is) in
+    no_room-of_items o es r (none-above o heads es r c.requires.listed c.place_for-own.result c.loop-number.number c.place_for-own.ensures.row
+    c.place_for-own.ensures.column (c.search_class-searched.ensures.last c.if-searched.true o search) (from-next o es r c.loop-number.number c.loop-number.invariant passed))
 
 pub returns-in-Some-clause-picked : goal.returns-in-Some-clause-picked
 returns-in-Some-clause-picked g c =
@@ -42,10 +55,10 @@ returns-in-Some-clause-picked g c =
     let es = map g.E.Entry.item c.args.entries.now in
     let r = sides_of c.args.size in
     let is = c.in-Some.ensures.some in
-    let searched = c.search_class.ensures o (search-of o c.args.table.now es c.args.size c.class-own_class.result c.loop-number.number
+    let searched = c.search_class-searched.ensures.best o (search-of o c.args.table.now es c.args.size c.class-own_class.result c.loop-number.number
     c.place_for-own.result c.borders-borders.result c.requires.listed c.requires.positive c.class-own_class.ensures c.place_for-own.ensures.row
     c.place_for-own.ensures.column c.borders-borders.ensures c.loop-number-test.true (omega (arith, c.loop-number.auto.number, c.max-first.ensures))) in
-    let best = best-found o es r c.args.table.now c.loop-number.number c.search_class.result c.in-Some.spot searched is.0 is.1 in
+    let best = best-found o es r c.args.table.now c.loop-number.number c.search_class-searched.result.best c.in-Some.spot searched is.0 is.1 in
     let read = found-read g.E.Entry.item c.args.entries.now c.in-Some.spot c.index-entries-spot.result c.rectangle.result c.found.result best.standing.free
     c.index-entries-spot.is c.rectangle.ensures c.found.ensures in
     pick-of_items o es r c.args.table.now c.loop-number.number c.found.result c.loop-number.invariant
@@ -57,10 +70,10 @@ returns-in-Some-clause-standing g c =
     let es = map g.E.Entry.item c.args.entries.now in
     let r = sides_of c.args.size in
     let is = c.in-Some.ensures.some in
-    let searched = c.search_class.ensures o (search-of o c.args.table.now es c.args.size c.class-own_class.result c.loop-number.number
+    let searched = c.search_class-searched.ensures.best o (search-of o c.args.table.now es c.args.size c.class-own_class.result c.loop-number.number
     c.place_for-own.result c.borders-borders.result c.requires.listed c.requires.positive c.class-own_class.ensures c.place_for-own.ensures.row
     c.place_for-own.ensures.column c.borders-borders.ensures c.loop-number-test.true (omega (arith, c.loop-number.auto.number, c.max-first.ensures))) in
-    let best = best-found o es r c.args.table.now c.loop-number.number c.search_class.result c.in-Some.spot searched is.0 is.1 in
+    let best = best-found o es r c.args.table.now c.loop-number.number c.search_class-searched.result.best c.in-Some.spot searched is.0 is.1 in
     let read = found-read g.E.Entry.item c.args.entries.now c.in-Some.spot c.index-entries-spot.result c.rectangle.result c.found.result best.standing.free
     c.index-entries-spot.is c.rectangle.ensures c.found.ensures in
     subst (λ (f : Found). IsStanding o c.args.table.now es f) (sym read) best.standing

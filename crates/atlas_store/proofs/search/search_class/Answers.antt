@@ -1,4 +1,4 @@
-use Rattle.std.proofs.Common.{map, ◌<◌, ℕ, sym, subst}
+use Rattle.std.proofs.Common.{map, ◌<◌, ℕ, sym, subst, arith}
 use Rattle.atlas_model.specs.Pixels.{sides_of}
 use Rattle.atlas_store.proofs.SearchLemmas.AddingLines.{inside-window}
 use Rattle.atlas_store.proofs.SearchLemmas.ClassSearching.{own-ends, borders-inside, added-apart, added-beyond, added-all, searched}
@@ -34,8 +34,8 @@ rows_in-rows-requires-clause-column g c =
     (own-ends o (sides_of c.args.request.size) c.args.number w is.listed.valid is.request.positive is.few is.from
     (c.window_for-window.ensures.window o is.request.borders)).1
 
-pub returns-then-not-has_equal_side : goal.returns-then-not-has_equal_side
-returns-then-not-has_equal_side g c o search =
+pub returns-clause-best : goal.returns-clause-best
+returns-clause-best g c o search =
     let heads = c.args.table.now in
     let es = map g.E.Entry.item c.args.entries.now in
     let class = c.args.number in
@@ -54,13 +54,13 @@ returns-then-not-has_equal_side g c o search =
     let x = c.search_row.ensures o class r a few (λ j h. inside-window o class w own.row j is (c.columns_in-columns.ensures.only j h).1) in
     let y = c.search_column.ensures o class r a few (λ i h. inside-window o class w i own.column is (c.rows_in-rows.ensures.only i h).1) in
     let z = added-beyond o heads es class r a few own.row own.column er ec w c.rows_with.result c.from-others.result c.below.result u v is
-    c.rows_with.ensures c.from-others.ensures c.below.ensures (c.search_rows.ensures o class r a few is) in
+    (λ i j hi from below. c.rows_with.ensures i j hi from (omega (arith, below, c.window_for-window.ensures.most))) c.from-others.ensures c.below.ensures (c.search_rows.ensures o class r a few is) in
     searched o heads es class r a few own.row own.column er ec s v c.args.request.is_large search.request.large c.new-best.ensures
     (added-all o heads es class r a few own.row own.column er ec w c.columns_in-columns.result c.rows_in-rows.result s t u v is
     c.columns_in-columns.ensures.each c.rows_in-rows.ensures.each x y z)
 
-pub returns-else-not-has_equal_side : goal.returns-else-not-has_equal_side
-returns-else-not-has_equal_side g c o search =
+pub returns-then-has_equal_side-clause-best : goal.returns-then-has_equal_side-clause-best
+returns-then-has_equal_side-clause-best g c o search =
     let heads = c.args.table.now in
     let es = map g.E.Entry.item c.args.entries.now in
     let class = c.args.number in
@@ -77,7 +77,25 @@ returns-else-not-has_equal_side g c o search =
     let u = c.search_column.new.best in
     let x = c.search_row.ensures o class r a few (λ j h. inside-window o class w own.row j is (c.columns_in-columns.ensures.only j h).1) in
     let y = c.search_column.ensures o class r a few (λ i h. inside-window o class w i own.column is (c.rows_in-rows.ensures.only i h).1) in
-    let z = added-apart o heads es class r a few own.row own.column er ec u (c.has_equal_side.ensures.0 c.if-not-has_equal_side.false) in
+    let z = added-apart o heads es class r a few own.row own.column er ec u (c.has_equal_side.ensures.0 c.if-has_equal_side.true) in
     searched o heads es class r a few own.row own.column er ec s u c.args.request.is_large search.request.large c.new-best.ensures
     (added-all o heads es class r a few own.row own.column er ec w c.columns_in-columns.result c.rows_in-rows.result s t u u is
     c.columns_in-columns.ensures.each c.rows_in-rows.ensures.each x y z)
+
+pub is_last-requires-clause-row : goal.is_last-requires-clause-row
+is_last-requires-clause-row g c =
+    let o = c.requires.search.0 in
+    let is = c.requires.search.1 in
+    let w = c.window_for-window.result in
+    subst (λ (n : ℕ). n < w.end) (sym is.request.row)
+    (own-ends o (sides_of c.args.request.size) c.args.number w is.listed.valid is.request.positive is.few is.from
+    (c.window_for-window.ensures.window o is.request.borders)).0
+
+pub is_last-requires-clause-column : goal.is_last-requires-clause-column
+is_last-requires-clause-column g c =
+    let o = c.requires.search.0 in
+    let is = c.requires.search.1 in
+    let w = c.window_for-window.result in
+    subst (λ (n : ℕ). n < w.end) (sym is.request.column)
+    (own-ends o (sides_of c.args.request.size) c.args.number w is.listed.valid is.request.positive is.few is.from
+    (c.window_for-window.ensures.window o is.request.borders)).1
