@@ -54,8 +54,7 @@ pub struct Node {
     pub generation: u8,
 }
 
-/// The lists' part of a slot: its neighbours in its list of free or of unused slots. What comes before the first slot
-/// of a list of free ones tells the list.
+/// The lists' part of a slot: its neighbours in its list of free or of unused slots.
 #[derive(Clone, Copy, Debug, PartialEq, Eq)]
 pub struct Ring {
     pub previous: Link,
