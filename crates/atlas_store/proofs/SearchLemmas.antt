@@ -13,4 +13,5 @@ pub mod Showing
 pub mod Adding
 pub mod AddingLines
 pub mod ClassSearching
+pub mod Windows
 pub mod ItemPicks

@@ -1,7 +1,7 @@
 //! Rounded sizes and classes, and what a search compares of the boxes that it is shown.
 ghost use Rattle.std.specs.Prelude.{◌≡◌, ◌-◌, ◌<◌, ◌≤◌, pos, ◌<ℤ◌, ◌≤ℤ◌, ◌↔◌, IsTrue, SomeIff};
 ghost use Rattle.atlas_model.specs.Boxes.{Fits, IsNonempty, IsPositive, box_sides};
-ghost use Rattle.atlas_model.specs.Choice.{AreValid, class_of, least_margin, reaches, rounded, up};
+ghost use Rattle.atlas_model.specs.Choice.{AreValid, least_margin, rounded, up};
 ghost use Rattle.atlas_model.specs.Pixels.{box_of, natural, options_of, sides_of, size_of};
 ghost use Rattle.atlas_store.specs.Rectangles.{IsUnsigned};
 ghost use Rattle.atlas_store.specs.Search.Requests.{CanBeRounded};
@@ -41,29 +41,6 @@ pub fn rounded(size: Size, options: &Scale) -> Option<Size>
     let width = rounded_side(size.width, alignment.width)?;
     let height = rounded_side(size.height, alignment.height)?;
     Some(Size { width, height })
-}
-
-// Whether a side is at least the threshold.
-fn reaches(size: Size, threshold: i32) -> bool
-    requires { IsPositive (sides_of size) }
-    ensures { result ≡ reaches threshold (sides_of size) }
-{
-    size.width.max(size.height) >= threshold
-}
-
-/// 2 for a large size, 1 for a medium one, 0 for a small one.
-pub fn class(size: Size, options: &Scale) -> usize
-    requires { IsPositive (sides_of size) }
-    ensures { result ≡ class_of (options_of options.now) (sides_of size) }
-{
-    let plain = options.plain();
-    if reaches(size, plain.large_size_threshold) {
-        2
-    } else if reaches(size, plain.small_size_threshold) {
-        1
-    } else {
-        0
-    }
 }
 
 // What a side leaves of a stretch, which is below 0 exactly if it does not fit.

@@ -7,40 +7,40 @@ use Rattle.atlas_store.specs.declared.search.bands.Place.{Place}
 use Rattle.atlas_store.specs.declared.search.best.Best.{Best}
 use Rattle.atlas_store.specs.declared.search.best.Spot.{Spot}
 use Rattle.atlas_store.specs.declared.search.table.ListHead.{ListHead}
-use Rattle.atlas_store.specs.Search.Bands.{band_of, list_of, number_of, IsInWindow}
+use Rattle.atlas_store.specs.Search.Bands.{band_of, list_of, number_of}
 use Rattle.atlas_store.specs.Search.Bests.{HasSeen, IsSameBest}
 use Rattle.atlas_model.specs.Boxes.{Sides, IsPositive}
-use Rattle.atlas_model.specs.Choice.{Options, class_of}
+use Rattle.atlas_model.specs.Choice.{Options}
 use Rattle.atlas_store.specs.Search.Items.{Item, item_at, item_box, item_sides, shown_item, shown_items, IsShowable}
 use Rattle.atlas_store.specs.Slots.Lists.{occurs}
-use Rattle.atlas_store.specs.Search.Lookups.{IsSpot, IsLowBut, HasShown, AreListed, IsSameIn, IsStanding, HasAdded, found_in}
+use Rattle.atlas_store.specs.Search.Lookups.{IsSpot, IsLowBut, HasShown, AreListed, IsSameIn, IsStanding, AreBelow, HasAdded, IsItemBelow, found_in}
 use Rattle.atlas_store.specs.Search.Ranks.{no_rank}
 use Rattle.atlas_store.specs.Search.Searches.{Shown}
 use Rattle.atlas_store.specs.Search.Tables.{head_of, low_of, is_used_at}
-use Rattle.atlas_store.proofs.SearchLemmas.BandLaws.{band_below, window_law}
+use Rattle.atlas_store.proofs.SearchLemmas.BandLaws.{band_below}
 use Rattle.atlas_store.proofs.SearchLemmas.Besting.{seen-passed}
 use Rattle.atlas_store.proofs.SearchLemmas.Showing.{path-stop, path-same, append-none, shown_items-has, shown_items-in}
 
 -- Nothing was shown.
-pub added-none : (o : Options) (heads : List ListHead) (es : List Item) (class : ℕ) (r : Sides) (s : Best) → HasAdded o heads es class r (λ i j. ⊥) s s
-added-none o heads es class r s = grind (arith, append-none)
+pub added-none : (o : Options) (heads : List ListHead) (es : List Item) (end : ℕ) (r : Sides) (s : Best) → HasAdded o heads es end r (λ i j. ⊥) s s
+added-none o heads es end r s = grind (arith, append-none)
 
 -- Fewer lists.
-pub added-of : (o : Options) (heads : List ListHead) (es : List Item) (class : ℕ) (r : Sides) (V W : ℕ → ℕ → Type 0) (s t : Best)
-    → ((i j : ℕ) → W i j → V i j) → HasAdded o heads es class r V s t → HasAdded o heads es class r W s t
-added-of o heads es class r V W s t to h = grind arith
+pub added-of : (o : Options) (heads : List ListHead) (es : List Item) (end : ℕ) (r : Sides) (V W : ℕ → ℕ → Type 0) (s t : Best)
+    → ((i j : ℕ) → W i j → V i j) → HasAdded o heads es end r V s t → HasAdded o heads es end r W s t
+added-of o heads es end r V W s t to h = grind arith
 
-module _ (o : Options) (heads : List ListHead) (es : List Item) (class : ℕ) (r : Sides) where
+module _ (o : Options) (heads : List ListHead) (es : List Item) (end : ℕ) (r : Sides) where
   -- Lists are shown after others.
-  pub added-then : (V W : ℕ → ℕ → Type 0) (s t u : Best) → HasAdded o heads es class r V s t → HasAdded o heads es class r W t u
-      → HasAdded o heads es class r (λ i j. V i j ⊎ W i j) s u
+  pub added-then : (V W : ℕ → ℕ → Type 0) (s t u : Best) → HasAdded o heads es end r V s t → HasAdded o heads es end r W t u
+      → HasAdded o heads es end r (λ i j. V i j ⊎ W i j) s u
   added-then V W s t u a b =
       record {
         more = a.more ++ b.more;
-        of_class = λ c h. elim (Contains-append_cases a.more b.more c h) [ inl x ↦ a.of_class c x | inr x ↦ b.of_class c x ];
-        each = λ i free e v. elim v [
-          | inl x ↦ Contains-append_left a.more b.more _ (a.each i free e x)
-          | inr x ↦ Contains-append_right a.more b.more _ (b.each i free e x)
+        of_lists = λ c h. elim (Contains-append_cases a.more b.more c h) [ inl x ↦ a.of_lists c x | inr x ↦ b.of_lists c x ];
+        each = λ i free v. elim v [
+          | inl x ↦ Contains-append_left a.more b.more _ (a.each i free x)
+          | inr x ↦ Contains-append_right a.more b.more _ (b.each i free x)
         ];
         seen = λ is_large shown h.
             subst (λ (list : List Shown). HasSeen u is_large r list) (append_assoc shown a.more b.more) (b.seen is_large (shown ++ a.more) (a.seen is_large shown h));
@@ -65,16 +65,15 @@ module _ (o : Options) (heads : List ListHead) (es : List Item) (class : ℕ) (r
     pub used-at : (i : ℕ) → (item_at es i).is_free ≡ true → is_used_at heads (52 * row_at i + column_at i) ≡ true
     used-at i free = grind (arith, list-below, band_below, ne_eqb, path-stop)
 
-    -- What holds of the lists that aren't empty in the window of the class.
-    pub added-weaker : (V W : ℕ → ℕ → Type 0) (s t : Best) → class < 3
-        → ((i j : ℕ) → i < 52 → j < 52 → is_used_at heads (52 * i + j) ≡ true → IsInWindow o class i j → W i j → V i j)
-        → HasAdded o heads es class r V s t → HasAdded o heads es class r W s t
-    added-weaker V W s t few to h =
+    -- What holds of the lists that aren't empty.
+    pub added-weaker : (V W : ℕ → ℕ → Type 0) (s t : Best)
+        → ((i j : ℕ) → i < 52 → j < 52 → is_used_at heads (52 * i + j) ≡ true → W i j → V i j)
+        → HasAdded o heads es end r V s t → HasAdded o heads es end r W s t
+    added-weaker V W s t to h =
         record {
           more = h.more;
-          of_class = h.of_class;
-          each = λ i free e w.
-              h.each i free e (to _ _ (band_below o _) (band_below o _) (used-at i free) ((window_law o _ class a.valid (positive-at i free) few).0 e) w);
+          of_lists = h.of_lists;
+          each = λ i free w. h.each i free (to _ _ (band_below o _) (band_below o _) (used-at i free) w);
           seen = h.seen;
           known = h.known;
         }
@@ -90,29 +89,27 @@ module _ (o : Options) (heads : List ListHead) (es : List Item) (class : ℕ) (r
       pub showable : IsShowable es (head_of heads (number_of place)).number
       showable = grind (arith, number-below)
 
-      module _ (few : class < 3) (w : IsInWindow o class place.row place.column) (xs : List ℕ) (same : xs ≡ a.free_lists (number_of place)) where
+      module _ (w : AreBelow end place.row place.column) (xs : List ℕ) (same : xs ≡ a.free_lists (number_of place)) where
         of_list : (c : Shown) → Contains (shown_items es xs) c
-            → ((item_at es c.at).is_free ≡ true) × (c ≡ shown_item es c.at) × (class_of o (item_sides (item_at es c.at)) ≡ class)
+            → ((item_at es c.at).is_free ≡ true) × (c ≡ shown_item es c.at) × IsItemBelow o es end c.at
         of_list c h =
             let t = shown_items-in es xs c h in
             let own = a.own (number_of place) t.0 number-below (subst (λ zs. 0 < occurs t.0 zs) same t.1) in
             let e = bands-of_list t.0 own.1 in
-            let w' = subst (λ i. IsInWindow o class i (column_at t.0)) (sym e.0) (subst (λ j. IsInWindow o class place.row j) (sym e.1) w) in
-            let c' = (window_law o (item_sides (item_at es t.0)) class a.valid (positive-at t.0 own.0) few).1 w' in
-            let P : Shown → Type 0 = λ d. ((item_at es d.at).is_free ≡ true) × (d ≡ shown_item es d.at) × (class_of o (item_sides (item_at es d.at)) ≡ class) in
-            subst P (sym t.2) (own.0, refl, c')
+            let P : Shown → Type 0 = λ d. ((item_at es d.at).is_free ≡ true) × (d ≡ shown_item es d.at) × IsItemBelow o es end d.at in
+            subst P (sym t.2) (own.0, refl, (omega (arith, e.0, w.0), omega (arith, e.1, w.1)))
 
-        has-each : (i : ℕ) → (item_at es i).is_free ≡ true → class_of o (item_sides (item_at es i)) ≡ class
-            → (row_at i ≡ place.row) × (column_at i ≡ place.column) → Contains (shown_items es xs) (shown_item es i)
-        has-each i free ec e = grind (arith, shown_items-has)
+        has-each : (i : ℕ) → (item_at es i).is_free ≡ true → (row_at i ≡ place.row) × (column_at i ≡ place.column)
+            → Contains (shown_items es xs) (shown_item es i)
+        has-each i free e = grind (arith, shown_items-has)
 
         -- The list is passed over.
         pub added-passed : (s : Best) → s.rank ≡ 0 → s.corner / 4294967296 < low_of heads (number_of place)
-            → HasAdded o heads es class r (λ i j. (i ≡ place.row) × (j ≡ place.column)) s s
+            → HasAdded o heads es end r (λ i j. (i ≡ place.row) × (j ≡ place.column)) s s
         added-passed s best_is beyond =
             record {
               more = shown_items es xs;
-              of_class = of_list;
+              of_lists = of_list;
               each = has-each;
               seen = λ is_large shown h. seen-passed s is_large r shown (shown_items es xs) h best_is (λ c has e.
                   let t = shown_items-in es xs c has in
@@ -134,11 +131,11 @@ module _ (o : Options) (heads : List ListHead) (es : List Item) (class : ℕ) (r
         -- The list was shown.
         pub added-shown : (s t : Best) → ((is_large : Bool) (r : Sides) (shown : List Shown) → HasSeen s is_large r shown → HasSeen t is_large r (shown ++ shown_items es xs))
             → (IsSameBest s t ⊎ ((IsSpot es (head_of heads (number_of place)).number (number_of place) xs t.spot ⊎ IsSameIn (number_of place) s t) × IsLowBut es xs t.spot.at.number t.spot.low))
-            → HasAdded o heads es class r (λ i j. (i ≡ place.row) × (j ≡ place.column)) s t
+            → HasAdded o heads es end r (λ i j. (i ≡ place.row) × (j ≡ place.column)) s t
         added-shown s t seen found =
             record {
               more = shown_items es xs;
-              of_class = of_list;
+              of_lists = of_list;
               each = has-each;
               seen = λ is_large shown h. seen is_large r shown h;
               known = λ k some. elim found [
@@ -151,23 +148,23 @@ module _ (o : Options) (heads : List ListHead) (es : List Item) (class : ℕ) (r
               ];
             }
 
-      pub added-list : class < 3 → IsInWindow o class place.row place.column → (s t : Best) → HasShown es (head_of heads (number_of place)).number (number_of place) s t
-          → HasAdded o heads es class r (λ i j. (i ≡ place.row) × (j ≡ place.column)) s t
-      added-list few w s t h =
-          added-shown few w h.xs (path-same es _ h.xs (a.free_lists (number_of place)) a.short h.path (a.path (number_of place) number-below)) s t h.seen h.found
+      pub added-list : AreBelow end place.row place.column → (s t : Best) → HasShown es (head_of heads (number_of place)).number (number_of place) s t
+          → HasAdded o heads es end r (λ i j. (i ≡ place.row) × (j ≡ place.column)) s t
+      added-list w s t h =
+          added-shown w h.xs (path-same es _ h.xs (a.free_lists (number_of place)) a.short h.path (a.path (number_of place) number-below)) s t h.seen h.found
 
-      pub added-over : class < 3 → IsInWindow o class place.row place.column → (s : Best) → s.rank ≡ 0
+      pub added-over : AreBelow end place.row place.column → (s : Best) → s.rank ≡ 0
           → s.corner / 4294967296 < low_of heads (number_of place)
-          → HasAdded o heads es class r (λ i j. (i ≡ place.row) × (j ≡ place.column)) s s
-      added-over few w s best_is beyond = added-passed few w (a.free_lists (number_of place)) refl s best_is beyond
+          → HasAdded o heads es end r (λ i j. (i ≡ place.row) × (j ≡ place.column)) s s
+      added-over w s best_is beyond = added-passed w (a.free_lists (number_of place)) refl s best_is beyond
 
 -- Nothing that is in question was shown.
-pub added-nothing : (o : Options) (heads : List ListHead) (es : List Item) (class : ℕ) (r : Sides) (W : ℕ → ℕ → Type 0) (s : Best)
-    → ((i j : ℕ) → W i j → ⊥) → HasAdded o heads es class r W s s
-added-nothing o heads es class r W s never = added-of o heads es class r (λ i j. ⊥) W s s never (added-none o heads es class r s)
+pub added-nothing : (o : Options) (heads : List ListHead) (es : List Item) (end : ℕ) (r : Sides) (W : ℕ → ℕ → Type 0) (s : Best)
+    → ((i j : ℕ) → W i j → ⊥) → HasAdded o heads es end r W s s
+added-nothing o heads es end r W s never = added-of o heads es end r (λ i j. ⊥) W s s never (added-none o heads es end r s)
 
 -- A list more.
-pub added-next : (o : Options) (heads : List ListHead) (es : List Item) (class : ℕ) (r : Sides) (V U W : ℕ → ℕ → Type 0) (s t u : Best)
-    → ((i j : ℕ) → W i j → V i j ⊎ U i j) → HasAdded o heads es class r V s t → HasAdded o heads es class r U t u → HasAdded o heads es class r W s u
-added-next o heads es class r V U W s t u to a b =
-    added-of o heads es class r (λ i j. V i j ⊎ U i j) W s u to (added-then o heads es class r V U s t u a b)
+pub added-next : (o : Options) (heads : List ListHead) (es : List Item) (end : ℕ) (r : Sides) (V U W : ℕ → ℕ → Type 0) (s t u : Best)
+    → ((i j : ℕ) → W i j → V i j ⊎ U i j) → HasAdded o heads es end r V s t → HasAdded o heads es end r U t u → HasAdded o heads es end r W s u
+added-next o heads es end r V U W s t u to a b =
+    added-of o heads es end r (λ i j. V i j ⊎ U i j) W s u to (added-then o heads es end r V U s t u a b)

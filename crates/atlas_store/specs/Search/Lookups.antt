@@ -1,10 +1,8 @@
 -- The search through lists of entries: what it needs, and what it answers. No public clause cites this module.
 use Rattle.std.specs.Prelude.{ℕ, ◌+◌, ◌*◌, ◌≡◌, ◌≢◌, ◌<◌, ◌≤◌, ◌==◌, ◌⊎◌, ◌++◌, Bool, true, List, Contains}
 use Rattle.std.specs.Prelude.{slice_index_or, length}
-use Rattle.atlas_store.specs.declared.search.Request.{Request}
 use Rattle.atlas_store.specs.declared.search.bands.Borders.{Borders}
 use Rattle.atlas_store.specs.declared.search.bands.Place.{Place}
-use Rattle.atlas_store.specs.declared.search.bands.Window.{Window}
 use Rattle.atlas_store.specs.declared.search.best.Best.{Best}
 use Rattle.atlas_store.specs.declared.search.best.Found.{Found}
 use Rattle.atlas_store.specs.declared.search.best.Spot.{Spot}
@@ -89,54 +87,54 @@ found_in es s = found_at (item_at es s.at.number).area s
 abbrev pub IsKnown : Options → List ListHead → List Item → Best → Type 0
 IsKnown o heads es s = s.rank < no_rank → IsStanding o heads es (found_in es s.spot)
 
--- The free entries of a class in these rows and columns were shown to a search, or can't be the best.
-pub record HasAdded (o : Options) (heads : List ListHead) (es : List Item) (class : ℕ) (r : Sides)
+-- A row and a column both come before `end`; so do the bands of an entry's sides.
+abbrev pub AreBelow : (end row column : ℕ) → Type 0
+AreBelow end row column = (row < end) × (column < end)
+
+abbrev pub IsItemBelow : Options → List Item → (end i : ℕ) → Type 0
+IsItemBelow o es end i =
+    AreBelow end (band_of o (item_sides (item_at es i)).width) (band_of o (item_sides (item_at es i)).height)
+
+-- The free entries in these rows and columns, which come before `end`, were shown to a search, or can't be the best.
+pub record HasAdded (o : Options) (heads : List ListHead) (es : List Item) (end : ℕ) (r : Sides)
     (IsVisited : ℕ → ℕ → Type 0)
     (before after : Best) : Type 0 where
   pub more : List Shown
-  pub of_class : (c : Shown) → Contains more c
-      → ((item_at es c.at).is_free ≡ true) × (c ≡ shown_item es c.at)
-      × (class_of o (item_sides (item_at es c.at)) ≡ class)
-  pub each : (i : ℕ) → (item_at es i).is_free ≡ true → class_of o (item_sides (item_at es i)) ≡ class
+  pub of_lists : (c : Shown) → Contains more c
+      → ((item_at es c.at).is_free ≡ true) × (c ≡ shown_item es c.at) × IsItemBelow o es end c.at
+  pub each : (i : ℕ) → (item_at es i).is_free ≡ true
       → IsVisited (band_of o (item_sides (item_at es i)).width) (band_of o (item_sides (item_at es i)).height)
       → Contains more (shown_item es i)
   pub seen : (is_large : Bool) (shown : List Shown) → HasSeen before is_large r shown
       → HasSeen after is_large r (shown ++ more)
   pub known : IsKnown o heads es before → IsKnown o heads es after
 
--- The request fits no free entry of a class.
-abbrev pub FitsNoneIn : Options → List Item → (class : ℕ) → (r : Sides) → Type 0
-FitsNoneIn o es class r =
-    (i : ℕ) → (item_at es i).is_free ≡ true → class_of o (item_sides (item_at es i)) ≡ class
-    → Fits r (item_sides (item_at es i)) → ⊥
-
--- Each free entry that the request fits has at least this class.
-abbrev pub FitsItemsFrom : Options → List Item → (class : ℕ) → (r : Sides) → Type 0
-FitsItemsFrom o es class r =
+-- Each free entry that the request fits stands in this row or column, or after it.
+abbrev pub FitsItemsFrom : Options → List Item → (least : ℕ) → (r : Sides) → Type 0
+FitsItemsFrom o es least r =
     (i : ℕ) → (item_at es i).is_free ≡ true → Fits r (item_sides (item_at es i))
-    → class ≤ class_of o (item_sides (item_at es i))
+    → (least ≤ band_of o (item_sides (item_at es i)).width) ⊎ (least ≤ band_of o (item_sides (item_at es i)).height)
 
--- The free entries of a class are those shown, or can't be the best.
-pub record AreShownIn (o : Options) (es : List Item) (class : ℕ) (r : Sides) (shown : List Shown) : Type 0 where
-  pub of_class : (c : Shown) → Contains shown c
-      → ((item_at es c.at).is_free ≡ true) × (c ≡ shown_item es c.at)
-      × (class_of o (item_sides (item_at es c.at)) ≡ class)
-  pub each : (i : ℕ) → (item_at es i).is_free ≡ true → class_of o (item_sides (item_at es i)) ≡ class
-      → Fits r (item_sides (item_at es i)) → Contains shown (shown_item es i)
+-- The free entries with both bands before `end` are those shown, or can't be the best.
+pub record AreShownBelow (o : Options) (es : List Item) (end : ℕ) (r : Sides) (shown : List Shown) : Type 0 where
+  pub of_lists : (c : Shown) → Contains shown c
+      → ((item_at es c.at).is_free ≡ true) × (c ≡ shown_item es c.at) × IsItemBelow o es end c.at
+  pub each : (i : ℕ) → (item_at es i).is_free ≡ true → IsItemBelow o es end i → Fits r (item_sides (item_at es i))
+      → Contains shown (shown_item es i)
 
--- A search was shown the free entries of a class.
-pub record HasSearched (o : Options) (heads : List ListHead) (es : List Item) (class : ℕ) (r : Sides)
+-- A search was shown the free entries with both bands before `end`.
+pub record HasSearched (o : Options) (heads : List ListHead) (es : List Item) (end : ℕ) (r : Sides)
     (search : Best) : Type 0 where
   pub shown : List Shown
-  pub are_shown : AreShownIn o es class r shown
+  pub are_shown : AreShownBelow o es end r shown
   pub seen : HasSeen search (class_of o r == 2) r shown
   pub known : IsKnown o heads es search
 
--- The best free entry of a class for a request, and of the best ones the first.
-pub record IsBestIn (o : Options) (heads : List ListHead) (es : List Item) (class : ℕ) (r : Sides)
+-- The best free entry of those for a request, and of the best ones the first.
+pub record IsBestBelow (o : Options) (heads : List ListHead) (es : List Item) (end : ℕ) (r : Sides)
     (found : Found) : Type 0 where
   pub shown : List Shown
-  pub are_shown : AreShownIn o es class r shown
+  pub are_shown : AreShownBelow o es end r shown
   pub best : IsBestShown (class_of o r == 2) r shown (shown_at (box_of found.rectangle) found.at.number)
   pub standing : IsStanding o heads es found
 
@@ -145,50 +143,48 @@ pub record AreFreeItems (es : List Item) (free : List Box) : Type 0 where
   pub of_item : (b : Box) → Contains free b → (i : ℕ) × ((item_at es i).is_free ≡ true) × (item_box (item_at es i) ≡ b)
   pub of_box : (i : ℕ) → (item_at es i).is_free ≡ true → Contains free (item_box (item_at es i))
 
--- A row and a column lie in the window.
-pub record IsInsideWindow (w : Window) (row column : ℕ) : Type 0 where
-  pub row_ends : row < w.end
-  pub column_ends : column < w.end
-  pub begins : (w.first ≤ row) ⊎ (w.first ≤ column)
-
--- The window is that of a class.
-pub record IsWindowOf (o : Options) (class : ℕ) (w : Window) : Type 0 where
-  pub first : w.first ≡ start_of o class
-  pub end : w.end ≡ start_of o (class + 1)
-
 -- The borders of the classes.
 pub record AreBorders (o : Options) (b : Borders) : Type 0 where
   pub small : b.small ≡ start_of o 1
   pub large : b.large ≡ start_of o 2
 
+-- A class begins at a row or column or before it, and ends here.
+pub record IsEndAfter (o : Options) (first end : ℕ) : Type 0 where
+  pub class : ℕ
+  pub few : class < 3
+  pub begins : start_of o class ≤ first
+  pub ends : end ≡ start_of o (class + 1)
+
 -- The band of each side up to 256.
 abbrev pub AreBands : Options → List ℕ → Type 0
 AreBands o bands = (length bands ≡ 257) × ((n : ℕ) → 0 < n → n ≤ 256 → slice_index_or bands n 0 ≡ band_of o n)
 
--- No list with a slot, of those from a place on, reaches this row or column.
-abbrev pub AreNoneFrom : List ListHead → (own : Place) → (end : ℕ) → Type 0
-AreNoneFrom heads own end =
-    (i j : ℕ) → i < 52 → j < 52 → own.row ≤ i → own.column ≤ j → is_used_at heads (52 * i + j) ≡ true
-    → (i < end) × (j < end)
+-- No list to the right of a place and below it has a slot.
+abbrev pub AreNoneApart : List ListHead → (own : Place) → Type 0
+AreNoneApart heads own =
+    (i j : ℕ) → own.row < i → i < 52 → own.column < j → j < 52 → is_used_at heads (52 * i + j) ≡ true → ⊥
 
--- What a search computes of its request.
-pub record IsRequest (o : Options) (q : Request) : Type 0 where
-  pub positive : IsPositive (sides_of q.size)
-  pub large : q.is_large ≡ (class_of o (sides_of q.size) == 2)
-  pub row : q.own.row ≡ band_of o (sides_of q.size).width
-  pub column : q.own.column ≡ band_of o (sides_of q.size).height
-  pub borders : AreBorders o q.borders
+-- Of the lists with a slot in a place's row and column, those from the place on that stand in a row or column or after
+-- it are left: the columns of the first, and the rows of the others.
+pub record AreLeft (heads : List ListHead) (own : Place) (least : ℕ) (columns rows : Mask) : Type 0 where
+  pub in_row : (j : ℕ) → own.column ≤ j → j < 52 → is_used_at heads (52 * own.row + j) ≡ true
+      → (least ≤ own.row) ⊎ (least ≤ j) → IsMarked columns j
+  pub in_column : (i : ℕ) → own.row < i → i < 52 → is_used_at heads (52 * i + own.column) ≡ true
+      → (least ≤ i) ⊎ (least ≤ own.column) → IsMarked rows i
 
--- The free entries are listed, and a request is to be searched for in a class, which isn't below its own.
-pub record IsSearch (o : Options) (heads : List ListHead) (es : List Item) (class : ℕ) (q : Request) : Type 0 where
+-- The free entries are listed, and a request with this own row and column, which fits none before `least`, is to be
+-- searched for where these lists of the two are left.
+pub record IsSearch (o : Options) (heads : List ListHead) (es : List Item) (own : Place) (r : Sides) (least : ℕ)
+    (columns rows : Mask) : Type 0 where
   pub listed : AreListed o heads es
-  pub request : IsRequest o q
-  pub few : class < 3
-  pub from : class_of o (sides_of q.size) ≤ class
+  pub row : own.row ≡ band_of o r.width
+  pub column : own.column ≡ band_of o r.height
+  pub from : FitsItemsFrom o es least r
+  pub left : AreLeft heads own least columns rows
 
--- These rows, from a column on.
-abbrev pub IsBeyond : (rows : Mask) → (first : ℕ) → ℕ → ℕ → Type 0
-IsBeyond rows first i j = IsMarked rows i × (first ≤ j)
+-- These rows, from a column on, before `end`.
+abbrev pub IsBeyond : (rows : Mask) → (first end : ℕ) → ℕ → ℕ → Type 0
+IsBeyond rows first end i j = IsMarked rows i × (first ≤ j) × (j < end)
 
 -- The lists of a row in these columns, and the lists of a column in these rows.
 abbrev pub IsInRow : (row : ℕ) → (columns : Mask) → ℕ → ℕ → Type 0

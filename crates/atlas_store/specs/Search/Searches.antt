@@ -33,8 +33,8 @@ FitsNone r shown = (c : Shown) → Contains shown c → Fits r (box_sides c.box)
 abbrev pub FitsOnlyFrom : (class : ℕ) (free : List Box) → Options → (r : Sides) → Type 0
 FitsOnlyFrom class free o r = (b : Box) → IsFitting free r b → class ≤ class_of o (box_sides b)
 
--- The boxes shown are free boxes of this class, and among them is each one that the request fits.
+-- The boxes shown are free boxes of at most this class, and among them is each one of it that the request fits.
 pub record AreOfClass (class : ℕ) (free : List Box) (o : Options) (r : Sides) (shown : List Shown) : Type 0 where
-  pub of_class : (c : Shown) → Contains shown c → Contains free c.box × (class_of o (box_sides c.box) ≡ class)
+  pub of_class : (c : Shown) → Contains shown c → Contains free c.box × (class_of o (box_sides c.box) ≤ class)
   pub each : (b : Box) → IsFitting free r b → class_of o (box_sides b) ≡ class
       → (at : ℕ) × Contains shown (shown_at b at)

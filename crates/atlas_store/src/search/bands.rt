@@ -2,7 +2,7 @@
 ghost use Rattle.std.specs.Prelude.{◌≡◌, ◌+◌, ◌<◌, ◌≤◌, pos, ◌<ℤ◌, ◌≤ℤ◌, ℕ};
 ghost use Rattle.atlas_store.specs.Search.Bands.{band_of, border_of, list_of, number_of, passes, start_of, step_of};
 ghost use Rattle.atlas_model.specs.Choice.{Options};
-ghost use Rattle.atlas_store.specs.Search.Lookups.{AreBorders, IsWindowOf};
+ghost use Rattle.atlas_store.specs.Search.Lookups.{AreBorders, IsEndAfter};
 ghost use Rattle.atlas_model.specs.Boxes.{IsPositive};
 ghost use Rattle.atlas_model.specs.Pixels.{natural, options_of, sides_of};
 
@@ -17,13 +17,6 @@ pub const BANDS: usize = 52;
 pub struct Place {
     pub row: usize,
     pub column: usize,
-}
-
-/// The rows and the columns of a class: those before `end`, and one of the two not before `first`.
-#[derive(Clone, Copy)]
-pub struct Window {
-    pub first: usize,
-    pub end: usize,
 }
 
 // The step of each side up to 256.
@@ -83,11 +76,11 @@ fn border(threshold: i32, options: &AllocatorOptions) -> usize
     }
 }
 
-/// The first band of the sides that reach the small threshold, and that of those that reach the large one.
+// The first band of the sides that reach the small threshold, and that of those that reach the large one.
 #[derive(Clone, Copy)]
-pub struct Borders {
-    pub small: usize,
-    pub large: usize,
+struct Borders {
+    small: usize,
+    large: usize,
 }
 
 // The borders of the classes.
@@ -164,11 +157,27 @@ impl Scale {
         self.options
     }
 
-    /// The borders of the classes.
-    pub fn borders(&self) -> Borders
-        ensures { AreBorders (options_of self.now) result }
+    /// The first row and column of large sizes.
+    pub fn large(&self) -> usize
+        ensures { result ≡ start_of (options_of self.now) 2 }
     {
-        self.borders
+        self.borders.large
+    }
+
+    /// The border of a class after a row or a column.
+    pub fn end_after(&self, first: usize) -> usize
+        requires { first < BANDS }
+        ensures after { first < result }
+        ensures most { result ≤ BANDS }
+        ensures class { IsEndAfter (options_of self.now) first result }
+    {
+        if first < self.borders.small {
+            self.borders.small
+        } else if first < self.borders.large {
+            self.borders.large
+        } else {
+            BANDS
+        }
     }
 
     // The band of a side.
@@ -198,47 +207,5 @@ impl Scale {
             row: self.band(size.width),
             column: self.band(size.height),
         }
-    }
-}
-
-/// The window of a class.
-pub fn window_for(class: usize, borders: Borders) -> Window
-    requires class { class < 3 }
-    requires small { borders.small < BANDS }
-    requires large { borders.large < BANDS }
-    ensures window { (o : Options) → AreBorders o borders → IsWindowOf o class result }
-    ensures inside { result.first < BANDS }
-    ensures most { result.end ≤ BANDS }
-{
-    match class {
-        0 => Window {
-            first: 0,
-            end: borders.small,
-        },
-        1 => Window {
-            first: borders.small,
-            end: borders.large,
-        },
-        _ => Window {
-            first: borders.large,
-            end: BANDS,
-        },
-    }
-}
-
-/// The first class whose window ends after a row or a column; 3 if there is none.
-pub fn class_from(least: usize, borders: Borders) -> usize
-    ensures most { result ≤ 3 }
-    ensures passed { (o : Options) → AreBorders o borders → (class : ℕ) → class < result
-        → start_of o (class + 1) ≤ least }
-{
-    if least < borders.small {
-        0
-    } else if least < borders.large {
-        1
-    } else if least < BANDS {
-        2
-    } else {
-        3
     }
 }

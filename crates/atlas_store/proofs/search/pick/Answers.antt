@@ -1,53 +1,48 @@
-use Rattle.std.proofs.Common.{map, ℕ, subst, sym, arith}
+use Rattle.std.proofs.Common.{map, ◌==◌, Bool, [], subst, sym, arith}
 use Rattle.atlas_store.specs.declared.search.best.Found.{Found}
-use Rattle.atlas_store.specs.Search.Lookups.{FitsItemsFrom, IsBestIn, IsStanding}
+use Rattle.atlas_model.specs.Choice.{class_of}
+use Rattle.atlas_store.specs.Search.Bests.{HasSeen}
+use Rattle.atlas_store.specs.Search.Lookups.{IsBestBelow, IsSearch, IsStanding}
 use Rattle.atlas_model.specs.Pixels.{options_of, sides_of}
-use Rattle.atlas_store.proofs.SearchLemmas.ClassSearching.{fits-from, from-both, none-above, search-of}
-use Rattle.atlas_store.proofs.SearchLemmas.ItemPicks.{best-found, found-read, from-own, from-next, none-found, none-from, no_room-of_items, pick-of_items}
+use Rattle.atlas_store.proofs.SearchLemmas.ItemPicks.{best-found, free-inside, found-read, none-found, none-from, no_room-of_items, pick-of_items, seen-nothing}
+use Rattle.atlas_store.proofs.SearchLemmas.Windows.{fits-reaching, large-law, left-begin, left-next, none-left}
 use Rattle.atlas_store.proofs.search.pick.Goals as goal
 
-pub loop-number-init : goal.loop-number-init
-loop-number-init g c =
+pub loop-least-init : goal.loop-least-init
+loop-least-init g c =
     let o = options_of c.args.options.now in
-    let es = map g.E.Entry.item c.args.entries.now in
     let r = sides_of c.args.size in
     let own = c.place_for-own in
-    let reached = fits-from o c.args.table.now es r c.requires.listed own.result.row own.result.column c.least_from.result c.class_from.result
-    own.ensures.row own.ensures.column c.least_from.ensures (c.class_from.ensures.passed o c.borders-borders.ensures) in
-    let of_class = subst (λ (n : ℕ). FitsItemsFrom o es n r) (sym c.class-own_class.ensures) (from-own o es r) in
-    subst (λ (n : ℕ). FitsItemsFrom o es n r) (sym c.max-first.ensures) (from-both o es r c.class_from.result c.class-own_class.result reached of_class)
+    let large = large-law o r own.result.row own.result.column c.max.result c.large.result c.requires.listed.valid c.requires.positive own.ensures.row own.ensures.column
+    c.max.ensures c.large.ensures in (
+      record {
+        listed = c.requires.listed;
+        row = own.ensures.row;
+        column = own.ensures.column;
+        from = fits-reaching o c.args.table.now (map g.E.Entry.item c.args.entries.now) r c.requires.listed own.result own.ensures.row own.ensures.column
+            c.least_from-least.result c.least_from-least.ensures.reached;
+        left = left-begin c.args.table.now own.result c.least_from-least.result c.row.result c.from-columns.result c.column.result c.from-rows.result
+            c.row.ensures.used c.from-columns.ensures c.column.ensures.used c.from-rows.ensures;
+      },
+      c.least_from-least.ensures.row,
+      c.least_from-least.ensures.column,
+      subst (λ (b : Bool). HasSeen c.new-best.result b r []) large c.new-best.ensures,
+    )
 
-pub search_class-searched-requires-clause-search : goal.search_class-searched-requires-clause-search
-search_class-searched-requires-clause-search g c = (
-  options_of c.args.options.now,
-  search-of (options_of c.args.options.now) c.args.table.now (map g.E.Entry.item c.args.entries.now) c.args.size c.class-own_class.result c.loop-number.number
-      c.place_for-own.result c.borders-borders.result c.requires.listed c.requires.positive c.class-own_class.ensures c.place_for-own.ensures.row
-      c.place_for-own.ensures.column c.borders-borders.ensures c.loop-number-test.true (omega (arith, c.loop-number.auto.number, c.max-first.ensures)),
-)
+pub search_before-is_last-requires-clause-search : goal.search_before-is_last-requires-clause-search
+search_before-is_last-requires-clause-search g c = (options_of c.args.options.now, sides_of c.args.size, c.loop-least.least, c.loop-least.invariant.0)
 
-pub loop-number-preserved : goal.loop-number-preserved
-loop-number-preserved g c =
+pub bounds-entries-spot : goal.bounds-entries-spot
+bounds-entries-spot g c =
     let o = options_of c.args.options.now in
     let es = map g.E.Entry.item c.args.entries.now in
-    let r = sides_of c.args.size in
-    let searched = c.search_class-searched.ensures.best o (search-of (options_of c.args.options.now) c.args.table.now (map g.E.Entry.item c.args.entries.now) c.args.size c.class-own_class.result c.loop-number.number
-    c.place_for-own.result c.borders-borders.result c.requires.listed c.requires.positive c.class-own_class.ensures c.place_for-own.ensures.row
-    c.place_for-own.ensures.column c.borders-borders.ensures c.loop-number-test.true (omega (arith, c.loop-number.auto.number, c.max-first.ensures))) in
-    from-next o es r c.loop-number.number c.loop-number.invariant
-    (none-found o es r c.args.table.now c.loop-number.number c.search_class-searched.result.best searched (c.spot.ensures.none c.in_default.is))
+    let is = c.in-Some.ensures.some in
+    let searched = c.search_before-is_last.ensures.best o (sides_of c.args.size) c.loop-least.least c.loop-least.invariant.0 c.loop-least.invariant.3 in
+    let best = best-found o es (sides_of c.args.size) c.args.table.now c.end_after-end.result c.search_before-is_last.new.best c.in-Some.spot searched is.0 is.1 in
+    free-inside g.E.Entry.item c.args.entries.now c.in-Some.spot.at.number best.standing.free
 
-pub returns-then-searched-clause-none : goal.returns-then-searched-clause-none
-returns-then-searched-clause-none g c none =
-    let o = options_of c.args.options.now in
-    let heads = c.args.table.now in
-    let es = map g.E.Entry.item c.args.entries.now in
-    let r = sides_of c.args.size in
-    let search = search-of o heads es c.args.size c.class-own_class.result c.loop-number.number
-    c.place_for-own.result c.borders-borders.result c.requires.listed c.requires.positive c.class-own_class.ensures c.place_for-own.ensures.row
-    c.place_for-own.ensures.column c.borders-borders.ensures c.loop-number-test.true (omega (arith, c.loop-number.auto.number, c.max-first.ensures)) in
-    let passed = none-found o es r heads c.loop-number.number c.search_class-searched.result.best (c.search_class-searched.ensures.best o search) (c.spot.ensures.none c.in_default.is) in
-    no_room-of_items o es r (none-above o heads es r c.requires.listed c.place_for-own.result c.loop-number.number c.place_for-own.ensures.row
-    c.place_for-own.ensures.column (c.search_class-searched.ensures.last c.if-searched.true o search) (from-next o es r c.loop-number.number c.loop-number.invariant passed))
+pub offset_bounds-entries-spot : goal.offset_bounds-entries-spot
+offset_bounds-entries-spot g c = omega (arith, bounds-entries-spot g c)
 
 pub returns-in-Some-clause-picked : goal.returns-in-Some-clause-picked
 returns-in-Some-clause-picked g c =
@@ -55,14 +50,13 @@ returns-in-Some-clause-picked g c =
     let es = map g.E.Entry.item c.args.entries.now in
     let r = sides_of c.args.size in
     let is = c.in-Some.ensures.some in
-    let searched = c.search_class-searched.ensures.best o (search-of o c.args.table.now es c.args.size c.class-own_class.result c.loop-number.number
-    c.place_for-own.result c.borders-borders.result c.requires.listed c.requires.positive c.class-own_class.ensures c.place_for-own.ensures.row
-    c.place_for-own.ensures.column c.borders-borders.ensures c.loop-number-test.true (omega (arith, c.loop-number.auto.number, c.max-first.ensures))) in
-    let best = best-found o es r c.args.table.now c.loop-number.number c.search_class-searched.result.best c.in-Some.spot searched is.0 is.1 in
+    let search = c.loop-least.invariant.0 in
+    let searched = c.search_before-is_last.ensures.best o r c.loop-least.least search c.loop-least.invariant.3 in
+    let best = best-found o es r c.args.table.now c.end_after-end.result c.search_before-is_last.new.best c.in-Some.spot searched is.0 is.1 in
     let read = found-read g.E.Entry.item c.args.entries.now c.in-Some.spot c.index-entries-spot.result c.rectangle.result c.found.result best.standing.free
     c.index-entries-spot.is c.rectangle.ensures c.found.ensures in
-    pick-of_items o es r c.args.table.now c.loop-number.number c.found.result c.loop-number.invariant
-    (subst (λ (f : Found). IsBestIn o c.args.table.now es c.loop-number.number r f) (sym read) best)
+    pick-of_items o es r c.args.table.now c.requires.listed c.loop-least.least c.end_after-end.result c.found.result c.end_after-end.ensures.class search.from
+    (subst (λ (f : Found). IsBestBelow o c.args.table.now es c.end_after-end.result r f) (sym read) best)
 
 pub returns-in-Some-clause-standing : goal.returns-in-Some-clause-standing
 returns-in-Some-clause-standing g c =
@@ -70,14 +64,54 @@ returns-in-Some-clause-standing g c =
     let es = map g.E.Entry.item c.args.entries.now in
     let r = sides_of c.args.size in
     let is = c.in-Some.ensures.some in
-    let searched = c.search_class-searched.ensures.best o (search-of o c.args.table.now es c.args.size c.class-own_class.result c.loop-number.number
-    c.place_for-own.result c.borders-borders.result c.requires.listed c.requires.positive c.class-own_class.ensures c.place_for-own.ensures.row
-    c.place_for-own.ensures.column c.borders-borders.ensures c.loop-number-test.true (omega (arith, c.loop-number.auto.number, c.max-first.ensures))) in
-    let best = best-found o es r c.args.table.now c.loop-number.number c.search_class-searched.result.best c.in-Some.spot searched is.0 is.1 in
+    let searched = c.search_before-is_last.ensures.best o r c.loop-least.least c.loop-least.invariant.0 c.loop-least.invariant.3 in
+    let best = best-found o es r c.args.table.now c.end_after-end.result c.search_before-is_last.new.best c.in-Some.spot searched is.0 is.1 in
     let read = found-read g.E.Entry.item c.args.entries.now c.in-Some.spot c.index-entries-spot.result c.rectangle.result c.found.result best.standing.free
     c.index-entries-spot.is c.rectangle.ensures c.found.ensures in
     subst (λ (f : Found). IsStanding o c.args.table.now es f) (sym read) best.standing
 
+pub loop-least-preserved : goal.loop-least-preserved
+loop-least-preserved g c =
+    let o = options_of c.args.options.now in
+    let es = map g.E.Entry.item c.args.entries.now in
+    let r = sides_of c.args.size in
+    let l = c.loop-least in
+    let search = l.invariant.0 in
+    let end = c.end_after-end in
+    let searched = c.search_before-is_last.ensures.best o r l.least search l.invariant.3 in
+    let none = c.spot.ensures.none c.in_default.is in (
+      record {
+        listed = search.listed;
+        row = search.row;
+        column = search.column;
+        from = none-found o es r c.args.table.now end.result c.search_before-is_last.new.best searched none;
+        left = left-next c.args.table.now c.place_for-own.result l.least end.result end.result l.columns l.rows c.from-columns-in-loop-least.result c.from-rows-in-loop-least.result
+            (omega (arith, l.invariant.1, end.ensures.after)) (omega (arith, l.invariant.2, end.ensures.after)) end.ensures.after (omega arith)
+            c.from-columns-in-loop-least.ensures c.from-rows-in-loop-least.ensures search.left;
+      },
+      omega (arith, l.invariant.1, end.ensures.after),
+      omega (arith, l.invariant.2, end.ensures.after),
+      seen-nothing o es r c.args.table.now end.result c.search_before-is_last.new.best searched none,
+    )
+
+pub returns-then-is_empty-clause-none : goal.returns-then-is_empty-clause-none
+returns-then-is_empty-clause-none g c _ =
+    let o = options_of c.args.options.now in
+    let es = map g.E.Entry.item c.args.entries.now in
+    let r = sides_of c.args.size in
+    let l = c.loop-least in
+    let search = l.invariant.0 in
+    let end = c.end_after-end in
+    let searched = c.search_before-is_last.ensures.best o r l.least search l.invariant.3 in
+    let left = left-next c.args.table.now c.place_for-own.result l.least end.result end.result l.columns l.rows c.from-columns-in-loop-least.result c.from-rows-in-loop-least.result
+    (omega (arith, l.invariant.1, end.ensures.after)) (omega (arith, l.invariant.2, end.ensures.after)) end.ensures.after (omega arith)
+    c.from-columns-in-loop-least.ensures c.from-rows-in-loop-least.ensures search.left in
+    no_room-of_items o es r (none-left o c.args.table.now es r search.listed c.place_for-own.result search.row search.column end.result c.from-columns-in-loop-least.result c.from-rows-in-loop-least.result c.or.result
+    left (c.search_before-is_last.ensures.last c.if-is_last.true) c.or.ensures (c.is_empty.ensures.empty c.if-is_empty.true)
+    (none-found o es r c.args.table.now end.result c.search_before-is_last.new.best searched (c.spot.ensures.none c.in_default.is)))
+
 pub returns-clause-none : goal.returns-clause-none
-returns-clause-none g c =
-    λ _. no_room-of_items (options_of c.args.options.now) (map g.E.Entry.item c.args.entries.now) (sides_of c.args.size) (none-from (options_of c.args.options.now) (map g.E.Entry.item c.args.entries.now) (sides_of c.args.size) c.loop-number.number c.loop-number-test.false c.loop-number.invariant)
+returns-clause-none g c _ =
+    let o = options_of c.args.options.now in
+    let es = map g.E.Entry.item c.args.entries.now in
+    no_room-of_items o es (sides_of c.args.size) (none-from o es (sides_of c.args.size) c.loop-least.least c.loop-least-test.false c.loop-least.invariant.0.from)
