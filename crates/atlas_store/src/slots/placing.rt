@@ -44,17 +44,20 @@ fn parts(area: Rectangle, axis: Orientation, extent: u32) -> (Rectangle, Rectang
 {
     let extent = extent as i32;
     let Rectangle { min, max } = area;
-    let (end, start) = match axis {
+    match axis {
         Orientation::Horizontal => {
             let x = min.x + extent;
-            (point2(x, max.y), point2(x, min.y))
+            let end = point2(x, max.y);
+            let start = point2(x, min.y);
+            (Rectangle { min, max: end }, Rectangle { min: start, max })
         }
         Orientation::Vertical => {
             let y = min.y + extent;
-            (point2(max.x, y), point2(min.x, y))
+            let end = point2(max.x, y);
+            let start = point2(min.x, y);
+            (Rectangle { min, max: end }, Rectangle { min: start, max })
         }
-    };
-    (Rectangle { min, max: end }, Rectangle { min: start, max })
+    }
 }
 
 /// The free leaf at `at` keeps its first `extent` pixels along its axis, and the unused slot `fresh` takes the rest as
