@@ -1,5 +1,5 @@
 -- Bands keep the order of sides, boxes of one list are of one class, and the lists of a class are its window.
-use Rattle.std.proofs.Common.{◌≡◌, ℕ, zero, suc, ◌+◌, ◌-◌, ◌*◌, ◌/◌, ◌<◌, ◌≤◌, ◌⊎◌, inl, inr, ◌↔◌, ℤ, pos, negsuc, ◌≤ℤ◌, true, false, nat_lt, refl, sym, ◌∙◌, subst, arith}
+use Rattle.std.proofs.Common.{◌≡◌, ℕ, zero, suc, ◌+◌, ◌-◌, ◌*◌, ◌/◌, ◌<◌, ◌≤◌, ◌⊎◌, inl, inr, ◌↔◌, ℤ, pos, negsuc, ◌≤ℤ◌, ◌<ℤ◌, true, false, nat_lt, refl, sym, ◌∙◌, subst, arith}
 use Rattle.std.specs.Prelude.{if◌then◌else◌, int_le}
 use Rattle.std.proofs.lemmas.Bool.{cases_Bool, cond_both, cond-true, cond-false, ltb-true, ltb-false, leb-true, leb-false, le-leb, lt-leb, or_cases, or_from, or_parts, both_ways}
 use Rattle.std.proofs.lemmas.Int.{ints}
@@ -7,7 +7,8 @@ use Rattle.atlas_model.specs.Boxes.{Sides, IsPositive}
 use Rattle.atlas_model.specs.Pixels.{natural}
 use Rattle.atlas_model.specs.Choice.{Options, AreValid, class_of, reaches}
 use Rattle.atlas_store.specs.Search.Bands.{step_of, passes, band_of, list_of, border_of, start_of, IsInWindow}
-use Rattle.atlas_store.proofs.SearchLemmas.BandSteps.{step_of-most}
+use Rattle.atlas_store.proofs.SearchLemmas.BandSteps.{step_of-last, step_of-most}
+use Rattle.atlas_store.specs.Search.Lookups.{IsTop}
 
 -- ---- steps keep the order
 
@@ -51,6 +52,9 @@ passes-true t n h = cond-true (int_le t (pos n)) 1 0 h
 passes-false : (t : ℤ) (n : ℕ) → int_le t (pos n) ≡ false → passes t n ≡ 0
 passes-false t n h = cond-false (int_le t (pos n)) 1 0 h
 
+passes-top : (t top : ℤ) (n : ℕ) → t ≤ℤ top → top ≤ℤ pos n → int_le t (pos n) ≡ true
+passes-top t top n a b = grind (arith, ints)
+
 passes-most : (t : ℤ) (n : ℕ) → passes t n ≤ 1
 passes-most t n = cond_both (int_le t (pos n)) 1 0 (λ v. v ≤ 1) (λ _. omega arith) (λ _. omega arith)
 
@@ -66,6 +70,12 @@ band_mono o a b l = grind (arith, step_of-le, passes-le)
 pub band_below : (o : Options) (n : ℕ) → band_of o n < 52
 unfolding band_of
 band_below o n = grind (arith, step_of-most, passes-most)
+
+-- Above 256 and both thresholds there is one band.
+pub band_last : (o : Options) (side top : ℤ) → pos 256 <ℤ side → IsTop o top → top ≤ℤ side → band_of o (natural side) ≡ 51
+unfolding band_of
+band_last o (pos n) top above is l = grind (arith, ints, step_of-last, passes-true, passes-top)
+band_last o (negsuc n) top above is l = grind (arith, ints)
 
 -- A threshold of the options: the small or the large one.
 abbrev pub IsThreshold : Options → ℤ → Type 0

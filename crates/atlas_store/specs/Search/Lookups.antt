@@ -1,6 +1,6 @@
 -- The search through lists of entries: what it needs, and what it answers. No public clause cites this module.
 use Rattle.std.specs.Prelude.{ℕ, ◌+◌, ◌*◌, ◌≡◌, ◌≢◌, ◌<◌, ◌≤◌, ◌==◌, ◌⊎◌, ◌++◌, Bool, true, List, Contains}
-use Rattle.std.specs.Prelude.{slice_index_or, length}
+use Rattle.std.specs.Prelude.{slice_index_or, length, ℤ, ◌≤ℤ◌}
 use Rattle.atlas_store.specs.declared.search.bands.Borders.{Borders}
 use Rattle.atlas_store.specs.declared.search.bands.Place.{Place}
 use Rattle.atlas_store.specs.declared.search.best.Best.{Best}
@@ -154,6 +154,10 @@ pub record IsEndAfter (o : Options) (first end : ℕ) : Type 0 where
   pub few : class < 3
   pub begins : start_of o class ≤ first
   pub ends : end ≡ start_of o (class + 1)
+
+-- No threshold is greater.
+abbrev pub IsTop : Options → ℤ → Type 0
+IsTop o top = (o.small_threshold ≤ℤ top) × (o.large_threshold ≤ℤ top)
 
 -- The band of each side up to 256.
 abbrev pub AreBands : Options → List ℕ → Type 0

@@ -99,19 +99,22 @@ fn borders_for(options: &AllocatorOptions) -> Borders
 pub struct Scale {
     options: AllocatorOptions,
     borders: Borders,
+    // The greater threshold.
+    top: i32,
     bands: [u8; 257],
 }
 
 impl Model for Scale {
     ghost use Rattle.atlas_model.specs.declared.options.AllocatorOptions.{AllocatorOptions};
     ghost use Rattle.atlas_model.specs.Pixels.{options_of};
-    ghost use Rattle.atlas_store.specs.Search.Lookups.{AreBands, AreBorders};
+    ghost use Rattle.atlas_store.specs.Search.Lookups.{AreBands, AreBorders, IsTop};
 
     ghost Value = { AllocatorOptions };
 
     ghost view = { λ s. s.options };
 
-    ghost invariant = { λ s. AreBorders (options_of s.options) s.borders × AreBands (options_of s.options) s.bands };
+    ghost invariant = { λ s. AreBorders (options_of s.options) s.borders × IsTop (options_of s.options) s.top
+        × AreBands (options_of s.options) s.bands };
 }
 
 impl Scale {
@@ -126,6 +129,9 @@ impl Scale {
         Scale {
             options: *options,
             borders: borders_for(options),
+            top: options
+                .small_size_threshold
+                .max(options.large_size_threshold),
             bands,
         }
     }
@@ -146,6 +152,7 @@ impl Scale {
         Scale {
             options: self.options,
             borders: self.borders,
+            top: self.top,
             bands: self.bands,
         }
     }
@@ -181,7 +188,7 @@ impl Scale {
     }
 
     // The band of a side.
-    #[tactic(auto, using(crate::proofs::SearchLemmas::BandLaws::band_below))]
+    #[tactic(auto, using(crate::proofs::SearchLemmas::BandLaws::band_below, crate::proofs::SearchLemmas::BandLaws::band_last))]
     fn band(&self, side: i32) -> usize
         requires { pos 0 <ℤ side }
         ensures band { result ≡ band_of (options_of self.now) (natural side) }
@@ -189,6 +196,8 @@ impl Scale {
     {
         if side <= 256 {
             self.bands[side as usize] as usize
+        } else if side >= self.top {
+            BANDS - 1
         } else {
             band(side, &self.options)
         }

@@ -1,4 +1,4 @@
-use Rattle.std.proofs.Common.{◌≡◌, ◌∙◌, refl, ap, to_z, w32, arith}
+use Rattle.std.proofs.Common.{◌≡◌, ◌∙◌, refl, ap, to_z, w32, rules, arith}
 use Rattle.std.proofs.lemmas.Bool.{cases_eq}
 use Rattle.std.proofs.lemmas.Int.{ints}
 use Rattle.std.proofs.lemmas.List.{length-set, get_or-set_same, get_or-set_other}
@@ -20,4 +20,4 @@ loop-side-preserved c =
 
 pub invariant_of-result : goal.invariant_of-result
 invariant_of-result c =
-    (c.borders_for.ensures, (c.loop-side.invariant.0, λ n positive most. c.loop-side.invariant.1 n positive (omega (arith, most, c.loop-side-test.false))))
+    (c.borders_for.ensures, (search rules, search rules), (c.loop-side.invariant.0, λ n positive most. c.loop-side.invariant.1 n positive (omega (arith, most, c.loop-side-test.false))))
