@@ -13,7 +13,6 @@ ghost use Rattle.atlas_store.specs.Stored.{state_of};
 use crate::atlas::AtlasAllocator;
 use atlas_model::{Allocation, AtlasError, Size};
 use atlas_store::choice::rounded;
-use atlas_store::cut::granted;
 use atlas_tree::requests::{choose, grant, make_room, slots_needed};
 use std::alloc::Allocator;
 
@@ -41,9 +40,8 @@ impl<A: Allocator + Copy> AtlasAllocator<A> {
         };
         let needed = slots_needed(chosen.plan);
         make_room(&mut self.store, self.used, self.limit, needed)?;
-        let rectangle = granted(chosen.area, size);
-        let id = grant(&mut self.store, chosen);
+        let granted = grant(&mut self.store, chosen);
         self.used += needed;
-        Ok(Some(Allocation { id, rectangle }))
+        Ok(Some(granted))
     }
 }

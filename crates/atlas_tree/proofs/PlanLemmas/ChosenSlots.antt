@@ -8,6 +8,8 @@ use Rattle.atlas_store.specs.declared.slots.NodeKind.TheVariants as kind
 use Rattle.atlas_store.specs.declared.search.best.Found.{Found}
 use Rattle.atlas_tree.specs.declared.requests.Chosen.{Chosen}
 use Rattle.atlas_tree.specs.declared.requests.Plan.{Plan}
+use Rattle.atlas_model.specs.declared.allocation.Allocation.{Allocation}
+use Rattle.atlas_model.specs.declared.geometry.Rectangle.{Rectangle}
 use Rattle.atlas_model.specs.Boxes.{Sides, Box, origin, box_sides, Fits}
 use Rattle.atlas_model.specs.Pixels.{box_of, rectangle_of, options_of}
 use Rattle.atlas_model.specs.Choice.{IsPick}
@@ -51,6 +53,10 @@ module _ (v : Shelf) (h : Holding) (rest : IsAtRest v h) where
     picked_here : (free : List Box) → AreFreeBoxes (nodes v.slots) free → IsPick free (options_of v.options) r (box_of found.rectangle)
     picked_here = subst (λ s. (free : List Box) → AreFreeBoxes (nodes s) free → IsPick free (options_of v.options) r (box_of found.rectangle)) e picked
 
+    -- The same of the slot's own rectangle.
+    picked_there : (free : List Box) → AreFreeBoxes (nodes v.slots) free → IsPick free (options_of v.options) r (box_of (node_in v found.at.number).area)
+    picked_there = subst (λ (q : Rectangle). (free : List Box) → AreFreeBoxes (nodes v.slots) free → IsPick free (options_of v.options) r (box_of q)) (sym area_here) picked_here
+
     pub found-exact : leaf.area ≡ rectangle_of (box_of leaf.area)
     found-exact = grind (arith, exact-free, free_here)
 
@@ -61,8 +67,8 @@ module _ (v : Shelf) (h : Holding) (rest : IsAtRest v h) where
         → (found.place.row < 52) × (found.place.column < 52) × (number_of found.place ≡ list_of (options_of v.options) (node_sides (node_at (nodes slots) found.at.number)))
         → ((i : ℕ) → IsFreeSlot (nodes slots) i → i ≢ found.at.number → list_of (options_of v.options) (node_sides (node_at (nodes slots) i)) ≡ number_of found.place
         → found.low ≤ node_top (node_at (nodes slots) i))
-        → IsChosen v r (record { at = found.at; area = found.rectangle; place = found.place; low = found.low; plan = plan })
-    found-chosen plan line feasible place low = grind (arith, free_here, area_here, picked_here)
+        → IsChosen v r (record { at = found.at; place = found.place; low = found.low; plan = plan })
+    found-chosen plan line feasible place low = grind (arith, free_here, picked_there)
 
 -- It stands in its list.
 pub listed-chosen : {A : Type 0} {v : Store A} {r : Sides} {p : Chosen} {h : Holding} → IsGrantable v r p h
@@ -114,9 +120,9 @@ module _ {A : Type 0} {v v' : Store A} {r : Sides} {p : Chosen} {h : Holding} (w
     pub granted-short : to < 16777216
     granted-short = omega (arith, granted-inside, placed_there.1.holds.short)
 
-    pub grant-made : (id : ℕ) (node : Node) → node ≡ node_in (shelf_of new) to → id ≡ id_of to node.generation
-        → (to : ℕ) × (h' : Holding) × IsGrantMade (shelf_of new) p id to h h'
-    grant-made id node same is =
+    pub grant-made : (allocation : Allocation) (node : Node) → node ≡ node_in (shelf_of new) to → allocation.id ≡ id_of to node.generation
+        → allocation.rectangle ≡ node.area → (to : ℕ) × (h' : Holding) × IsGrantMade (shelf_of new) p allocation to h h'
+    grant-made allocation node same is lies =
         let made = placed_there.1 in (
           to,
           placed_there.0,
@@ -130,5 +136,6 @@ module _ {A : Type 0} {v v' : Store A} {r : Sides} {p : Chosen} {h : Holding} (w
               unused_list = made.unused_list;
             };
             names = is ∙ ap (λ (n : Node). id_of to n.generation) same;
+            area = lies ∙ ap (λ (n : Node). n.area) same;
           },
         )
