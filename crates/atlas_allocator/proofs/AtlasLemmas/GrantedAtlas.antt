@@ -3,7 +3,7 @@ use Rattle.std.proofs.Common.{rules, ℕ, ◌+◌, ◌%◌, ◌^◌, ◌<◌, �
 use Rattle.std.proofs.Common.{inl, inr, arith, vec_capacity, cond}
 use Rattle.std.proofs.lemmas.Bool.{false≢true}
 use Rattle.std.specs.Prelude.{Err, None, Some, IfSome, IsTrue, is_some, ◌↔◌, option_map}
-use Rattle.atlas_model.specs.Boxes.{Sides, Box, box_at, IsPositive}
+use Rattle.atlas_model.specs.Boxes.{Sides, Box, box_at, box_sides, Fits, IsPositive}
 use Rattle.atlas_model.specs.Changes.{place}
 use Rattle.atlas_model.specs.Choice.{rounded, IsFitting, HasRoom, HasNoRoom}
 use Rattle.atlas_model.specs.Pixels.{box_of, rectangle_of, sides_of, size_of, options_of}
@@ -21,8 +21,11 @@ use Rattle.atlas_model.specs.Steps.AtlasCall.{Allocate}
 use Rattle.atlas_model.specs.Steps.AtlasReply.{Refused}
 use Rattle.atlas_tree.specs.Plans.Chosen.{CanGrant, IsAtRest, IsChosen, IsGrantable, IsGrantMade, IsRequestGranted}
 use Rattle.atlas_tree.specs.Plans.Chosen.{IsShortOf}
-use Rattle.atlas_store.specs.Store.Holdings.{shelf_of, node_in}
-use Rattle.atlas_tree.specs.Plans.Planning.{slots_of}
+use Rattle.atlas_store.specs.Store.Holdings.{shelf_of, node_in, across_of, HasSlotsFor}
+use Rattle.atlas_tree.specs.Plans.Planning.{slots_of, IsPlanFor, IsFeasible}
+use Rattle.atlas_tree.specs.declared.requests.Plan.{Plan}
+use Rattle.atlas_store.specs.Slots.Reading.{extent_of}
+use Rattle.atlas_store.specs.declared.slots.Node.{Node}
 use Rattle.atlas_store.specs.Stored.{Stored, Shelf, Holding, IsAtlas, state_of}
 use Rattle.atlas_model.specs.Trees.{Grant, ids, slot_count}
 use Rattle.atlas_model.specs.declared.allocation.Allocation.{Allocation}
@@ -44,7 +47,7 @@ use Rattle.atlas_store.proofs.StoreLemmas.UnusedCounts.{unused_list-count}
 use Rattle.atlas_tree.proofs.PlanLemmas.PlannedTrees.{IsPlacing, planned-tree, planned-used, need-read}
 use Rattle.atlas_tree.proofs.PlanLemmas.PlannedSlots.{planned-first, planned-unused}
 use Rattle.atlas_allocator.proofs.AtlasLemmas.CuttingFromLists.{sides_of-size, unsigned_of}
-use Rattle.atlas_tree.proofs.PlanLemmas.ChosenSlots.{rest-free}
+use Rattle.atlas_tree.proofs.PlanLemmas.ChosenSlots.{rest-free, chosen-inside, chosen-exact, chosen-fits}
 use Rattle.atlas_model.proofs.StepLemmas.CallerSteps.{grant_adds}
 use Rattle.atlas_store.proofs.WalkLemmas.NamedSlots.{named-true, named-IsAtlas}
 use Rattle.atlas_store.proofs.WalkLemmas.Observing.{nodes-short, members-IsAtlas, tree_of-IsAtlas, used-IsAtlas}
@@ -81,30 +84,43 @@ module _ (v : Stored) (a : IsAtlas v) (request : Sides) where
   no_room-none size e none room = none (free_in now) free_here room.box (subst (λ r. IsFitting (free_in now) r room.box) (sym e) room.fitting)
 
   -- The slot that is taken.
-  module _ (p : Chosen) (chosen : IsChosen v.shelf (rounded (options_of v.shelf.options) request) p) (positive : IsPositive request) where
+  module _ (p : Chosen) (chosen : IsChosen v.shelf (rounded (options_of v.shelf.options) request) p) (positive : IsPositive request) (plan : Plan)
+      (line : IsPlanFor (node_in v.shelf p.at.number) (rounded (options_of v.shelf.options) request) plan) where
     pub takes : Takes now request (chosen_box v p)
     takes = record { positive = positive; pick = chosen.pick (free_in now) free_here }
 
     placing : IsPlacing (sides_of v.size) v.shelf a.holding p.at.number wanted
     placing = grind (arith, rounded_positive, takes)
 
-    pub need : nodes_with now request (chosen_box v p) ≡ v.used + slots_of p.plan
+    pub need : nodes_with now request (chosen_box v p) ≡ v.used + slots_of plan
     need = grind (arith, need-read, placing, used-IsAtlas)
 
     -- Slots were refused.
-    pub step-refused : (error : AtlasError) → IsShortOf v.used v.limit (slots_of p.plan) (length v.shelf.slots) error → Step now (Allocate request) (Refused error) now
+    pub step-refused : (error : AtlasError) → IsShortOf v.used v.limit (slots_of plan) (length v.shelf.slots) error → Step now (Allocate request) (Refused error) now
     step-refused Slots short = (chosen_box v p, takes, omega (arith, need), refl)
     step-refused Memory short = (chosen_box v p, takes, omega (arith, need, short.0), omega (arith, need, short.1), refl)
     step-refused NotLive short = absurd short
 
     -- There are slots for the plan.
-    pub grantable : {A : Type 0} (made : Store A) → shelf_of made ≡ v.shelf → v.used + slots_of p.plan ≤ v.limit
-        → (v.used + slots_of p.plan ≤ length v.shelf.slots) ⊎ (v.used + slots_of p.plan ≤ vec_capacity made.slots)
-        → IsGrantable made wanted p a.holding
-    grantable made same few room = grind (arith, unused_list-count, at-rest)
+    slots-made : {A : Type 0} (made : Store A) → shelf_of made ≡ v.shelf → v.used + slots_of plan ≤ v.limit
+        → (v.used + slots_of plan ≤ length v.shelf.slots) ⊎ (v.used + slots_of plan ≤ vec_capacity made.slots)
+        → HasSlotsFor (slots_of plan) made a.holding
+    slots-made made same few room = grind (arith, unused_list-count, at-rest)
+
+    pub grantable : {A : Type 0} (made : Store A) → IsFeasible plan (extent_of (node_in v.shelf p.at.number)) (across_of (node_in v.shelf p.at.number))
+        → shelf_of made ≡ v.shelf → v.used + slots_of plan ≤ v.limit
+        → (v.used + slots_of plan ≤ length v.shelf.slots) ⊎ (v.used + slots_of plan ≤ vec_capacity made.slots)
+        → IsGrantable made wanted p plan a.holding
+    grantable made feasible same few room = record {
+      rest = subst (λ u. IsAtRest u a.holding) (sym same) at-rest;
+      chosen = subst (λ u. IsChosen u wanted p) (sym same) chosen;
+      line = subst (λ u. IsPlanFor (node_in u p.at.number) wanted plan) (sym same) line;
+      feasible = subst (λ u. IsFeasible plan (extent_of (node_in u p.at.number)) (across_of (node_in u p.at.number))) (sym same) feasible;
+      slots = slots-made made same few room;
+    }
 
     -- The request is placed and granted.
-    module _ (u : Shelf) (made : Allocation) (to : ℕ) (h : Holding) (w : IsGrantMade u p made to a.holding h) (same_options : u.options ≡ v.shelf.options) (few : v.used + slots_of p.plan ≤ v.limit) where
+    module _ (u : Shelf) (made : Allocation) (to : ℕ) (h : Holding) (w : IsGrantMade u p plan made to a.holding h) (same_options : u.options ≡ v.shelf.options) (few : v.used + slots_of plan ≤ v.limit) where
       -- The box that it is granted.
       abbrev pub box : Box
       box = box_at (chosen_box v p).min (rounded (options_of v.shelf.options) request)
@@ -115,8 +131,8 @@ module _ (v : Stored) (a : IsAtlas v) (request : Sides) where
       tree-placed : tree_of (nodes u.slots) ≡ place (sides_of v.size) (chosen_box v p) wanted made.id (tree_of (nodes v.shelf.slots))
       tree-placed = grind (arith, planned-tree, placing)
 
-      more : numbers h.tree ≡ numbers a.holding.tree + slots_of p.plan
-      more = planned-used (sides_of v.size) v.shelf a.holding p.at.number wanted placing u to p.plan h chosen.line w.planned
+      more : numbers h.tree ≡ numbers a.holding.tree + slots_of plan
+      more = planned-used (sides_of v.size) v.shelf a.holding p.at.number wanted placing u to plan h line w.planned
 
       kept-placed : length u.slots ≡ max (length v.shelf.slots) (tree.node_count (place (sides_of v.size) (chosen_box v p) wanted made.id (tree_of (nodes v.shelf.slots))).members)
       kept-placed = search (rules, unused_list-count, more, need, place_nodes)
@@ -134,7 +150,7 @@ module _ (v : Stored) (a : IsAtlas v) (request : Sides) where
           let is : made.id % 2 ^ 24 ≡ to = ap (λ i. i % 2 ^ 24) w.names ∙ id_of-slot to (node_in u to).generation short in
           ap (λ m. slot_count made.id (ids m)) (members-IsAtlas v a)
           ∙ slot_count-none (nodes v.shelf.slots) a.holding.sequence a.holding.tree made.id a.holds.stands (nodes-short v.shelf.slots a.holds.short)
-          (λ q. planned-unused v.shelf u p.at.number to p.plan a.holding h a.holds chosen.free w.planned (ap (λ k. (node_in v.shelf k).kind) (sym is) ∙ q))
+          (λ q. planned-unused v.shelf u p.at.number to plan a.holding h a.holds chosen.free w.planned (ap (λ k. (node_in v.shelf k).kind) (sym is) ∙ q))
 
       pub grants : (used turns : ℕ) → Grants now request (chosen_box v p) (record { id = made.id; box = box }) (after used turns)
       grants used turns = record {
@@ -145,16 +161,16 @@ module _ (v : Stored) (a : IsAtlas v) (request : Sides) where
         state = state-placing used turns;
       }
 
-      pub atlas-placed : IsAtlas (record { shelf = u; first = v.first; used = v.used + slots_of p.plan; size = v.size; limit = v.limit })
+      pub atlas-placed : IsAtlas (record { shelf = u; first = v.first; used = v.used + slots_of plan; size = v.size; limit = v.limit })
       atlas-placed = record {
         holding = h;
         holds = w.planned.holds;
         at_rest = w.planned.listed;
         start = ap (λ s. s.start) w.planned.sequence ∙ a.start;
         across = rw w.planned.sequence a.across;
-        first = a.first ∙ sym (planned-first p.plan p.at.number a.holding.sequence.width to (node_in u to).generation a.holding.tree h.tree w.planned.tree);
+        first = a.first ∙ sym (planned-first plan p.at.number a.holding.sequence.width to (node_in u to).generation a.holding.tree h.tree w.planned.tree);
         used = omega (arith, more, a.used);
-        sound = placing_sound now (chosen_box v p) request (record { id = made.id; box = box }) (after (v.used + slots_of p.plan) 0) a.sound (grants (v.used + slots_of p.plan) 0);
+        sound = placing_sound now (chosen_box v p) request (record { id = made.id; box = box }) (after (v.used + slots_of plan) 0) a.sound (grants (v.used + slots_of plan) 0);
         exact = a.exact;
         limited = a.limited;
       }
@@ -163,10 +179,10 @@ module _ (v : Stored) (a : IsAtlas v) (request : Sides) where
       pub area-placed : made.rectangle ≡ rectangle_of box
       area-placed =
           let ns = nodes u.slots in
-          let grown : Stored = record { shelf = u; first = v.first; used = v.used + slots_of p.plan; size = v.size; limit = v.limit } in
+          let grown : Stored = record { shelf = u; first = v.first; used = v.used + slots_of plan; size = v.size; limit = v.limit } in
           let its : Grant = record { id = made.id; box = box } in
-          let shown : live_box (after (v.used + slots_of p.plan) 0) made.id ≡ Some box =
-          (grant_adds now (after (v.used + slots_of p.plan) 0) a.sound request its (chosen_box v p, grants (v.used + slots_of p.plan) 0)).here in
+          let shown : live_box (after (v.used + slots_of plan) 0) made.id ≡ Some box =
+          (grant_adds now (after (v.used + slots_of plan) 0) a.sound request its (chosen_box v p, grants (v.used + slots_of plan) 0)).here in
           let named = named-true ns to made.id short (ap is_alloc w.planned.granted) (sym w.names) in
           let read : named_area ns made.id ≡ Some (node_at ns to).area =
           ap (λ b. cond b (Some (node_at ns (made.id % 2 ^ 24)).area) None) named.0 ∙ ap (λ k. Some (node_at ns k).area) named.1 in
@@ -190,42 +206,59 @@ module _ (v : Stored) (a : IsAtlas v) (request : Sides) (size : Size) (sized : C
   chosen_here : IsChosen v.shelf (rounded (options_of v.shelf.options) request) p
   chosen_here = subst (λ r. IsChosen v.shelf r p) same_sides chosen
 
+  -- Its leaf.
+  pub taken-inside : p.at.number < length v.shelf.slots
+  taken-inside = chosen-inside v.shelf a.holding (at-rest v a request) (sides_of size) p chosen
+
+  pub taken-exact : (node_in v.shelf p.at.number).area ≡ rectangle_of (chosen_box v p)
+  taken-exact = chosen-exact v.shelf a.holding (at-rest v a request) (sides_of size) p chosen
+
+  pub taken-fits : Fits (sides_of size) (box_sides (chosen_box v p))
+  taken-fits = chosen-fits v.shelf a.holding (at-rest v a request) (sides_of size) p chosen
+
   -- In the words of the calls: `made` are the slots once there is room.
-  module _ {A : Type 0} (made : Store A) (same : shelf_of made ≡ v.shelf) (needed : ℕ) (is_needed : needed ≡ slots_of p.plan) where
+  module _ (leaf : Node) (read : leaf ≡ node_in v.shelf p.at.number) (plan : Plan) (line : IsPlanFor leaf (sides_of size) plan) (feasible : IsFeasible plan (extent_of leaf) (across_of leaf))
+      {A : Type 0} (made : Store A) (same : shelf_of made ≡ v.shelf) (needed : ℕ) (is_needed : needed ≡ slots_of plan) where
+    line_here : IsPlanFor (node_in v.shelf p.at.number) (rounded (options_of v.shelf.options) request) plan
+    line_here = subst (λ r. IsPlanFor (node_in v.shelf p.at.number) r plan) same_sides (subst (λ n. IsPlanFor n (sides_of size) plan) read line)
+
+    feasible_here : IsFeasible plan (extent_of (node_in v.shelf p.at.number)) (across_of (node_in v.shelf p.at.number))
+    feasible_here = subst (λ n. IsFeasible plan (extent_of n) (across_of n)) read feasible
+
     pub refused-step : (result : Result (Option Allocation) AtlasError) (error : AtlasError) → result ≡ Err error → IsShortOf v.used v.limit needed (length v.shelf.slots) error → (turns before : ℕ)
         → Step (state_of (record { stored = v; turns = before; capacity = 0 })) (Allocate request) (allocate_reply result)
         (state_of (record { stored = record { shelf = shelf_of made; first = v.first; used = v.used; size = v.size; limit = v.limit }; turns = turns; capacity = 0 }))
-    refused-step result error is short turns before = grind (arith, step-refused, chosen_here)
+    refused-step result error is short turns before = grind (arith, step-refused, chosen_here, line_here)
 
     module _ (ok : (v.used + needed ≤ v.limit) × ((v.used + needed ≤ length made.slots.items) ⊎ (v.used + needed ≤ vec_capacity made.slots))) where
-      grantable_here : IsGrantable made (rounded (options_of v.shelf.options) request) p a.holding
+      grantable_here : IsGrantable made (rounded (options_of v.shelf.options) request) p plan a.holding
       grantable_here =
           let long : length made.slots.items ≡ length v.shelf.slots = ap (λ s. length s.slots) same in
-          grantable v a request p chosen_here sized.0.positive made same (omega (arith, ok.0, is_needed)) (elim ok.1 [
+          grantable v a request p chosen_here sized.0.positive plan line_here made feasible_here same (omega (arith, ok.0, is_needed)) (elim ok.1 [
             | inl s ↦ inl (omega (arith, is_needed, long))
             | inr s ↦ inr (omega (arith, is_needed))
           ])
 
-      pub some-grantable : CanGrant made p
+      pub some-grantable : CanGrant made p plan
       some-grantable = (rounded (options_of v.shelf.options) request, a.holding, grantable_here)
 
-      pub grant-done : (new : Store A) (allocation : Allocation) → IsRequestGranted made new p allocation → IsDone v request (shelf_of new) needed allocation
+      pub grant-done : (new : Store A) (allocation : Allocation) → IsRequestGranted made new p plan allocation → IsDone v request (shelf_of new) needed allocation
       grant-done new allocation told =
           let u : Shelf = shelf_of new in
           let got = told.granted (rounded (options_of v.shelf.options) request) a.holding grantable_here in
           let same_options : u.options ≡ v.shelf.options = told.options ∙ ap (λ s. s.options) same in
-          let few : v.used + slots_of p.plan ≤ v.limit = omega (arith, ok.0, is_needed) in
-          let cut : Box = box v a request p chosen_here sized.0.positive u allocation got.0 got.1 got.2 same_options few in
-          let there : allocation.rectangle ≡ rectangle_of cut = area-placed v a request p chosen_here sized.0.positive u allocation got.0 got.1 got.2 same_options few in
+          let few : v.used + slots_of plan ≤ v.limit = omega (arith, ok.0, is_needed) in
+          let cut : Box = box v a request p chosen_here sized.0.positive plan line_here u allocation got.0 got.1 got.2 same_options few in
+          let there : allocation.rectangle ≡ rectangle_of cut = area-placed v a request p chosen_here sized.0.positive plan line_here u allocation got.0 got.1 got.2 same_options few in
           let made_in : (turns before : ℕ) → Grants (state_of (record { stored = v; turns = before; capacity = 0 })) request (chosen_box v p) (record { id = allocation.id; box = cut })
-          (state_of (record { stored = record { shelf = u; first = v.first; used = v.used + slots_of p.plan; size = v.size; limit = v.limit }; turns = turns; capacity = 0 })) =
-          (λ turns before. grants v a request p chosen_here sized.0.positive u allocation got.0 got.1 got.2 same_options few (v.used + slots_of p.plan) turns) in
+          (state_of (record { stored = record { shelf = u; first = v.first; used = v.used + slots_of plan; size = v.size; limit = v.limit }; turns = turns; capacity = 0 })) =
+          (λ turns before. grants v a request p chosen_here sized.0.positive plan line_here u allocation got.0 got.1 got.2 same_options few (v.used + slots_of plan) turns) in
           subst (λ n. IsDone v request u n allocation) (sym is_needed) (record {
-            atlas = atlas-placed v a request p chosen_here sized.0.positive u allocation got.0 got.1 got.2 same_options few;
+            atlas = atlas-placed v a request p chosen_here sized.0.positive plan line_here u allocation got.0 got.1 got.2 same_options few;
             granted = (λ turns before. (
               chosen_box v p,
               subst (λ b. Grants (state_of (record { stored = v; turns = before; capacity = 0 })) request (chosen_box v p) (record { id = allocation.id; box = b })
-                  (state_of (record { stored = record { shelf = u; first = v.first; used = v.used + slots_of p.plan; size = v.size; limit = v.limit }; turns = turns; capacity = 0 }))) (sym (ap box_of there)) (made_in turns before),
+                  (state_of (record { stored = record { shelf = u; first = v.first; used = v.used + slots_of plan; size = v.size; limit = v.limit }; turns = turns; capacity = 0 }))) (sym (ap box_of there)) (made_in turns before),
             ));
             exact = unsigned_of allocation.rectangle cut there;
           })
@@ -245,7 +278,7 @@ found-room v a request size sized (Some p) none some = (
   (λ yes. record {
     positive = sized.0.positive;
     box = chosen_box v p;
-    fitting = (takes v a request p (chosen_here v a request size sized p some) sized.0.positive).pick.best.candidate.fitting;
+    fitting = ((chosen_here v a request size sized p some).pick (free_in (now v a request)) (free_here v a request)).best.candidate.fitting;
   }),
   (λ room. refl),
 )
