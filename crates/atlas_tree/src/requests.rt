@@ -17,7 +17,7 @@ ghost use Rattle.atlas_model.specs.Cuts.Cut.{Whole, Strip, Corner};
 ghost use Rattle.atlas_store.specs.Slots.Reading.{extent_of};
 ghost use Rattle.atlas_tree.specs.Plans.Planning.{slots_of, IsPlanFor, IsFeasible, IsPlanReady, IsPlanDone};
 
-use atlas_model::{AllocId, AtlasError, Rectangle, Size};
+use atlas_model::{Allocation, AtlasError, Size};
 use atlas_store::cut::{Orientation, orientation_of};
 use atlas_store::search::bands::Place;
 use atlas_store::slots::lists::exact_size;
@@ -27,15 +27,13 @@ use atlas_store::slots::{Link, Node};
 use atlas_store::store::Store;
 use std::alloc::Allocator;
 
-/// The free slot that a request takes, its rectangle, the list where it stands, at most the `min.y` of each other slot
-/// of that list, and how the slot gives way.
+/// The free slot that a request takes, the list where it stands, and at most the `min.y` of each other slot of that
+/// list.
 #[derive(Clone, Copy)]
 pub struct Chosen {
     pub at: Link,
-    pub area: Rectangle,
     pub place: Place,
     pub low: u32,
-    pub plan: Plan,
 }
 
 /// The free slot that a request of this rounded size takes; None if it fits none.
@@ -47,13 +45,10 @@ pub fn choose<A: Allocator>(store: &Store<A>, size: Size) -> Option<Chosen>
     ensures some { IfSome result (IsChosen (shelf_of store.now) (sides_of size)) }
 {
     let found = pick(&store.slots, &store.lists, &store.options, size)?;
-    let leaf = store.node(found.at);
     Some(Chosen {
         at: found.at,
-        area: found.rectangle,
         place: found.place,
         low: found.low,
-        plan: plan_for(&leaf, size),
     })
 }
 
@@ -86,16 +81,19 @@ pub fn make_room<A: Allocator>(
     Ok(())
 }
 
-/// Places a request in the slot that it takes. The answer is its id.
-pub fn grant<A: Allocator>(store: &mut Store<A>, chosen: Chosen) -> AllocId
-    requires { CanGrant store.old chosen }
-    ensures { IsRequestGranted store.old store.new chosen result }
+/// Places a request in the slot that it takes, which gives way by this plan. The answer is its id and its rectangle.
+pub fn grant<A: Allocator>(store: &mut Store<A>, chosen: Chosen, plan: Plan) -> Allocation
+    requires { CanGrant store.old chosen plan }
+    ensures { IsRequestGranted store.old store.new chosen plan result }
 {
     store.unlist(chosen.at);
     store.sharpen(chosen.place, chosen.low);
-    let slot = place(store, chosen.at, chosen.plan);
+    let slot = place(store, chosen.at, plan);
     let node = store.node(slot);
-    slot_id(slot.number as usize, node.generation)
+    Allocation {
+        id: slot_id(slot.number as usize, node.generation),
+        rectangle: node.area,
+    }
 }
 
 /// How a free leaf gives way to a request that fits it, with the request's pixels along the leaf's sequence and across

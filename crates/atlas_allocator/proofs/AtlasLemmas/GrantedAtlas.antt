@@ -1,17 +1,18 @@
 -- Granting a request in an atlas.
 use Rattle.std.proofs.Common.{rules, ℕ, ◌+◌, ◌%◌, ◌^◌, ◌<◌, ◌≤◌, ◌≡◌, max, List, length, refl, sym, ap, subst, ◌∙◌, ◌⊎◌}
-use Rattle.std.proofs.Common.{inl, inr, arith, vec_capacity}
+use Rattle.std.proofs.Common.{inl, inr, arith, vec_capacity, cond}
 use Rattle.std.proofs.lemmas.Bool.{false≢true}
-use Rattle.std.specs.Prelude.{Err, None, Some, IfSome, IsTrue, is_some, ◌↔◌}
+use Rattle.std.specs.Prelude.{Err, None, Some, IfSome, IsTrue, is_some, ◌↔◌, option_map}
 use Rattle.atlas_model.specs.Boxes.{Sides, Box, box_at, box_sides, Fits, IsPositive}
 use Rattle.atlas_model.specs.Changes.{place}
 use Rattle.atlas_model.specs.Choice.{rounded, IsFitting, HasRoom, HasNoRoom}
 use Rattle.atlas_model.specs.Pixels.{box_of, rectangle_of, sides_of, size_of, options_of}
-use Rattle.atlas_store.specs.Rectangles.{FitsInto, IsUnsigned}
-use Rattle.atlas_model.specs.Replies.{allocate_reply}
+use Rattle.atlas_store.specs.Rectangles.{IsUnsigned}
+use Rattle.atlas_model.specs.Replies.{allocate_reply, grant_of, live_box}
 use Rattle.atlas_store.specs.Search.Picks.{AreFreeBoxes}
 use Rattle.atlas_store.specs.Search.Requests.{CanBeRounded}
-use Rattle.atlas_store.specs.Slots.{nodes}
+use Rattle.atlas_store.specs.Slots.{nodes, node_at}
+use Rattle.atlas_store.specs.Visits.{is_alloc, named_area}
 use Rattle.atlas_store.specs.Slots.Numbered.{numbers}
 use Rattle.atlas_store.specs.Slots.Reading.{tree_of}
 use Rattle.atlas_model.specs.States.{State, free_in, after_placing}
@@ -20,14 +21,16 @@ use Rattle.atlas_model.specs.Steps.AtlasCall.{Allocate}
 use Rattle.atlas_model.specs.Steps.AtlasReply.{Refused}
 use Rattle.atlas_tree.specs.Plans.Chosen.{CanGrant, IsAtRest, IsChosen, IsGrantable, IsGrantMade, IsRequestGranted}
 use Rattle.atlas_tree.specs.Plans.Chosen.{IsShortOf}
-use Rattle.atlas_store.specs.Store.Holdings.{shelf_of, node_in}
-use Rattle.atlas_tree.specs.Plans.Planning.{slots_of}
+use Rattle.atlas_store.specs.Store.Holdings.{shelf_of, node_in, across_of, HasSlotsFor}
+use Rattle.atlas_tree.specs.Plans.Planning.{slots_of, IsPlanFor, IsFeasible}
+use Rattle.atlas_tree.specs.declared.requests.Plan.{Plan}
+use Rattle.atlas_store.specs.Slots.Reading.{extent_of}
+use Rattle.atlas_store.specs.declared.slots.Node.{Node}
 use Rattle.atlas_store.specs.Stored.{Stored, Shelf, Holding, IsAtlas, state_of}
-use Rattle.atlas_model.specs.Trees.{ids, slot_count}
+use Rattle.atlas_model.specs.Trees.{Grant, ids, slot_count}
 use Rattle.atlas_model.specs.declared.allocation.Allocation.{Allocation}
 use Rattle.atlas_model.specs.declared.error.AtlasError.{AtlasError}
 use Rattle.atlas_model.specs.declared.error.AtlasError.TheVariants.{Memory, Slots, NotLive}
-use Rattle.atlas_model.specs.declared.geometry.Rectangle.{Rectangle}
 use Rattle.atlas_model.specs.declared.geometry.Size.{Size}
 use Rattle.atlas_store.specs.declared.store.Store.{Store}
 use Rattle.atlas_tree.specs.declared.requests.Chosen.{Chosen}
@@ -43,15 +46,20 @@ use Rattle.atlas_model.proofs.StepLemmas.StepKeeping.{placing_sound}
 use Rattle.atlas_store.proofs.StoreLemmas.UnusedCounts.{unused_list-count}
 use Rattle.atlas_tree.proofs.PlanLemmas.PlannedTrees.{IsPlacing, planned-tree, planned-used, need-read}
 use Rattle.atlas_tree.proofs.PlanLemmas.PlannedSlots.{planned-first, planned-unused}
-use Rattle.atlas_allocator.proofs.AtlasLemmas.CuttingFromLists.{unsigned-fits, sides_of-size, size-positive}
-use Rattle.atlas_store.proofs.SlotLemmas.FreeSlots.{exact-free}
-use Rattle.atlas_tree.proofs.PlanLemmas.ChosenSlots.{rest-free}
+use Rattle.atlas_allocator.proofs.AtlasLemmas.CuttingFromLists.{sides_of-size, unsigned_of}
+use Rattle.atlas_tree.proofs.PlanLemmas.ChosenSlots.{rest-free, chosen-inside, chosen-exact, chosen-fits}
+use Rattle.atlas_model.proofs.StepLemmas.CallerSteps.{grant_adds}
+use Rattle.atlas_store.proofs.WalkLemmas.NamedSlots.{named-true, named-IsAtlas}
 use Rattle.atlas_store.proofs.WalkLemmas.Observing.{nodes-short, members-IsAtlas, tree_of-IsAtlas, used-IsAtlas}
 
 -- The state after a placing, of its parts.
 state-placed : (new old : State) (f : Box) (r : Sides) (id : ℕ) → new.tree ≡ place old.size f r id old.tree → new.size ≡ old.size → new.options ≡ old.options → new.limit ≡ old.limit
     → new.kept ≡ max old.kept (tree.node_count (place old.size f r id old.tree).members) → new ≡ after_placing old f r id
 state-placed new old f r id et es eo el ek = rw (← ek, ← et, ← es, ← eo, ← el) refl
+
+-- The box of the slot that a request takes.
+abbrev pub chosen_box : Stored → Chosen → Box
+chosen_box v p = box_of (node_in v.shelf p.at.number).area
 
 module _ (v : Stored) (a : IsAtlas v) (request : Sides) where
   abbrev pub now : State
@@ -76,77 +84,118 @@ module _ (v : Stored) (a : IsAtlas v) (request : Sides) where
   no_room-none size e none room = none (free_in now) free_here room.box (subst (λ r. IsFitting (free_in now) r room.box) (sym e) room.fitting)
 
   -- The slot that is taken.
-  module _ (p : Chosen) (chosen : IsChosen v.shelf (rounded (options_of v.shelf.options) request) p) (positive : IsPositive request) where
-    pub takes : Takes now request (box_of p.area)
+  module _ (p : Chosen) (chosen : IsChosen v.shelf (rounded (options_of v.shelf.options) request) p) (positive : IsPositive request) (plan : Plan)
+      (line : IsPlanFor (node_in v.shelf p.at.number) (rounded (options_of v.shelf.options) request) plan) where
+    pub takes : Takes now request (chosen_box v p)
     takes = record { positive = positive; pick = chosen.pick (free_in now) free_here }
 
     placing : IsPlacing (sides_of v.size) v.shelf a.holding p.at.number wanted
     placing = grind (arith, rounded_positive, takes)
 
-    pub need : nodes_with now request (box_of p.area) ≡ v.used + slots_of p.plan
+    pub need : nodes_with now request (chosen_box v p) ≡ v.used + slots_of plan
     need = grind (arith, need-read, placing, used-IsAtlas)
 
     -- Slots were refused.
-    pub step-refused : (error : AtlasError) → IsShortOf v.used v.limit (slots_of p.plan) (length v.shelf.slots) error → Step now (Allocate request) (Refused error) now
-    step-refused Slots short = (box_of p.area, takes, omega (arith, need), refl)
-    step-refused Memory short = (box_of p.area, takes, omega (arith, need, short.0), omega (arith, need, short.1), refl)
+    pub step-refused : (error : AtlasError) → IsShortOf v.used v.limit (slots_of plan) (length v.shelf.slots) error → Step now (Allocate request) (Refused error) now
+    step-refused Slots short = (chosen_box v p, takes, omega (arith, need), refl)
+    step-refused Memory short = (chosen_box v p, takes, omega (arith, need, short.0), omega (arith, need, short.1), refl)
     step-refused NotLive short = absurd short
 
     -- There are slots for the plan.
-    pub grantable : {A : Type 0} (made : Store A) → shelf_of made ≡ v.shelf → v.used + slots_of p.plan ≤ v.limit
-        → (v.used + slots_of p.plan ≤ length v.shelf.slots) ⊎ (v.used + slots_of p.plan ≤ vec_capacity made.slots)
-        → IsGrantable made wanted p a.holding
-    grantable made same few room = grind (arith, unused_list-count, at-rest)
+    slots-made : {A : Type 0} (made : Store A) → shelf_of made ≡ v.shelf → v.used + slots_of plan ≤ v.limit
+        → (v.used + slots_of plan ≤ length v.shelf.slots) ⊎ (v.used + slots_of plan ≤ vec_capacity made.slots)
+        → HasSlotsFor (slots_of plan) made a.holding
+    slots-made made same few room = grind (arith, unused_list-count, at-rest)
+
+    pub grantable : {A : Type 0} (made : Store A) → IsFeasible plan (extent_of (node_in v.shelf p.at.number)) (across_of (node_in v.shelf p.at.number))
+        → shelf_of made ≡ v.shelf → v.used + slots_of plan ≤ v.limit
+        → (v.used + slots_of plan ≤ length v.shelf.slots) ⊎ (v.used + slots_of plan ≤ vec_capacity made.slots)
+        → IsGrantable made wanted p plan a.holding
+    grantable made feasible same few room = record {
+      rest = subst (λ u. IsAtRest u a.holding) (sym same) at-rest;
+      chosen = subst (λ u. IsChosen u wanted p) (sym same) chosen;
+      line = subst (λ u. IsPlanFor (node_in u p.at.number) wanted plan) (sym same) line;
+      feasible = subst (λ u. IsFeasible plan (extent_of (node_in u p.at.number)) (across_of (node_in u p.at.number))) (sym same) feasible;
+      slots = slots-made made same few room;
+    }
 
     -- The request is placed and granted.
-    module _ (u : Shelf) (id to : ℕ) (h : Holding) (w : IsGrantMade u p id to a.holding h) (same_options : u.options ≡ v.shelf.options) (few : v.used + slots_of p.plan ≤ v.limit) (box : Box)
-        (there : box ≡ box_at (box_of p.area).min (rounded (options_of v.shelf.options) request)) where
+    module _ (u : Shelf) (made : Allocation) (to : ℕ) (h : Holding) (w : IsGrantMade u p plan made to a.holding h) (same_options : u.options ≡ v.shelf.options) (few : v.used + slots_of plan ≤ v.limit) where
+      -- The box that it is granted.
+      abbrev pub box : Box
+      box = box_at (chosen_box v p).min (rounded (options_of v.shelf.options) request)
+
       abbrev pub after : (used turns : ℕ) → State
       after used turns = state_of (record { stored = record { shelf = u; first = v.first; used = used; size = v.size; limit = v.limit }; turns = turns; capacity = 0 })
 
-      tree-placed : tree_of (nodes u.slots) ≡ place (sides_of v.size) (box_of p.area) wanted id (tree_of (nodes v.shelf.slots))
+      tree-placed : tree_of (nodes u.slots) ≡ place (sides_of v.size) (chosen_box v p) wanted made.id (tree_of (nodes v.shelf.slots))
       tree-placed = grind (arith, planned-tree, placing)
 
-      more : numbers h.tree ≡ numbers a.holding.tree + slots_of p.plan
-      more = planned-used (sides_of v.size) v.shelf a.holding p.at.number wanted placing u to p.plan h chosen.line w.planned
+      more : numbers h.tree ≡ numbers a.holding.tree + slots_of plan
+      more = planned-used (sides_of v.size) v.shelf a.holding p.at.number wanted placing u to plan h line w.planned
 
-      kept-placed : length u.slots ≡ max (length v.shelf.slots) (tree.node_count (place (sides_of v.size) (box_of p.area) wanted id (tree_of (nodes v.shelf.slots))).members)
+      kept-placed : length u.slots ≡ max (length v.shelf.slots) (tree.node_count (place (sides_of v.size) (chosen_box v p) wanted made.id (tree_of (nodes v.shelf.slots))).members)
       kept-placed = search (rules, unused_list-count, more, need, place_nodes)
 
-      pub state-placing : (used turns : ℕ) → after used turns ≡ after_placing now (box_of p.area) wanted id
-      state-placing used turns = state-placed (after used turns) now (box_of p.area) wanted id tree-placed refl (ap options_of same_options) refl kept-placed
+      pub state-placing : (used turns : ℕ) → after used turns ≡ after_placing now (chosen_box v p) wanted made.id
+      state-placing used turns = state-placed (after used turns) now (chosen_box v p) wanted made.id tree-placed refl (ap options_of same_options) refl kept-placed
 
-      unused : slot_count id (ids (tree_of (nodes v.shelf.slots)).members) ≡ 0
-      unused =
+      short : to < 2 ^ 24
+      short =
           let inside : to < length (nodes u.slots) = used-inside (nodes u.slots) to (rw w.planned.granted (omega arith)) in
-          let short : to < 2 ^ 24 = omega (arith, inside, nodes-short u.slots w.planned.holds.short) in
-          let is : id % 2 ^ 24 ≡ to = ap (λ i. i % 2 ^ 24) w.names ∙ id_of-slot to (node_in u to).generation short in
-          ap (λ m. slot_count id (ids m)) (members-IsAtlas v a)
-          ∙ slot_count-none (nodes v.shelf.slots) a.holding.sequence a.holding.tree id a.holds.stands (nodes-short v.shelf.slots a.holds.short)
-          (λ q. planned-unused v.shelf u p.at.number to p.plan a.holding h a.holds chosen.free w.planned (ap (λ k. (node_in v.shelf k).kind) (sym is) ∙ q))
+          omega (arith, inside, nodes-short u.slots w.planned.holds.short)
 
-      pub grants : (used turns : ℕ) → Grants now request (box_of p.area) (record { id = id; box = box }) (after used turns)
-      grants used turns = search (rules, takes, need, unused, state-placing)
+      unused : slot_count made.id (ids (tree_of (nodes v.shelf.slots)).members) ≡ 0
+      unused =
+          let is : made.id % 2 ^ 24 ≡ to = ap (λ i. i % 2 ^ 24) w.names ∙ id_of-slot to (node_in u to).generation short in
+          ap (λ m. slot_count made.id (ids m)) (members-IsAtlas v a)
+          ∙ slot_count-none (nodes v.shelf.slots) a.holding.sequence a.holding.tree made.id a.holds.stands (nodes-short v.shelf.slots a.holds.short)
+          (λ q. planned-unused v.shelf u p.at.number to plan a.holding h a.holds chosen.free w.planned (ap (λ k. (node_in v.shelf k).kind) (sym is) ∙ q))
 
-      pub atlas-placed : IsAtlas (record { shelf = u; first = v.first; used = v.used + slots_of p.plan; size = v.size; limit = v.limit })
+      pub grants : (used turns : ℕ) → Grants now request (chosen_box v p) (record { id = made.id; box = box }) (after used turns)
+      grants used turns = record {
+        takes = takes;
+        room = omega (arith, need, few);
+        unused = unused;
+        box = refl;
+        state = state-placing used turns;
+      }
+
+      pub atlas-placed : IsAtlas (record { shelf = u; first = v.first; used = v.used + slots_of plan; size = v.size; limit = v.limit })
       atlas-placed = record {
         holding = h;
         holds = w.planned.holds;
         at_rest = w.planned.listed;
         start = ap (λ s. s.start) w.planned.sequence ∙ a.start;
         across = rw w.planned.sequence a.across;
-        first = a.first ∙ sym (planned-first p.plan p.at.number a.holding.sequence.width to (node_in u to).generation a.holding.tree h.tree w.planned.tree);
+        first = a.first ∙ sym (planned-first plan p.at.number a.holding.sequence.width to (node_in u to).generation a.holding.tree h.tree w.planned.tree);
         used = omega (arith, more, a.used);
-        sound = placing_sound now (box_of p.area) request (record { id = id; box = box }) (after (v.used + slots_of p.plan) 0) a.sound (grants (v.used + slots_of p.plan) 0);
+        sound = placing_sound now (chosen_box v p) request (record { id = made.id; box = box }) (after (v.used + slots_of plan) 0) a.sound (grants (v.used + slots_of plan) 0);
         exact = a.exact;
         limited = a.limited;
       }
 
--- What a grant leaves: the request is granted under this id and in this box.
-pub record IsDone (v : Stored) (request : Sides) (u : Shelf) (needed id : ℕ) (box : Box) : Type 0 where
+      -- The slot that is granted lies there, since it is what its id names.
+      pub area-placed : made.rectangle ≡ rectangle_of box
+      area-placed =
+          let ns = nodes u.slots in
+          let grown : Stored = record { shelf = u; first = v.first; used = v.used + slots_of plan; size = v.size; limit = v.limit } in
+          let its : Grant = record { id = made.id; box = box } in
+          let shown : live_box (after (v.used + slots_of plan) 0) made.id ≡ Some box =
+          (grant_adds now (after (v.used + slots_of plan) 0) a.sound request its (chosen_box v p, grants (v.used + slots_of plan) 0)).here in
+          let named = named-true ns to made.id short (ap is_alloc w.planned.granted) (sym w.names) in
+          let read : named_area ns made.id ≡ Some (node_at ns to).area =
+          ap (λ b. cond b (Some (node_at ns (made.id % 2 ^ 24)).area) None) named.0 ∙ ap (λ k. Some (node_at ns k).area) named.1 in
+          let both : Some (rectangle_of box) ≡ Some (node_at ns to).area = sym (ap (option_map rectangle_of) shown) ∙ named-IsAtlas grown atlas-placed made.id ∙ read in
+          let there : rectangle_of box ≡ (node_at ns to).area = cc in
+          w.area ∙ sym there
+
+-- What a grant leaves: the request is granted under this id and in this rectangle.
+pub record IsDone (v : Stored) (request : Sides) (u : Shelf) (needed : ℕ) (made : Allocation) : Type 0 where
   pub atlas : IsAtlas (record { shelf = u; first = v.first; used = v.used + needed; size = v.size; limit = v.limit })
-  pub granted : (turns before : ℕ) → (f : Box) × Grants (state_of (record { stored = v; turns = before; capacity = 0 })) request f (record { id = id; box = box })
+  pub granted : (turns before : ℕ) → (f : Box) × Grants (state_of (record { stored = v; turns = before; capacity = 0 })) request f (grant_of made)
       (state_of (record { stored = record { shelf = u; first = v.first; used = v.used + needed; size = v.size; limit = v.limit }; turns = turns; capacity = 0 }))
+  pub exact : IsUnsigned made.rectangle
 
 -- A request that was rounded, and the slot that it takes.
 module _ (v : Stored) (a : IsAtlas v) (request : Sides) (size : Size) (sized : CanBeRounded (options_of v.shelf.options) request × (size ≡ size_of (rounded (options_of v.shelf.options) request)))
@@ -157,47 +206,61 @@ module _ (v : Stored) (a : IsAtlas v) (request : Sides) (size : Size) (sized : C
   chosen_here : IsChosen v.shelf (rounded (options_of v.shelf.options) request) p
   chosen_here = subst (λ r. IsChosen v.shelf r p) same_sides chosen
 
-  pub area-unsigned : IsUnsigned p.area
-  area-unsigned = grind (arith, exact-free)
+  -- Its leaf.
+  pub taken-inside : p.at.number < length v.shelf.slots
+  taken-inside = chosen-inside v.shelf a.holding (at-rest v a request) (sides_of size) p chosen
 
-  pub area-fits : FitsInto size p.area
-  area-fits =
-      let fits : Fits (rounded (options_of v.shelf.options) request) (box_sides (box_of p.area)) = (takes v a request p chosen_here sized.0.positive).pick.best.candidate.fitting.fits in
-      unsigned-fits size p.area area-unsigned (size-positive (options_of v.shelf.options) request size a.holds.valid sized)
-      (subst (λ r. Fits r (box_sides (box_of p.area))) (sym same_sides) fits)
+  pub taken-exact : (node_in v.shelf p.at.number).area ≡ rectangle_of (chosen_box v p)
+  taken-exact = chosen-exact v.shelf a.holding (at-rest v a request) (sides_of size) p chosen
+
+  pub taken-fits : Fits (sides_of size) (box_sides (chosen_box v p))
+  taken-fits = chosen-fits v.shelf a.holding (at-rest v a request) (sides_of size) p chosen
 
   -- In the words of the calls: `made` are the slots once there is room.
-  module _ {A : Type 0} (made : Store A) (same : shelf_of made ≡ v.shelf) (needed : ℕ) (is_needed : needed ≡ slots_of p.plan) where
+  module _ (leaf : Node) (read : leaf ≡ node_in v.shelf p.at.number) (plan : Plan) (line : IsPlanFor leaf (sides_of size) plan) (feasible : IsFeasible plan (extent_of leaf) (across_of leaf))
+      {A : Type 0} (made : Store A) (same : shelf_of made ≡ v.shelf) (needed : ℕ) (is_needed : needed ≡ slots_of plan) where
+    line_here : IsPlanFor (node_in v.shelf p.at.number) (rounded (options_of v.shelf.options) request) plan
+    line_here = subst (λ r. IsPlanFor (node_in v.shelf p.at.number) r plan) same_sides (subst (λ n. IsPlanFor n (sides_of size) plan) read line)
+
+    feasible_here : IsFeasible plan (extent_of (node_in v.shelf p.at.number)) (across_of (node_in v.shelf p.at.number))
+    feasible_here = subst (λ n. IsFeasible plan (extent_of n) (across_of n)) read feasible
+
     pub refused-step : (result : Result (Option Allocation) AtlasError) (error : AtlasError) → result ≡ Err error → IsShortOf v.used v.limit needed (length v.shelf.slots) error → (turns before : ℕ)
         → Step (state_of (record { stored = v; turns = before; capacity = 0 })) (Allocate request) (allocate_reply result)
         (state_of (record { stored = record { shelf = shelf_of made; first = v.first; used = v.used; size = v.size; limit = v.limit }; turns = turns; capacity = 0 }))
-    refused-step result error is short turns before = grind (arith, step-refused, chosen_here)
+    refused-step result error is short turns before = grind (arith, step-refused, chosen_here, line_here)
 
     module _ (ok : (v.used + needed ≤ v.limit) × ((v.used + needed ≤ length made.slots.items) ⊎ (v.used + needed ≤ vec_capacity made.slots))) where
-      grantable_here : IsGrantable made (rounded (options_of v.shelf.options) request) p a.holding
+      grantable_here : IsGrantable made (rounded (options_of v.shelf.options) request) p plan a.holding
       grantable_here =
           let long : length made.slots.items ≡ length v.shelf.slots = ap (λ s. length s.slots) same in
-          grantable v a request p chosen_here sized.0.positive made same (omega (arith, ok.0, is_needed)) (elim ok.1 [
+          grantable v a request p chosen_here sized.0.positive plan line_here made feasible_here same (omega (arith, ok.0, is_needed)) (elim ok.1 [
             | inl s ↦ inl (omega (arith, is_needed, long))
             | inr s ↦ inr (omega (arith, is_needed))
           ])
 
-      pub some-grantable : CanGrant made p
+      pub some-grantable : CanGrant made p plan
       some-grantable = (rounded (options_of v.shelf.options) request, a.holding, grantable_here)
 
-      pub grant-done : (new : Store A) (id : ℕ) (rectangle : Rectangle) → IsRequestGranted made new p id
-          → ((f : Box) → p.area ≡ rectangle_of f → rectangle ≡ rectangle_of (box_at f.min (sides_of size)))
-          → IsDone v request (shelf_of new) needed id (box_of rectangle)
-      grant-done new id rectangle told boxes =
+      pub grant-done : (new : Store A) (allocation : Allocation) → IsRequestGranted made new p plan allocation → IsDone v request (shelf_of new) needed allocation
+      grant-done new allocation told =
           let u : Shelf = shelf_of new in
           let got = told.granted (rounded (options_of v.shelf.options) request) a.holding grantable_here in
           let same_options : u.options ≡ v.shelf.options = told.options ∙ ap (λ s. s.options) same in
-          let few : v.used + slots_of p.plan ≤ v.limit = omega (arith, ok.0, is_needed) in
-          let there : box_of rectangle ≡ box_at (box_of p.area).min (rounded (options_of v.shelf.options) request) =
-          ap box_of (boxes (box_of p.area) area-unsigned) ∙ ap (λ r. box_at (box_of p.area).min r) same_sides in
-          subst (λ n. IsDone v request u n id (box_of rectangle)) (sym is_needed) (record {
-            atlas = atlas-placed v a request p chosen_here sized.0.positive u id got.0 got.1 got.2 same_options few (box_of rectangle) there;
-            granted = (λ turns before. (box_of p.area, grants v a request p chosen_here sized.0.positive u id got.0 got.1 got.2 same_options few (box_of rectangle) there (v.used + slots_of p.plan) turns));
+          let few : v.used + slots_of plan ≤ v.limit = omega (arith, ok.0, is_needed) in
+          let cut : Box = box v a request p chosen_here sized.0.positive plan line_here u allocation got.0 got.1 got.2 same_options few in
+          let there : allocation.rectangle ≡ rectangle_of cut = area-placed v a request p chosen_here sized.0.positive plan line_here u allocation got.0 got.1 got.2 same_options few in
+          let made_in : (turns before : ℕ) → Grants (state_of (record { stored = v; turns = before; capacity = 0 })) request (chosen_box v p) (record { id = allocation.id; box = cut })
+          (state_of (record { stored = record { shelf = u; first = v.first; used = v.used + slots_of plan; size = v.size; limit = v.limit }; turns = turns; capacity = 0 })) =
+          (λ turns before. grants v a request p chosen_here sized.0.positive plan line_here u allocation got.0 got.1 got.2 same_options few (v.used + slots_of plan) turns) in
+          subst (λ n. IsDone v request u n allocation) (sym is_needed) (record {
+            atlas = atlas-placed v a request p chosen_here sized.0.positive plan line_here u allocation got.0 got.1 got.2 same_options few;
+            granted = (λ turns before. (
+              chosen_box v p,
+              subst (λ b. Grants (state_of (record { stored = v; turns = before; capacity = 0 })) request (chosen_box v p) (record { id = allocation.id; box = b })
+                  (state_of (record { stored = record { shelf = u; first = v.first; used = v.used + slots_of plan; size = v.size; limit = v.limit }; turns = turns; capacity = 0 }))) (sym (ap box_of there)) (made_in turns before),
+            ));
+            exact = unsigned_of allocation.rectangle cut there;
           })
 
 -- A request has room if a slot was found for it.
@@ -214,8 +277,8 @@ found-room v a request size sized None none some = (
 found-room v a request size sized (Some p) none some = (
   (λ yes. record {
     positive = sized.0.positive;
-    box = box_of p.area;
-    fitting = (takes v a request p (chosen_here v a request size sized p some) sized.0.positive).pick.best.candidate.fitting;
+    box = chosen_box v p;
+    fitting = ((chosen_here v a request size sized p some).pick (free_in (now v a request)) (free_here v a request)).best.candidate.fitting;
   }),
   (λ room. refl),
 )

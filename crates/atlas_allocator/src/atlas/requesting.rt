@@ -13,8 +13,7 @@ ghost use Rattle.atlas_store.specs.Stored.{state_of};
 use crate::atlas::AtlasAllocator;
 use atlas_model::{Allocation, AtlasError, Size};
 use atlas_store::choice::rounded;
-use atlas_store::cut::granted;
-use atlas_tree::requests::{choose, grant, make_room, slots_needed};
+use atlas_tree::requests::{choose, grant, make_room, plan_for, slots_needed};
 use std::alloc::Allocator;
 
 impl<A: Allocator + Copy> AtlasAllocator<A> {
@@ -39,11 +38,11 @@ impl<A: Allocator + Copy> AtlasAllocator<A> {
         let Some(chosen) = choose(&self.store, size) else {
             return Ok(None);
         };
-        let needed = slots_needed(chosen.plan);
+        let plan = plan_for(&self.store.node(chosen.at), size);
+        let needed = slots_needed(plan);
         make_room(&mut self.store, self.used, self.limit, needed)?;
-        let rectangle = granted(chosen.area, size);
-        let id = grant(&mut self.store, chosen);
+        let granted = grant(&mut self.store, chosen, plan);
         self.used += needed;
-        Ok(Some(Allocation { id, rectangle }))
+        Ok(Some(granted))
     }
 }

@@ -8,19 +8,20 @@ use Rattle.atlas_store.specs.declared.slots.NodeKind.TheVariants as kind
 use Rattle.atlas_store.specs.declared.search.best.Found.{Found}
 use Rattle.atlas_tree.specs.declared.requests.Chosen.{Chosen}
 use Rattle.atlas_tree.specs.declared.requests.Plan.{Plan}
+use Rattle.atlas_model.specs.declared.allocation.Allocation.{Allocation}
+use Rattle.atlas_model.specs.declared.geometry.Rectangle.{Rectangle}
 use Rattle.atlas_model.specs.Boxes.{Sides, Box, origin, box_sides, Fits}
 use Rattle.atlas_model.specs.Pixels.{box_of, rectangle_of, options_of}
 use Rattle.atlas_model.specs.Choice.{IsPick}
 use Rattle.atlas_model.specs.Trees.{ungranted, leaves}
 use Rattle.atlas_store.specs.Slots.{nodes, node_at}
 use Rattle.atlas_store.specs.Slots.Numbered.{erase, id_of}
-use Rattle.atlas_store.specs.Slots.Reading.{extent_of}
 use Rattle.atlas_store.specs.Search.Picks.{AreFreeBoxes, IsFreeSlot, IsSearchable}
 use Rattle.atlas_store.specs.Stored.{Shelf, Holding, Holds, places_of}
-use Rattle.atlas_store.specs.Store.Holdings.{shelf_of, node_in, across_of, with_detached, with_free_lists, IsLow}
+use Rattle.atlas_store.specs.Store.Holdings.{shelf_of, node_in, with_detached, with_free_lists, IsLow}
 use Rattle.atlas_store.specs.Search.Bands.{list_of, number_of}
 use Rattle.atlas_store.specs.Slots.Lists.{node_sides, node_top}
-use Rattle.atlas_tree.specs.Plans.Planning.{IsPlanFor, IsFeasible, IsPlanReady, IsPlanReadyWith, IsPlanDone, IsPlanned}
+use Rattle.atlas_tree.specs.Plans.Planning.{IsPlanReady, IsPlanReadyWith, IsPlanDone, IsPlanned}
 use Rattle.atlas_store.specs.Store.StoreCalls.{IsSharpened, UnlistsLeaf}
 use Rattle.atlas_tree.specs.Plans.Chosen.{IsAtRest, IsChosen, IsGrantable, IsGrantMade}
 use Rattle.atlas_store.proofs.StoreLemmas.Filing.{with_mark-same}
@@ -39,7 +40,7 @@ module _ (v : Shelf) (h : Holding) (rest : IsAtRest v h) where
   rest-free = AreFreeBoxes-stands (nodes v.slots) h.sequence h.tree rest.holds.stands rest.start
 
   -- The slot that was found, in the words of the store.
-  module _ (slots : List Slot) (e : slots ≡ v.slots) (r : Sides) (found : Found) (leaf : Node) (le : leaf ≡ node_in v found.at.number)
+  module _ (slots : List Slot) (e : slots ≡ v.slots) (r : Sides) (found : Found)
       (free : IsFreeSlot (nodes slots) found.at.number) (area : (node_at (nodes slots) found.at.number).area ≡ found.rectangle)
       (picked : (free : List Box) → AreFreeBoxes (nodes slots) free → IsPick free (options_of v.options) r (box_of found.rectangle)) where
     free_here : (node_in v found.at.number).kind ≡ kind.Free
@@ -51,23 +52,32 @@ module _ (v : Shelf) (h : Holding) (rest : IsAtRest v h) where
     picked_here : (free : List Box) → AreFreeBoxes (nodes v.slots) free → IsPick free (options_of v.options) r (box_of found.rectangle)
     picked_here = subst (λ s. (free : List Box) → AreFreeBoxes (nodes s) free → IsPick free (options_of v.options) r (box_of found.rectangle)) e picked
 
-    pub found-exact : leaf.area ≡ rectangle_of (box_of leaf.area)
-    found-exact = grind (arith, exact-free, free_here)
+    -- The same of the slot's own rectangle.
+    picked_there : (free : List Box) → AreFreeBoxes (nodes v.slots) free → IsPick free (options_of v.options) r (box_of (node_in v found.at.number).area)
+    picked_there = subst (λ (q : Rectangle). (free : List Box) → AreFreeBoxes (nodes v.slots) free → IsPick free (options_of v.options) r (box_of q)) (sym area_here) picked_here
 
-    pub found-fits : Fits r (box_sides (box_of leaf.area))
-    found-fits = grind (arith, area_here, picked_here, rest-free)
-
-    pub found-chosen : (plan : Plan) → IsPlanFor leaf r plan → IsFeasible plan (extent_of leaf) (across_of leaf)
-        → (found.place.row < 52) × (found.place.column < 52) × (number_of found.place ≡ list_of (options_of v.options) (node_sides (node_at (nodes slots) found.at.number)))
+    pub found-chosen : (found.place.row < 52) × (found.place.column < 52) × (number_of found.place ≡ list_of (options_of v.options) (node_sides (node_at (nodes slots) found.at.number)))
         → ((i : ℕ) → IsFreeSlot (nodes slots) i → i ≢ found.at.number → list_of (options_of v.options) (node_sides (node_at (nodes slots) i)) ≡ number_of found.place
         → found.low ≤ node_top (node_at (nodes slots) i))
-        → IsChosen v r (record { at = found.at; area = found.rectangle; place = found.place; low = found.low; plan = plan })
-    found-chosen plan line feasible place low = grind (arith, free_here, area_here, picked_here)
+        → IsChosen v r (record { at = found.at; place = found.place; low = found.low })
+    found-chosen place low = grind (arith, free_here, picked_there)
+
+  -- The leaf of a slot that was chosen.
+  module _ (r : Sides) (p : Chosen) (chosen : IsChosen v r p) where
+    pub chosen-inside : p.at.number < length v.slots
+    chosen-inside =
+        omega (arith, used-inside (nodes v.slots) p.at.number (rw chosen.free (omega arith)), length-map v.slots (λ (s : Slot). s.node))
+
+    pub chosen-exact : (node_in v p.at.number).area ≡ rectangle_of (box_of (node_in v p.at.number).area)
+    chosen-exact = grind (arith, exact-free)
+
+    pub chosen-fits : Fits r (box_sides (box_of (node_in v p.at.number).area))
+    chosen-fits = (chosen.pick _ rest-free).best.candidate.fitting.fits
 
 -- It stands in its list.
-pub listed-chosen : {A : Type 0} {v : Store A} {r : Sides} {p : Chosen} {h : Holding} → IsGrantable v r p h
+pub listed-chosen : {A : Type 0} {v : Store A} {r : Sides} {p : Chosen} {plan : Plan} {h : Holding} → IsGrantable v r p plan h
     → (h : Holding) × Holds (shelf_of v) h × (h.detached p.at.number ≡ false)
-listed-chosen {A} {v} {r} {p} {h} w = (h, w.rest.holds, w.rest.listed p.at.number refl)
+listed-chosen {A} {v} {r} {p} {plan} {h} w = (h, w.rest.holds, w.rest.listed p.at.number refl)
 
 -- Once the slot is detached, no other slot of its list lies above the strip that the search saw.
 chosen-low : (v u : Shelf) (r : Sides) (p : Chosen) → IsChosen v r p → nodes u.slots ≡ nodes v.slots → u.options ≡ v.options
@@ -91,21 +101,21 @@ unlisted-sharpened {A} {v} {u} {v'} {r} p w one two = record {
   turns = two.turns ∙ one.turns;
 }
 
-module _ {A : Type 0} {v v' : Store A} {r : Sides} {p : Chosen} {h : Holding} (w : IsGrantable v r p h) (u : UnlistsLeaf v v' p.at.number) where
+module _ {A : Type 0} {v v' : Store A} {r : Sides} {p : Chosen} {plan : Plan} {h : Holding} (w : IsGrantable v r p plan h) (u : UnlistsLeaf v v' p.at.number) where
   left : (free_lists : ℕ → List ℕ) × Holds (shelf_of v') (with_detached p.at.number true (with_free_lists free_lists h))
   left = u.kept h w.rest.holds (w.rest.listed p.at.number refl)
 
   abbrev unlisted : Holding
   unlisted = with_detached p.at.number true (with_free_lists left.0 h)
 
-  is_placeable : IsPlanReadyWith v' p.at.number p.plan unlisted
+  is_placeable : IsPlanReadyWith v' p.at.number plan unlisted
   is_placeable = grind (arith, left, with_mark-same, only-more, slots-kept)
 
-  pub placeable-chosen : IsPlanReady v' p.at.number p.plan
+  pub placeable-chosen : IsPlanReady v' p.at.number plan
   placeable-chosen = (unlisted, is_placeable)
 
-  module _ {new : Store A} {to : ℕ} (placed : IsPlanDone v' new p.at.number to p.plan) where
-    placed_there : (h' : Holding) × IsPlanned (shelf_of new) p.at.number to p.plan unlisted h'
+  module _ {new : Store A} {to : ℕ} (placed : IsPlanDone v' new p.at.number to plan) where
+    placed_there : (h' : Holding) × IsPlanned (shelf_of new) p.at.number to plan unlisted h'
     placed_there = placed.kept unlisted is_placeable
 
     pub granted-inside : to < length new.slots.items
@@ -114,9 +124,9 @@ module _ {A : Type 0} {v v' : Store A} {r : Sides} {p : Chosen} {h : Holding} (w
     pub granted-short : to < 16777216
     granted-short = omega (arith, granted-inside, placed_there.1.holds.short)
 
-    pub grant-made : (id : ℕ) (node : Node) → node ≡ node_in (shelf_of new) to → id ≡ id_of to node.generation
-        → (to : ℕ) × (h' : Holding) × IsGrantMade (shelf_of new) p id to h h'
-    grant-made id node same is =
+    pub grant-made : (allocation : Allocation) (node : Node) → node ≡ node_in (shelf_of new) to → allocation.id ≡ id_of to node.generation
+        → allocation.rectangle ≡ node.area → (to : ℕ) × (h' : Holding) × IsGrantMade (shelf_of new) p plan allocation to h h'
+    grant-made allocation node same is lies =
         let made = placed_there.1 in (
           to,
           placed_there.0,
@@ -130,5 +140,6 @@ module _ {A : Type 0} {v v' : Store A} {r : Sides} {p : Chosen} {h : Holding} (w
               unused_list = made.unused_list;
             };
             names = is ∙ ap (λ (n : Node). id_of to n.generation) same;
+            area = lies ∙ ap (λ (n : Node). n.area) same;
           },
         )

@@ -2,7 +2,9 @@
 use Rattle.std.specs.Prelude.{ℕ, ◌+◌, ◌<◌, ◌≤◌, ◌≡◌, ◌≢◌, List, [], vec_capacity}
 use Rattle.atlas_store.specs.declared.store.Store.{Store}
 use Rattle.atlas_tree.specs.declared.requests.Chosen.{Chosen}
+use Rattle.atlas_tree.specs.declared.requests.Plan.{Plan}
 use Rattle.atlas_store.specs.declared.slots.NodeKind.TheVariants as kind
+use Rattle.atlas_model.specs.declared.allocation.Allocation.{Allocation}
 use Rattle.atlas_model.specs.declared.error.AtlasError.{AtlasError}
 use Rattle.atlas_model.specs.declared.error.AtlasError.TheVariants.{Memory, Slots, NotLive}
 use Rattle.atlas_model.specs.Boxes.{Sides, Box}
@@ -24,41 +26,44 @@ pub record IsAtRest (v : Shelf) (h : Holding) : Type 0 where
   pub listed : IsDetachedOnly [] h
   pub start : h.sequence.start ≡ 0
 
--- The free slot that a request takes, the list where it stands, at most the `min.y` of each other slot of that list,
--- and how the slot gives way.
+-- The free slot that a request takes, the list where it stands, and at most the `min.y` of each other slot of that
+-- list.
 pub record IsChosen (v : Shelf) (r : Sides) (p : Chosen) : Type 0 where
   pub free : (node_in v p.at.number).kind ≡ kind.Free
-  pub area : (node_in v p.at.number).area ≡ p.area
   pub pick : (free : List Box) → AreFreeBoxes (nodes v.slots) free
-      → IsPick free (options_of v.options) r (box_of p.area)
+      → IsPick free (options_of v.options) r (box_of (node_in v p.at.number).area)
   pub row : p.place.row < 52
   pub column : p.place.column < 52
   pub place : number_of p.place ≡ list_of (options_of v.options) (node_sides (node_in v p.at.number))
   pub low : (i : ℕ) → IsFreeSlot (nodes v.slots) i → i ≢ p.at.number
       → list_of (options_of v.options) (node_sides (node_in v i)) ≡ number_of p.place
       → p.low ≤ node_top (node_in v i)
-  pub line : IsPlanFor (node_in v p.at.number) r p.plan
-  pub feasible : IsFeasible p.plan (extent_of (node_in v p.at.number)) (across_of (node_in v p.at.number))
 
--- There are slots for the plan.
-pub record IsGrantable {A : Type 0} (s : Store A) (r : Sides) (p : Chosen) (h : Holding) : Type 0 where
+-- The plan is the one for the request in the chosen slot, and there are slots for it.
+pub record IsGrantable {A : Type 0} (s : Store A) (r : Sides) (p : Chosen) (plan : Plan) (h : Holding) : Type 0 where
   pub rest : IsAtRest (shelf_of s) h
   pub chosen : IsChosen (shelf_of s) r p
-  pub slots : HasSlotsFor (slots_of p.plan) s h
+  pub line : IsPlanFor (node_in (shelf_of s) p.at.number) r plan
+  pub feasible : IsFeasible plan (extent_of (node_in (shelf_of s) p.at.number))
+      (across_of (node_in (shelf_of s) p.at.number))
+  pub slots : HasSlotsFor (slots_of plan) s h
 
--- The plan is carried out, and slot `to` is granted under this id.
-pub record IsGrantMade (new : Shelf) (p : Chosen) (id to : ℕ) (h h' : Holding) : Type 0 where
-  pub planned : IsPlanned new p.at.number to p.plan h h'
-  pub names : id ≡ id_of to (node_in new to).generation
+-- The plan is carried out, and slot `to` is granted, whose id and rectangle these are.
+pub record IsGrantMade (new : Shelf) (p : Chosen) (plan : Plan) (made : Allocation) (to : ℕ) (h h' : Holding)
+    : Type 0 where
+  pub planned : IsPlanned new p.at.number to plan h h'
+  pub names : made.id ≡ id_of to (node_in new to).generation
+  pub area : made.rectangle ≡ (node_in new to).area
 
--- A chosen slot can be granted.
-abbrev pub CanGrant : {A : Type 0} → Store A → Chosen → Type 0
-CanGrant s p = (r : Sides) × (h : Holding) × IsGrantable s r p h
+-- A chosen slot can be granted by a plan.
+abbrev pub CanGrant : {A : Type 0} → Store A → Chosen → Plan → Type 0
+CanGrant s p plan = (r : Sides) × (h : Holding) × IsGrantable s r p plan h
 
--- It is granted under this id.
-pub record IsRequestGranted {A : Type 0} (old new : Store A) (p : Chosen) (id : ℕ) : Type 0 where
-  pub granted : (r : Sides) (h : Holding) → IsGrantable old r p h
-      → (to : ℕ) × (h' : Holding) × IsGrantMade (shelf_of new) p id to h h'
+-- It is granted, under this id and with this rectangle.
+pub record IsRequestGranted {A : Type 0} (old new : Store A) (p : Chosen) (plan : Plan) (made : Allocation)
+    : Type 0 where
+  pub granted : (r : Sides) (h : Holding) → IsGrantable old r p plan h
+      → (to : ℕ) × (h' : Holding) × IsGrantMade (shelf_of new) p plan made to h h'
   pub once : KeepsTakenOnce old new
   pub options : new.options ≡ old.options
   pub capacity : vec_capacity new.slots ≡ vec_capacity old.slots

@@ -1,4 +1,4 @@
-use Rattle.std.proofs.Common.{◌∙◌, ap, vec_capacity}
+use Rattle.std.proofs.Common.{◌∙◌, ap, refl, vec_capacity}
 use Rattle.atlas_tree.proofs.PlanLemmas.ChosenSlots.{listed-chosen, unlisted-sharpened, placeable-chosen, granted-inside, granted-short, grant-made}
 use Rattle.atlas_tree.proofs.requests.grant.Goals as goal
 
@@ -20,7 +20,7 @@ pub returns : goal.returns
 returns g c = record {
   granted = λ r h w.
       grant-made w (unlisted-sharpened c.args.chosen w.chosen c.unlist.ensures c.sharpen.ensures) c.place-slot.ensures
-      c.slot_id.result c.node-node.result c.node-node.ensures c.slot_id.ensures;
+      (record { id = c.slot_id.result; rectangle = c.node-node.result.area }) c.node-node.result c.node-node.ensures c.slot_id.ensures refl;
   once = λ f. c.place-slot.ensures.once (c.sharpen.ensures.once (c.unlist.ensures.once f));
   options = c.place-slot.ensures.options ∙ c.sharpen.ensures.options ∙ c.unlist.ensures.room.options;
   capacity =

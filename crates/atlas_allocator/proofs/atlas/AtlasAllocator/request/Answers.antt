@@ -1,6 +1,8 @@
-use Rattle.std.proofs.Common.{rules, ◌≡◌, refl, ap, subst, arith}
+use Rattle.std.proofs.Common.{rules, ◌≡◌, refl, ap, subst, sym, arith}
 use Rattle.std.specs.Prelude.{Err}
-use Rattle.atlas_model.specs.Pixels.{box_of, sides_of}
+use Rattle.atlas_model.specs.Boxes.{Fits, box_sides}
+use Rattle.atlas_model.specs.Pixels.{box_of, rectangle_of, sides_of}
+use Rattle.atlas_store.specs.declared.slots.Node.{Node}
 use Rattle.atlas_model.specs.Replies.{grant_of}
 use Rattle.atlas_model.specs.States.{IsSound}
 use Rattle.atlas_model.specs.Steps.AtlasReply.{Allocated}
@@ -8,8 +10,8 @@ use Rattle.atlas_model.specs.declared.error.AtlasError.TheVariants.{Memory}
 use Rattle.atlas_store.specs.Stored.{state_of}
 use Rattle.atlas_store.proofs.WalkLemmas.Observing.{used-IsAtlas}
 use Rattle.atlas_store.proofs.StoreLemmas.Sizes.{natural-fits}
-use Rattle.atlas_allocator.proofs.AtlasLemmas.CuttingFromLists.{sides_of-size, unsigned-measurable, unsigned_of}
-use Rattle.atlas_allocator.proofs.AtlasLemmas.GrantedAtlas.{no_room-unrounded, no_room-none, area-unsigned, area-fits, refused-step, some-grantable, grant-done}
+use Rattle.atlas_allocator.proofs.AtlasLemmas.CuttingFromLists.{sides_of-size, unsigned-measurable}
+use Rattle.atlas_allocator.proofs.AtlasLemmas.GrantedAtlas.{no_room-unrounded, no_room-none, taken-inside, taken-exact, taken-fits, refused-step, some-grantable, grant-done}
 use Rattle.atlas_store.proofs.StoreLemmas.TakenOnce.{first-once, once-first, once-shelf}
 use Rattle.atlas_allocator.proofs.AtlasLemmas.Reserving.{request-few, plan-few}
 use Rattle.atlas_model.proofs.StepLemmas.CallerGrants.{no_room_answer, refused_answer, request_granted}
@@ -29,6 +31,19 @@ returns-in_default-choose-clause-step g c =
       refl,
     )
 
+pub node-requires : goal.node-requires
+node-requires g c = taken-inside _ c.self.invariant (sides_of c.args.requested_size) c.in-Some.size c.in-Some.ensures c.in-Some-choose.chosen c.in-Some-choose.ensures.some
+
+pub plan_for-plan-requires-clause-exact : goal.plan_for-plan-requires-clause-exact
+plan_for-plan-requires-clause-exact g c =
+    subst (λ (n : Node). n.area ≡ rectangle_of (box_of n.area)) (sym c.node.ensures)
+    (taken-exact _ c.self.invariant (sides_of c.args.requested_size) c.in-Some.size c.in-Some.ensures c.in-Some-choose.chosen c.in-Some-choose.ensures.some)
+
+pub plan_for-plan-requires-clause-fits : goal.plan_for-plan-requires-clause-fits
+plan_for-plan-requires-clause-fits g c =
+    subst (λ (n : Node). Fits (sides_of c.in-Some.size) (box_sides (box_of n.area))) (sym c.node.ensures)
+    (taken-fits _ c.self.invariant (sides_of c.args.requested_size) c.in-Some.size c.in-Some.ensures c.in-Some-choose.chosen c.in-Some-choose.ensures.some)
+
 pub make_room-requires-clause-used : goal.make_room-requires-clause-used
 make_room-requires-clause-used g c = omega (arith, used-IsAtlas _ c.self.invariant, c.self.invariant.sound.counted, c.self.invariant.sound.limited)
 
@@ -37,49 +52,40 @@ returns-in_err-make_room-clause-step g c =
     let same : c.from_residual.result ≡ Err c.in_err-make_room.field-0.0 = search rules in
     rw (← c.self.view_is)
     (refused-step _ c.self.invariant (sides_of c.args.requested_size) c.in-Some.size c.in-Some.ensures c.in-Some-choose.chosen c.in-Some-choose.ensures.some
-    c.make_room.new.store c.make_room.ensures.same.shelf c.slots_needed-needed.result c.slots_needed-needed.ensures c.from_residual.result c.in_err-make_room.field-0.0 same c.in_err-make_room.ensures.refused c.make_room.new.store.turns.count c.self.inside.store.turns.count)
+    c.node.result c.node.ensures c.plan_for-plan.result c.plan_for-plan.ensures.line c.plan_for-plan.ensures.feasible c.make_room.new.store c.make_room.ensures.same.shelf c.slots_needed-needed.result c.slots_needed-needed.ensures c.from_residual.result c.in_err-make_room.field-0.0 same c.in_err-make_room.ensures.refused c.make_room.new.store.turns.count c.self.inside.store.turns.count)
 
-pub granted-rectangle-requires-clause-measurable : goal.granted-rectangle-requires-clause-measurable
-granted-rectangle-requires-clause-measurable g c =
-    unsigned-measurable c.in-Some-choose.chosen.area
-    (area-unsigned _ c.self.invariant (sides_of c.args.requested_size) c.in-Some.size c.in-Some.ensures c.in-Some-choose.chosen c.in-Some-choose.ensures.some)
-    (search rules) (search rules) (search rules) (search rules)
-
-pub granted-rectangle-requires-clause-fits : goal.granted-rectangle-requires-clause-fits
-granted-rectangle-requires-clause-fits g c =
-    area-fits _ c.self.invariant (sides_of c.args.requested_size) c.in-Some.size c.in-Some.ensures c.in-Some-choose.chosen c.in-Some-choose.ensures.some
-
-pub grant-id-requires : goal.grant-id-requires
-grant-id-requires g c =
+pub grant-granted-requires : goal.grant-granted-requires
+grant-granted-requires g c =
     some-grantable _ c.self.invariant (sides_of c.args.requested_size) c.in-Some.size c.in-Some.ensures c.in-Some-choose.chosen c.in-Some-choose.ensures.some
-    c.make_room.new.store c.make_room.ensures.same.shelf c.slots_needed-needed.result c.slots_needed-needed.ensures c.in_ok-make_room.ensures.ok
+    c.node.result c.node.ensures c.plan_for-plan.result c.plan_for-plan.ensures.line c.plan_for-plan.ensures.feasible c.make_room.new.store c.make_room.ensures.same.shelf c.slots_needed-needed.result c.slots_needed-needed.ensures c.in_ok-make_room.ensures.ok
 
 pub invariant_of-self-2 : goal.invariant_of-self-2
 invariant_of-self-2 g c =
     (grant-done _ c.self.invariant (sides_of c.args.requested_size) c.in-Some.size c.in-Some.ensures c.in-Some-choose.chosen c.in-Some-choose.ensures.some
-    c.make_room.new.store c.make_room.ensures.same.shelf c.slots_needed-needed.result c.slots_needed-needed.ensures c.in_ok-make_room.ensures.ok
-    c.grant-id.new.store c.grant-id.result c.granted-rectangle.result c.grant-id.ensures c.granted-rectangle.ensures.boxes).atlas
+    c.node.result c.node.ensures c.plan_for-plan.result c.plan_for-plan.ensures.line c.plan_for-plan.ensures.feasible c.make_room.new.store c.make_room.ensures.same.shelf c.slots_needed-needed.result c.slots_needed-needed.ensures c.in_ok-make_room.ensures.ok
+    c.grant-granted.new.store c.grant-granted.result c.grant-granted.ensures).atlas
 
 pub returns-clause-step : goal.returns-clause-step
 returns-clause-step g c =
     let done = grant-done _ c.self.invariant (sides_of c.args.requested_size) c.in-Some.size c.in-Some.ensures c.in-Some-choose.chosen c.in-Some-choose.ensures.some
-    c.make_room.new.store c.make_room.ensures.same.shelf c.slots_needed-needed.result c.slots_needed-needed.ensures c.in_ok-make_room.ensures.ok
-    c.grant-id.new.store c.grant-id.result c.granted-rectangle.result c.grant-id.ensures c.granted-rectangle.ensures.boxes in
-    rw (← c.self.view_is) (done.granted c.grant-id.new.store.turns.count c.self.inside.store.turns.count)
+    c.node.result c.node.ensures c.plan_for-plan.result c.plan_for-plan.ensures.line c.plan_for-plan.ensures.feasible c.make_room.new.store c.make_room.ensures.same.shelf c.slots_needed-needed.result c.slots_needed-needed.ensures c.in_ok-make_room.ensures.ok
+    c.grant-granted.new.store c.grant-granted.result c.grant-granted.ensures in
+    rw (← c.self.view_is) (done.granted c.grant-granted.new.store.turns.count c.self.inside.store.turns.count)
 
 pub returns-clause-exact : goal.returns-clause-exact
 returns-clause-exact g c =
-    unsigned_of c.granted-rectangle.result _ (c.granted-rectangle.ensures.boxes (box_of c.in-Some-choose.chosen.area)
-    (area-unsigned _ c.self.invariant (sides_of c.args.requested_size) c.in-Some.size c.in-Some.ensures c.in-Some-choose.chosen c.in-Some-choose.ensures.some))
+    (grant-done _ c.self.invariant (sides_of c.args.requested_size) c.in-Some.size c.in-Some.ensures c.in-Some-choose.chosen c.in-Some-choose.ensures.some
+    c.node.result c.node.ensures c.plan_for-plan.result c.plan_for-plan.ensures.line c.plan_for-plan.ensures.feasible c.make_room.new.store c.make_room.ensures.same.shelf c.slots_needed-needed.result c.slots_needed-needed.ensures c.in_ok-make_room.ensures.ok
+    c.grant-granted.new.store c.grant-granted.result c.grant-granted.ensures).exact
 
 pub returns-clause-slots : goal.returns-clause-slots
 returns-clause-slots g c = record {
   used =
       request-few _ _ (sides_of c.args.requested_size)
-      (Allocated (grant_of (record { id = c.grant-id.result; rectangle = c.granted-rectangle.result })))
+      (Allocated (grant_of c.grant-granted.result))
       (subst (λ w. IsSound (state_of w)) c.self.view_is c.self.invariant.sound) (returns-clause-step g c);
   capacity =
-      omega (arith, ap (λ v. v.capacity) c.self.view_is, c.make_room.ensures.same.capacity, c.grant-id.ensures.capacity);
+      omega (arith, ap (λ v. v.capacity) c.self.view_is, c.make_room.ensures.same.capacity, c.grant-granted.ensures.capacity);
 }
 
 pub returns-in_err-make_room-clause-memory : goal.returns-in_err-make_room-clause-memory
@@ -91,7 +97,7 @@ returns-in_err-make_room-clause-memory g c =
       arith,
       had,
       c.in_err-make_room.ensures.full (ap (λ x. Err x) is),
-      plan-few c.in-Some-choose.chosen.plan,
+      plan-few c.plan_for-plan.result,
       c.slots_needed-needed.ensures,
       used-IsAtlas _ c.self.invariant,
     )))
@@ -111,13 +117,13 @@ returns-in_err-make_room-clause-answer g c =
 pub returns-clause-answer : goal.returns-clause-answer
 returns-clause-answer g c =
     request_granted _ _ (subst (λ w. IsSound (state_of w)) c.self.view_is c.self.invariant.sound) c.args.requested_size
-    c.grant-id.result c.granted-rectangle.result (returns-clause-step g c) (returns-clause-exact g c)
-    (unsigned-measurable c.granted-rectangle.result (returns-clause-exact g c) (search rules) (search rules) (search rules) (search rules))
+    c.grant-granted.result.id c.grant-granted.result.rectangle (returns-clause-step g c) (returns-clause-exact g c)
+    (unsigned-measurable c.grant-granted.result.rectangle (returns-clause-exact g c) (search rules) (search rules) (search rules) (search rules))
 
 pub returns-clause-first : goal.returns-clause-first
 returns-clause-first g c =
     rw (← c.self.view_is) (λ f.
-    once-first _ (c.grant-id.ensures.once (once-shelf _ _ c.make_room.ensures.same.shelf (first-once _ f))))
+    once-first _ (c.grant-granted.ensures.once (once-shelf _ _ c.make_room.ensures.same.shelf (first-once _ f))))
 
 pub returns-in_err-make_room-clause-first : goal.returns-in_err-make_room-clause-first
 returns-in_err-make_room-clause-first g c =
