@@ -19,7 +19,6 @@ ghost use Rattle.atlas_tree.specs.Plans.Planning.{slots_of, IsPlanFor, IsFeasibl
 
 use atlas_model::{AllocId, AtlasError, Rectangle, Size};
 use atlas_store::cut::{Orientation, orientation_of};
-use atlas_store::search::bands::Place;
 use atlas_store::slots::lists::exact_size;
 use atlas_store::slots::pick::pick;
 use atlas_store::slots::walks::slot_id;
@@ -27,13 +26,13 @@ use atlas_store::slots::{Link, Node};
 use atlas_store::store::Store;
 use std::alloc::Allocator;
 
-/// The free slot that a request takes, its rectangle, the list where it stands, at most the `min.y` of each other slot
-/// of that list, and how the slot gives way.
+/// The free slot that a request takes, its rectangle, the number of its list, at most the `min.y` of each other slot of
+/// that list, and how the slot gives way.
 #[derive(Clone, Copy)]
 pub struct Chosen {
     pub at: Link,
     pub area: Rectangle,
-    pub place: Place,
+    pub list: usize,
     pub low: u32,
     pub plan: Plan,
 }
@@ -51,7 +50,7 @@ pub fn choose<A: Allocator>(store: &Store<A>, size: Size) -> Option<Chosen>
     Some(Chosen {
         at: found.at,
         area: found.rectangle,
-        place: found.place,
+        list: found.list,
         low: found.low,
         plan: plan_for(&leaf, size),
     })
@@ -92,7 +91,7 @@ pub fn grant<A: Allocator>(store: &mut Store<A>, chosen: Chosen) -> AllocId
     ensures { IsRequestGranted store.old store.new chosen result }
 {
     store.unlist(chosen.at);
-    store.sharpen(chosen.place, chosen.low);
+    store.sharpen(chosen.list, chosen.low);
     let slot = place(store, chosen.at, chosen.plan);
     let node = store.node(slot);
     slot_id(slot.number as usize, node.generation)

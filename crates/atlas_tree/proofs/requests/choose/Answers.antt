@@ -21,4 +21,4 @@ pub returns-clause-some : goal.returns-clause-some
 returns-clause-some g c =
     let e = c.in_ok-found.ensures.some in
     found-chosen (shelf_of c.args.store.now) c.requires.rest.0 c.requires.rest.1 c.deref.result.now c.deref.ensures.value (sides_of c.args.size) c.in_ok-found.found c.node-leaf.result c.node-leaf.ensures e.free e.area e.picked
-    c.plan_for.result c.plan_for.ensures.line c.plan_for.ensures.feasible (e.row, e.column, e.list) e.low
+    c.plan_for.result c.plan_for.ensures.line c.plan_for.ensures.feasible (e.inside, e.list) e.low
