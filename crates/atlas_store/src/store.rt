@@ -2,7 +2,6 @@
 ghost use Rattle.std.specs.Prelude.{◌≡◌, ◌≢◌, ◌<◌, ◌≤◌, ◌↔◌, ℕ, true, false, IsTrue, IfOk, length};
 ghost use Rattle.atlas_store.specs.declared.slots.NodeKind.TheVariants.{Alloc, Free};
 ghost use Rattle.atlas_model.specs.Trees.{most_slots};
-ghost use Rattle.atlas_store.specs.Search.Bands.{number_of};
 ghost use Rattle.atlas_store.specs.Slots.{no_slot};
 ghost use Rattle.atlas_store.specs.Slots.Standing.{IsSlot};
 ghost use Rattle.atlas_store.specs.Slots.Reading.{extent_of};
@@ -12,7 +11,7 @@ pub mod extend;
 pub mod start;
 pub mod turns;
 
-use crate::search::bands::{Place, Scale};
+use crate::search::bands::Scale;
 use crate::search::table::Table;
 use crate::slots::lists::{enlist, give_back, take_slot, unlist};
 use crate::slots::placing::{grant_leaf, split_leaf, wrap_leaf};
@@ -84,13 +83,12 @@ impl<A: Allocator> Store<A> {
         unlist(&mut self.slots, &mut self.lists, at);
     }
 
-    /// `low` is at most the `min.y` of each slot of a list.
-    pub fn sharpen(&mut self, place: Place, low: u32)
-        requires row { place.row < 52 }
-        requires column { place.column < 52 }
-        ensures { IsSharpened self.old self.new (number_of place) low }
+    /// `low` is at most the `min.y` of each slot of the list of this number.
+    pub fn sharpen(&mut self, list: usize, low: u32)
+        requires { list < 2704 }
+        ensures { IsSharpened self.old self.new list low }
     {
-        self.lists.set_low(place, low);
+        self.lists.set_low(list, low);
     }
 
     /// Puts a detached leaf into its list.

@@ -19,7 +19,6 @@ ghost use Rattle.atlas_tree.specs.Plans.Planning.{slots_of, IsPlanFor, IsFeasibl
 
 use atlas_model::{Allocation, AtlasError, Size};
 use atlas_store::cut::{Orientation, orientation_of};
-use atlas_store::search::bands::Place;
 use atlas_store::slots::lists::exact_size;
 use atlas_store::slots::pick::pick;
 use atlas_store::slots::walks::slot_id;
@@ -27,12 +26,12 @@ use atlas_store::slots::{Link, Node};
 use atlas_store::store::Store;
 use std::alloc::Allocator;
 
-/// The free slot that a request takes, the list where it stands, and at most the `min.y` of each other slot of that
+/// The free slot that a request takes, the number of its list, and at most the `min.y` of each other slot of that
 /// list.
 #[derive(Clone, Copy)]
 pub struct Chosen {
     pub at: Link,
-    pub place: Place,
+    pub list: usize,
     pub low: u32,
 }
 
@@ -47,7 +46,7 @@ pub fn choose<A: Allocator>(store: &Store<A>, size: Size) -> Option<Chosen>
     let found = pick(&store.slots, &store.lists, &store.options, size)?;
     Some(Chosen {
         at: found.at,
-        place: found.place,
+        list: found.list,
         low: found.low,
     })
 }
@@ -87,7 +86,7 @@ pub fn grant<A: Allocator>(store: &mut Store<A>, chosen: Chosen, plan: Plan) -> 
     ensures { IsRequestGranted store.old store.new chosen plan result }
 {
     store.unlist(chosen.at);
-    store.sharpen(chosen.place, chosen.low);
+    store.sharpen(chosen.list, chosen.low);
     let slot = place(store, chosen.at, plan);
     let node = store.node(slot);
     Allocation {

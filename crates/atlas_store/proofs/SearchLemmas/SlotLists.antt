@@ -95,8 +95,7 @@ picked-slot o r slots heads found picked s =
       free = item-free slots found.at.number s.free;
       area = sym (area-is slots found.at.number) ∙ s.area;
       picked = λ free a. picked free (free-items slots free a);
-      row = s.row;
-      column = s.column;
+      inside = s.inside;
       list = sym s.list ∙ ap (list_of o) (sides-is slots found.at.number);
       low = λ i free other list.
           subst (λ r. found.low ≤ (box_of r).min.y) (area-is slots i)

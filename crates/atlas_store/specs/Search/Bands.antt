@@ -1,6 +1,6 @@
 -- The 52 bands of a side, and the 52 x 52 lists of free slots by the bands of both sides. No public clause cites this
 -- module.
-use Rattle.std.specs.Prelude.{ℕ, ◌+◌, ◌-◌, ◌*◌, ◌/◌, ◌%◌, ◌<◌, ◌≤◌, ◌==◌, ◌⊎◌, ℤ, pos, int_le, nat_lt, if◌then◌else◌}
+use Rattle.std.specs.Prelude.{ℕ, ◌+◌, ◌-◌, ◌*◌, ◌/◌, ◌<◌, ◌≤◌, ◌==◌, ◌⊎◌, ℤ, pos, int_le, nat_lt, if◌then◌else◌}
 use Rattle.atlas_store.specs.declared.search.bands.Place.{Place}
 use Rattle.atlas_model.specs.Boxes.{Sides}
 use Rattle.atlas_model.specs.Pixels.{natural}
@@ -26,10 +26,6 @@ band_of o n = step_of n + passes o.small_threshold n + passes o.large_threshold 
 -- The number of the list in a row and a column.
 abbrev pub number_of : Place → ℕ
 number_of p = 52 * p.row + p.column
-
--- The row and the column of a list.
-abbrev pub place_of : ℕ → Place
-place_of k = record { row = k / 52; column = k % 52 }
 
 -- The list of a box with these sides: its row is the band of the width, its column that of the height.
 abbrev pub list_of : Options → Sides → ℕ

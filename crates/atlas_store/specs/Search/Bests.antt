@@ -7,7 +7,6 @@ use Rattle.atlas_model.specs.declared.geometry.Rectangle.{Rectangle}
 use Rattle.atlas_model.specs.Boxes.{Box, Sides, IsPositive}
 use Rattle.atlas_model.specs.Choice.{least_margin}
 use Rattle.atlas_model.specs.Pixels.{size_of}
-use Rattle.atlas_store.specs.Search.Bands.{place_of}
 use Rattle.atlas_store.specs.Search.Ranks.{corner_of, rank_of, no_rank}
 use Rattle.atlas_store.specs.Search.Searches.{Shown, shown_at, IsBestShown, FitsNone}
 
@@ -61,4 +60,4 @@ IsLooked s t f = IsSameBest s t ⊎ (t.spot ≡ f)
 
 -- What is found where the best stands, with this rectangle.
 abbrev pub found_at : Rectangle → Spot → Found
-found_at a s = record { rectangle = a; at = s.at; before = s.before; place = place_of s.list; low = s.low }
+found_at a s = record { rectangle = a; at = s.at; before = s.before; list = s.list; low = s.low }

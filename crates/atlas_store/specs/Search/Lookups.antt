@@ -8,7 +8,7 @@ use Rattle.atlas_store.specs.declared.search.best.Found.{Found}
 use Rattle.atlas_store.specs.declared.search.best.Spot.{Spot}
 use Rattle.atlas_store.specs.declared.search.masks.Mask.{Mask}
 use Rattle.atlas_store.specs.declared.search.table.ListHead.{ListHead}
-use Rattle.atlas_store.specs.Search.Bands.{band_of, list_of, number_of, start_of}
+use Rattle.atlas_store.specs.Search.Bands.{band_of, list_of, start_of}
 use Rattle.atlas_store.specs.Search.Bests.{HasSeen, IsSameBest, found_at}
 use Rattle.atlas_model.specs.Boxes.{Sides, Box, Fits, IsPositive}
 use Rattle.atlas_model.specs.Choice.{Options, AreValid, class_of}
@@ -68,14 +68,13 @@ pub record AreListed (o : Options) (heads : List ListHead) (es : List Item) : Ty
 pub record IsStanding (o : Options) (heads : List ListHead) (es : List Item) (found : Found) : Type 0 where
   pub free : (item_at es found.at.number).is_free ≡ true
   pub area : (item_at es found.at.number).area ≡ found.rectangle
-  pub row : found.place.row < 52
-  pub column : found.place.column < 52
-  pub list : list_of o (item_sides (item_at es found.at.number)) ≡ number_of found.place
-  pub before : ((found.before.number ≡ no_slot) × ((head_of heads (number_of found.place)).number ≡ found.at.number))
+  pub inside : found.list < 2704
+  pub list : list_of o (item_sides (item_at es found.at.number)) ≡ found.list
+  pub before : ((found.before.number ≡ no_slot) × ((head_of heads found.list).number ≡ found.at.number))
       ⊎ (((item_at es found.before.number).is_free ≡ true)
-      × (list_of o (item_sides (item_at es found.before.number)) ≡ number_of found.place)
+      × (list_of o (item_sides (item_at es found.before.number)) ≡ found.list)
       × ((item_at es found.before.number).after ≡ found.at.number))
-  pub low : (i : ℕ) → (item_at es i).is_free ≡ true → list_of o (item_sides (item_at es i)) ≡ number_of found.place
+  pub low : (i : ℕ) → (item_at es i).is_free ≡ true → list_of o (item_sides (item_at es i)) ≡ found.list
       → i ≢ found.at.number
       → found.low ≤ (item_box (item_at es i)).min.y
 

@@ -12,7 +12,7 @@ use Rattle.atlas_model.specs.Pixels.{box_of}
 use Rattle.atlas_model.specs.Choice.{Options, AreValid, IsPick}
 use Rattle.atlas_model.specs.Trees.{most_slots}
 use Rattle.atlas_store.specs.Slots.{nodes, rings, node_at}
-use Rattle.atlas_store.specs.Search.Bands.{list_of, number_of}
+use Rattle.atlas_store.specs.Search.Bands.{list_of}
 use Rattle.atlas_store.specs.Search.Items.{Item}
 use Rattle.atlas_store.specs.Slots.Lists.{AreFiled, Places, is_free, node_sides, node_top}
 use Rattle.atlas_store.specs.Slots.Links.{IsSolid}
@@ -52,9 +52,8 @@ pub record IsPickedSlot (o : Options) (r : Sides) (ns : List Node) (found : Foun
   pub free : IsFreeSlot ns found.at.number
   pub area : (node_at ns found.at.number).area ≡ found.rectangle
   pub picked : (free : List Box) → AreFreeBoxes ns free → IsPick free o r (box_of found.rectangle)
-  pub row : found.place.row < 52
-  pub column : found.place.column < 52
-  pub list : number_of found.place ≡ list_of o (node_sides (node_at ns found.at.number))
+  pub inside : found.list < 2704
+  pub list : found.list ≡ list_of o (node_sides (node_at ns found.at.number))
   pub low : (i : ℕ) → IsFreeSlot ns i → i ≢ found.at.number
-      → list_of o (node_sides (node_at ns i)) ≡ number_of found.place
+      → list_of o (node_sides (node_at ns i)) ≡ found.list
       → found.low ≤ node_top (node_at ns i)

@@ -7,7 +7,6 @@ ghost use Rattle.atlas_store.specs.Search.Ranks.{corner_of, no_corner, no_rank, 
 ghost use Rattle.atlas_store.specs.Rectangles.{IsUnsigned};
 
 use crate::choice::margin_in;
-use crate::search::bands::{BANDS, Place};
 use crate::search::table::LISTS;
 use crate::slots::Link;
 use atlas_model::{Rectangle, Size};
@@ -20,8 +19,8 @@ pub struct Found {
     pub at: Link,
     /// The entry before it in its list.
     pub before: Link,
-    /// Its list.
-    pub place: Place,
+    /// The number of its list.
+    pub list: usize,
     /// At most the `min.y` of each other box of its list.
     pub low: u32,
 }
@@ -240,10 +239,7 @@ impl Spot {
             rectangle,
             at: self.at,
             before: self.before,
-            place: Place {
-                row: self.list / BANDS,
-                column: self.list % BANDS,
-            },
+            list: self.list,
             low: self.low,
         }
     }

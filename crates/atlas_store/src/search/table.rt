@@ -149,15 +149,14 @@ impl<A: Allocator> Table<A> {
         }
     }
 
-    /// Another bound is kept of a list.
-    pub fn set_low(&mut self, at: Place, low: u32)
-        requires row { at.row < BANDS }
-        requires column { at.column < BANDS }
+    /// Another bound is kept of the list of this number.
+    pub fn set_low(&mut self, number: usize, low: u32)
+        requires { number < LISTS }
         ensures heads { (k : ℕ) → head_of self.new k ≡ head_of self.old k }
-        ensures low { low_of self.new (number_of at) ≡ low }
-        ensures lows { (k : ℕ) → k ≢ number_of at → low_of self.new k ≡ low_of self.old k }
+        ensures low { low_of self.new number ≡ low }
+        ensures lows { (k : ℕ) → k ≢ number → low_of self.new k ≡ low_of self.old k }
     {
-        self.heads[BANDS * at.row + at.column].low = low;
+        self.heads[number].low = low;
     }
 
     /// The columns of a row with lists that aren't empty.

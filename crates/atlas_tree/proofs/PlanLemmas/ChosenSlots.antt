@@ -19,7 +19,7 @@ use Rattle.atlas_store.specs.Slots.Numbered.{erase, id_of}
 use Rattle.atlas_store.specs.Search.Picks.{AreFreeBoxes, IsFreeSlot, IsSearchable}
 use Rattle.atlas_store.specs.Stored.{Shelf, Holding, Holds, places_of}
 use Rattle.atlas_store.specs.Store.Holdings.{shelf_of, node_in, with_detached, with_free_lists, IsLow}
-use Rattle.atlas_store.specs.Search.Bands.{list_of, number_of}
+use Rattle.atlas_store.specs.Search.Bands.{list_of}
 use Rattle.atlas_store.specs.Slots.Lists.{node_sides, node_top}
 use Rattle.atlas_tree.specs.Plans.Planning.{IsPlanReady, IsPlanReadyWith, IsPlanDone, IsPlanned}
 use Rattle.atlas_store.specs.Store.StoreCalls.{IsSharpened, UnlistsLeaf}
@@ -56,11 +56,11 @@ module _ (v : Shelf) (h : Holding) (rest : IsAtRest v h) where
     picked_there : (free : List Box) → AreFreeBoxes (nodes v.slots) free → IsPick free (options_of v.options) r (box_of (node_in v found.at.number).area)
     picked_there = subst (λ (q : Rectangle). (free : List Box) → AreFreeBoxes (nodes v.slots) free → IsPick free (options_of v.options) r (box_of q)) (sym area_here) picked_here
 
-    pub found-chosen : (found.place.row < 52) × (found.place.column < 52) × (number_of found.place ≡ list_of (options_of v.options) (node_sides (node_at (nodes slots) found.at.number)))
-        → ((i : ℕ) → IsFreeSlot (nodes slots) i → i ≢ found.at.number → list_of (options_of v.options) (node_sides (node_at (nodes slots) i)) ≡ number_of found.place
+    pub found-chosen : (found.list < 2704) × (found.list ≡ list_of (options_of v.options) (node_sides (node_at (nodes slots) found.at.number)))
+        → ((i : ℕ) → IsFreeSlot (nodes slots) i → i ≢ found.at.number → list_of (options_of v.options) (node_sides (node_at (nodes slots) i)) ≡ found.list
         → found.low ≤ node_top (node_at (nodes slots) i))
-        → IsChosen v r (record { at = found.at; place = found.place; low = found.low })
-    found-chosen place low = grind (arith, free_here, picked_there)
+        → IsChosen v r (record { at = found.at; list = found.list; low = found.low })
+    found-chosen list low = grind (arith, free_here, picked_there)
 
   -- The leaf of a slot that was chosen.
   module _ (r : Sides) (p : Chosen) (chosen : IsChosen v r p) where
@@ -81,12 +81,12 @@ listed-chosen {A} {v} {r} {p} {plan} {h} w = (h, w.rest.holds, w.rest.listed p.a
 
 -- Once the slot is detached, no other slot of its list lies above the strip that the search saw.
 chosen-low : (v u : Shelf) (r : Sides) (p : Chosen) → IsChosen v r p → nodes u.slots ≡ nodes v.slots → u.options ≡ v.options
-    → (h : Holding) → h.detached p.at.number ≡ true → IsLow u h (number_of p.place) p.low
+    → (h : Holding) → h.detached p.at.number ≡ true → IsLow u h p.list p.low
 chosen-low v u r p w same options h is_detached i free kept list = grind arith
 
 -- The slot leaves its list, for which another strip is kept then.
 pub unlisted-sharpened : {A : Type 0} {v u v' : Store A} {r : Sides} (p : Chosen) → IsChosen (shelf_of v) r p → UnlistsLeaf v u p.at.number
-    → IsSharpened u v' (number_of p.place) p.low → UnlistsLeaf v v' p.at.number
+    → IsSharpened u v' p.list p.low → UnlistsLeaf v v' p.at.number
 unlisted-sharpened {A} {v} {u} {v'} {r} p w one two = record {
   kept = λ h holds listed.
       let left = one.kept h holds listed in

@@ -13,7 +13,7 @@ use Rattle.atlas_model.specs.Pixels.{box_of, options_of}
 use Rattle.atlas_store.specs.Slots.{nodes}
 use Rattle.atlas_store.specs.Slots.Numbered.{id_of}
 use Rattle.atlas_store.specs.Slots.Reading.{extent_of}
-use Rattle.atlas_store.specs.Search.Bands.{list_of, number_of}
+use Rattle.atlas_store.specs.Search.Bands.{list_of}
 use Rattle.atlas_store.specs.Slots.Lists.{node_sides, node_top}
 use Rattle.atlas_store.specs.Search.Picks.{AreFreeBoxes, IsFreeSlot}
 use Rattle.atlas_store.specs.Stored.{Shelf, Holding, Holds, IsDetachedOnly}
@@ -32,11 +32,10 @@ pub record IsChosen (v : Shelf) (r : Sides) (p : Chosen) : Type 0 where
   pub free : (node_in v p.at.number).kind ≡ kind.Free
   pub pick : (free : List Box) → AreFreeBoxes (nodes v.slots) free
       → IsPick free (options_of v.options) r (box_of (node_in v p.at.number).area)
-  pub row : p.place.row < 52
-  pub column : p.place.column < 52
-  pub place : number_of p.place ≡ list_of (options_of v.options) (node_sides (node_in v p.at.number))
+  pub inside : p.list < 2704
+  pub list : p.list ≡ list_of (options_of v.options) (node_sides (node_in v p.at.number))
   pub low : (i : ℕ) → IsFreeSlot (nodes v.slots) i → i ≢ p.at.number
-      → list_of (options_of v.options) (node_sides (node_in v i)) ≡ number_of p.place
+      → list_of (options_of v.options) (node_sides (node_in v i)) ≡ p.list
       → p.low ≤ node_top (node_in v i)
 
 -- The plan is the one for the request in the chosen slot, and there are slots for it.

@@ -9,7 +9,7 @@ use Rattle.guillotiere.specs.declared.simple.boxes.FreeBox.{FreeBox}
 use Rattle.atlas_model.specs.declared.geometry.Rectangle.{Rectangle}
 use Rattle.atlas_store.specs.declared.slots.Link.{Link}
 use Rattle.atlas_store.specs.declared.search.table.ListHead.{ListHead}
-use Rattle.atlas_store.specs.Search.Bands.{list_of, number_of}
+use Rattle.atlas_store.specs.Search.Bands.{list_of}
 use Rattle.atlas_model.specs.Boxes.{Box, AreSameBoxes, same_box}
 use Rattle.guillotiere.specs.FreeBoxes.BoxShelves.{has_width, stored_item, free_item_boxes, free_count, idle_item, with_after, AreKept, IsClaimed}
 use Rattle.atlas_model.specs.Choice.{Options, AreValid}
@@ -247,20 +247,20 @@ boxes-left es es1 x e area links free is idle = grind (arith, free-inside, boxes
 
 module _ (o : Options) (heads heads' : List ListHead) (es es1 : List Item) (unused : Link) (used used' : ℕ) (found : Found)
     (kept : AreKept o (record { entries = es; heads = heads; unused = unused; used = used })) (less : used' + 1 ≡ used) (standing : IsStanding o heads es found)
-    (heads_stay : (j : ℕ) → j ≢ number_of found.place → head_of heads' j ≡ head_of heads j)
-    (low_is : low_of heads' (number_of found.place) ≡ found.low)
-    (lows_stay : (j : ℕ) → j ≢ number_of found.place → low_of heads' j ≡ low_of heads j) where
+    (heads_stay : (j : ℕ) → j ≢ found.list → head_of heads' j ≡ head_of heads j)
+    (low_is : low_of heads' found.list ≡ found.low)
+    (lows_stay : (j : ℕ) → j ≢ found.list → low_of heads' j ≡ low_of heads j) where
   abbrev x : ℕ
   x = found.at.number
 
   abbrev k : ℕ
-  k = number_of found.place
+  k = found.list
 
   abbrev es' : List Item
   es' = slice_set es1 x (idle_item unused.number)
 
   few : k < 2704
-  few = omega (arith, standing.row, standing.column)
+  few = standing.inside
 
   inside : x < length es
   inside = free-inside es x standing.free

@@ -1,13 +1,11 @@
 -- What private calls do to the free boxes of the simple allocator, in one word. No public clause cites this module.
 use Rattle.std.specs.Prelude.{ℕ, ◌≡◌, ◌≢◌, ◌+◌, ◌≤◌, ◌++◌, List, max, vec_len, vec_capacity}
 use Rattle.guillotiere.specs.declared.simple.boxes.FreeBoxes.{FreeBoxes}
-use Rattle.atlas_store.specs.declared.search.bands.Place.{Place}
 use Rattle.atlas_store.specs.declared.search.best.Found.{Found}
 use Rattle.atlas_store.specs.declared.slots.Link.{Link}
 use Rattle.atlas_model.specs.Boxes.{AreSameBoxes, Box, Fits, IsPositive, Sides, box_sides}
 use Rattle.atlas_model.specs.Choice.{Options}
 use Rattle.atlas_model.specs.Pixels.{box_of}
-use Rattle.atlas_store.specs.Search.Bands.{number_of}
 use Rattle.atlas_store.specs.Search.Lookups.{IsStanding}
 use Rattle.atlas_store.specs.Search.Tables.{head_of, low_of}
 use Rattle.guillotiere.specs.FreeBoxes.BoxShelves.{AreKept, BoxShelf, box_shelf, free_item_boxes, with_after}
@@ -41,13 +39,13 @@ pub record IsFoundFor {A : Type 0} (o : Options) (found : Found) (r : Sides) (b 
   pub positive : IsPositive r
   pub fits : Fits r (box_sides (box_of found.rectangle))
 
--- `after` comes after `before` in the list at a place, or first where that is none; no other list changes.
-pub record IsLed (s t : BoxShelf) (place : Place) (before after : Link) : Type 0 where
+-- `after` comes after `before` in a list, or first where that is none; no other list changes.
+pub record IsLed (s t : BoxShelf) (list : ℕ) (before after : Link) : Type 0 where
   pub first : before.number ≡ no_slot
-      → (head_of t.heads (number_of place) ≡ after) × (t.entries ≡ s.entries)
+      → (head_of t.heads list ≡ after) × (t.entries ≡ s.entries)
   pub next : before.number ≢ no_slot
       → (t.heads ≡ s.heads) × (t.entries ≡ with_after s.entries before.number after.number)
-  pub heads : (j : ℕ) → j ≢ number_of place → head_of t.heads j ≡ head_of s.heads j
+  pub heads : (j : ℕ) → j ≢ list → head_of t.heads j ≡ head_of s.heads j
   pub lows : (j : ℕ) → low_of t.heads j ≡ low_of s.heads j
   pub unused : t.unused ≡ s.unused
   pub used : t.used ≡ s.used

@@ -1,5 +1,5 @@
 //! The free boxes of the simple allocator, in the lists of a table.
-ghost use Rattle.std.specs.Prelude.{◌≡◌, ◌≢◌, ◌+◌, ◌<◌, ◌≤◌, ◌∷◌, IfOk, IsOkUnless, OnErr, OnOk, [], length, max};
+ghost use Rattle.std.specs.Prelude.{◌≡◌, ◌≢◌, ◌+◌, ◌<◌, ◌≤◌, ◌∷◌, IfOk, IsOkUnless, OnErr, OnOk, [], length, max, true};
 ghost use Rattle.std.specs.Prelude.{vec_capacity, vec_len};
 ghost use Rattle.guillotiere.specs.FreeBoxes.BoxCalls.{AreFiledBoxes, HasEntriesFor, HasTakenEntries, IsLed};
 ghost use Rattle.guillotiere.specs.FreeBoxes.BoxCalls.{KeepsEntries};
@@ -12,12 +12,13 @@ ghost use Rattle.atlas_store.specs.Search.Lookups.{IsStanding};
 ghost use Rattle.atlas_model.specs.Pixels.{box_of, options_of};
 ghost use Rattle.atlas_store.specs.Rectangles.{IsUnsigned};
 ghost use Rattle.atlas_store.specs.Slots.{no_slot};
+ghost use Rattle.atlas_store.specs.Search.Tables.{is_used_at};
 
 use atlas_model::{AtlasError, Rectangle, point2};
 use atlas_store::search::Entry;
-use atlas_store::search::bands::{BANDS, Place, Scale};
+use atlas_store::search::bands::Scale;
 use atlas_store::search::best::Found;
-use atlas_store::search::table::Table;
+use atlas_store::search::table::{LISTS, Table};
 use atlas_store::slots::lists::exact_size;
 use atlas_store::slots::{Link, NO_SLOT};
 use std::alloc::Allocator;
@@ -187,16 +188,16 @@ impl<A: Allocator> FreeBoxes<A> {
         self.add(area, options);
     }
 
-    // `after` comes after `before` in a list, or first where that is none.
-    fn lead(&mut self, place: Place, before: Link, after: Link)
-        requires row { place.row < BANDS }
-        requires column { place.column < BANDS }
+    // `after` comes after `before` in the list of this number, or first where that is none.
+    fn lead(&mut self, list: usize, before: Link, after: Link)
+        requires list { list < LISTS }
+        requires used { before.number ≡ no_slot → is_used_at (box_shelf self.old).heads list ≡ true }
         requires inside { before.number ≢ no_slot → before.number < vec_len self.old.entries }
-        ensures led { IsLed (box_shelf self.old) (box_shelf self.new) place before after }
+        ensures led { IsLed (box_shelf self.old) (box_shelf self.new) list before after }
         ensures entries { KeepsEntries self.old self.new }
     {
         if before.number == NO_SLOT {
-            self.table.set_head(place, after);
+            self.table.set_first(list, after);
         } else {
             self.entries[before.number as usize].after = after;
         }
@@ -215,8 +216,8 @@ impl<A: Allocator> FreeBoxes<A> {
         ensures entries { KeepsEntries self.old self.new }
     {
         let after = self.entries[found.at.number as usize].after;
-        self.lead(found.place, found.before, after);
-        self.table.set_low(found.place, found.low);
+        self.lead(found.list, found.before, after);
+        self.table.set_low(found.list, found.low);
         self.entries[found.at.number as usize] = unused_box(self.unused);
         self.unused = found.at;
         self.used -= 1;

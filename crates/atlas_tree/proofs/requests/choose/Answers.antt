@@ -11,4 +11,4 @@ pub returns-clause-some : goal.returns-clause-some
 returns-clause-some g c =
     let e = c.in_ok-found.ensures.some in
     found-chosen (shelf_of c.args.store.now) c.requires.rest.0 c.requires.rest.1 c.deref.result.now c.deref.ensures.value (sides_of c.args.size) c.in_ok-found.found e.free e.area e.picked
-    (e.row, e.column, e.list) e.low
+    (e.inside, e.list) e.low

@@ -3,9 +3,13 @@ use Rattle.std.proofs.lemmas.List.{length-map}
 use Rattle.atlas_model.specs.Boxes.{Box, AreSameBoxes}
 use Rattle.guillotiere.specs.FreeBoxes.BoxShelves.{BoxShelf, box_shelf, free_item_boxes, stored_item}
 use Rattle.atlas_model.specs.Pixels.{box_of, options_of, sides_of}
+use Rattle.atlas_allocator.proofs.AtlasLemmas.CuttingFromLists.{unsigned-measurable}
 use Rattle.guillotiere.proofs.SimpleLemmas.CuttingBoxes.{at_error, picked-exact, cut-same, length-kept}
 use Rattle.guillotiere.proofs.SimpleLemmas.EntryCounts.{used-few}
 use Rattle.guillotiere.proofs.simple.cut_picked.Goals as goal
+
+pub guillotine-rest-requires-clause-measurable : goal.guillotine-rest-requires-clause-measurable
+guillotine-rest-requires-clause-measurable g c = grind (arith, picked-exact, unsigned-measurable)
 
 pub returns-clause-ok : goal.returns-clause-ok
 returns-clause-ok g c =

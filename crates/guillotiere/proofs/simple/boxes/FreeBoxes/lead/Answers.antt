@@ -4,7 +4,7 @@ use Rattle.guillotiere.proofs.simple.boxes.FreeBoxes.lead.Goals as goal
 
 pub returns-then-before-eq-NO_SLOT-clause-led : goal.returns-then-before-eq-NO_SLOT-clause-led
 returns-then-before-eq-NO_SLOT-clause-led g c =
-    let set = c.set_head.ensures in
+    let set = c.set_first.ensures in
     record {
       first = λ _. (set.head, refl);
       next = λ some. absurd (some c.if-before-eq-NO_SLOT.true);

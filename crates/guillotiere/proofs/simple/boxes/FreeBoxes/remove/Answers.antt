@@ -1,8 +1,8 @@
 use Rattle.std.proofs.Common.{ℕ, ◌≡◌, ◌≢◌, ◌+◌, ◌-◌, ◌<◌, ◌∷◌, ◌∙◌, List, map, length, slice_set, subst, sym, ap, inl, inr, refl, arith}
+use Rattle.std.proofs.lemmas.Bool.{ne_eqb}
 use Rattle.std.proofs.lemmas.List.{map-set, length-map}
 use Rattle.guillotiere.specs.declared.simple.boxes.FreeBox.{FreeBox}
 use Rattle.atlas_store.specs.declared.slots.Link.{Link}
-use Rattle.atlas_store.specs.Search.Bands.{number_of}
 use Rattle.atlas_model.specs.Boxes.{AreSameBoxes}
 use Rattle.guillotiere.specs.FreeBoxes.BoxShelves.{AreKept, box_shelf, free_item_boxes, idle_item, stored_item, with_after}
 use Rattle.atlas_store.specs.Search.Items.{Item}
@@ -17,6 +17,9 @@ entries-are : (bs : List FreeBox) (x : ℕ) (b : FreeBox) (link unused : Link) �
     → map stored_item (slice_set bs x b) ≡ slice_set (map stored_item bs) x (idle_item unused.number)
 entries-are bs x b link unused e f =
     map-set stored_item bs x b ∙ ap (λ (t : Item). slice_set (map stored_item bs) x t) (e ∙ ap (λ (l : Link). idle_item l.number) f)
+
+pub lead-requires-clause-used : goal.lead-requires-clause-used
+lead-requires-clause-used g c = grind (arith, free-inside, ne_eqb)
 
 pub overflow_sub-self : goal.overflow_sub-self
 overflow_sub-self g c =
@@ -43,7 +46,7 @@ returns-clause-kept g c =
     let es = map stored_item bs in
     let es1 = map stored_item c.lead.new.self.entries.items in
     let x = c.args.found.at.number in
-    let k = number_of c.args.found.place in
+    let k = c.args.found.list in
     let standing = c.requires.standing in
     let some = used-some o (box_shelf c.args.self.now) x c.requires.kept standing.free in
     let less : (c.lead.new.self.used - 1) + 1 ≡ c.args.self.now.used = omega (arith, some, c.lead.ensures.led.used) in
