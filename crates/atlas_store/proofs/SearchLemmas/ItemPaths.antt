@@ -48,11 +48,7 @@ path-bypassed es es' x b from (y ∷ ys) to l past once has_b next skip others p
     Goal zs = IsPath es' from zs to
 
     not_first : x ≡ y → ⊥
-    not_first e =
-        elim (path-next es from y ys to b p has_b) [
-          | inl z ↦ past (sym z ∙ next)
-          | inr g ↦ omega (arith, once x, same-self x, ap (same x) e, subst (λ n. 0 < occurs n ys) next g)
-        ]
+    not_first e = grind (arith, path-next es from y ys to b p has_b, same-self x)
 
     past_b : (zs : List ℕ) → x ≢ y → y ≡ b → ys ≡ zs → IsPath es (item_at es y).after zs to → IsPath es' (item_at es' y).after (without x zs) to
     past_b [] ne e _ q = absurd (past (sym q ∙ ap (λ n. (item_at es n).after) e ∙ next))
