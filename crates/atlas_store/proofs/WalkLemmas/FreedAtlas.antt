@@ -18,7 +18,7 @@ use Rattle.atlas_store.specs.declared.slots.Slot.{Slot}
 use Rattle.std.specs.Option.{IfSome}
 use Rattle.atlas_store.specs.declared.slots.NodeKind.TheVariants as kind
 use Rattle.atlas_model.specs.Trees as tree
-use Rattle.atlas_store.specs.Slots.Numbered.{End, Free, Alloc, Seq}
+use Rattle.atlas_store.specs.Slots.Numbered.{End, Alloc}
 use Rattle.atlas_store.proofs.SlotLemmas.Frames.{same-self}
 use Rattle.atlas_store.proofs.SlotLemmas.JoiningWrites.{none-unused, used-inside}
 use Rattle.atlas_store.proofs.SlotLemmas.Reading.{IsNonempty, tree_of-Stands}
@@ -32,9 +32,7 @@ use Rattle.atlas_store.proofs.WalkLemmas.Observing.{nodes-short, nodes-below, me
 -- A tree with a first slot has members.
 nonempty-first : (n : Numbered) → (first_slot n ≡ no_slot → ⊥) → IsNonempty n
 nonempty-first End h = absurd (h refl)
-nonempty-first (Free i e rest) h = omega (arith, same-self i)
-nonempty-first (Alloc i g e rest) h = omega (arith, same-self i)
-nonempty-first (Seq i e inner rest) h = omega (arith, same-self i)
+nonempty-first n h = omega (arith, same-self)
 
 -- The parts of a name.
 pub record IsNamed (ns : List Node) (id : ℕ) : Type 0 where
