@@ -47,8 +47,11 @@ natural-most (negsuc n) h = omega arith
 
 -- The order of corners is that of the boxes.
 
-pub corner-row : (b : Box) → b.min.x < 4294967296 → corner_of b / 4294967296 ≡ b.min.y
+corner-row : (b : Box) → b.min.x < 4294967296 → corner_of b / 4294967296 ≡ b.min.y
 corner-row b h = omega (arith, h)
+
+pub row-is : (a : Rectangle) (corner : ℕ) → FitsSigned w32 a.min.x → corner ≡ corner_of (box_of a) → corner / 4294967296 ≡ (box_of a).min.y
+row-is a corner f e = let x = natural-most a.min.x f in ap (λ (n : ℕ). n / 4294967296) e ∙ corner-row (box_of a) (omega (arith, x))
 
 corner-before : (b c : Box) → b.min.x < 4294967296 → c.min.x < 4294967296 → corner_of b < corner_of c → IsBefore (rectangle_of b).min (rectangle_of c).min
 corner-before b c hb hc h = grind (arith, ints)

@@ -1,5 +1,5 @@
 -- The slots determine the tree.
-use Rattle.std.proofs.Common.{ℕ, ◌+◌, ◌<◌, ◌≤◌, ◌≡◌, List, refl, sym, ap, ◌∙◌, ◌⊎◌, inl, inr, arith, length, zero, suc, true}
+use Rattle.std.proofs.Common.{rules, ℕ, ◌+◌, ◌<◌, ◌≤◌, ◌≡◌, List, refl, sym, ap, ◌∙◌, ◌⊎◌, inl, inr, arith, length, zero, suc, true}
 use Rattle.std.proofs.lemmas.Bool.{cases_eq, cases_lt, and_parts, and_from, eqb-true, eq-eqb, ltb-true, lt-ltb, true≢false}
 use Rattle.std.proofs.lemmas.List.{get_or_past}
 use Rattle.std.proofs.lemmas.List.Sums.{passes_at_first, fails_before_first}
@@ -43,25 +43,13 @@ not_first ns c k s b q (Free j e rest) hd nb none zc l h =
 not_first ns c k s b q (Alloc j g e rest) hd nb none zc l h =
     grind (arith, not_first ns c k s j (q + e) rest hd, ne-from_same, same-ne)
 not_first ns c k s b q (Seq j e inner rest) hd nb none zc l h =
-    elim (cases_eq k j) [
-      | inl x ↦ nb (sym h.0.previous ∙ (rw (← x) hd.previous))
-      | inr ne ↦ elim (split_pos (tally k inner) (tally k rest) (omega (arith, same-ne k j ne))) [
-        | inl a ↦ grind (arith, parent-in ns k (inside s j q e) no_slot s.start inner h.2 a, ne-from_same)
-        | inr a ↦ not_first ns c k s j (q + e) rest hd (λ x. ne-from_same no_slot j (omega arith) x) (omega arith) (omega arith) a h.3
-      ]
-    ]
+    search (rules, split_pos, same-ne, parent-in ns k (inside s j q e) no_slot s.start inner h.2, ne-from_same, not_first ns c k s j (q + e) rest hd)
 
 -- The head of the sequence of c is its first_slot member.
 pub head-first : (ns : List Node) (c k : ℕ) (s : Sequence) (b q : ℕ) (n : Numbered) → IsHead c (node_at ns k) → tally no_slot n ≡ 0 → tally c n ≡ 0 → 0 < tally k n → Standing ns s b q n → k ≡ first_slot n
 head-first ns c k s b q End hd none zc l h = absurd (omega arith)
 head-first ns c k s b q (Seq j e inner rest) hd none zc l h =
-    elim (cases_eq k j) [
-      | inl x ↦ x
-      | inr ne ↦ elim (split_pos (tally k inner) (tally k rest) (omega (arith, same-ne k j ne))) [
-        | inl a ↦ grind (arith, parent-in ns k (inside s j q e) no_slot s.start inner h.2 a, ne-from_same)
-        | inr a ↦ absurd (not_first ns c k s j (q + e) rest hd (λ x. ne-from_same no_slot j (omega arith) x) (omega arith) (omega arith) a h.3)
-      ]
-    ]
+    search (rules, split_pos, same-ne, parent-in ns k (inside s j q e) no_slot s.start inner h.2, ne-from_same, not_first ns c k s j (q + e) rest hd)
 head-first ns c k s b q n hd none zc l h = grind (arith, not_first, ne-from_same, same-ne)
 
 -- A node in use that has the parent c is in n, for each c in n.

@@ -1,5 +1,5 @@
 -- A normal tree is calm, and marking leaves it calm but for the marked leaf.
-use Rattle.std.proofs.Common.{rules, ℕ, ◌+◌, ◌<◌, ◌≤◌, ◌≡◌, List, refl, sym, ap, ◌∙◌, ◌⊎◌, inl, inr, arith, length, true, false}
+use Rattle.std.proofs.Common.{rules, ℕ, ◌+◌, ◌<◌, ◌≤◌, ◌≡◌, List, refl, sym, ap, ◌∙◌, ◌⊎◌, inr, arith, length, true, false}
 use Rattle.std.proofs.lemmas.Bool.{cases_eq, true≢false}
 use Rattle.atlas_store.specs.declared.slots.Node.{Node}
 use Rattle.atlas_store.specs.declared.slots.NodeKind.TheVariants as kind
@@ -45,19 +45,8 @@ calm-from_normal ns s b p (Seq j e inner rest) u z alone normal h k l =
 pub calm-marked : (ns ms : List Node) (i : ℕ) (n : Node) → IsWritten ns ms i n → ((k : ℕ) → IsCalmAt ns k) → IsCalmBut ms i
 calm-marked ns ms i n w calm =
     record {
-      apart = λ k ki f g.
-          let eq : node_at ms k ≡ node_at ns k = w.others k ki in
-          let x = (node_at ms k).next.number in
-          elim (cases_eq x i) [
-            | inl e ↦ e
-            | inr xi ↦
-                let gx : (node_at ns x).kind ≡ kind.Free = rw (w.others x xi) at g in
-                let nx : x ≡ (node_at ns k).next.number = ap (λ (n : Node). n.next.number) eq in
-                absurd ((calm k).apart (rw eq at f) (rw (← nx) gx))
-          ];
-      nested = λ k ki f b a.
-          let eq : node_at ms k ≡ node_at ns k = w.others k ki in
-          rw eq ((calm k).nested (rw eq at f) (rw eq at b) (rw eq at a));
+      apart = λ k ki f g. grind (arith, w.others k ki, cases_eq (node_at ms k).next.number i, w.others (node_at ms k).next.number, (calm k).apart);
+      nested = λ k ki f b a. grind (arith, w.others k ki, (calm k).nested);
     }
 
 -- The slots of a normal tree are calm.

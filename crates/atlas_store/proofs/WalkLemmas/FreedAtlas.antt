@@ -66,11 +66,7 @@ module _ (v : Stored) (a : IsAtlas v) (id : ℕ) where
 
   pub named-live : is_named (nodes v.shelf.slots) id ≡ true → Contains (ids (tree_of (nodes v.shelf.slots)).members) id
   named-live h =
-      let ns = nodes v.shelf.slots in
-      let is = named-parts ns id h in
-      let member : 0 < tally (slot_of id) a.holding.tree = subst (λ k. 0 < k) (sym (a.holds.stands.numbered (slot_of id))) (subst (λ k. 0 < use_count k) (sym is.kind) (omega arith)) in
-      subst (λ m. Contains (ids m) id) (sym (members-IsAtlas v a))
-      (slot_id ns a.holding.sequence no_slot 0 a.holding.tree id (slot_of id) a.holds.stands.standing (record { member = member; kind = is.kind; names = is.names }))
+      grind (arith, named-parts (nodes v.shelf.slots) id h, members-IsAtlas, slot_id (nodes v.shelf.slots) a.holding.sequence no_slot 0 a.holding.tree id (slot_of id))
 
   -- Whether a slot was found says whether the id is live.
   pub live-found : (slots : List Slot) (o : Option ℕ) → slots ≡ v.shelf.slots → IfSome o (λ at. is_named (nodes slots) id ≡ true) → IfNone o (is_named (nodes slots) id ≡ false)
