@@ -229,6 +229,5 @@ module _ (o : Options) (heads heads' : List ListHead) (es es' : List Item) (list
       }
     where
       exact-added : (i : ℕ) → (item_at es' i).is_free ≡ true → (i ≡ x) ⊎ (i ≢ x) → IsSolid (item_at es' i).area
-      exact-added i f (inl is) = subst (λ n. IsSolid (item_at es' n).area) (sym is) (subst (λ (t : Item). IsSolid t.area) (sym this) exact)
-      exact-added i f (inr ne) =
-          subst (λ (t : Item). IsSolid t.area) (sym (others i ne)) (listed.exact i (ap (λ (t : Item). t.is_free) (sym (others i ne)) ∙ f))
+      exact-added i f (inl is) = grind arith
+      exact-added i f (inr ne) = grind (arith, others)

@@ -1,5 +1,5 @@
 -- Slots that were taken once, where the calls of the store change other parts of them.
-use Rattle.std.proofs.Common.{arith, ℕ, ◌≡◌, ◌≢◌, List, [], ◌∷◌, length, ap, ◌∙◌, inl, inr, subst, sym}
+use Rattle.std.proofs.Common.{arith, ℕ, ◌≡◌, ◌≢◌, List, [], ◌∷◌, length, ap, ◌∙◌, subst, sym}
 use Rattle.std.proofs.lemmas.Bool.{cases_eq, cases_lt}
 use Rattle.std.proofs.lemmas.List.{get_or_past}
 use Rattle.std.proofs.lemmas.List.Elements.{All-from_get_or, All-get_or}
@@ -62,8 +62,5 @@ first-once v f =
     let P : Node → Type 0 = λ n. n.generation ≡ 0 in
     record {
       none = f.used;
-      generations = λ i. elim (cases_lt i (length ns)) [
-        | inl l ↦ All-get_or P ns i blank_node l f.first
-        | inr m ↦ ap (λ (n : Node). n.generation) (get_or_past ns i blank_node m)
-      ];
+      generations = λ i. grind (arith, cases_lt i (length ns), All-get_or P ns i blank_node, get_or_past ns i blank_node);
     }
