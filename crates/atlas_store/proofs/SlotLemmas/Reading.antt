@@ -171,11 +171,16 @@ tallies-le (suc m) n once = omega (arith, once m, tallies-le m n once)
 pub tallies-numbers : (m : ℕ) (n : Numbered) → ((k : ℕ) → 0 < tally k n → k < m) → tallies m n ≡ numbers n
 tallies-numbers m End below = sums-none (λ i. 0) m (λ i l. refl)
 tallies-numbers m (Free j e rest) below =
-    omega (arith, sums-add (λ i. same i j) (λ i. tally i rest) m, sums-same j m (below j (omega (arith, same-self j))), tallies-numbers m rest (λ k l. below k (omega arith)))
+    let one = sums-same j m (below j (omega (arith, same-self j))) in
+    omega (arith, one, sums-add (λ i. same i j) (λ i. tally i rest) m, tallies-numbers m rest (λ k l. below k (omega arith)))
 tallies-numbers m (Alloc j g e rest) below =
-    omega (arith, sums-add (λ i. same i j) (λ i. tally i rest) m, sums-same j m (below j (omega (arith, same-self j))), tallies-numbers m rest (λ k l. below k (omega arith)))
+    let one = sums-same j m (below j (omega (arith, same-self j))) in
+    omega (arith, one, sums-add (λ i. same i j) (λ i. tally i rest) m, tallies-numbers m rest (λ k l. below k (omega arith)))
 tallies-numbers m (Seq j e inner rest) below =
-    omega (arith, sums-add (λ i. same i j + tally i inner) (λ i. tally i rest) m, sums-add (λ i. same i j) (λ i. tally i inner) m, sums-same j m (below j (omega (arith, same-self j))), tallies-numbers m inner (λ k l. below k (omega arith)), tallies-numbers m rest (λ k l. below k (omega arith)))
+    let one = sums-same j m (below j (omega (arith, same-self j))) in
+    let two = sums-add (λ i. same i j + tally i inner) (λ i. tally i rest) m in
+    let within = tallies-numbers m inner (λ k l. below k (omega arith)) in
+    omega (arith, one, two, sums-add (λ i. same i j) (λ i. tally i inner) m, within, tallies-numbers m rest (λ k l. below k (omega arith)))
 
 -- What the slots of a whole tree say of it.
 record WholeFacts (ns : List Node) (s : Sequence) (n : Numbered) : Type 0 where

@@ -71,7 +71,7 @@ before-in ns k s b p (Free j e rest) h l =
 before-in ns k s b p (Alloc j g e rest) h l =
     grind (arith, before_wider, same-self, before-in ns k s j (p + e) rest h.3, same-ne)
 before-in ns k s b p (Seq j e inner rest) h l =
-    search (rules, split_pos, same-ne, same-self, inner_wider, before_wider, before-in ns k (inside s j p e) no_slot s.start inner h.2, before-in ns k s j (p + e) rest h.3)
+    search (rules, split_pos, same-ne, same-self, inner_wider, before_wider, before-in ns k _ _ _ inner h.2, before-in ns k s j (p + e) rest h.3)
 
 -- The slot before is a slot or none, and a free one leads here.
 pub previous-slot : (ns : List Node) (k m : ℕ) (x : ℕ) → length ns < no_slot → IsWhole ns → (node_at ns k).kind ≡ kind.Free → x ≡ (node_at ns k).previous.number → m ≡ length ns → IsSlot m x

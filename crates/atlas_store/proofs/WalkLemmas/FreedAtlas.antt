@@ -66,7 +66,8 @@ module _ (v : Stored) (a : IsAtlas v) (id : ℕ) where
 
   pub named-live : is_named (nodes v.shelf.slots) id ≡ true → Contains (ids (tree_of (nodes v.shelf.slots)).members) id
   named-live h =
-      grind (arith, named-parts (nodes v.shelf.slots) id h, members-IsAtlas, slot_id (nodes v.shelf.slots) a.holding.sequence no_slot 0 a.holding.tree id (slot_of id))
+      let ns = nodes v.shelf.slots in
+      grind (arith, named-parts ns id h, members-IsAtlas, slot_id ns a.holding.sequence no_slot 0 a.holding.tree id (slot_of id))
 
   -- Whether a slot was found says whether the id is live.
   pub live-found : (slots : List Slot) (o : Option ℕ) → slots ≡ v.shelf.slots → IfSome o (λ at. is_named (nodes slots) id ≡ true) → IfNone o (is_named (nodes slots) id ≡ false)
