@@ -66,9 +66,7 @@ each-free P all k (n ∷ ns) at each = by_test (is_free n.kind) refl (each-free 
     later j = ap (λ i. node_at all i) (let e : k + 1 + j ≡ k + suc j = omega arith in e) ∙ at (suc j)
 
     by_test : (b : Bool) → is_free n.kind ≡ b → All P (free_areas ns) → All P (cond b (n.area ∷ free_areas ns) (free_areas ns))
-    by_test true is rest =
-        All-cons P n.area (free_areas ns)
-        (subst (λ (m : Node). P m.area) here (each k (ap (λ (m : Node). is_free m.kind) here ∙ is))) rest
+    by_test true is rest = grind (arith, All-cons, here)
     by_test false is rest = rest
 
 is_free-used : (k : NodeKind) → is_free k ≡ true → 0 < use_count k
@@ -132,9 +130,6 @@ module _ (v : Stored) (a : IsAtlas v) (turns : ℕ) where
   pub shown_live-IsAtlas : (slots : List Slot) → slots ≡ v.shelf.slots → All IsShownArea (live_areas (nodes slots))
   shown_live-IsAtlas slots same =
       live_areas-shown IsShownArea 0 (nodes slots)
-      (All-weaker (IsShownGrant (state_of (record { stored = v; turns = 0; capacity = 0 }))) (λ (x : Allocation). IsShownArea x.rectangle)
+      (All-weaker (IsShownGrant (state_of (record { stored = v; turns = turns; capacity = 0 }))) (λ (x : Allocation). IsShownArea x.rectangle)
       (λ x w. record { exact = w.exact; measurable = w.measurable; nonempty = w.nonempty }) (allocated_from 0 (nodes slots))
-      (shown-zero slots same))
-    where
-      shown-zero : (slots : List Slot) → slots ≡ v.shelf.slots → All (IsShownGrant (state_of (record { stored = v; turns = 0; capacity = 0 }))) (allocated_from 0 (nodes slots))
-      shown-zero slots same = shown-IsAtlas slots same
+      (shown-IsAtlas slots same))

@@ -1,6 +1,6 @@
 -- How often a slot stands in a list.
 use Rattle.std.proofs.Common.{ℕ, ◌+◌, ◌<◌, ◌≡◌, List, [], ◌∷◌, refl, sym, ap, ◌∙◌, ◌⊎◌, inl, inr, arith, eqb, length}
-use Rattle.std.proofs.lemmas.Bool.{cond_both, eqb-true, eqb-false, ne_eqb, cond-false}
+use Rattle.std.proofs.lemmas.Bool.{ne_eqb, cond-false}
 use Rattle.atlas_store.specs.Slots.{no_slot}
 use Rattle.atlas_store.specs.Slots.Lists.{occurs, without, front}
 use Rattle.atlas_store.specs.Slots.Numbered.{same}
@@ -36,14 +36,8 @@ without-none i (x ∷ xs) z = grind (arith, without-none i xs (omega arith))
 
 pub occurs-without : (i : ℕ) (xs : List ℕ) → 0 < occurs i xs → (k : ℕ) → occurs k (without i xs) + same k i ≡ occurs k xs
 occurs-without i [] l k = absurd (omega arith)
-occurs-without i (x ∷ xs) l k =
-    cond_both (eqb i x) xs (x ∷ without i xs) (λ ys. occurs k ys + same k i ≡ same k x + occurs k xs) (λ t.
-    omega (arith, ap (same k) (eqb-true i x t))) (λ f.
-    omega (arith, occurs-without i xs (omega (arith, same-ne i x (eqb-false i x f))) k))
+occurs-without i (x ∷ xs) l k = grind (arith, same-ne, occurs-without i xs)
 
 pub length-without : (i : ℕ) (xs : List ℕ) → 0 < occurs i xs → length (without i xs) + 1 ≡ length xs
 length-without i [] l = absurd (omega arith)
-length-without i (x ∷ xs) l =
-    cond_both (eqb i x) xs (x ∷ without i xs) (λ ys. length ys + 1 ≡ length (x ∷ xs)) (λ t.
-    omega arith) (λ f.
-    omega (arith, length-without i xs (omega (arith, same-ne i x (eqb-false i x f)))))
+length-without i (x ∷ xs) l = grind (arith, same-ne, length-without i xs)

@@ -2,12 +2,11 @@
 use Rattle.std.proofs.Common.{◌≡◌, ℕ, ◌-◌, ◌/◌, ◌<◌, ◌≤◌, ◌⊎◌, Bool, true, false, List, [], ◌∷◌, ◌++◌, ℤ, pos, negsuc, FitsSigned, w32, refl, ap, sym, ◌∙◌, subst, inl, inr, arith}
 use Rattle.std.specs.List.{Contains}
 use Rattle.std.proofs.lemmas.Int.{ints}
-use Rattle.std.proofs.lemmas.Bool.{cases_lt}
 use Rattle.std.proofs.lemmas.List.Elements.{Contains-push_cases, Contains-append_left, Contains-append_cases}
 use Rattle.atlas_store.specs.declared.search.best.Best.{Best}
 use Rattle.atlas_model.specs.declared.geometry.Rectangle.{Rectangle}
 use Rattle.atlas_store.specs.Search.Bests.{IsAhead, IsKeptOf, IsLeast, HasSeen}
-use Rattle.atlas_model.specs.Boxes.{Sides, Box, box_sides, Fits, IsPositive}
+use Rattle.atlas_model.specs.Boxes.{Sides, Box, box_sides, Fits}
 use Rattle.atlas_model.specs.Choice.{least_margin, HasEqualSide, ComesFirst}
 use Rattle.atlas_model.specs.Pixels.{natural, box_of, rectangle_of, sides_of}
 use Rattle.atlas_store.specs.Search.Ranks.{corner_of, rank_of, no_rank}
@@ -46,35 +45,32 @@ pub natural-most : (x : ℤ) → FitsSigned w32 x → natural x ≤ 2147483647
 natural-most (pos n) h = omega (arith, ints)
 natural-most (negsuc n) h = omega arith
 
-pub margin-below : (r : Sides) (a : Rectangle) → IsPositive r → FitsSigned w32 a.max.x → least_margin r (box_of a) < no_rank
-margin-below r a p h = let most = natural-most a.max.x h in omega (arith, p.0, most)
-
 -- The order of corners is that of the boxes.
 
-pub corner-row : (b : Box) → b.min.x < 4294967296 → corner_of b / 4294967296 ≡ b.min.y
+corner-row : (b : Box) → b.min.x < 4294967296 → corner_of b / 4294967296 ≡ b.min.y
 corner-row b h = omega (arith, h)
 
+pub row-is : (a : Rectangle) (corner : ℕ) → FitsSigned w32 a.min.x → corner ≡ corner_of (box_of a) → corner / 4294967296 ≡ (box_of a).min.y
+row-is a corner f e = let x = natural-most a.min.x f in ap (λ (n : ℕ). n / 4294967296) e ∙ corner-row (box_of a) (omega (arith, x))
+
 corner-before : (b c : Box) → b.min.x < 4294967296 → c.min.x < 4294967296 → corner_of b < corner_of c → IsBefore (rectangle_of b).min (rectangle_of c).min
-corner-before b c hb hc h =
-    elim (cases_lt b.min.y c.min.y) [
-      | inl l ↦ inl (omega (arith, ints, l))
-      | inr g ↦ let e : b.min.y ≡ c.min.y = omega (arith, h, g, hb, hc) in inr (ap pos e, omega (arith, ints, h, e))
-    ]
+corner-before b c hb hc h = grind (arith, ints)
 
 before-corner : (b c : Box) → b.min.x < 4294967296 → c.min.x < 4294967296 → IsBefore (rectangle_of b).min (rectangle_of c).min → corner_of b < corner_of c
 before-corner b c hb hc (inl l) = let h : b.min.y < c.min.y = omega (arith, ints, l) in omega (arith, h, hb, hc)
 before-corner b c hb hc (inr e) = let h : b.min.x < c.min.x = omega (arith, ints, e.1) in let s : b.min.y ≡ c.min.y = omega (arith, ints, e.0) in omega (arith, h, s)
+
+-- From the limit on no box is ahead of the best one.
+unbeaten : (s : Best) (b : Box) (corner : ℕ) → b.min.x ≤ 2147483647 → b.min.y ≤ 2147483647 → corner ≡ corner_of b → s.limit ≤ corner
+    → (rank : ℕ) → IsAhead rank corner s → ⊥
+unbeaten s b corner hx hy cornered past rank first =
+    let settled = s.limited (omega (arith, hx, hy, cornered, past)) in omega (arith, first, past, settled.0, settled.1)
 
 -- A box that is ahead of the best one, and one that isn't.
 
 module _ (s : Best) (is_large : Bool) (r : Sides) (shown : List Shown) (seen : HasSeen s is_large r shown) where
   pub asked : sides_of s.size ≡ r
   asked = ap sides_of seen.size
-
-  -- The rank of a margin in the terms of the request.
-  pub ranked-asked : (b : Box) (m : ℤ) (rank : ℕ) → m ≡ pos (least_margin (sides_of s.size) b) → rank ≡ rank_of s.is_large (natural m)
-      → rank ≡ rank_of is_large (least_margin r b)
-  ranked-asked b m rank e f = grind (arith, asked)
 
   kept-more : (at : ℕ) (c : Shown) (k : IsKeptOf is_large r shown s.rank s.corner at)
       → (Fits r (box_sides c.box) → IsAsGood is_large r k.box c.box × (IsAsGood is_large r c.box k.box → ComesFirst k.box c.box))
@@ -106,20 +102,15 @@ module _ (s : Best) (is_large : Bool) (r : Sides) (shown : List Shown) (seen : H
       (ranked : rank ≡ rank_of is_large (least_margin r b)) (cornered : corner ≡ corner_of b) (fits : Fits r (box_sides b)) where
     precedes : (at : ℕ) (k : IsKeptOf is_large r shown s.rank s.corner at) → IsAhead rank corner s
         → PrecedesBox is_large (pos (least_margin r b)) (pos (least_margin r k.box)) (rectangle_of b).min (rectangle_of k.box).min
-    precedes at k (inl less) = inl (rank-better is_large _ _ below k.below (omega (arith, less, ranked, k.ranked)))
-    precedes at k (inr same) =
-        inr (ap pos (rank-same is_large _ _ below k.below (sym ranked ∙ same.0 ∙ k.ranked)), corner-before b k.box narrow k.narrow (omega (arith, same.1, cornered, k.cornered)))
+    precedes at k first = grind (arith, rank-better, rank-same, corner-before)
 
     ahead : (at : ℕ) (k : IsKeptOf is_large r shown s.rank s.corner at)
         → PrecedesBox is_large (pos (least_margin r b)) (pos (least_margin r k.box)) (rectangle_of b).min (rectangle_of k.box).min
         → IsAhead rank corner s
-    ahead at k (inl better) = let less = better-rank is_large _ _ below k.below better in inl (omega (arith, less, ranked, k.ranked))
-    ahead at k (inr same) =
-        let e : least_margin r b ≡ least_margin r k.box = omega (arith, ints, same.0) in
-        inr (ranked ∙ ap (rank_of is_large) e ∙ sym k.ranked, omega (arith, before-corner b k.box narrow k.narrow same.1, cornered, k.cornered))
+    ahead at k first = grind (arith, better-rank, before-corner)
 
     -- The best one is kept.
-    pub seen-behind : (at : ℕ) → (IsAhead rank corner s → ⊥) → HasSeen s is_large r (shown ++ shown_at b at ∷ [])
+    seen-behind : (at : ℕ) → (IsAhead rank corner s → ⊥) → HasSeen s is_large r (shown ++ shown_at b at ∷ [])
     seen-behind at behind =
         record {
           positive = seen.positive;
@@ -135,7 +126,7 @@ module _ (s : Best) (is_large : Bool) (r : Sides) (shown : List Shown) (seen : H
         }
 
     -- It is the best one from now on.
-    pub kept-ahead : (at : ℕ) → IsAhead rank corner s → (rank < no_rank) × IsKeptOf is_large r (shown ++ shown_at b at ∷ []) rank corner at
+    kept-ahead : (at : ℕ) → IsAhead rank corner s → (rank < no_rank) × IsKeptOf is_large r (shown ++ shown_at b at ∷ []) rank corner at
     kept-ahead at first = (
       omega (arith, ranked, rank-below is_large _ below),
       record {
@@ -157,7 +148,7 @@ module _ (s : Best) (is_large : Bool) (r : Sides) (shown : List Shown) (seen : H
   fits-cases b = grind arith
 
   -- No box with this corner is ahead of the best one.
-  pub seen-unbeaten : (b : Box) (corner : ℕ) → b.min.x < 4294967296 → least_margin r b < no_rank → corner ≡ corner_of b
+  seen-unbeaten : (b : Box) (corner : ℕ) → b.min.x < 4294967296 → least_margin r b < no_rank → corner ≡ corner_of b
       → ((rank : ℕ) → IsAhead rank corner s → ⊥) → (at : ℕ) → HasSeen s is_large r (shown ++ shown_at b at ∷ [])
   seen-unbeaten b corner narrow below cornered behind at =
       elim (fits-cases (box_sides b)) [
@@ -165,40 +156,49 @@ module _ (s : Best) (is_large : Bool) (r : Sides) (shown : List Shown) (seen : H
         | inr misfit ↦ seen-unfit (shown_at b at) misfit
       ]
 
--- From the limit on no box is ahead of the best one.
-pub unbeaten : (s : Best) (b : Box) (corner : ℕ) → b.min.x ≤ 2147483647 → b.min.y ≤ 2147483647 → corner ≡ corner_of b → s.limit ≤ corner
-    → (rank : ℕ) → IsAhead rank corner s → ⊥
-unbeaten s b corner hx hy cornered past rank first =
-    let settled = s.limited (omega (arith, hx, hy, cornered, past)) in
-    elim first [ inl l ↦ omega (arith, l, settled.0) | inr e ↦ omega (arith, e.1, past, settled.1) ]
+  -- A rectangle with this corner.
+  module _ (a : Rectangle) (corner : ℕ) (left : FitsSigned w32 a.min.x) (right : FitsSigned w32 a.max.x) (cornered : corner ≡ corner_of (box_of a)) where
+    in_sight : (box_of a).min.x ≤ 2147483647
+    in_sight = natural-most a.min.x left
+
+    small_margin : least_margin r (box_of a) < no_rank
+    small_margin = let most = natural-most a.max.x right in omega (arith, seen.positive.0, most)
+
+    pub past-limit : FitsSigned w32 a.min.y → s.limit ≤ corner → (at : ℕ) → HasSeen s is_large r (shown ++ shown_at (box_of a) at ∷ [])
+    past-limit top past =
+        seen-unbeaten (box_of a) corner (omega (arith, in_sight)) small_margin cornered
+        (unbeaten s (box_of a) corner in_sight (natural-most a.min.y top) cornered past)
+
+    module _ (m : ℤ) (rank : ℕ) (fits : Fits (sides_of s.size) (box_sides (box_of a))) (margin : m ≡ pos (least_margin (sides_of s.size) (box_of a)))
+        (ranked : rank ≡ rank_of s.is_large (natural m)) where
+      rank_is : rank ≡ rank_of is_large (least_margin r (box_of a))
+      rank_is = grind (arith, asked)
+
+      fits_asked : Fits r (box_sides (box_of a))
+      fits_asked = subst (λ (q : Sides). Fits q (box_sides (box_of a))) asked fits
+
+      pub ranked-behind : (at : ℕ) → (IsAhead rank corner s → ⊥) → HasSeen s is_large r (shown ++ shown_at (box_of a) at ∷ [])
+      ranked-behind = seen-behind (box_of a) rank corner (omega (arith, in_sight)) small_margin rank_is cornered fits_asked
+
+      pub ranked-ahead : (at : ℕ) → IsAhead rank corner s → (rank < no_rank) × IsKeptOf is_large r (shown ++ shown_at (box_of a) at ∷ []) rank corner at
+      ranked-ahead = kept-ahead (box_of a) rank corner (omega (arith, in_sight)) small_margin rank_is cornered fits_asked
 
 -- Before the limit each equal side is ahead of it.
 pub ahead-equal : (s : Best) (corner : ℕ) → corner < s.limit → IsAhead 0 corner s
-ahead-equal s corner below = elim (cases_lt 0 s.rank) [ inl l ↦ inl l | inr z ↦ let e : s.rank ≡ 0 = omega (arith, z) in inr (sym e, omega (arith, below, s.settled e)) ]
+ahead-equal s corner below = grind (arith, s.settled)
 
 -- The least `min.y` of a list.
 
 -- The box isn't the best.
 pub least-passed : (s : Best) (list least less : ℕ) (own : List Shown) (c : Shown) → IsLeast s list least own → less ≤ least → less ≤ c.box.min.y
     → IsLeast s list less (own ++ c ∷ [])
-least-passed s list least less own c all lower low d has =
-    elim (Contains-push_cases own c d has) [
-      | inl earlier ↦ elim (all d earlier) [ inl e ↦ inl e | inr l ↦ inr (omega (arith, l, lower)) ]
-      | inr e ↦ inr (subst (λ (x : Shown). less ≤ x.box.min.y) e low)
-    ]
+least-passed s list least less own c all lower low d has = grind (arith, Contains-push_cases own c d has, all d)
 
 -- The box is the best from now on.
 pub least-ahead : (s : Best) (corner list least less : ℕ) (own : List Shown) (c : Shown) → IsLeast s list least own → less ≤ least
     → (s.spot.list ≡ list → less ≤ s.corner / 4294967296) → corner / 4294967296 ≡ c.box.min.y
     → (d : Shown) → Contains (own ++ c ∷ []) d → ((list ≡ list) × (d.at ≡ c.at) × (corner / 4294967296 ≡ d.box.min.y)) ⊎ (less ≤ d.box.min.y)
-least-ahead s corner list least less own c all lower low row d has =
-    elim (Contains-push_cases own c d has) [
-      | inl earlier ↦ elim (all d earlier) [
-        | inl e ↦ inr (omega (arith, low e.0, e.2))
-        | inr l ↦ inr (omega (arith, l, lower))
-      ]
-      | inr e ↦ inl (refl, ap (λ (x : Shown). x.at) (sym e), subst (λ (x : Shown). corner / 4294967296 ≡ x.box.min.y) e row)
-    ]
+least-ahead s corner list least less own c all lower low row d has = grind (arith, Contains-push_cases own c d has, all d)
 
 -- Boxes that are passed over: those with an equal side lie below the best, which has an equal side too.
 pub seen-passed : (s : Best) (is_large : Bool) (r : Sides) (shown more : List Shown) → HasSeen s is_large r shown → s.rank ≡ 0
@@ -218,14 +218,8 @@ seen-passed s is_large r shown more seen zero below =
       ];
     }
   where
-    good : (l : Bool) (b c : Box) → Fits r (box_sides b) → HasEqualSide r b → IsAsGood l r b c
-    good true b c fits e = inl e
-    good false b c fits e = omega (arith, margin-equal_side r b fits e)
-
     equal : (l : Bool) (b c : Box) → Fits r (box_sides b) → Fits r (box_sides c) → HasEqualSide r b → IsAsGood l r c b → HasEqualSide r c
-    equal true b c fb fc e (inl h) = h
-    equal true b c fb fc e (inr h) = absurd (h.0 e)
-    equal false b c fb fc e h = equal_side-margin r c fc (omega (arith, h, margin-equal_side r b fb e))
+    equal l b c fb fc e h = grind (arith, equal_side-margin, margin-equal_side)
 
     still : (k : IsKeptOf is_large r shown s.rank s.corner s.spot.at.number) → IsBestShown is_large r (shown ++ more) (shown_at k.box s.spot.at.number)
     still k =

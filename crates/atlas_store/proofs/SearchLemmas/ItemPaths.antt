@@ -48,11 +48,7 @@ path-bypassed es es' x b from (y ∷ ys) to l past once has_b next skip others p
     Goal zs = IsPath es' from zs to
 
     not_first : x ≡ y → ⊥
-    not_first e =
-        elim (path-next es from y ys to b p has_b) [
-          | inl z ↦ past (sym z ∙ next)
-          | inr g ↦ omega (arith, once x, same-self x, ap (same x) e, subst (λ n. 0 < occurs n ys) next g)
-        ]
+    not_first e = grind (arith, path-next es from y ys to b p has_b, same-self x)
 
     past_b : (zs : List ℕ) → x ≢ y → y ≡ b → ys ≡ zs → IsPath es (item_at es y).after zs to → IsPath es' (item_at es' y).after (without x zs) to
     past_b [] ne e _ q = absurd (past (sym q ∙ ap (λ n. (item_at es n).after) e ∙ next))
@@ -233,6 +229,5 @@ module _ (o : Options) (heads heads' : List ListHead) (es es' : List Item) (list
       }
     where
       exact-added : (i : ℕ) → (item_at es' i).is_free ≡ true → (i ≡ x) ⊎ (i ≢ x) → IsSolid (item_at es' i).area
-      exact-added i f (inl is) = subst (λ n. IsSolid (item_at es' n).area) (sym is) (subst (λ (t : Item). IsSolid t.area) (sym this) exact)
-      exact-added i f (inr ne) =
-          subst (λ (t : Item). IsSolid t.area) (sym (others i ne)) (listed.exact i (ap (λ (t : Item). t.is_free) (sym (others i ne)) ∙ f))
+      exact-added i f (inl is) = grind arith
+      exact-added i f (inr ne) = grind (arith, others)

@@ -25,8 +25,7 @@ pub cases_place : (i j k l : ℕ) → ((k ≡ i) × (l ≡ j)) ⊎ ((k ≢ i) �
 cases_place i j k l = grind arith
 
 turned : (i j k l : ℕ) → (k ≢ i) ⊎ (l ≢ j) → (l ≢ j) ⊎ (k ≢ i)
-turned i j k l (inl p) = inr p
-turned i j k l (inr p) = inl p
+turned i j k l p = grind arith
 
 module _ (rows columns : List Mask) (any : Mask) (are : AreMarks rows columns any) (i j : ℕ) (row_inside : i < 52) (column_inside : j < 52)
     (row column : Mask) (b : Bool) (in_row : IsWritten (mask_at rows i) row j b) (in_column : IsWritten (mask_at columns j) column i b) where

@@ -19,8 +19,7 @@ abbrev is_one : ℕ → Bool
 is_one x = x == 1
 
 and_true : (b : Bool) → b ≡ (b && true)
-and_true true = refl
-and_true false = refl
+and_true b = grind arith
 
 pub none-has : (k : ℕ) → has (of_bits 0) k ≡ false
 unfolding has
@@ -79,10 +78,7 @@ min_zero x = omega arith
 pub below_has : (n k j : ℕ) → k < 64 → has (of_bits (bit_and n (1 * 2 ^ k % 2 ^ 64 - 1))) j ≡ (has (of_bits n) j && nat_lt j k)
 unfolding has
 below_has n k j within =
-    elim (cases_lt j k) [
-      | inl l ↦ grind (arith, below_is, bit_at_ones, min_one, bit_at-lt, and_true, lt-ltb)
-      | inr g ↦ grind (arith, below_is, bit_at_ones_above, min_zero, and_right, le-ltb)
-    ]
+    grind (arith, below_is n k, bit_at_ones, bit_at_ones_above, min_one, min_zero, bit_at-lt n, and_true, and_right, lt-ltb, le-ltb)
 
 -- ---- `n & (n - 1)` is without the lowest bit
 
@@ -137,13 +133,7 @@ unfolding has
 first_has n some fits = grind (arith, bit_at-trailing_zeros w64 n (omega arith) fits, both_ways)
 
 one_of_max : (a b : ℕ) → a < 2 → b < 2 → is_one (max a b) ≡ (is_one a || is_one b)
-one_of_max zero zero p q = refl
-one_of_max zero (suc zero) p q = refl
-one_of_max (suc zero) zero p q = refl
-one_of_max (suc zero) (suc zero) p q = refl
-one_of_max (suc (suc a)) b p q = absurd (omega arith)
-one_of_max zero (suc (suc b)) p q = absurd (omega arith)
-one_of_max (suc zero) (suc (suc b)) p q = absurd (omega arith)
+one_of_max a b p q = grind arith
 
 pub or_has : (n m j : ℕ) → has (of_bits (bit_or n m)) j ≡ (has (of_bits n) j || has (of_bits m) j)
 unfolding has

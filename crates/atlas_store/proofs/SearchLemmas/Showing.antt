@@ -29,11 +29,7 @@ path-push es from (x ∷ xs) to p h = (p.0, p.1, path-push es (item_at es x).aft
 
 pub path-inside : (es : List Item) (from : ℕ) (xs : List ℕ) (to : ℕ) → IsPath es from xs to → (i : ℕ) → 0 < occurs i xs → i < length es
 path-inside es from [] to p i h = absurd (omega arith)
-path-inside es from (x ∷ xs) to p i h =
-    elim (cases_eq i x) [
-      | inl e ↦ omega (arith, e, p.1)
-      | inr ne ↦ path-inside es (item_at es x).after xs to p.2 i (omega (arith, same-ne i x ne))
-    ]
+path-inside es from (x ∷ xs) to p i h = grind (arith, same-ne, path-inside es (item_at es x).after xs to p.2 i)
 
 pub path-stop : (es : List Item) (xs : List ℕ) → length es ≤ no_slot → (from : ℕ) → from ≡ no_slot → IsPath es from xs no_slot → xs ≡ []
 path-stop es [] short from e p = refl
@@ -124,13 +120,7 @@ previous-push es head xs x before at (inl p) = inl p
 previous-push es head xs x before at (inr p) = inr (omega (arith, p.0, occurs-push before x xs), p.1)
 
 spot-push : (es : List Item) (head : ℕ) (list : ℕ) (xs : List ℕ) (x : ℕ) (f g : Spot) → g ≡ f → IsSpot es head list xs f → IsSpot es head list (xs ++ x ∷ []) g
-spot-push es head list xs x f g e s =
-    subst (λ (h : Spot). IsSpot es head list (xs ++ x ∷ []) h) (sym e)
-    (record {
-      inside = omega (arith, s.inside, occurs-push f.at.number x xs);
-      in_list = s.in_list;
-      before = previous-push es head xs x f.before.number f.at.number s.before;
-    })
+spot-push es head list xs x f g e s = grind (arith, occurs-push, previous-push)
 
 module _ (es : List Item) (head : ℕ) (list : ℕ) (start now : Best) (low : ℕ) (at before : Link)
     (w : IsAlong es head list start at.number before.number now low) (more : at.number ≢ no_slot) where

@@ -55,8 +55,7 @@ pub no_slot-is : (link : Link) → link.number ≡ no_slot → is_slot link ≡ 
 no_slot-is link none = ap not (eq-eqb link.number no_slot none)
 
 places_apart : (i j k l : ℕ) → j < 52 → l < 52 → (k ≢ i) ⊎ (l ≢ j) → 52 * k + l ≢ 52 * i + j
-places_apart i j k l p q (inl apart) e = apart (omega arith)
-places_apart i j k l p q (inr apart) e = apart (omega arith)
+places_apart i j k l p q h e = grind arith
 
 module _ (heads : List ListHead) (rows rows' : List Mask) (i j : ℕ) (e : ListHead) (is : IsTable heads rows) (row : i < 52) (column : j < 52) where
   abbrev new : List ListHead

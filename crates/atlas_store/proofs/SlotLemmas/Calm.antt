@@ -15,21 +15,15 @@ use Rattle.atlas_store.proofs.SlotLemmas.Joining.{IsJoined}
 use Rattle.atlas_store.proofs.SlotLemmas.Lifting.{IsLifted}
 
 begins-kind : (ns : List Node) (s : Sequence) (b p : ℕ) (n : Numbered) → Standing ns s b p n → begins_free (erase n) ≡ true → (node_at ns (first_slot n)).kind ≡ kind.Free
-begins-kind ns s b p End h f = absurd (true≢false (sym f))
 begins-kind ns s b p (Free j e rest) h f = h.0.kind
-begins-kind ns s b p (Alloc j g e rest) h f = absurd (true≢false (sym f))
-begins-kind ns s b p (Seq j e inner rest) h f = absurd (true≢false (sym f))
+begins-kind ns s b p n h f = absurd (true≢false (sym f))
 
 -- A nested sequence of calm members is not idle.
 not-idle : (ns : List Node) (s : Sequence) (p : ℕ) (n : Numbered) → (s.parent ≡ no_slot → ⊥) → (erase n ≡ tree.End → ⊥) → ((k : ℕ) → 0 < tally k n → IsCalmAt ns k) → Standing ns s no_slot p n → is_idle (erase n) ≡ false
 not-idle ns s p End np ne calm h = absurd (ne refl)
 not-idle ns s p (Free j e End) np ne calm h =
     absurd (np (sym h.0.parent ∙ (calm j (omega (arith, same-self j))).nested h.0.kind h.0.previous h.0.next))
-not-idle ns s p (Free j e (Free x y z)) np ne calm h = refl
-not-idle ns s p (Free j e (Alloc x g y z)) np ne calm h = refl
-not-idle ns s p (Free j e (Seq x y v z)) np ne calm h = refl
-not-idle ns s p (Alloc j g e rest) np ne calm h = refl
-not-idle ns s p (Seq j e inner rest) np ne calm h = refl
+not-idle ns s p n np ne calm h = refl
 
 false-from : (b : Bool) → (b ≡ true → ⊥) → b ≡ false
 false-from true never = absurd (never refl)
@@ -59,15 +53,11 @@ normal-from_calm ns s b p (Seq j e inner rest) none full calm h =
 -- What comes next has this one before it.
 back : (ns : List Node) (s : Sequence) (b p : ℕ) (n : Numbered) → Standing ns s b p n → (first_slot n ≡ no_slot → ⊥) → (node_at ns (first_slot n)).previous.number ≡ b
 back ns s b p End h ne = absurd (ne refl)
-back ns s b p (Free j e rest) h ne = h.0.previous
-back ns s b p (Alloc j g e rest) h ne = h.0.previous
-back ns s b p (Seq j e inner rest) h ne = h.0.previous
+back ns s b p n h ne = h.0.previous
 
 back_first : (ns : List Node) (s : Sequence) (b p k j : ℕ) (n : Numbered) → Standing ns s b p n → first_slot n ≡ k → 0 < tally k n → (node_at ns k).next.number ≡ j → (j ≡ no_slot → ⊥) → (node_at ns j).previous.number ≡ k
 back_first ns s b p k j End h f l e ne = absurd (omega arith)
-back_first ns s b p k j (Free x d rest) h f l e ne = grind (arith, back)
-back_first ns s b p k j (Alloc x g d rest) h f l e ne = grind (arith, back)
-back_first ns s b p k j (Seq x d inner rest) h f l e ne = grind (arith, back)
+back_first ns s b p k j n h f l e ne = grind (arith, back)
 
 pub back-link : (ns : List Node) (s : Sequence) (n : Numbered) (k j : ℕ) → Stands ns s n → 0 < use_count (node_at ns k).kind → (node_at ns k).next.number ≡ j → (j ≡ no_slot → ⊥) → (node_at ns j).previous.number ≡ k
 back-link ns s n k j h l e ne =

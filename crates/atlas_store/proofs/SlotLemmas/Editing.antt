@@ -29,22 +29,16 @@ lifting across = on_seq lifted_to
 -- What holds of each member that is looked for.
 
 pub free_here : (i : ℕ) (P : Numbered → Type 0) → ((e : ℕ) (rest : Numbered) → P (Free i e rest)) → (m : Numbered) → is_free_at i m ≡ true → P m
-free_here i P p End t = absurd (true≢false (sym t))
 free_here i P p (Free j e rest) t = subst (λ k. P (Free k e rest)) (eqb-true i j t) (p e rest)
-free_here i P p (Alloc j g e rest) t = absurd (true≢false (sym t))
-free_here i P p (Seq j e inner rest) t = absurd (true≢false (sym t))
+free_here i P p m t = absurd (true≢false (sym t))
 
 pub alloc_here : (i : ℕ) (P : Numbered → Type 0) → ((g e : ℕ) (rest : Numbered) → P (Alloc i g e rest)) → (m : Numbered) → is_alloc_at i m ≡ true → P m
-alloc_here i P p End t = absurd (true≢false (sym t))
-alloc_here i P p (Free j e rest) t = absurd (true≢false (sym t))
 alloc_here i P p (Alloc j g e rest) t = subst (λ k. P (Alloc k g e rest)) (eqb-true i j t) (p g e rest)
-alloc_here i P p (Seq j e inner rest) t = absurd (true≢false (sym t))
+alloc_here i P p m t = absurd (true≢false (sym t))
 
 pub seq_here : (i : ℕ) (P : Numbered → Type 0) → ((e : ℕ) (inner rest : Numbered) → P (Seq i e inner rest)) → (m : Numbered) → is_seq_at i m ≡ true → P m
-seq_here i P p End t = absurd (true≢false (sym t))
-seq_here i P p (Free j e rest) t = absurd (true≢false (sym t))
-seq_here i P p (Alloc j g e rest) t = absurd (true≢false (sym t))
 seq_here i P p (Seq j e inner rest) t = subst (λ k. P (Seq k e inner rest)) (eqb-true i j t) (p e inner rest)
+seq_here i P p m t = absurd (true≢false (sym t))
 
 -- A relation between a tree and the edited one, in a sequence that spans `across`, which holds further where it holds
 -- after a member that isn't looked for.

@@ -23,9 +23,7 @@ followers (suc bound) ns i = if i == no_slot then 0 else 1 + followers bound ns 
 
 pub followers-outermost : (bound : ℕ) (ns : List Node) (s : Sequence) (b q : ℕ) (n : Numbered) → Standing ns s b q n → tally no_slot n ≡ 0 → outermost n ≤ bound → followers bound ns (first_slot n) ≡ outermost n
 followers-outermost zero ns s b q End h none l = refl
-followers-outermost zero ns s b q (Free i e rest) h none l = absurd (omega arith)
-followers-outermost zero ns s b q (Alloc i g e rest) h none l = absurd (omega arith)
-followers-outermost zero ns s b q (Seq i e inner rest) h none l = absurd (omega arith)
+followers-outermost zero ns s b q n h none l = absurd (omega arith)
 followers-outermost (suc bound) ns s b q End h none l = refl
 followers-outermost (suc bound) ns s b q (Free i e rest) h none l =
     rw (ne_eqb i no_slot (ne-from_same no_slot i (omega arith)), h.0.next) (omega (arith, followers-outermost bound ns s i (q + e) rest h.2 (omega arith) (omega arith)))
@@ -47,6 +45,4 @@ outermost-few ns s n h = omega (arith, outermost-numbers n, numbers-few ns s n h
 -- Where there is a member, a slot begins it.
 pub begins-inside : (ns : List Node) (s : Sequence) (b q : ℕ) (n : Numbered) → Standing ns s b q n → (first_slot n ≡ no_slot → ⊥) → first_slot n < length ns
 begins-inside ns s b q End h ne = absurd (ne refl)
-begins-inside ns s b q (Free i e rest) h ne = used-inside ns i (rw h.0.kind (omega arith))
-begins-inside ns s b q (Alloc i g e rest) h ne = used-inside ns i (rw h.0.kind (omega arith))
-begins-inside ns s b q (Seq i e inner rest) h ne = used-inside ns i (rw h.0.kind (omega arith))
+begins-inside ns s b q n h ne = used-inside ns _ (rw h.0.kind (omega arith))

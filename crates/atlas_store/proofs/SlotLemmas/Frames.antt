@@ -29,10 +29,7 @@ pub one_of : (a b : ℕ) → a + b ≡ 1 → ((a ≡ 1) × (b ≡ 0)) ⊎ ((a �
 one_of a b e = elim (cases_eq a 0) [ inl z ↦ inr (z, omega arith) | inr n ↦ inl (omega arith, omega arith) ]
 
 pub used-le : (k : NodeKind) → use_count k ≤ 1
-used-le kind.Container = omega arith
-used-le kind.Alloc = omega arith
-used-le kind.Free = omega arith
-used-le kind.Unused = omega arith
+used-le k = grind arith
 
 -- A slot past the end is unused.
 pub past-unused : (ns : List Node) (i : ℕ) → length ns ≤ i → use_count (node_at ns i).kind ≡ 0

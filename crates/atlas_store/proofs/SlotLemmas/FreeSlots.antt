@@ -1,16 +1,15 @@
 -- The free slots of slots that stand for a tree: their boxes are the tree's free boxes, and their rectangles are exact.
 use Rattle.std.proofs.Common.{ℕ, ◌+◌, ◌<◌, ◌≤◌, ◌≡◌, ◌⊎◌, inl, inr, List, ◌∷◌, ◌++◌, refl, sym, ap, ◌∙◌, arith, length, zero, suc, subst, false, rules}
 use Rattle.std.specs.Prelude.{Contains, slice_index_or}
-use Rattle.std.proofs.lemmas.Bool.{cases_eq, cases_lt}
+use Rattle.std.proofs.lemmas.Bool.{cases_lt}
 use Rattle.std.proofs.lemmas.List.Elements.{filter_map-append, Contains-append_left, Contains-append_right, Contains-append_cases}
 use Rattle.atlas_store.specs.declared.slots.Slot.{Slot}
 use Rattle.atlas_store.specs.declared.slots.Link.{Link}
 use Rattle.atlas_store.specs.declared.slots.Node.{Node}
 use Rattle.atlas_store.specs.declared.search.table.ListHead.{ListHead}
-use Rattle.atlas_model.specs.declared.geometry.Rectangle.{Rectangle}
 use Rattle.atlas_store.specs.declared.slots.NodeKind.{NodeKind}
 use Rattle.atlas_store.specs.declared.slots.NodeKind.TheVariants as kind
-use Rattle.atlas_model.specs.Boxes.{Box, IsNonempty, moved, origin}
+use Rattle.atlas_model.specs.Boxes.{Box, moved, origin}
 use Rattle.atlas_model.specs.Pixels.{box_of, rectangle_of}
 use Rattle.atlas_model.specs.Trees.{leaves, ungranted, IsCut}
 use Rattle.atlas_store.specs.Slots.{nodes, rings, node_at, use_count, no_slot}
@@ -21,6 +20,7 @@ use Rattle.atlas_store.specs.Slots.Lists.{AreFiled, Places}
 use Rattle.atlas_store.specs.Slots.Links.{IsSolid}
 use Rattle.atlas_store.specs.Search.Picks.{node_box, IsFreeSlot, AreFreeBoxes, IsSearchable}
 use Rattle.atlas_store.proofs.ListLemmas.Occurrences.{same-ne}
+use Rattle.atlas_store.proofs.SlotLemmas.SlotBoxes.{slot-exact}
 use Rattle.atlas_store.proofs.SlotLemmas.Spots.{moved-spot, spot-other, spot-origin}
 
 -- The boxes of the free members of a sequence from p on.
@@ -100,33 +100,8 @@ AreFreeBoxes-stands ns s n h zero_start =
       box-of_slot ns s no_slot 0 n h.standing,
     )
 
-nonempty-box : (s : Sequence) (p e : ℕ) → 0 < e → 0 < s.width → IsNonempty (member_box s p e)
-nonempty-box s p e l w = grind arith
-
-IsExact-box : (r : Rectangle) (b : Box) → r ≡ rectangle_of b → IsNonempty b → IsSolid r
-IsExact-box r b e h = subst IsSolid (sym e) (record { unsigned = refl; nonempty = h })
-
-exact-in : (ns : List Node) (s : Sequence) (before p : ℕ) (n : Numbered) → 0 < s.width → IsCut s.width (erase n) → Standing ns s before p n → (i : ℕ) → 0 < tally i n → IsSolid (node_at ns i).area
-exact-in ns s before p End w cut h i l = absurd (omega arith)
-exact-in ns s before p (Free j e rest) w cut h i l =
-    grind (arith, IsExact-box, nonempty-box, exact-in ns s j (p + e) rest w cut.1 h.2 i, same-ne)
-exact-in ns s before p (Alloc j g e rest) w cut h i l =
-    grind (arith, IsExact-box, nonempty-box, exact-in ns s j (p + e) rest w cut.1 h.3 i, same-ne)
-exact-in ns s before p (Seq j e inner rest) w cut h i l =
-    elim (cases_eq i j) [
-      | inl q ↦ subst (λ k. IsSolid (node_at ns k).area) (sym q) (IsExact-box (node_at ns j).area (member_box s p e) h.1 (nonempty-box s p e cut.0 w))
-      | inr ne ↦ elim (cases_lt 0 (tally i inner)) [
-        | inl y ↦ exact-in ns (inside s j p e) no_slot s.start inner cut.0 cut.2 h.2 i y
-        | inr y ↦ exact-in ns s j (p + e) rest w cut.3 h.3 i (omega (arith, same-ne i j ne))
-      ]
-    ]
-
--- Each used slot has an exact rectangle.
-pub exact-stands : (ns : List Node) (s : Sequence) (n : Numbered) → Stands ns s n → 0 < s.width → IsCut s.width (erase n) → (i : ℕ) → 0 < use_count (node_at ns i).kind → IsSolid (node_at ns i).area
-exact-stands ns s n h w cut i u = exact-in ns s no_slot 0 n w cut h.standing i (omega (arith, h.numbered i))
-
 pub exact-free : (ns : List Node) (s : Sequence) (n : Numbered) → Stands ns s n → 0 < s.width → IsCut s.width (erase n) → (i : ℕ) → IsFreeSlot ns i → IsSolid (node_at ns i).area
-exact-free ns s n h w cut i free = exact-stands ns s n h w cut i (omega (arith, ap use_count free))
+exact-free ns s n h w cut i free = slot-exact ns i s n h cut w (omega (arith, ap use_count free))
 
 -- Slots that stand for a tree of cuts, and whose free ones are all listed, can be searched.
 pub searchable : (o : Options) (slots : List Slot) (heads : List ListHead) (unused : Link) (p : Places) (s : Sequence) (n : Numbered) → AreFiled o (nodes slots) (rings slots) heads unused p → ((i : ℕ) → p.detached i ≡ false) → Stands (nodes slots) s n → 0 < s.width → IsCut s.width (erase n) → length slots ≤ 16777216 → AreValid o → IsSearchable o slots heads

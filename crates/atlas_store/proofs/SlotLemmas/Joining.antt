@@ -27,9 +27,7 @@ box-joined s p e d = grind arith
 
 pub first-grown : (j e : ℕ) (n : Numbered) → first_slot (grown_by j e n) ≡ j
 first-grown j e End = refl
-first-grown j e (Free k d rest) = refl
-first-grown j e (Alloc k g d rest) = refl
-first-grown j e (Seq k d inner rest) = refl
+first-grown j e n = refl
 
 pub first-joined : (i : ℕ) (n : Numbered) → first_slot (joined i n) ≡ first_slot n
 first-joined i = first-edited (is_free_at i) joining (λ a. free_here i (λ m. first_slot (joining a m) ≡ first_slot m) (first-grown i)) 0
@@ -60,8 +58,7 @@ module _ (ns ms : List Node) (i j a : ℕ) (w : IsJoined ns ms i j a) where
   next_is : (s : Sequence) (b q : ℕ) (rest : Numbered) → first_slot rest ≡ j → Standing ns s b q rest → IsNextFree rest
   next_is s b q End e h = absurd (not_none (sym e))
   next_is s b q (Free k d tail) e h = (d, tail, ap (λ x. Free x d tail) e)
-  next_is s b q (Alloc k g d tail) e h = let f = h.0.kind in let l : (node_at ns k).kind ≡ kind.Free = rw (e, w.next_free) refl in cc
-  next_is s b q (Seq k d inner tail) e h = let f = h.0.kind in let l : (node_at ns k).kind ≡ kind.Free = rw (e, w.next_free) refl in cc
+  next_is s b q rest e h = let f = h.0.kind in let l : (node_at ns (first_slot rest)).kind ≡ kind.Free = rw (e, w.next_free) refl in cc
 
   -- Where i is, j is too, and a, if there is one.
   next_in : (s : Sequence) (b q : ℕ) (n : Numbered) → Standing ns s b q n → 0 < tally i n → 0 < tally j n

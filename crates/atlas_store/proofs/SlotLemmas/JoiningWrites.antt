@@ -5,7 +5,7 @@ use Rattle.atlas_store.specs.declared.slots.Node.{Node}
 use Rattle.atlas_store.specs.declared.slots.Link.{Link}
 use Rattle.atlas_store.specs.declared.slots.NodeKind.TheVariants as kind
 use Rattle.atlas_store.specs.Slots.{node_at, blank_node, no_slot}
-use Rattle.atlas_store.specs.Slots.Numbered.{Numbered, tally, first_slot, End, Free, Alloc, Seq}
+use Rattle.atlas_store.specs.Slots.Numbered.{Numbered, tally, first_slot, End, Free}
 use Rattle.atlas_store.specs.Slots.SlotCalls.{IsFreePair}
 use Rattle.atlas_store.specs.Slots.Parts.{joined_node}
 use Rattle.atlas_store.specs.Slots.Standing.{Sequence, Standing, IsTree, IsSlot, with_kind, with_previous}
@@ -29,13 +29,10 @@ AreApart i j a = (j ≡ i → ⊥) × (a ≡ i → ⊥) × (a ≡ j → ⊥)
 -- A free member, the next, which is free too, and what follows are three slots.
 apart_first : (ns : List Node) (i j a : ℕ) (s : Sequence) (b p : ℕ) (m : Numbered) → (node_at ns no_slot).kind ≡ kind.Unused → (node_at ns i).kind ≡ kind.Free → (node_at ns i).next.number ≡ j → (node_at ns j).kind ≡ kind.Free → (node_at ns j).next.number ≡ a → first_slot m ≡ i → ((k : ℕ) → tally k m ≤ 1) → Standing ns s b p m → AreApart i j a
 apart_first ns i j a s b p End u fi nj fj na ei once h = absurd (not-none ns i u fi (sym ei))
-apart_first ns i j a s b p (Alloc k g e rest) u fi nj fj na ei once h = grind arith
-apart_first ns i j a s b p (Seq k e inner rest) u fi nj fj na ei once h = grind arith
 apart_first ns i j a s b p (Free k e End) u fi nj fj na ei once h = grind (arith, not-none)
-apart_first ns i j a s b p (Free k e (Alloc k2 g d tail)) u fi nj fj na ei once h = grind arith
-apart_first ns i j a s b p (Free k e (Seq k2 d inner tail)) u fi nj fj na ei once h = grind arith
 apart_first ns i j a s b p (Free k e (Free k2 d tail)) u fi nj fj na ei once h =
     grind (arith, same-self, first-in, not-none)
+apart_first ns i j a s b p m u fi nj fj na ei once h = grind arith
 
 -- What the tree says before the join.
 pub record CanJoin (ns : List Node) (i j a : ℕ) : Type 0 where

@@ -1,10 +1,10 @@
 -- What is live and what is free, counted over the slots that hold a tree.
-use Rattle.std.proofs.Common.{ℕ, ◌+◌, ◌*◌, ◌≡◌, Bool, cond, List, [], ◌∷◌, map, refl, sym, ap, ◌∙◌, arith, rules}
+use Rattle.std.proofs.Common.{ℕ, ◌+◌, ◌*◌, ◌≡◌, Bool, cond, List, [], ◌∷◌, map, refl, sym, ◌∙◌, arith, rules}
 use Rattle.std.specs.List.{count_by}
 use Rattle.atlas_store.specs.declared.slots.Node.{Node}
 use Rattle.atlas_store.specs.declared.slots.NodeKind.{NodeKind}
 use Rattle.atlas_store.specs.declared.slots.NodeKind.TheVariants as kind
-use Rattle.atlas_model.specs.Boxes.{Box, other, moved}
+use Rattle.atlas_model.specs.Boxes.{Box}
 use Rattle.atlas_model.specs.Pixels.{box_of}
 use Rattle.atlas_model.specs.Trees.{Grant, grant}
 use Rattle.atlas_store.specs.Slots.{node_at, use_count, no_slot}
@@ -27,16 +27,10 @@ abbrev pub free_weight : (Box → Bool) → ℕ → Node → ℕ
 free_weight p i n = cond (is_free n.kind) (one_if (p (box_of n.area))) 0
 
 alloc-light : (k : NodeKind) (v : ℕ) → use_count k * cond (is_alloc k) v 0 ≡ cond (is_alloc k) v 0
-alloc-light kind.Container v = omega arith
-alloc-light kind.Alloc v = omega arith
-alloc-light kind.Free v = omega arith
-alloc-light kind.Unused v = omega arith
+alloc-light k v = grind arith
 
 free-light : (k : NodeKind) (v : ℕ) → use_count k * cond (is_free k) v 0 ≡ cond (is_free k) v 0
-free-light kind.Container v = omega arith
-free-light kind.Alloc v = omega arith
-free-light kind.Free v = omega arith
-free-light kind.Unused v = omega arith
+free-light k v = grind arith
 
 -- The list of the allocated slots counts them.
 pub count-allocated : (p : Grant → Bool) (i : ℕ) (ns : List Node) → count_by p (map grant_of (allocated_from i ns)) ≡ slot_sum (alloc_weight p) i ns
@@ -57,18 +51,15 @@ live-Standing p ns s b q (Free j e rest) h =
 live-Standing p ns s b q (Alloc j g e rest) h =
     grind (arith, live_among, moved-spot, live-Standing p ns s j (q + e) rest h.3, one_if, count_by-cons)
 live-Standing p ns s b q (Seq j e inner rest) h =
-    let at : count_by p (live_among s.axis (moved s.axis (spot s.axis q s.start) e) s.width (erase rest)) ≡ weigh (λ k. alloc_weight p k (node_at ns k)) rest =
-    ap (λ o. count_by p (live_among s.axis o s.width (erase rest))) (moved-spot s.axis q s.start e) ∙ live-Standing p ns s j (q + e) rest h.3 in
-    let within : count_by p (live_among (other s.axis) (spot s.axis q s.start) e (erase inner)) ≡ weigh (λ k. alloc_weight p k (node_at ns k)) inner =
-    ap (λ o. count_by p (live_among (other s.axis) o e (erase inner))) (sym (spot-other s.axis q s.start)) ∙ live-Standing p ns (inside s j q e) no_slot s.start inner h.2 in
-    let here : alloc_weight p j (node_at ns j) ≡ 0 =
-    ap (λ v. cond (is_alloc v) (one_if (p (grant (id_of j (node_at ns j).generation) (box_of (node_at ns j).area)))) 0) h.0.kind in
-    ap (count_by p) (live_among-seq s.axis (spot s.axis q s.start) s.width e (erase inner) (erase rest))
-    ∙ count_by-append p (live_among (other s.axis) (spot s.axis q s.start) e (erase inner)) (live_among s.axis (moved s.axis (spot s.axis q s.start) e) s.width (erase rest))
-    ∙ three _ _ _ _ _ within at here
-  where
-    three : (a b c d z : ℕ) → a ≡ b → c ≡ d → z ≡ 0 → a + c ≡ z + b + d
-    three a b c d z x y w = omega arith
+    grind (
+      arith,
+      live_among-seq,
+      count_by-append,
+      moved-spot,
+      spot-other,
+      live-Standing p ns (inside s j q e) no_slot s.start inner h.2,
+      live-Standing p ns s j (q + e) rest h.3,
+    )
 
 -- What is free among standing members.
 pub free-Standing : (p : Box → Bool) (ns : List Node) (s : Sequence) (b q : ℕ) (n : Numbered) → Standing ns s b q n
@@ -79,17 +70,15 @@ free-Standing p ns s b q (Free j e rest) h =
 free-Standing p ns s b q (Alloc j g e rest) h =
     grind (arith, free_among, moved-spot, free-Standing p ns s j (q + e) rest h.3, one_if)
 free-Standing p ns s b q (Seq j e inner rest) h =
-    let at : count_by p (free_among s.axis (moved s.axis (spot s.axis q s.start) e) s.width (erase rest)) ≡ weigh (λ k. free_weight p k (node_at ns k)) rest =
-    ap (λ o. count_by p (free_among s.axis o s.width (erase rest))) (moved-spot s.axis q s.start e) ∙ free-Standing p ns s j (q + e) rest h.3 in
-    let within : count_by p (free_among (other s.axis) (spot s.axis q s.start) e (erase inner)) ≡ weigh (λ k. free_weight p k (node_at ns k)) inner =
-    ap (λ o. count_by p (free_among (other s.axis) o e (erase inner))) (sym (spot-other s.axis q s.start)) ∙ free-Standing p ns (inside s j q e) no_slot s.start inner h.2 in
-    let here : free_weight p j (node_at ns j) ≡ 0 = ap (λ v. cond (is_free v) (one_if (p (box_of (node_at ns j).area))) 0) h.0.kind in
-    ap (count_by p) (free_among-seq s.axis (spot s.axis q s.start) s.width e (erase inner) (erase rest))
-    ∙ count_by-append p (free_among (other s.axis) (spot s.axis q s.start) e (erase inner)) (free_among s.axis (moved s.axis (spot s.axis q s.start) e) s.width (erase rest))
-    ∙ three _ _ _ _ _ within at here
-  where
-    three : (a b c d z : ℕ) → a ≡ b → c ≡ d → z ≡ 0 → a + c ≡ z + b + d
-    three a b c d z x y w = omega arith
+    grind (
+      arith,
+      free_among-seq,
+      count_by-append,
+      moved-spot,
+      spot-other,
+      free-Standing p ns (inside s j q e) no_slot s.start inner h.2,
+      free-Standing p ns s j (q + e) rest h.3,
+    )
 
 -- The live grants are those of the allocated slots.
 pub live-Stands : (p : Grant → Bool) (ns : List Node) (s : Sequence) (n : Numbered) → Stands ns s n

@@ -21,12 +21,7 @@ parent-in ns k s b p (Seq j e inner rest) h l =
 
 first_to : (j e : ℕ) (inner rest : Numbered) → first_slot (lifted_to j e inner rest) ≡ j
 first_to j e (Free k d End) rest = refl
-first_to j e (Free k d (Free x y z)) rest = refl
-first_to j e (Free k d (Alloc x g y z)) rest = refl
-first_to j e (Free k d (Seq x y v z)) rest = refl
-first_to j e End rest = refl
-first_to j e (Alloc x g y z) rest = refl
-first_to j e (Seq x y v z) rest = refl
+first_to j e inner rest = refl
 
 pub first-lifted : (i : ℕ) (n : Numbered) → first_slot (lifted i n) ≡ first_slot n
 first-lifted i = first-edited (is_seq_at i) lifting (λ a. seq_here i (λ m. first_slot (lifting a m) ≡ first_slot m) (first_to i)) 0
@@ -56,9 +51,7 @@ module _ (ns ms : List Node) (c k : ℕ) (w : IsLifted ns ms c k) where
   -- The child follows no slot.
   not_after : (s : Sequence) (b q : ℕ) (n : Numbered) → (b ≡ no_slot → ⊥) → k ≡ first_slot n → 0 < tally k n → Standing ns s b q n → ⊥
   not_after s b q End nb x l h = absurd (omega arith)
-  not_after s b q (Free j e rest) nb x l h = nb (sym h.0.previous ∙ (rw (← x) w.alone_before))
-  not_after s b q (Alloc j g e rest) nb x l h = nb (sym h.0.previous ∙ (rw (← x) w.alone_before))
-  not_after s b q (Seq j e inner rest) nb x l h = nb (sym h.0.previous ∙ (rw (← x) w.alone_before))
+  not_after s b q n nb x l h = nb (sym h.0.previous ∙ (rw (← x) w.alone_before))
 
   -- So no later member is the child.
   not_later : (s : Sequence) (b q : ℕ) (n : Numbered) → tally no_slot n ≡ 0 → tally c n ≡ 0 → (k ≡ first_slot n → ⊥) → 0 < tally k n → Standing ns s b q n → ⊥
@@ -74,8 +67,7 @@ module _ (ns ms : List Node) (c k : ℕ) (w : IsLifted ns ms c k) where
   first_alone s b q End none l x h = absurd (omega arith)
   first_alone s b q (Free j d rest) none l x h =
       (d, (let t = begins-none rest (sym h.0.next ∙ (rw (← x) w.alone_after)) (omega arith) in let y = sym x in cc))
-  first_alone s b q (Alloc j g d rest) none l x h = let f = h.0.kind in let y : (node_at ns j).kind ≡ kind.Free = rw (← x, w.free) refl in cc
-  first_alone s b q (Seq j d inner rest) none l x h = let f = h.0.kind in let y : (node_at ns j).kind ≡ kind.Free = rw (← x, w.free) refl in cc
+  first_alone s b q n none l x h = let f = h.0.kind in let y : (node_at ns (first_slot n)).kind ≡ kind.Free = rw (← x, w.free) refl in cc
 
   -- In c there is the child alone.
   lone : (s : Sequence) (b q : ℕ) (n : Numbered) → tally no_slot n ≡ 0 → tally c n ≡ 0 → 0 < tally k n → Standing ns s b q n → (d : ℕ) × (n ≡ Free k d End)

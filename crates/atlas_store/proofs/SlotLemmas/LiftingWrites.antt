@@ -1,6 +1,5 @@
 -- What the writes of `lift` make.
-use Rattle.std.proofs.Common.{ℕ, ◌+◌, ◌<◌, ◌≡◌, List, ◌⊎◌, inl, inr, arith, length, get_or-set_same, get_or-set_other, length-set}
-use Rattle.std.proofs.lemmas.Bool.{cases_eq}
+use Rattle.std.proofs.Common.{rules, ℕ, ◌+◌, ◌<◌, ◌≡◌, List, ◌⊎◌, arith, length, get_or-set_same, get_or-set_other, length-set}
 use Rattle.atlas_store.specs.declared.slots.Slot.{Slot}
 use Rattle.atlas_store.specs.declared.slots.Node.{Node}
 use Rattle.atlas_store.specs.declared.slots.NodeKind.TheVariants as kind
@@ -8,7 +7,7 @@ use Rattle.atlas_store.specs.Slots.{nodes, rings, node_at, no_slot}
 use Rattle.atlas_store.specs.Slots.Numbered.{Numbered, tally, End, Free, Alloc, Seq}
 use Rattle.atlas_store.specs.Slots.Standing.{Sequence, Standing, Stands, IsWhole, inside, with_kind}
 use Rattle.atlas_store.specs.Slots.SlotCalls.{IsLoneLeaf, IsChildLifted}
-use Rattle.atlas_store.proofs.SlotLemmas.Frames.{same-ne, keeps-same, split_pos}
+use Rattle.atlas_store.proofs.SlotLemmas.Frames.{same-self, same-ne, keeps-same, split_pos}
 use Rattle.atlas_store.proofs.SlotLemmas.JoiningWrites.{used-inside, none-unused}
 use Rattle.atlas_store.proofs.SlotLemmas.Lifting.{IsLifted, Stands-lifted}
 use Rattle.atlas_store.proofs.SlotLemmas.Calm.{calm-lifted}
@@ -19,13 +18,7 @@ parent-kind ns k s b p End h l = absurd (omega arith)
 parent-kind ns k s b p (Free j e rest) h l = grind (arith, parent-kind ns k s j (p + e) rest h.2, same-ne)
 parent-kind ns k s b p (Alloc j g e rest) h l = grind (arith, parent-kind ns k s j (p + e) rest h.3, same-ne)
 parent-kind ns k s b p (Seq j e inner rest) h l =
-    elim (cases_eq k j) [
-      | inl q ↦ inl (rw q h.0.parent)
-      | inr ne ↦ elim (split_pos (tally k inner) (tally k rest) (omega (arith, same-ne k j ne))) [
-        | inl a ↦ elim (parent-kind ns k (inside s j p e) no_slot s.start inner h.2 a) [ inl x ↦ inr (rw x h.0.kind) | inr y ↦ inr y ]
-        | inr c ↦ parent-kind ns k s j (p + e) rest h.3 c
-      ]
-    ]
+    search (rules, split_pos, same-ne, parent-kind ns k (inside s j p e) no_slot s.start inner h.2, same-self, parent-kind ns k s j (p + e) rest h.3)
 
 pub container-kind : (ns : List Node) (k : ℕ) → (s : Sequence) (n : Numbered) → s.parent ≡ no_slot → Stands ns s n → (node_at ns k).kind ≡ kind.Free → ((node_at ns k).parent.number ≡ no_slot → ⊥) → (node_at ns (node_at ns k).parent.number).kind ≡ kind.Container
 container-kind ns k s n top h f np = grind (arith, parent-kind)

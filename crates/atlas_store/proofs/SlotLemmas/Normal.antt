@@ -17,22 +17,15 @@ nf-kept : (is : Numbered → Bool) → IsKept is (λ a m n. nf (erase n) ≡ nf 
 nf-kept is = grind arith
 
 nf-grown : (i e : ℕ) (n : Numbered) → nf (erase (grown_by i e n)) ≡ free_before e (nf (erase n))
-nf-grown i e End = refl
 nf-grown i e (Free j d rest) = sym (free_before-twice e d (nf (erase rest)))
-nf-grown i e (Alloc j g d rest) = refl
-nf-grown i e (Seq j d inner rest) = refl
+nf-grown i e n = refl
 
 pub nf-joined : (i : ℕ) (n : Numbered) → nf (erase (joined i n)) ≡ nf (erase n)
 nf-joined i = edited-keeps (is_free_at i) joining _ (nf-kept _) (λ a. free_here i (λ m. nf (erase (joining a m)) ≡ nf (erase m)) (nf-grown i)) 0
 
 nf-lifted_to : (j e : ℕ) (inner rest : Numbered) → nf (erase (lifted_to j e inner rest)) ≡ seq_before e (nf (erase inner)) (nf (erase rest))
-nf-lifted_to j e End rest = refl
 nf-lifted_to j e (Free k d End) rest = refl
-nf-lifted_to j e (Free k d (Free x y z)) rest = refl
-nf-lifted_to j e (Free k d (Alloc x g y z)) rest = refl
-nf-lifted_to j e (Free k d (Seq x y v z)) rest = refl
-nf-lifted_to j e (Alloc x g y z) rest = refl
-nf-lifted_to j e (Seq x y v z) rest = refl
+nf-lifted_to j e inner rest = refl
 
 pub nf-lifted : (i : ℕ) (n : Numbered) → nf (erase (lifted i n)) ≡ nf (erase n)
 nf-lifted i = edited-keeps (is_seq_at i) lifting _ (nf-kept _) (λ a. seq_here i (λ m. nf (erase (lifting a m)) ≡ nf (erase m)) (nf-lifted_to i)) 0

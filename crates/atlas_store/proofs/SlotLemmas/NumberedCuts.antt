@@ -3,7 +3,7 @@ use Rattle.std.proofs.Common.{ℕ, ◌+◌, ◌<◌, ◌≡◌, List, refl, arit
 use Rattle.atlas_store.specs.declared.slots.Node.{Node}
 use Rattle.atlas_model.specs.Trees.{IsCut, total}
 use Rattle.atlas_store.specs.Slots.{node_at, no_slot}
-use Rattle.atlas_store.specs.Slots.Numbered.{Numbered, erase, marked, grown_by, joined, lifted_to, lifted, granted_at, split_at, wrapped_at, wrapping, is_free_at, is_alloc_at, is_seq_at, End, Free, Alloc, Seq}
+use Rattle.atlas_store.specs.Slots.Numbered.{Numbered, erase, marked, grown_by, joined, lifted_to, lifted, granted_at, split_at, wrapped_at, wrapping, is_free_at, is_alloc_at, is_seq_at, End, Free, Seq}
 use Rattle.atlas_store.specs.Slots.Standing.{Sequence, Standing, inside}
 use Rattle.atlas_store.specs.Slots.Reading.{extent_of}
 use Rattle.atlas_store.proofs.SlotLemmas.Reading.{extent-of_placed}
@@ -26,10 +26,8 @@ recut-granted i g =
     edited-keeps (is_free_at i) (granting g) IsRecut (recut-kept _) (λ a. free_here i (λ m. IsRecut a m (granting g a m)) (λ e rest. (refl, λ _ c. c)))
 
 recut_grown : (a i e : ℕ) (n : Numbered) → IsRecut a (Free i e n) (grown_by i e n)
-recut_grown a i e End = (refl, λ _ c. c)
 recut_grown a i e (Free j d rest) = (omega arith, λ _ c. (omega (arith, c.0), c.1.1))
-recut_grown a i e (Alloc j g d rest) = (refl, λ _ c. c)
-recut_grown a i e (Seq j d inner rest) = (refl, λ _ c. c)
+recut_grown a i e n = (refl, λ _ c. c)
 
 pub recut-joined : (i across : ℕ) (n : Numbered) → IsRecut across n (joined i n)
 recut-joined i =

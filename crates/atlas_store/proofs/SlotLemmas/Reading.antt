@@ -1,5 +1,5 @@
 -- The slots determine the tree.
-use Rattle.std.proofs.Common.{ℕ, ◌+◌, ◌<◌, ◌≤◌, ◌≡◌, List, refl, sym, ap, ◌∙◌, ◌⊎◌, inl, inr, arith, length, zero, suc, true}
+use Rattle.std.proofs.Common.{rules, ℕ, ◌+◌, ◌<◌, ◌≤◌, ◌≡◌, List, refl, sym, ap, ◌∙◌, ◌⊎◌, inl, inr, arith, length, zero, suc, true}
 use Rattle.std.proofs.lemmas.Bool.{cases_eq, cases_lt, and_parts, and_from, eqb-true, eq-eqb, ltb-true, lt-ltb, true≢false}
 use Rattle.std.proofs.lemmas.List.{get_or_past}
 use Rattle.std.proofs.lemmas.List.Sums.{passes_at_first, fails_before_first}
@@ -43,33 +43,14 @@ not_first ns c k s b q (Free j e rest) hd nb none zc l h =
 not_first ns c k s b q (Alloc j g e rest) hd nb none zc l h =
     grind (arith, not_first ns c k s j (q + e) rest hd, ne-from_same, same-ne)
 not_first ns c k s b q (Seq j e inner rest) hd nb none zc l h =
-    elim (cases_eq k j) [
-      | inl x ↦ nb (sym h.0.previous ∙ (rw (← x) hd.previous))
-      | inr ne ↦ elim (split_pos (tally k inner) (tally k rest) (omega (arith, same-ne k j ne))) [
-        | inl a ↦ elim (parent-in ns k (inside s j q e) no_slot s.start inner h.2 a) [
-          | inl x ↦ ne-from_same c j (omega arith) (sym x ∙ hd.parent)
-          | inr y ↦ absurd (omega (arith, ap (λ v. tally v inner) hd.parent))
-        ]
-        | inr a ↦ not_first ns c k s j (q + e) rest hd (λ x. ne-from_same no_slot j (omega arith) x) (omega arith) (omega arith) a h.3
-      ]
-    ]
+    search (rules, split_pos, same-ne, parent-in ns k (inside s j q e) no_slot s.start inner h.2, ne-from_same, not_first ns c k s j (q + e) rest hd)
 
 -- The head of the sequence of c is its first_slot member.
 pub head-first : (ns : List Node) (c k : ℕ) (s : Sequence) (b q : ℕ) (n : Numbered) → IsHead c (node_at ns k) → tally no_slot n ≡ 0 → tally c n ≡ 0 → 0 < tally k n → Standing ns s b q n → k ≡ first_slot n
 head-first ns c k s b q End hd none zc l h = absurd (omega arith)
-head-first ns c k s b q (Free j e rest) hd none zc l h = grind (arith, not_first, ne-from_same, same-ne)
-head-first ns c k s b q (Alloc j g e rest) hd none zc l h = grind (arith, not_first, ne-from_same, same-ne)
 head-first ns c k s b q (Seq j e inner rest) hd none zc l h =
-    elim (cases_eq k j) [
-      | inl x ↦ x
-      | inr ne ↦ elim (split_pos (tally k inner) (tally k rest) (omega (arith, same-ne k j ne))) [
-        | inl a ↦ absurd (elim (parent-in ns k (inside s j q e) no_slot s.start inner h.2 a) [
-          | inl x ↦ ne-from_same c j (omega arith) (sym x ∙ hd.parent)
-          | inr y ↦ absurd (omega (arith, ap (λ v. tally v inner) hd.parent))
-        ])
-        | inr a ↦ absurd (not_first ns c k s j (q + e) rest hd (λ x. ne-from_same no_slot j (omega arith) x) (omega arith) (omega arith) a h.3)
-      ]
-    ]
+    search (rules, split_pos, same-ne, parent-in ns k (inside s j q e) no_slot s.start inner h.2, ne-from_same, not_first ns c k s j (q + e) rest hd)
+head-first ns c k s b q n hd none zc l h = grind (arith, not_first, ne-from_same, same-ne)
 
 -- A node in use that has the parent c is in n, for each c in n.
 abbrev pub IsClosed : List Node → Numbered → Type 0
@@ -84,28 +65,20 @@ Starts ns i (Seq j e inner rest) = i ≡ j
 
 Starts-first : (ns : List Node) (n : Numbered) → (node_at ns no_slot).kind ≡ kind.Unused → Starts ns (first_slot n) n
 Starts-first ns End u = u
-Starts-first ns (Free j e rest) u = refl
-Starts-first ns (Alloc j g e rest) u = refl
-Starts-first ns (Seq j e inner rest) u = refl
+Starts-first ns n u = refl
 
 -- The first_slot member is a head.
 first-head : (ns : List Node) (s : Sequence) (q : ℕ) (n : Numbered) → Standing ns s no_slot q n → 0 < tally (first_slot n) n → IsHead s.parent (node_at ns (first_slot n))
 first-head ns s q End h l = absurd (omega arith)
-first-head ns s q (Free j e rest) h l = record { is_used = rw h.0.kind (omega arith); parent = h.0.parent; previous = h.0.previous }
-first-head ns s q (Alloc j g e rest) h l = record { is_used = rw h.0.kind (omega arith); parent = h.0.parent; previous = h.0.previous }
-first-head ns s q (Seq j e inner rest) h l = record { is_used = rw h.0.kind (omega arith); parent = h.0.parent; previous = h.0.previous }
+first-head ns s q n h l = record { is_used = rw h.0.kind (omega arith); parent = h.0.parent; previous = h.0.previous }
 
 Starts-at : (ns : List Node) (i : ℕ) (n : Numbered) → 0 < tally (first_slot n) n → i ≡ first_slot n → Starts ns i n
 Starts-at ns i End l e = absurd (omega arith)
-Starts-at ns i (Free j d rest) l e = e
-Starts-at ns i (Alloc j g d rest) l e = e
-Starts-at ns i (Seq j d inner rest) l e = e
+Starts-at ns i n l e = e
 
 empty-or : (n : Numbered) → (n ≡ End) ⊎ (0 < tally (first_slot n) n)
 empty-or End = inl refl
-empty-or (Free j e rest) = inr (omega (arith, same-self j))
-empty-or (Alloc j g e rest) = inr (omega (arith, same-self j))
-empty-or (Seq j e inner rest) = inr (omega (arith, same-self j))
+empty-or n = inr (omega (arith, same-self))
 
 -- first_member_of finds where a sequence starts.
 pub Starts-head : (ns : List Node) (s : Sequence) (q : ℕ) (n : Numbered) → Standing ns s no_slot q n → ((k : ℕ) → IsHead s.parent (node_at ns k) → k ≡ first_slot n × (0 < tally k n)) → Starts ns (first_member_of ns s.parent) n
@@ -126,9 +99,7 @@ closed_rest ns s j n rest pj z is closed k u l = grind (arith, same-ne)
 
 pub read-is : (fuel : ℕ) (ns : List Node) (s : Sequence) (b q : ℕ) (n : Numbered) (i : ℕ) → (node_at ns no_slot).kind ≡ kind.Unused → Standing ns s b q n → numbers n ≤ fuel → IsClosed ns n → tally s.parent n ≡ 0 → ((k : ℕ) → tally k n ≤ 1) → tally no_slot n ≡ 0 → Starts ns i n → read fuel ns i ≡ n
 read-is zero ns s b q End i u h f closed z once none st = refl
-read-is zero ns s b q (Free j e rest) i u h f closed z once none st = absurd (omega arith)
-read-is zero ns s b q (Alloc j g e rest) i u h f closed z once none st = absurd (omega arith)
-read-is zero ns s b q (Seq j e inner rest) i u h f closed z once none st = absurd (omega arith)
+read-is zero ns s b q n i u h f closed z once none st = absurd (omega arith)
 read-is (suc fuel) ns s b q End i u h f closed z once none st = rw st refl
 read-is (suc fuel) ns s b q (Free j e rest) i u h f closed z once none st =
     let next : Starts ns (node_at ns j).next.number rest = rw h.0.next (Starts-first ns rest u) in
@@ -167,57 +138,49 @@ read-is (suc fuel) ns s b q (Seq j e inner rest) i u h f closed z once none st =
     let x : extent_of (node_at ns j) ≡ e = extent-of_placed ns j s q e h.0.axis h.1 in
     rw (st, h.0.kind) (ap (λ v. Seq j v (read fuel ns (first_member_of ns j)) (read fuel ns (node_at ns j).next.number)) x ∙ ap (λ v. Seq j e v (read fuel ns (node_at ns j).next.number)) m ∙ ap (Seq j e inner) r)
 
+-- What a count of the slots below m adds up to.
+abbrev pub sums : (ℕ → ℕ) → ℕ → ℕ
+sums f zero = 0
+sums f (suc m) = f m + sums f m
+
+pub sums-add : (f g : ℕ → ℕ) (m : ℕ) → sums (λ i. f i + g i) m ≡ sums f m + sums g m
+sums-add f g zero = refl
+sums-add f g (suc m) = omega (arith, sums-add f g m)
+
+pub sums-none : (f : ℕ → ℕ) (m : ℕ) → ((i : ℕ) → i < m → f i ≡ 0) → sums f m ≡ 0
+sums-none f zero none = refl
+sums-none f (suc m) none = omega (arith, none m (omega arith), sums-none f m (λ i l. none i (omega arith)))
+
+pub sums-same : (j m : ℕ) → j < m → sums (λ i. same i j) m ≡ 1
+sums-same j zero l = absurd (omega arith)
+sums-same j (suc m) l =
+    elim (cases_eq m j) [
+      | inl e ↦ omega (arith, same-self j, ap (λ v. same v j) e, sums-none (λ i. same i j) m (λ i b. same-ne i j (λ q. absurd (omega arith))))
+      | inr ne ↦ omega (arith, same-ne m j ne, sums-same j m (omega arith))
+    ]
+
 -- How often the slots below m stand in a tree.
 abbrev pub tallies : ℕ → Numbered → ℕ
-tallies zero n = 0
-tallies (suc m) n = tally m n + tallies m n
-
-tallies-End : (m : ℕ) → tallies m End ≡ 0
-tallies-End zero = refl
-tallies-End (suc m) = omega (arith, tallies-End m)
+tallies m n = sums (λ i. tally i n) m
 
 tallies-le : (m : ℕ) (n : Numbered) → ((k : ℕ) → tally k n ≤ 1) → tallies m n ≤ m
 tallies-le zero n once = omega arith
 tallies-le (suc m) n once = omega (arith, once m, tallies-le m n once)
 
--- The slots below m that are j.
-sames : ℕ → ℕ → ℕ
-sames zero j = 0
-sames (suc m) j = same m j + sames m j
-
-sames-none : (m j : ℕ) → m ≤ j → sames m j ≡ 0
-unfolding sames
-sames-none zero j l = refl
-sames-none (suc m) j l = omega (arith, same-ne m j (λ e. absurd (omega arith)), sames-none m j (omega arith))
-
-sames-one : (m j : ℕ) → j < m → sames m j ≡ 1
-unfolding sames
-sames-one zero j l = absurd (omega arith)
-sames-one (suc m) j l =
-    elim (cases_eq m j) [
-      | inl e ↦ omega (arith, same-self j, ap (λ v. same v j) e, sames-none m j (omega arith))
-      | inr ne ↦ omega (arith, same-ne m j ne, sames-one m j (omega arith))
-    ]
-
-tallies-leaf : (m j : ℕ) (n rest : Numbered) → ((k : ℕ) → tally k n ≡ same k j + tally k rest) → tallies m n ≡ sames m j + tallies m rest
-unfolding sames
-tallies-leaf zero j n rest is = refl
-tallies-leaf (suc m) j n rest is = omega (arith, is m, tallies-leaf m j n rest is)
-
-tallies-Seq : (m j : ℕ) (n inner rest : Numbered) → ((k : ℕ) → tally k n ≡ same k j + tally k inner + tally k rest) → tallies m n ≡ sames m j + tallies m inner + tallies m rest
-unfolding sames
-tallies-Seq zero j n inner rest is = refl
-tallies-Seq (suc m) j n inner rest is = omega (arith, is m, tallies-Seq m j n inner rest is)
-
--- Each member has a slot below m, so the tallies counts the members.
+-- Each member has a slot below m, so the tallies count the members.
 pub tallies-numbers : (m : ℕ) (n : Numbered) → ((k : ℕ) → 0 < tally k n → k < m) → tallies m n ≡ numbers n
-tallies-numbers m End below = tallies-End m
+tallies-numbers m End below = sums-none (λ i. 0) m (λ i l. refl)
 tallies-numbers m (Free j e rest) below =
-    omega (arith, tallies-leaf m j (Free j e rest) rest (λ k. refl), sames-one m j (below j (omega (arith, same-self j))), tallies-numbers m rest (λ k l. below k (omega arith)))
+    let one = sums-same j m (below j (omega (arith, same-self j))) in
+    omega (arith, one, sums-add (λ i. same i j) (λ i. tally i rest) m, tallies-numbers m rest (λ k l. below k (omega arith)))
 tallies-numbers m (Alloc j g e rest) below =
-    omega (arith, tallies-leaf m j (Alloc j g e rest) rest (λ k. refl), sames-one m j (below j (omega (arith, same-self j))), tallies-numbers m rest (λ k l. below k (omega arith)))
+    let one = sums-same j m (below j (omega (arith, same-self j))) in
+    omega (arith, one, sums-add (λ i. same i j) (λ i. tally i rest) m, tallies-numbers m rest (λ k l. below k (omega arith)))
 tallies-numbers m (Seq j e inner rest) below =
-    omega (arith, tallies-Seq m j (Seq j e inner rest) inner rest (λ k. refl), sames-one m j (below j (omega (arith, same-self j))), tallies-numbers m inner (λ k l. below k (omega arith)), tallies-numbers m rest (λ k l. below k (omega arith)))
+    let one = sums-same j m (below j (omega (arith, same-self j))) in
+    let two = sums-add (λ i. same i j + tally i inner) (λ i. tally i rest) m in
+    let within = tallies-numbers m inner (λ k l. below k (omega arith)) in
+    omega (arith, one, two, sums-add (λ i. same i j) (λ i. tally i inner) m, within, tallies-numbers m rest (λ k l. below k (omega arith)))
 
 -- What the slots of a whole tree say of it.
 record WholeFacts (ns : List Node) (s : Sequence) (n : Numbered) : Type 0 where
@@ -251,21 +214,15 @@ IsNonempty n = 0 < tally (first_slot n) n
 -- Where a member stands, a first one stands.
 pub nonempty-tally : (k : ℕ) (n : Numbered) → 0 < tally k n → IsNonempty n
 nonempty-tally k End l = absurd (omega arith)
-nonempty-tally k (Free j e rest) l = omega (arith, same-self j)
-nonempty-tally k (Alloc j g e rest) l = omega (arith, same-self j)
-nonempty-tally k (Seq j e inner rest) l = omega (arith, same-self j)
+nonempty-tally k n l = omega (arith, same-self)
 
 pub first-axis : (ns : List Node) (s : Sequence) (b q : ℕ) (n : Numbered) → Standing ns s b q n → IsNonempty n → axis_of (node_at ns (first_slot n)).axis ≡ s.axis
 first-axis ns s b q End h l = absurd (omega arith)
-first-axis ns s b q (Free j e rest) h l = h.0.axis
-first-axis ns s b q (Alloc j g e rest) h l = h.0.axis
-first-axis ns s b q (Seq j e inner rest) h l = h.0.axis
+first-axis ns s b q n h l = h.0.axis
 
 start-first : (ns : List Node) (i : ℕ) (n : Numbered) → IsNonempty n → Starts ns i n → i ≡ first_slot n
 start-first ns i End l st = absurd (omega arith)
-start-first ns i (Free j e rest) l st = st
-start-first ns i (Alloc j g e rest) l st = st
-start-first ns i (Seq j e inner rest) l st = st
+start-first ns i n l st = st
 
 -- The top sequence is found where it begins.
 pub head_of-Stands : (ns : List Node) (s : Sequence) (n : Numbered) → length ns < no_slot → s.parent ≡ no_slot → Stands ns s n → IsNonempty n → first_member_of ns no_slot ≡ first_slot n
@@ -281,12 +238,11 @@ tree-by_parts t a m ea em = rw (← ea, ← em) refl
 pub tree_of-Stands : (ns : List Node) (s : Sequence) (n : Numbered) → length ns < no_slot → s.parent ≡ no_slot → Stands ns s n → IsNonempty n → tree_of ns ≡ record { axis = s.axis; members = erase n }
 tree_of-Stands ns s n short top h l = grind (arith, axis_of-Stands, members_of-Stands, tree-by_parts)
 
-tallies-less : (m j : ℕ) (n less : Numbered) → ((x : ℕ) → tally x less + same x j ≡ tally x n) → tallies m less + sames m j ≡ tallies m n
-unfolding sames
+tallies-less : (m j : ℕ) (n less : Numbered) → ((x : ℕ) → tally x less + same x j ≡ tally x n) → tallies m less + sums (λ i. same i j) m ≡ tallies m n
 tallies-less zero j n less is = refl
 tallies-less (suc m) j n less is = omega (arith, is m, tallies-less m j n less is)
 
 -- A tree without one slot has one member less.
 pub numbers-less : (m j : ℕ) (n less : Numbered) → j < m → ((x : ℕ) → 0 < tally x n → x < m) → ((x : ℕ) → tally x less + same x j ≡ tally x n) → numbers less + 1 ≡ numbers n
 numbers-less m j n less l below is =
-    omega (arith, tallies-numbers m n below, tallies-numbers m less (λ x c. below x (omega (arith, is x))), tallies-less m j n less is, sames-one m j l)
+    omega (arith, tallies-numbers m n below, tallies-numbers m less (λ x c. below x (omega (arith, is x))), tallies-less m j n less is, sums-same j m l)

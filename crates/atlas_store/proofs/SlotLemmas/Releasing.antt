@@ -1,5 +1,5 @@
 -- A normal tree is calm, and marking leaves it calm but for the marked leaf.
-use Rattle.std.proofs.Common.{ℕ, ◌+◌, ◌<◌, ◌≤◌, ◌≡◌, List, refl, sym, ap, ◌∙◌, ◌⊎◌, inl, inr, arith, length, true, false}
+use Rattle.std.proofs.Common.{rules, ℕ, ◌+◌, ◌<◌, ◌≤◌, ◌≡◌, List, refl, sym, ap, ◌∙◌, ◌⊎◌, inr, arith, length, true, false}
 use Rattle.std.proofs.lemmas.Bool.{cases_eq, true≢false}
 use Rattle.atlas_store.specs.declared.slots.Node.{Node}
 use Rattle.atlas_store.specs.declared.slots.NodeKind.TheVariants as kind
@@ -17,14 +17,11 @@ use Rattle.atlas_store.proofs.SlotLemmas.Normal.{erase-marked}
 kind-begins : (ns : List Node) (s : Sequence) (b p : ℕ) (n : Numbered) → (node_at ns no_slot).kind ≡ kind.Unused → Standing ns s b p n → (node_at ns (first_slot n)).kind ≡ kind.Free → begins_free (erase n) ≡ true
 kind-begins ns s b p End u h f = absurd (let x = u in cc)
 kind-begins ns s b p (Free j e rest) u h f = refl
-kind-begins ns s b p (Alloc j g e rest) u h f = absurd (let x = h.0.kind in cc)
-kind-begins ns s b p (Seq j e inner rest) u h f = absurd (let x = h.0.kind in cc)
+kind-begins ns s b p n u h f = absurd (let x = h.0.kind in cc)
 
 idle-alone : (j e : ℕ) (rest : Numbered) → tally no_slot rest ≡ 0 → first_slot rest ≡ no_slot → is_idle (erase (Free j e rest)) ≡ true
 idle-alone j e End z q = refl
-idle-alone j e (Free k d rest) z q = absurd (ne-from_same no_slot k (omega arith) q)
-idle-alone j e (Alloc k g d rest) z q = absurd (ne-from_same no_slot k (omega arith) q)
-idle-alone j e (Seq k d inner rest) z q = absurd (ne-from_same no_slot k (omega arith) q)
+idle-alone j e rest z q = absurd (ne-from_same no_slot _ (omega arith) q)
 
 not-Free-calm : (ns : List Node) (k : ℕ) → ((node_at ns k).kind ≡ kind.Free → ⊥) → IsCalmAt ns k
 not-Free-calm ns k never = record { apart = λ f g. absurd (never f); nested = λ f b a. absurd (never f) }
@@ -36,30 +33,20 @@ calm-from_normal ns s b p (Free j e rest) u z alone normal h k l =
 calm-from_normal ns s b p (Alloc j g e rest) u z alone normal h k l =
     grind (arith, not-Free-calm, calm-from_normal ns s j (p + e) rest u (omega arith), ne-from_same, same-ne)
 calm-from_normal ns s b p (Seq j e inner rest) u z alone normal h k l =
-    elim (cases_eq k j) [
-      | inl q ↦ rw q (not-Free-calm ns j (λ f. let x = h.0.kind in cc))
-      | inr ne ↦ elim (split_pos (tally k inner) (tally k rest) (omega (arith, same-ne k j ne))) [
-        | inl a ↦ calm-from_normal ns (inside s j p e) no_slot s.start inner u (omega arith) (λ _. inr normal.0) normal.1 h.2 k a
-        | inr c ↦ calm-from_normal ns s j (p + e) rest u (omega arith) (λ q. absurd (ne-from_same no_slot j (omega arith) q)) normal.2 h.3 k c
-      ]
-    ]
+    search (
+      rules,
+      split_pos,
+      same-ne,
+      not-Free-calm,
+      calm-from_normal ns (inside s j p e) no_slot s.start inner u (omega arith) (λ _. inr normal.0) normal.1 h.2 k,
+      calm-from_normal ns s j (p + e) rest u (omega arith) (λ q. absurd (ne-from_same no_slot j (omega arith) q)) normal.2 h.3 k,
+    )
 
 pub calm-marked : (ns ms : List Node) (i : ℕ) (n : Node) → IsWritten ns ms i n → ((k : ℕ) → IsCalmAt ns k) → IsCalmBut ms i
 calm-marked ns ms i n w calm =
     record {
-      apart = λ k ki f g.
-          let eq : node_at ms k ≡ node_at ns k = w.others k ki in
-          let x = (node_at ms k).next.number in
-          elim (cases_eq x i) [
-            | inl e ↦ e
-            | inr xi ↦
-                let gx : (node_at ns x).kind ≡ kind.Free = rw (w.others x xi) at g in
-                let nx : x ≡ (node_at ns k).next.number = ap (λ (n : Node). n.next.number) eq in
-                absurd ((calm k).apart (rw eq at f) (rw (← nx) gx))
-          ];
-      nested = λ k ki f b a.
-          let eq : node_at ms k ≡ node_at ns k = w.others k ki in
-          rw eq ((calm k).nested (rw eq at f) (rw eq at b) (rw eq at a));
+      apart = λ k ki f g. grind (arith, w.others k ki, cases_eq (node_at ms k).next.number i, w.others (node_at ms k).next.number, (calm k).apart);
+      nested = λ k ki f b a. grind (arith, w.others k ki, (calm k).nested);
     }
 
 -- The slots of a normal tree are calm.

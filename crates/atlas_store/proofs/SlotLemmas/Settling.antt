@@ -1,6 +1,5 @@
 -- The steps of a freeing, seen from the whole tree.
-use Rattle.std.proofs.Common.{ℕ, ◌+◌, ◌<◌, ◌≤◌, ◌≡◌, List, ap, ◌∙◌, ◌⊎◌, inl, inr, arith, length, Bool}
-use Rattle.std.proofs.lemmas.Bool.{cases_eq}
+use Rattle.std.proofs.Common.{rules, ℕ, ◌+◌, ◌<◌, ◌≤◌, ◌≡◌, List, ap, ◌∙◌, ◌⊎◌, inl, inr, arith, length, Bool}
 use Rattle.atlas_store.specs.declared.slots.Node.{Node}
 use Rattle.atlas_store.specs.declared.slots.NodeKind.TheVariants as kind
 use Rattle.atlas_store.specs.Slots.{node_at, use_count, no_slot}
@@ -36,22 +35,15 @@ full-kept : (is : Numbered → Bool) → IsKept is IsFuller
 full-kept is = grind arith
 
 full-grown : (a j e : ℕ) (n : Numbered) → IsFuller a (Free j e n) (grown_by j e n)
-full-grown a j e End = ((λ q. q), (λ h. h))
 full-grown a j e (Free k d rest) = ((λ q. absurd (let z = q in cc)), (λ h. h))
-full-grown a j e (Alloc k g d rest) = ((λ q. q), (λ h. h))
-full-grown a j e (Seq k d inner rest) = ((λ q. q), (λ h. h))
+full-grown a j e n = ((λ q. q), (λ h. h))
 
 pub full-joined : (i : ℕ) (n : Numbered) → NoneEmpty (erase n) → NoneEmpty (erase (joined i n))
 full-joined i n = (edited-keeps (is_free_at i) joining IsFuller (full-kept _) (λ a. free_here i (λ m. IsFuller a m (joining a m)) (full-grown a i)) 0 n).1
 
 full-lifted_to : (a j e : ℕ) (inner rest : Numbered) → IsFuller a (Seq j e inner rest) (lifted_to j e inner rest)
-full-lifted_to a j e End rest = ((λ q. q), (λ h. h))
 full-lifted_to a j e (Free k d End) rest = ((λ q. absurd (let z = q in cc)), (λ h. h.2))
-full-lifted_to a j e (Free k d (Free x y z)) rest = ((λ q. q), (λ h. h))
-full-lifted_to a j e (Free k d (Alloc x g y z)) rest = ((λ q. q), (λ h. h))
-full-lifted_to a j e (Free k d (Seq x y v z)) rest = ((λ q. q), (λ h. h))
-full-lifted_to a j e (Alloc x g y z) rest = ((λ q. q), (λ h. h))
-full-lifted_to a j e (Seq x y v z) rest = ((λ q. q), (λ h. h))
+full-lifted_to a j e inner rest = ((λ q. q), (λ h. h))
 
 pub full-lifted : (i : ℕ) (n : Numbered) → NoneEmpty (erase n) → NoneEmpty (erase (lifted i n))
 full-lifted i n = (edited-keeps (is_seq_at i) lifting IsFuller (full-kept _) (λ a. seq_here i (λ m. IsFuller a m (lifting a m)) (full-lifted_to a i)) 0 n).1
@@ -70,9 +62,7 @@ before_wider ns b j k m n e l w (inr (inl y)) = inr (inl y)
 before_wider ns b j k m n e l w (inr (inr (x, y))) = inr (inr (omega (arith, w (node_at ns k).previous.number), y))
 
 inner_wider : (ns : List Node) (b k : ℕ) (m n : Numbered) → ((x : ℕ) → tally x m ≤ tally x n) → IsBefore ns no_slot k m → IsBefore ns b k n
-inner_wider ns b k m n w (inl (x, y)) = inr (inl y)
-inner_wider ns b k m n w (inr (inl y)) = inr (inl y)
-inner_wider ns b k m n w (inr (inr (x, y))) = inr (inr (omega (arith, w (node_at ns k).previous.number), y))
+inner_wider ns b k m n w h = grind arith
 
 pub before-in : (ns : List Node) (k : ℕ) (s : Sequence) (b p : ℕ) (n : Numbered) → Standing ns s b p n → 0 < tally k n → IsBefore ns b k n
 before-in ns k s b p End h l = absurd (omega arith)
@@ -81,13 +71,7 @@ before-in ns k s b p (Free j e rest) h l =
 before-in ns k s b p (Alloc j g e rest) h l =
     grind (arith, before_wider, same-self, before-in ns k s j (p + e) rest h.3, same-ne)
 before-in ns k s b p (Seq j e inner rest) h l =
-    elim (cases_eq k j) [
-      | inl q ↦ inl (q, rw q h.0.previous)
-      | inr ne ↦ elim (split_pos (tally k inner) (tally k rest) (omega (arith, same-ne k j ne))) [
-        | inl a ↦ inner_wider ns b k inner (Seq j e inner rest) (λ x. omega arith) (before-in ns k (inside s j p e) no_slot s.start inner h.2 a)
-        | inr c ↦ before_wider ns b j k rest (Seq j e inner rest) h.0.next (omega (arith, same-self j)) (λ x. omega arith) (before-in ns k s j (p + e) rest h.3 c)
-      ]
-    ]
+    search (rules, split_pos, same-ne, same-self, inner_wider, before_wider, before-in ns k _ _ _ inner h.2, before-in ns k s j (p + e) rest h.3)
 
 -- The slot before is a slot or none, and a free one leads here.
 pub previous-slot : (ns : List Node) (k m : ℕ) (x : ℕ) → length ns < no_slot → IsWhole ns → (node_at ns k).kind ≡ kind.Free → x ≡ (node_at ns k).previous.number → m ≡ length ns → IsSlot m x

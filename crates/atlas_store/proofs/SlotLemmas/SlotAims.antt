@@ -60,10 +60,7 @@ less true c h = rw (h refl) (omega arith)
 less false c h = omega arith
 
 same_bools : (b c : Bool) → one_if b ≡ one_if c → b ≡ c
-same_bools true true h = refl
-same_bools true false h = absurd (omega arith)
-same_bools false true h = absurd (omega arith)
-same_bools false false h = refl
+same_bools b c h = grind arith
 
 one_more : (k m : ℕ) → k + m * k ≡ (1 + m) * k
 one_more k m = grind arith

@@ -6,7 +6,7 @@ use Rattle.atlas_model.specs.declared.geometry.Rectangle.{Rectangle}
 use Rattle.atlas_model.specs.Boxes.{Box}
 use Rattle.atlas_model.specs.Pixels.{rectangle_of, box_of}
 use Rattle.atlas_store.specs.Slots.{node_at, use_count, no_slot}
-use Rattle.atlas_store.specs.Slots.Numbered.{Numbered, tally, first_slot, End, Free, Alloc, Seq}
+use Rattle.atlas_store.specs.Slots.Numbered.{Numbered, tally, first_slot, End, Free}
 use Rattle.atlas_store.specs.Slots.Standing.{Sequence, Standing, Stands, IsTree}
 use Rattle.atlas_store.proofs.SlotLemmas.Suffixes.{suffix-at}
 
@@ -19,9 +19,7 @@ exact_of r b e = rw e refl
 
 first-exact : (ns : List Node) (i : ℕ) (s : Sequence) (b p : ℕ) (m : Numbered) → first_slot m ≡ i → 0 < tally i m → Standing ns s b p m → IsExact (node_at ns i).area
 first-exact ns i s b p End e l h = absurd (omega arith)
-first-exact ns i s b p (Free j d rest) e l h = rw (← e) (exact_of _ _ h.1)
-first-exact ns i s b p (Alloc j g d rest) e l h = rw (← e) (exact_of _ _ h.1)
-first-exact ns i s b p (Seq j d inner rest) e l h = rw (← e) (exact_of _ _ h.1)
+first-exact ns i s b p m e l h = rw (← e) (exact_of _ _ h.1)
 
 -- Each used slot stores the rectangle of a box.
 pub Stands-exact : (ns : List Node) (i : ℕ) (s : Sequence) (n : Numbered) → Stands ns s n → 0 < use_count (node_at ns i).kind → IsExact (node_at ns i).area

@@ -4,7 +4,6 @@ use Rattle.std.proofs.lemmas.Bool.{cases_lt}
 use Rattle.atlas_store.specs.declared.slots.Node.{Node}
 use Rattle.atlas_model.specs.declared.geometry.Rectangle.{Rectangle}
 use Rattle.atlas_model.specs.Boxes.{Axis, IsNonempty, sized, box_at}
-use Rattle.atlas_model.specs.Boxes.Axis.{Horizontal, Vertical}
 use Rattle.atlas_model.specs.Pixels.{rectangle_of}
 use Rattle.atlas_model.specs.Trees.{IsCut}
 use Rattle.atlas_store.specs.Slots.{node_at, use_count}
@@ -14,8 +13,7 @@ use Rattle.atlas_store.specs.Slots.Links.{IsSolid}
 use Rattle.atlas_store.proofs.SlotLemmas.Frames.{same-ne}
 
 nonempty-at : (a : Axis) (p q e w : ℕ) → 0 < e → 0 < w → IsNonempty (box_at (spot a p q) (sized a e w))
-nonempty-at Horizontal p q e w h k = (omega arith, omega arith)
-nonempty-at Vertical p q e w h k = (omega arith, omega arith)
+nonempty-at a p q e w h k = grind arith
 
 exact-member : (r : Rectangle) (s : Sequence) (p e : ℕ) → r ≡ rectangle_of (member_box s p e) → 0 < e → 0 < s.width → IsSolid r
 exact-member r s p e is h k = grind (arith, nonempty-at)

@@ -49,12 +49,15 @@ module _ (ns : List Node) where
   slot_id s before p (Alloc j g e rest) id i h f =
       search (rules, Contains-first, Contains-later, slot_id s j (p + e) rest id i h.3, same-ne)
   slot_id s before p (Seq j e inner rest) id i h f =
-      let ne : i ≡ j → ⊥ = (λ q. let x = f.kind in let y : (node_at ns i).kind ≡ kind.Container = rw q h.0.kind in cc) in
-      let here = f.member in
-      elim (split_pos (tally i inner) (tally i rest) (omega (arith, same-ne i j ne))) [
-        | inl x ↦ Contains-append_left _ _ id (slot_id (inside s j p e) no_slot s.start inner id i h.2 (record { member = x; kind = f.kind; names = f.names }))
-        | inr x ↦ Contains-append_right _ _ id (slot_id s j (p + e) rest id i h.3 (record { member = x; kind = f.kind; names = f.names }))
-      ]
+      search (
+        rules,
+        split_pos,
+        Contains-append_left,
+        Contains-append_right,
+        slot_id (inside s j p e) no_slot s.start inner id i h.2,
+        slot_id s j (p + e) rest id i h.3,
+        same-ne,
+      )
 
   -- A slot that isn't allocated is that of no allocated member.
   pub alloc_tally-none : (s : Sequence) (before p i : ℕ) (n : Numbered) → ((node_at ns i).kind ≡ kind.Alloc → ⊥) → Standing ns s before p n → alloc_tally i n ≡ 0

@@ -30,11 +30,8 @@ slot_sum-one f j i (n ∷ ns) l b =
       | inl e ↦
           let here : same i j * f i ≡ f j = ap (λ v. same v j * f v) e ∙ ap (λ v. v * f j) (same-self j) ∙ omega arith in
           omega (arith, here, slot_sum-none (λ k. same k j) f (i + 1) ns (λ k m. same-ne k j (λ q. absurd (omega arith))))
-      | inr ne ↦ grind (arith, same-ne, slot_sum-one f j (i + 1) ns (below ne) (omega arith))
+      | inr ne ↦ grind (arith, same-ne, slot_sum-one f j (i + 1) ns (omega arith) (omega arith))
     ]
-  where
-    below : (i ≡ j → ⊥) → i + 1 ≤ j
-    below ne = omega arith
 
 -- Each member has a slot of its own.
 pub weigh-slots : (f : ℕ → ℕ) (ns : List Node) (n : Numbered) → ((k : ℕ) → 0 < tally k n → k < length ns)
@@ -70,27 +67,16 @@ slot_sum-used : (w : ℕ → Node → ℕ) (t : ℕ → ℕ) (all : List Node) (
     → ((k : ℕ) → node_at all (i + k) ≡ node_at ns k) → slot_sum w i ns ≡ slot_sum (λ k n. t k * w k (node_at all k)) i ns
 slot_sum-used w t all i [] light is at = refl
 slot_sum-used w t all i (n ∷ ns) light is at =
-    let this : node_at all i ≡ n = ap (λ k. node_at all k) (add_nothing i) ∙ at 0 in
+    let this : node_at all i ≡ n = ap (λ k. node_at all k) (let e : i ≡ i + 0 = omega arith in e) ∙ at 0 in
     let here : t i * w i (node_at all i) ≡ w i n =
     ap (λ v. v * w i (node_at all i)) (is i) ∙ ap (λ v. use_count v.kind * w i v) this ∙ light i n in
-    let later : (k : ℕ) → node_at all (i + 1 + k) ≡ node_at ns k = λ k. ap (λ v. node_at all v) (one_on i k) ∙ at (suc k) in
+    let later : (k : ℕ) → node_at all (i + 1 + k) ≡ node_at ns k =
+    λ k. ap (λ v. node_at all v) (let e : i + 1 + k ≡ i + suc k = omega arith in e) ∙ at (suc k) in
     omega (arith, here, slot_sum-used w t all (i + 1) ns light is later)
-  where
-    add_nothing : (i : ℕ) → i ≡ i + 0
-    add_nothing i = omega arith
-
-    one_on : (i k : ℕ) → i + 1 + k ≡ i + suc k
-    one_on i k = omega arith
 
 -- A sum over a tree is one over its slots, if the unused weigh nothing.
 pub weigh-Stands : (w : ℕ → Node → ℕ) (ns : List Node) (s : Sequence) (n : Numbered) → Stands ns s n
     → ((k : ℕ) (x : Node) → use_count x.kind * w k x ≡ w k x) → weigh (λ k. w k (node_at ns k)) n ≡ slot_sum w 0 ns
 weigh-Stands w ns s n h light =
-    weigh-slots (λ k. w k (node_at ns k)) ns n (λ k l. used-inside ns k (subst_pos _ _ (h.numbered k) l))
-    ∙ sym (slot_sum-used w (λ k. tally k n) ns 0 ns light h.numbered (λ k. ap (λ v. node_at ns v) (none_on k)))
-  where
-    subst_pos : (a b : ℕ) → a ≡ b → 0 < a → 0 < b
-    subst_pos a b e l = omega arith
-
-    none_on : (k : ℕ) → 0 + k ≡ k
-    none_on k = omega arith
+    weigh-slots (λ k. w k (node_at ns k)) ns n (λ k l. used-inside ns k (rw (← h.numbered k) l))
+    ∙ sym (slot_sum-used w (λ k. tally k n) ns 0 ns light h.numbered (λ k. ap (λ v. node_at ns v) (let e : 0 + k ≡ k = omega arith in e)))

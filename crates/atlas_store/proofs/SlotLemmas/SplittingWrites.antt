@@ -5,7 +5,7 @@ use Rattle.atlas_store.specs.declared.slots.Node.{Node}
 use Rattle.atlas_store.specs.declared.slots.Link.{Link}
 use Rattle.atlas_store.specs.declared.slots.NodeKind.TheVariants as kind
 use Rattle.atlas_store.specs.Slots.{node_at, blank_node, use_count, no_slot, KeepsUse}
-use Rattle.atlas_store.specs.Slots.Numbered.{Numbered, tally, first_slot, same, End, Free, Alloc, Seq}
+use Rattle.atlas_store.specs.Slots.Numbered.{Numbered, tally, first_slot, same, End, Free, Seq}
 use Rattle.atlas_store.specs.Slots.Standing.{Sequence, Standing, IsTree, IsSlot, with_previous}
 use Rattle.atlas_store.specs.Slots.SlotCalls.{CanSplitInto}
 use Rattle.atlas_store.specs.Slots.Parts.{front_node, back_node}
@@ -21,9 +21,8 @@ follows i j a rest once ji none goes ai = grind (arith, first-in, same-self)
 
 after_other : (ns : List Node) (i a : ℕ) (s : Sequence) (b p : ℕ) (m : Numbered) → i ≢ no_slot → (node_at ns i).next.number ≡ a → first_slot m ≡ i → ((x : ℕ) → tally x m ≤ 1) → Standing ns s b p m → a ≡ i → ⊥
 after_other ns i a s b p End none next begins once h = absurd (none (sym begins))
-after_other ns i a s b p (Free j e rest) none next begins once h = follows i j a rest (once i) begins none (sym h.0.next ∙ (rw begins next))
-after_other ns i a s b p (Alloc j g e rest) none next begins once h = follows i j a rest (once i) begins none (sym h.0.next ∙ (rw begins next))
 after_other ns i a s b p (Seq j e inner rest) none next begins once h = grind (arith, follows i j a rest)
+after_other ns i a s b p m none next begins once h = follows i _ a _ (once i) begins none (sym h.0.next ∙ (rw begins next))
 
 -- What the tree says before the cut of the leaf i, which a follows, into i and k.
 pub record CanSplit (ns : List Node) (i k a : ℕ) : Type 0 where

@@ -1,6 +1,6 @@
 -- The last leaf reaches to the far corner of a size, or a leaf that does is appended.
 use Rattle.std.proofs.Common.{ℕ, ◌+◌, ◌<◌, ◌≤◌, ◌≡◌, ◌≢◌, ◌∙◌, List, refl, sym, ap, inl, inr, arith, length, set, get_or-set_same, get_or-set_other, length-set}
-use Rattle.std.proofs.lemmas.Bool.{cases_eq, cases_lt}
+use Rattle.std.proofs.lemmas.Bool.{cases_eq}
 use Rattle.std.proofs.lemmas.List.{get_or_past, length-map}
 use Rattle.atlas_store.specs.declared.slots.Slot.{Slot}
 use Rattle.atlas_store.specs.declared.slots.Link.{Link}
@@ -50,15 +50,11 @@ box-stretched s p e d size exact far = rw exact (along s.axis s.start s.width (s
 -- A free first member is the last, or stays.
 pub stretched-free : (d i e : ℕ) (m : Numbered) (P : (rest new : Numbered) → Type 0) → P End (Free i (e + d) End) → ((m ≡ End → ⊥) → P m (Free i e (stretched d m))) → P m (stretched d (Free i e m))
 stretched-free d i e End P last later = last
-stretched-free d i e (Free j f rest) P last later = later (λ q. cc)
-stretched-free d i e (Alloc j g f rest) P last later = later (λ q. cc)
-stretched-free d i e (Seq j f inner rest) P last later = later (λ q. cc)
+stretched-free d i e m P last later = later (λ q. cc)
 
 pub first-stretched : (d : ℕ) (n : Numbered) → first_slot (stretched d n) ≡ first_slot n
-first-stretched d End = refl
 first-stretched d (Free i e rest) = stretched-free d i e rest (λ m v. first_slot v ≡ i) refl (λ _. refl)
-first-stretched d (Alloc i g e rest) = refl
-first-stretched d (Seq i e inner rest) = refl
+first-stretched d n = refl
 
 pub weigh-stretched : (w : ℕ → ℕ) (d : ℕ) (n : Numbered) → weigh w (stretched d n) ≡ weigh w n
 weigh-stretched w d End = refl
@@ -170,11 +166,7 @@ pub record IsStripAdded (ns ms : List Node) (i k : Link) (size : Size) : Type 0 
 
 -- The other slots keep what they are used for.
 pub keeps-appended : (ns ms : List Node) (at fresh : Link) (size : Size) → IsStripAdded ns ms at fresh size → (x : ℕ) → x ≢ fresh.number → KeepsUse (node_at ns x) (node_at ms x)
-keeps-appended ns ms at fresh size w x ne =
-    elim (cases_eq x at.number) [
-      | inl e ↦ rw (e, w.last) (record { kind = refl; area = refl; generation = refl })
-      | inr y ↦ rw (w.others x y ne) (record { kind = refl; area = refl; generation = refl })
-    ]
+keeps-appended ns ms at fresh size w x ne = grind (arith, cases_eq x at.number)
 
 -- A node of the sequence s whose member ends at p.
 record EndsAt (n : Node) (s : Sequence) (p : ℕ) : Type 0 where
@@ -216,9 +208,7 @@ module _ (ns ms : List Node) (at fresh : Link) (size : Size) (exact : size ≡ s
   followed s d b j v End is once z h =
       let there : node_at ms j ≡ record (node_at ns j) { next = fresh } = rw is w.last in
       rw there (record { parent = h.parent; previous = h.previous; next = refl; kind = h.kind; axis = h.axis })
-  followed s d b j v (Free m f rest) is once z h = rw (unchanged j (omega (arith, last-in i m rest is)) z) h
-  followed s d b j v (Alloc m g f rest) is once z h = rw (unchanged j (omega (arith, last-in i m rest is)) z) h
-  followed s d b j v (Seq m f inner rest) is once z h = rw (unchanged j (omega (arith, last-in i m rest is)) z) h
+  followed s d b j v rest is once z h = rw (unchanged j (omega (arith, last-later i j rest (λ q. cc) is)) z) h
 
   Standing-appended : (s : Sequence) (d b p : ℕ) (n : Numbered) → ((x : ℕ) → tally x n ≤ 1) → tally k n ≡ 0 → (b ≡ i → EndsAt (node_at ns i) s p) → last_after b n ≡ i → Reaches (sides_of size) s (p + (total (erase n) + d)) → Standing ns s b p n → Standing ms s b p (appended k d n)
   Standing-appended s d b p End once z ends is far h = strip_stands s d b p is (ends is) (omega (arith, far.0), far.1)
@@ -244,11 +234,7 @@ module _ (ns ms : List Node) (at fresh : Link) (size : Size) (exact : size ≡ s
       )
 
   used_appended : (x : ℕ) → use_count (node_at ms x).kind ≡ use_count (node_at ns x).kind + same x k
-  used_appended x =
-      elim (cases_eq x k) [
-        | inl e ↦ rw (e, w.strip, w.unused, same-self k) refl
-        | inr xk ↦ rw (same-ne x k xk, (keeps-appended ns ms at fresh size w x xk).kind) (omega arith)
-      ]
+  used_appended x = grind (arith, cases_eq x k, same-self, same-ne, keeps-appended ns ms at fresh size w)
 
   pub Stands-appended : (s : Sequence) (n : Numbered) (d : ℕ) → Stands ns s n → last_slot n ≡ i → Reaches (sides_of size) s (total (erase n) + d) → Stands ms s (appended k d n)
   Stands-appended s n d h is far =
@@ -262,10 +248,7 @@ module _ (ns ms : List Node) (at fresh : Link) (size : Size) (exact : size ≡ s
 
 -- A used slot is inside.
 used-within : (ns : List Node) (i : ℕ) → (node_at ns i).kind ≢ kind.Unused → i < length ns
-used-within ns i used = elim (cases_lt i (length ns)) [
-  | inl l ↦ l
-  | inr l ↦ absurd (used (ap (λ (n : Node). n.kind) (get_or_past ns i blank_node l)))
-]
+used-within ns i used = grind (arith, get_or_past)
 
 pub last-inside : (slots : List Slot) (i k : ℕ) → CanAppendTo (nodes slots) i k → i < length slots
 last-inside slots i k can = omega (arith, used-within (nodes slots) i can.used, length-map slots (λ (s : Slot). s.node))

@@ -38,23 +38,18 @@ places-free i (Seq j e inner rest) = omega (arith, places-free i inner, places-f
 
 -- The first member isn't looked for.
 pub not_here : (b : Bool) (x y : ℕ) → b ≡ false → x + cond b 1 0 ≡ y → x ≡ y
-not_here true x y other e = absurd (true≢false other)
-not_here false x y other e = omega (arith, e)
+not_here b x y other e = grind arith
 
 pub not_here_more : (b : Bool) (x : ℕ) → b ≡ false → 0 < x + cond b 1 0 → 0 < x
-not_here_more true x other l = absurd (true≢false other)
-not_here_more false x other l = omega (arith, l)
+not_here_more b x other l = grind arith
 
 -- Or it is.
 some_here : (b : Bool) (x : ℕ) → b ≡ true → 0 < x + cond b 1 0
-some_here true x t = omega arith
-some_here false x t = absurd (true≢false (sym t))
+some_here b x t = grind arith
 
 pub places-some : (is : Numbered → Bool) → is End ≡ false → (m : Numbered) → is m ≡ true → 0 < places is m
 places-some is never End t = absurd (true≢false (sym t ∙ never))
-places-some is never (Free i e rest) t = some_here _ _ t
-places-some is never (Alloc i g e rest) t = some_here _ _ t
-places-some is never (Seq i e inner rest) t = some_here _ _ t
+places-some is never m t = some_here _ _ t
 
 pub free_tally-le : (i : ℕ) (n : Numbered) → free_tally i n ≤ tally i n
 free_tally-le i End = omega arith

@@ -16,8 +16,7 @@ use Rattle.atlas_store.proofs.SlotLemmas.Weights.{free_tally, free_place, places
 use Rattle.atlas_store.proofs.SlotLemmas.Editing.{IsEdit, Standing-edited, free_here, first-edited, edited-absent, weigh-edited, other-slot}
 
 pub axis_of-flipped : (o : Orientation) → axis_of (flipped o) ≡ other (axis_of o)
-axis_of-flipped orientation.Horizontal = refl
-axis_of-flipped orientation.Vertical = refl
+axis_of-flipped o = grind arith
 
 -- The only member inside a member fills its box.
 pub box-inside : (s : Sequence) (i p e : ℕ) → member_box (inside s i p e) s.start s.width ≡ member_box s p e

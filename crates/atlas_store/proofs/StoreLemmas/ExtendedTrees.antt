@@ -1,16 +1,14 @@
 -- Trees whose top sequence is extended: what the extents add up to, and which slot comes last.
-use Rattle.std.proofs.Common.{ℕ, ◌+◌, ◌<◌, ◌≤◌, ◌≡◌, refl, arith}
+use Rattle.std.proofs.Common.{ℕ, ◌+◌, ◌<◌, ◌≤◌, ◌≡◌, arith}
 use Rattle.atlas_model.specs.Boxes.{Axis, other}
-use Rattle.atlas_model.specs.Boxes.Axis.{Horizontal, Vertical}
 use Rattle.atlas_model.specs.Trees.{IsCut, total}
 use Rattle.atlas_store.specs.Slots.Numbered.{Numbered, erase, tally, End, Free, Alloc, Seq}
-use Rattle.atlas_store.specs.Slots.Growing.{last_after, last_slot, stretched, appended}
+use Rattle.atlas_store.specs.Slots.Growing.{last_slot, stretched, appended}
 use Rattle.atlas_store.proofs.SlotLemmas.Reading.{IsNonempty}
 use Rattle.atlas_store.proofs.SlotLemmas.Stretching.{last-in, stretched-free}
 
 pub other-other : (a : Axis) → other (other a) ≡ a
-other-other Horizontal = refl
-other-other Vertical = refl
+other-other a = grind arith
 
 -- The last member, if it is free, is longer.
 
@@ -43,6 +41,4 @@ cut-appended k d across (Seq i e inner rest) h c = (c.0, c.1, c.2, cut-appended 
 -- The last member of some is one of them.
 pub last-member : (n : Numbered) → IsNonempty n → 0 < tally (last_slot n) n
 last-member End some = absurd (omega arith)
-last-member (Free i e rest) some = last-in (last_after i rest) i rest refl
-last-member (Alloc i g e rest) some = last-in (last_after i rest) i rest refl
-last-member (Seq i e inner rest) some = omega (arith, last-in (last_after i rest) i rest refl)
+last-member n some = grind (arith, last-in)

@@ -41,16 +41,10 @@ pub filed-list : (o : Options) (k : ℕ) (n : Node) → 0 < filed o k n → k �
 filed-list o k n l = elim (cases_eq k (list_for o n)) [ inl e ↦ e | inr ne ↦ absurd (omega (arith, filed-other o k n ne)) ]
 
 free_use : (k : NodeKind) → is_free k ≡ true → use_count k ≡ 1
-free_use kind.Container e = refl
-free_use kind.Alloc e = refl
-free_use kind.Free e = refl
-free_use kind.Unused e = cc
+free_use k e = grind arith
 
 pub free_kind : (k : NodeKind) → is_free k ≡ true → k ≡ kind.Free
-free_kind kind.Container e = cc
-free_kind kind.Alloc e = cc
-free_kind kind.Free e = refl
-free_kind kind.Unused e = cc
+free_kind k e = grind arith
 
 -- What stands in a list is free.
 pub filed-kind : (o : Options) (k : ℕ) (n : Node) → 0 < filed o k n → n.kind ≡ kind.Free

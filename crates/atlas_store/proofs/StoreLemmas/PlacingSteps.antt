@@ -1,6 +1,5 @@
 -- The calls of the store, one after another, by which a plan is carried out.
-use Rattle.std.proofs.Common.{ℕ, ◌+◌, ◌-◌, ◌≤◌, ◌≡◌, ◌≢◌, List, ◌∷◌, length, Bool, true, false, ap, ◌∙◌, ◌⊎◌, inl, inr, arith}
-use Rattle.std.proofs.lemmas.Bool.{cases_eq}
+use Rattle.std.proofs.Common.{ℕ, ◌+◌, ◌-◌, ◌≤◌, ◌≡◌, ◌≢◌, List, ◌∷◌, length, Bool, true, false, ◌∙◌, ◌⊎◌, arith}
 use Rattle.atlas_store.specs.declared.store.Store.{Store}
 use Rattle.atlas_store.specs.declared.slots.Link.{Link}
 use Rattle.atlas_store.specs.declared.slots.Node.{Node}
@@ -78,13 +77,7 @@ split-stage {A} {v} {v'} {at} {k} {p} {ks} {h} n w s room l =
       unused_list = got.0;
       stage = record {
         holds = got.1;
-        free = (λ i m. elim (mark_cases h.detached k i m) [
-          | inl e ↦ ap (λ j. (node_in (shelf_of v') j).kind) e ∙ w.back
-          | inr o ↦ elim (cases_eq i at) [
-            | inl e ↦ ap (λ j. (node_in (shelf_of v') j).kind) e ∙ w.front
-            | inr ne ↦ (w.others i ne o.0).kind ∙ s.free i o.1
-          ]
-        ]);
+        free = grind (arith, mark_cases, w.back, w.front, w.others, s.free);
         only = only-more h.detached k ks s.only;
       };
       slots = got.2;
@@ -115,10 +108,7 @@ wrap-stage {A} {v} {v'} {at} {k} {ks} {h} n w s room l =
       unused_list = got.0;
       stage = record {
         holds = got.1;
-        free = (λ i m. let u = unmark_cases (with_mark h.detached k true) at i m in elim (mark_cases h.detached k i u.1) [
-          | inl e ↦ ap (λ j. (node_in (shelf_of v') j).kind) e ∙ w.inner
-          | inr o ↦ (w.others i u.0 o.0).kind ∙ s.free i o.1
-        ]);
+        free = grind (arith, unmark_cases, mark_cases, w.inner, w.others, s.free);
         only = wrap_only h.detached at k ks s.only;
       };
       slots = got.2;
@@ -144,15 +134,7 @@ wrap_two-stage {A} {v} {v'} {at} {k} {j} {p} {ks} {h} n w s room l =
       unused_list = got.0;
       stage = record {
         holds = got.1;
-        free = (λ i m. elim (mark_cases (with_mark (with_mark h.detached k true) at false) j i m) [
-          | inl e ↦ ap (λ x. (node_in (shelf_of v') x).kind) e ∙ w.back
-          | inr o ↦
-              let u = unmark_cases (with_mark h.detached k true) at i o.1 in
-              elim (mark_cases h.detached k i u.1) [
-                | inl e ↦ ap (λ x. (node_in (shelf_of v') x).kind) e ∙ w.front
-                | inr q ↦ (w.others i u.0 q.0 o.0).kind ∙ s.free i q.1
-              ]
-        ]);
+        free = grind (arith, unmark_cases, mark_cases, w.back, w.front, w.others, s.free);
         only =
             only-more (with_mark (with_mark h.detached k true) at false) j (k ∷ ks) (wrap_only h.detached at k ks s.only);
       };

@@ -11,7 +11,7 @@ use Rattle.atlas_model.specs.Choice.{Options}
 use Rattle.atlas_model.specs.Pixels.{options_of}
 use Rattle.atlas_store.specs.Search.Tables.{head_of, low_of}
 use Rattle.atlas_store.specs.Slots.{nodes, rings, node_at, use_count, KeepsUse, no_slot}
-use Rattle.atlas_store.specs.Slots.Numbered.{Numbered, joined, lifted, granted_at, split_at, wrapped_at}
+use Rattle.atlas_store.specs.Slots.Numbered.{Numbered, joined, lifted, split_at, wrapped_at}
 use Rattle.atlas_store.specs.Slots.Standing.{Sequence, Stands}
 use Rattle.atlas_store.specs.Slots.SlotCalls.{CanSplitInto, IsLeafFreed, IsLeafGranted, IsNextJoined, IsChildLifted, IsLeafSplit, IsLeafWrapped}
 use Rattle.atlas_store.proofs.SlotLemmas.Frames.{Standing-same}
@@ -55,14 +55,12 @@ pub granted-holds : (v : Shelf) (new : List Slot) (at : ℕ) → length new ≡ 
     → (h : Holding) → IsDetachedLeaf v at h
     → Holds (record v { slots = new }) (after_grant at (node_in v at).generation h)
 granted-holds v new at long w h leaf =
-    let is_granted : (node_at (nodes new) at).kind ≡ kind.Alloc = ap (λ n. n.kind) w.leaf in
-    let age : ℕ = (node_in v at).generation in
-    held_again (λ i. 0) (λ i. 0) v new v.unused h (granted_at at age h.tree) h.unused_list (with_mark h.detached at false)
-    (omega (arith, leaf.holds.short, long)) leaf.holds (w.tree h.sequence h.tree leaf.holds.stands)
-    (filed-one (options_of v.options) (nodes v.slots) (nodes new) (rings v.slots) (rings new) v.heads v.unused
-    (places_of (λ i. 0) h) at false w.same_rings (inr (inl leaf.detached, inr (ap is_free is_granted)))
-    (ap use_count is_granted ∙ sym (ap use_count leaf.kind)) w.others leaf.holds.filed)
-    (recut-granted at age h.sequence.width h.tree)
+    grind (
+      arith,
+      held_again,
+      filed-one (options_of v.options) (nodes v.slots) (nodes new) (rings v.slots) (rings new) v.heads v.unused,
+      recut-granted at (node_in v at).generation h.sequence.width h.tree,
+    )
 
 -- The slots of a shelf, and those that a call left.
 pub record AreSlots (own old mid new : List Slot) : Type 0 where
@@ -114,18 +112,9 @@ pub filed-two : (o : Options) (ns ms : List Node) (rs ts : List Ring) (heads : L
     → ts ≡ rs → ChangesTwo ns ms i j p.claimed claimed' p.detached detached'
     → AreFiled o ns rs heads unused p → AreFiled o ms ts heads unused (record p { claimed = claimed'; detached = detached' })
 filed-two o ns ms rs ts heads unused p claimed' detached' i j same c filed =
-    let M : ℕ → Type 0 = λ x. IsMoved (node_at ns x) (node_at ms x) (p.detached x) (detached' x) in
-    let C : ℕ → Type 0 = λ x. claimed' x + use_count (node_at ms x).kind ≡ p.claimed x + use_count (node_at ns x).kind in
-    let moved : (k : ℕ) → M k =
-    λ k. elim (cases_eq k i) [
-      | inl e ↦ subst M (sym e) c.first
-      | inr ne ↦ grind (arith, moved-kept)
-    ] in
-    let counts : (k : ℕ) → k < length rs → C k =
-    λ k _. elim (cases_eq k j) [
-      | inl e ↦ subst C (sym e) c.counted
-      | inr ne ↦ grind (arith, use-kept)
-    ] in
+    let moved : (k : ℕ) → IsMoved (node_at ns k) (node_at ms k) (p.detached k) (detached' k) = λ k. grind (arith, cases_eq k i, cases_eq k j, moved-kept) in
+    let counts : (k : ℕ) → k < length rs → claimed' k + use_count (node_at ms k).kind ≡ p.claimed k + use_count (node_at ns k).kind =
+    λ k _. grind (arith, cases_eq k i, cases_eq k j, use-kept) in
     subst (λ r. AreFiled o ms r heads unused (record p { claimed = claimed'; detached = detached' })) (sym same)
     (AreFiled-moved o ns ms rs heads unused p claimed' detached' moved counts filed)
 

@@ -1,5 +1,5 @@
 -- Slots that were taken once, where the calls of the store change other parts of them.
-use Rattle.std.proofs.Common.{ℕ, zero, suc, ◌≡◌, ◌≢◌, List, [], ◌∷◌, length, ap, ◌∙◌, inl, inr, refl, subst, sym}
+use Rattle.std.proofs.Common.{arith, ℕ, ◌≡◌, ◌≢◌, List, [], ◌∷◌, length, ap, ◌∙◌, subst, sym}
 use Rattle.std.proofs.lemmas.Bool.{cases_eq, cases_lt}
 use Rattle.std.proofs.lemmas.List.{get_or_past}
 use Rattle.std.proofs.lemmas.List.Elements.{All-from_get_or, All-get_or}
@@ -27,24 +27,18 @@ once-shelf v w same = subst (λ (s : Shelf). AreTakenOnce (nodes s.slots) s.unus
 pub once-one : {ns ms : List Node} {u : Link} (i : ℕ) → (node_at ms i).generation ≡ (node_at ns i).generation
     → ((k : ℕ) → k ≢ i → KeepsUse (node_at ns k) (node_at ms k)) → AreTakenOnce ns u → AreTakenOnce ms u
 once-one {ns} {ms} {u} i here others =
-    let P : ℕ → Type 0 = λ k. (node_at ms k).generation ≡ (node_at ns k).generation in
-    once-kept (λ k. elim (cases_eq k i) [ inl e ↦ subst P (sym e) here | inr ne ↦ (others k ne).generation ])
+    once-kept (λ k. grind (arith, cases_eq k i))
 
 -- Two slots do.
 pub once-two : {ns ms : List Node} {u : Link} (i j : ℕ) → (node_at ms i).generation ≡ (node_at ns i).generation
     → (node_at ms j).generation ≡ (node_at ns j).generation
     → ((k : ℕ) → k ≢ i → k ≢ j → KeepsUse (node_at ns k) (node_at ms k)) → AreTakenOnce ns u → AreTakenOnce ms u
 once-two {ns} {ms} {u} i j first second others =
-    let P : ℕ → Type 0 = λ k. (node_at ms k).generation ≡ (node_at ns k).generation in
-    once-kept (λ k. elim (cases_eq k i) [
-      | inl e ↦ subst P (sym e) first
-      | inr ni ↦ elim (cases_eq k j) [ inl e ↦ subst P (sym e) second | inr nj ↦ (others k ni nj).generation ]
-    ])
+    once-kept (λ k. grind (arith, cases_eq k i, cases_eq k j))
 
 -- An atlas of one free slot.
 whole-first : (size : Size) (k : ℕ) → (node_at (nodes (one_free_slot size ∷ [])) k).generation ≡ 0
-whole-first size zero = refl
-whole-first size (suc k) = refl
+whole-first size k = grind arith
 
 pub once-whole : {slots : List Slot} {u : Link} (size : Size) → slots ≡ one_free_slot size ∷ [] → u.number ≡ no_slot
     → AreTakenOnce (nodes slots) u
@@ -68,8 +62,5 @@ first-once v f =
     let P : Node → Type 0 = λ n. n.generation ≡ 0 in
     record {
       none = f.used;
-      generations = λ i. elim (cases_lt i (length ns)) [
-        | inl l ↦ All-get_or P ns i blank_node l f.first
-        | inr m ↦ ap (λ (n : Node). n.generation) (get_or_past ns i blank_node m)
-      ];
+      generations = λ i. grind (arith, cases_lt i (length ns), All-get_or P ns i blank_node, get_or_past ns i blank_node);
     }

@@ -85,10 +85,7 @@ module _ (o : Options) (ns : List Node) (rs : List Ring) (heads : List ListHead)
       }
 
 unused_kind : (k : NodeKind) → use_count k ≡ 0 → k ≡ kind.Unused
-unused_kind kind.Container e = absurd (omega arith)
-unused_kind kind.Alloc e = absurd (omega arith)
-unused_kind kind.Free e = absurd (omega arith)
-unused_kind kind.Unused e = refl
+unused_kind k e = grind arith
 
 nil-from_inside : (rs : List Ring) (unused_list : List ℕ) → length rs < 4294967295 → Line rs unused_list → front unused_list ≡ no_slot → unused_list ≡ []
 nil-from_inside rs [] short l e = refl

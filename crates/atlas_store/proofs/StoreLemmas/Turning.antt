@@ -1,6 +1,6 @@
 -- What a turn of a freeing does to the slots with their lists.
 use Rattle.std.proofs.Common.{ℕ, ◌+◌, ◌<◌, ◌≤◌, ◌≡◌, List, [], ◌∷◌, refl, sym, ap, subst, ◌∙◌, ◌⊎◌, inl, inr, arith, length, true, false}
-use Rattle.std.proofs.lemmas.Bool.{cases_eq, cases_lt}
+use Rattle.std.proofs.lemmas.Bool.{cases_lt}
 use Rattle.std.proofs.lemmas.List.{length-map}
 use Rattle.atlas_store.specs.declared.slots.Node.{Node}
 use Rattle.atlas_store.specs.declared.slots.NodeKind.TheVariants as kind
@@ -110,10 +110,7 @@ fewer-given v u h less j w k same_length given =
     beyond : (v : Shelf) (h : Holding) (x : ℕ) → Holds v h → length v.slots ≤ x → tally x h.tree ≡ 0
     beyond v h x w g =
         let nv : length (nodes v.slots) ≡ length v.slots = simp length-map in
-        elim (cases_lt 0 (tally x h.tree)) [
-          | inl l ↦ absurd (let y : x < length (nodes v.slots) = used-inside (nodes v.slots) x (rw (← w.stands.numbered x) l) in omega arith)
-          | inr z ↦ omega arith
-        ]
+        grind (arith, cases_lt 0 (tally x h.tree), used-inside (nodes v.slots) x)
 
 -- An unused slot is not free.
 unused_list-apart : (u : Shelf) (less : Holding) (c j : ℕ) (rest : List ℕ) → Holds u less → less.unused_list ≡ j ∷ rest → (node_in u c).kind ≡ kind.Free → c ≡ j → ⊥
@@ -126,10 +123,7 @@ settling-joined v u i j at h w was same_length calm free =
       after_join i j h,
       record {
         leaf = record { holds = k; kind = free; detached = with_mark-other h.detached j false i (λ q. w.apart (sym q)) ∙ w.detached };
-        only = λ x z. elim (cases_eq x j) [
-          | inl e ↦ rw e (with_mark-same h.detached j false)
-          | inr ne ↦ with_mark-other h.detached j false x ne ∙ w.only x (omega (arith, same-ne x j ne))
-        ];
+        only = grind (arith, with_mark-same, with_mark-other, w.only, same-ne);
         calm = calm;
         full = full-joined i h.tree w.full;
       },

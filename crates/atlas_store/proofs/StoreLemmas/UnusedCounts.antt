@@ -1,54 +1,22 @@
 -- How many slots are unused.
-use Rattle.std.proofs.Common.{ℕ, zero, suc, ◌+◌, ◌<◌, ◌≤◌, ◌≡◌, List, [], ◌∷◌, length, refl, ap, inl, inr, arith}
-use Rattle.std.proofs.lemmas.Bool.{cases_eq}
+use Rattle.std.proofs.Common.{ℕ, zero, suc, ◌+◌, ◌<◌, ◌≤◌, ◌≡◌, List, [], ◌∷◌, length, refl, arith}
 use Rattle.std.proofs.lemmas.List.{length-map}
 use Rattle.atlas_store.specs.declared.slots.Ring.{Ring}
 use Rattle.atlas_store.specs.Slots.{nodes, rings}
-use Rattle.atlas_store.specs.Slots.Numbered.{Numbered, tally, same, numbers}
+use Rattle.atlas_store.specs.Slots.Numbered.{tally, same, numbers}
 use Rattle.atlas_store.specs.Slots.Lists.{Line, occurs}
 use Rattle.atlas_store.specs.Stored.{Shelf, Holding, Holds}
-use Rattle.atlas_store.proofs.SlotLemmas.Frames.{same-self, same-ne}
 use Rattle.atlas_store.proofs.SlotLemmas.JoiningWrites.{used-inside}
-use Rattle.atlas_store.proofs.SlotLemmas.Reading.{tallies, tallies-numbers}
-
--- What a count of the slots below m adds up to.
-sums : (ℕ → ℕ) → ℕ → ℕ
-sums f zero = 0
-sums f (suc m) = f m + sums f m
-
-sums-add : (f g : ℕ → ℕ) (m : ℕ) → sums (λ i. f i + g i) m ≡ sums f m + sums g m
-unfolding sums
-sums-add f g zero = refl
-sums-add f g (suc m) = omega (arith, sums-add f g m)
+use Rattle.atlas_store.proofs.SlotLemmas.Reading.{sums, sums-add, sums-none, sums-same, tallies-numbers}
 
 sums-all : (f : ℕ → ℕ) (m : ℕ) → ((i : ℕ) → i < m → f i ≡ 1) → sums f m ≡ m
-unfolding sums
 sums-all f zero one = refl
 sums-all f (suc m) one = omega (arith, one m (omega arith), sums-all f m (λ i l. one i (omega arith)))
-
-sums-none : (f : ℕ → ℕ) (m : ℕ) → ((i : ℕ) → i < m → f i ≡ 0) → sums f m ≡ 0
-unfolding sums
-sums-none f zero none = refl
-sums-none f (suc m) none = omega (arith, none m (omega arith), sums-none f m (λ i l. none i (omega arith)))
-
-sums-same : (j m : ℕ) → j < m → sums (λ i. same i j) m ≡ 1
-unfolding sums
-sums-same j zero l = absurd (omega arith)
-sums-same j (suc m) l =
-    elim (cases_eq m j) [
-      | inl e ↦ omega (arith, same-self j, ap (λ v. same v j) e, sums-none (λ i. same i j) m (λ i b. same-ne i j (λ q. absurd (omega arith))))
-      | inr ne ↦ omega (arith, same-ne m j ne, sums-same j m (omega arith))
-    ]
 
 sums-occurs : (rs : List Ring) (m : ℕ) (xs : List ℕ) → length rs ≤ m → Line rs xs → sums (λ i. occurs i xs) m ≡ length xs
 sums-occurs rs m [] l line = sums-none (λ i. 0) m (λ i b. refl)
 sums-occurs rs m (x ∷ xs) l line =
     omega (arith, sums-add (λ i. same i x) (λ i. occurs i xs) m, sums-same x m (omega (arith, line.0)), sums-occurs rs m xs l line.2)
-
-sums-tallies : (n : Numbered) (m : ℕ) → sums (λ i. tally i n) m ≡ tallies m n
-unfolding sums
-sums-tallies n zero = refl
-sums-tallies n (suc m) = omega (arith, sums-tallies n m)
 
 -- Each slot is unused or a member.
 pub unused_list-count : (v : Shelf) (h : Holding) → Holds v h → length h.unused_list + numbers h.tree ≡ length v.slots
@@ -60,4 +28,4 @@ unused_list-count v h holds =
     let all : sums (λ i. occurs i h.unused_list + tally i h.tree) m ≡ m =
     sums-all (λ i. occurs i h.unused_list + tally i h.tree) (length v.slots) (λ i l. omega (arith, holds.filed.each i (omega arith), holds.stands.numbered i)) in
     let below : (k : ℕ) → 0 < tally k h.tree → k < length v.slots = (λ k l. let inside : k < length (nodes v.slots) = used-inside (nodes v.slots) k (rw (← holds.stands.numbered k) l) in omega arith) in
-    omega (arith, all, sums-add (λ i. occurs i h.unused_list) (λ i. tally i h.tree) m, sums-occurs (rings v.slots) m h.unused_list (omega arith) holds.filed.line, sums-tallies h.tree m, tallies-numbers m h.tree below)
+    omega (arith, all, sums-add (λ i. occurs i h.unused_list) (λ i. tally i h.tree) m, sums-occurs (rings v.slots) m h.unused_list (omega arith) holds.filed.line, tallies-numbers m h.tree below)

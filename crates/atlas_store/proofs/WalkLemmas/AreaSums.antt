@@ -12,7 +12,6 @@ use Rattle.atlas_model.specs.Pixels.{box_of, sides_of}
 use Rattle.atlas_model.specs.Replies.{grant_of}
 use Rattle.atlas_store.specs.Slots.{nodes}
 use Rattle.atlas_store.specs.Slots.Areas.{live_areas, area_sum}
-use Rattle.atlas_store.specs.Slots.Lists.{is_free}
 use Rattle.atlas_store.specs.Slots.Reading.{tree_of}
 use Rattle.atlas_model.specs.States.{live_in, free_in}
 use Rattle.atlas_store.specs.Stored.{Stored, IsAtlas, state_of}
@@ -29,7 +28,7 @@ use Rattle.atlas_store.specs.declared.slots.NodeKind.TheVariants as kind
 use Rattle.atlas_model.proofs.TreeLemmas.BoxLists.{areas_of_boxes}
 use Rattle.atlas_model.proofs.ListLemmas.CountSums.{sum_by-counts}
 use Rattle.atlas_store.proofs.WalkLemmas.Observing.{live-IsAtlas, free-IsAtlas, tree_of-IsAtlas}
-use Rattle.atlas_store.proofs.WalkLemmas.WalkSteps.{not_free, not_alloc}
+use Rattle.atlas_store.proofs.WalkLemmas.WalkSteps.{not_alloc, free-next, free-pass}
 
 -- One slot more.
 
@@ -41,20 +40,10 @@ pub record IsPastArea (L : List Node → List Rectangle) (xs : List Slot) (i : �
 
 module _ (xs : List Slot) (i : ℕ) (d : Slot) (low : i < length xs) where
   pub free-more : (get_or xs i d).node.kind ≡ kind.Free → IsMoreArea free_areas xs i d
-  free-more is =
-      record {
-        list =
-            at_drop_more (λ ys. free_areas (nodes ys)) xs i d low
-            ∙ ap (λ k. cond (is_free k) ((get_or xs i d).node.area ∷ free_areas (nodes (drop (i + 1) xs))) (free_areas (nodes (drop (i + 1) xs)))) is;
-      }
+  free-more is = record { list = free-next xs i d low is }
 
   pub free-past : (b : Bool) → b ≡ sameb the_type (get_or xs i d).node.kind kind.Free → b ≡ false → IsPastArea free_areas xs i
-  free-past b test is =
-      record {
-        list =
-            at_drop_more (λ ys. free_areas (nodes ys)) xs i d low
-            ∙ ap (λ b. cond b ((get_or xs i d).node.area ∷ free_areas (nodes (drop (i + 1) xs))) (free_areas (nodes (drop (i + 1) xs)))) (not_free _ b test is);
-      }
+  free-past b test is = record { list = free-pass xs i d b low test is }
 
   pub live-more : (get_or xs i d).node.kind ≡ kind.Alloc → IsMoreArea live_areas xs i d
   live-more is =

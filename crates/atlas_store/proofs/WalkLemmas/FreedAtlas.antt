@@ -18,7 +18,7 @@ use Rattle.atlas_store.specs.declared.slots.Slot.{Slot}
 use Rattle.std.specs.Option.{IfSome}
 use Rattle.atlas_store.specs.declared.slots.NodeKind.TheVariants as kind
 use Rattle.atlas_model.specs.Trees as tree
-use Rattle.atlas_store.specs.Slots.Numbered.{End, Free, Alloc, Seq}
+use Rattle.atlas_store.specs.Slots.Numbered.{End, Alloc}
 use Rattle.atlas_store.proofs.SlotLemmas.Frames.{same-self}
 use Rattle.atlas_store.proofs.SlotLemmas.JoiningWrites.{none-unused, used-inside}
 use Rattle.atlas_store.proofs.SlotLemmas.Reading.{IsNonempty, tree_of-Stands}
@@ -32,9 +32,7 @@ use Rattle.atlas_store.proofs.WalkLemmas.Observing.{nodes-short, nodes-below, me
 -- A tree with a first slot has members.
 nonempty-first : (n : Numbered) → (first_slot n ≡ no_slot → ⊥) → IsNonempty n
 nonempty-first End h = absurd (h refl)
-nonempty-first (Free i e rest) h = omega (arith, same-self i)
-nonempty-first (Alloc i g e rest) h = omega (arith, same-self i)
-nonempty-first (Seq i e inner rest) h = omega (arith, same-self i)
+nonempty-first n h = omega (arith, same-self)
 
 -- The parts of a name.
 pub record IsNamed (ns : List Node) (id : ℕ) : Type 0 where
@@ -69,10 +67,7 @@ module _ (v : Stored) (a : IsAtlas v) (id : ℕ) where
   pub named-live : is_named (nodes v.shelf.slots) id ≡ true → Contains (ids (tree_of (nodes v.shelf.slots)).members) id
   named-live h =
       let ns = nodes v.shelf.slots in
-      let is = named-parts ns id h in
-      let member : 0 < tally (slot_of id) a.holding.tree = subst (λ k. 0 < k) (sym (a.holds.stands.numbered (slot_of id))) (subst (λ k. 0 < use_count k) (sym is.kind) (omega arith)) in
-      subst (λ m. Contains (ids m) id) (sym (members-IsAtlas v a))
-      (slot_id ns a.holding.sequence no_slot 0 a.holding.tree id (slot_of id) a.holds.stands.standing (record { member = member; kind = is.kind; names = is.names }))
+      grind (arith, named-parts ns id h, members-IsAtlas, slot_id ns a.holding.sequence no_slot 0 a.holding.tree id (slot_of id))
 
   -- Whether a slot was found says whether the id is live.
   pub live-found : (slots : List Slot) (o : Option ℕ) → slots ≡ v.shelf.slots → IfSome o (λ at. is_named (nodes slots) id ≡ true) → IfNone o (is_named (nodes slots) id ≡ false)

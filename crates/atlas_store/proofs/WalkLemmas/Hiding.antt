@@ -91,8 +91,7 @@ or-false : (a b : Bool) → a ≡ false → b ≡ false → (a || b) ≡ false
 or-false a b ea eb = rw (ea, eb) refl
 
 pub or-parts : (a b : Bool) → (a || b) ≡ false → (a ≡ false) × (b ≡ false)
-or-parts true b h = absurd (true≢false h)
-or-parts false b h = (refl, h)
+or-parts a b h = grind arith
 
 -- Hiding a slot takes its id from those that name one, and no other.
 module _ (ns : List Node) (id : ℕ) where
@@ -163,11 +162,6 @@ slot-same x y a b = λ i. record { node = a i; ring = b i }
 -- Slots are their parts.
 pub slots-same : (xs ys : List Slot) → nodes xs ≡ nodes ys → rings xs ≡ rings ys → xs ≡ ys
 slots-same [] [] n r = refl
-slots-same [] (y ∷ ys) n r = absurd (cc)
-slots-same (x ∷ xs) [] n r = absurd (cc)
 slots-same (x ∷ xs) (y ∷ ys) n r =
-    let a : x.node ≡ y.node = cc in
-    let b : x.ring ≡ y.ring = cc in
-    let later_nodes : nodes xs ≡ nodes ys = cc in
-    let later_rings : rings xs ≡ rings ys = cc in
-    cons-same x y xs ys (slot-same x y a b) (slots-same xs ys later_nodes later_rings)
+    grind (arith, slot-same x y, cons-same x y, slots-same xs ys)
+slots-same xs ys n r = absurd (cc)

@@ -1,6 +1,6 @@
 -- The slot that an id names, and the live grant of that id.
-use Rattle.std.proofs.Common.{ℕ, zero, suc, ◌+◌, ◌/◌, ◌%◌, ◌^◌, ◌<◌, ◌≤◌, ◌≡◌, ◌&&◌, ◌==◌, eqb, Bool, true, false, cond}
-use Rattle.std.proofs.Common.{List, [], ◌∷◌, length, get_or, Option, Some, None, IsSome, option_map, refl, sym, ap}
+use Rattle.std.proofs.Common.{ℕ, zero, suc, ◌+◌, ◌/◌, ◌%◌, ◌^◌, ◌<◌, ◌≤◌, ◌≡◌, ◌&&◌, ◌==◌, Bool, true, false, cond, []}
+use Rattle.std.proofs.Common.{List, ◌∷◌, length, get_or, Option, Some, None, IsSome, option_map, refl, sym, ap}
 use Rattle.std.proofs.Common.{subst, ◌∙◌, arith}
 use Rattle.std.proofs.lemmas.Bool.{and_parts, and_from, eqb-true, eq-eqb, false≢true}
 use Rattle.std.proofs.lemmas.List.{length-map}
@@ -35,11 +35,7 @@ module _ {X : Type 0} where
   -- What is found passes, and counts for each weaker test.
   find-some : (p q : X → Bool) (xs : List X) (y : X) → find p xs ≡ Some y → (p y ≡ true → q y ≡ true) → (p y ≡ true) × (1 ≤ count_by q xs)
   find-some p q [] y h weaker = absurd (cc)
-  find-some p q (x ∷ xs) y h weaker = by_test (p x) refl h (λ e. find-some p q xs y e weaker)
-    where
-      by_test : (b : Bool) → p x ≡ b → cond b (Some x) (find p xs) ≡ Some y → (find p xs ≡ Some y → (p y ≡ true) × (1 ≤ count_by q xs)) → (p y ≡ true) × (1 ≤ count_by q (x ∷ xs))
-      by_test true is e rest = grind (arith, one_if, count_by-cons)
-      by_test false is e rest = ((rest e).0, omega (arith, (rest e).1, count_by-cons q x xs))
+  find-some p q (x ∷ xs) y h weaker = grind (arith, one_if, count_by-cons, find-some p q xs y)
 
 -- A slot weighs no more than all.
 slot_sum-at : (w : ℕ → Node → ℕ) (i j : ℕ) (ns : List Node) → j < length ns → w (i + j) (node_at ns j) ≤ slot_sum w i ns
@@ -57,17 +53,12 @@ slot_sum-some : (w : ℕ → Node → ℕ) (i : ℕ) (ns : List Node) → 1 ≤ 
 slot_sum-some w i [] h = absurd (omega arith)
 slot_sum-some w i (n ∷ ns) h = by_weight (w i n) refl (slot_sum-some w (i + 1) ns)
   where
-    one_on : (k : ℕ) → i + 1 + k ≡ i + suc k
-    one_on k = omega arith
-
-    add_nothing : i ≡ i + 0
-    add_nothing = omega arith
-
     by_weight : (x : ℕ) → w i n ≡ x → (1 ≤ slot_sum w (i + 1) ns → WeighsAt w (i + 1) ns) → WeighsAt w i (n ∷ ns)
     by_weight zero e rest =
         let later = rest (omega arith) in
-        record { at = suc later.at; inside = let l = later.inside in omega arith; weighs = subst (λ k. 1 ≤ w k (node_at ns later.at)) (one_on later.at) later.weighs }
-    by_weight (suc x) e rest = record { at = 0; inside = omega arith; weighs = subst (λ k. 1 ≤ w k n) add_nothing (omega arith) }
+        let on : i + 1 + later.at ≡ i + suc later.at = omega arith in
+        record { at = suc later.at; inside = let l = later.inside in omega arith; weighs = subst (λ k. 1 ≤ w k (node_at ns later.at)) on later.weighs }
+    by_weight (suc x) e rest = record { at = 0; inside = omega arith; weighs = subst (λ k. 1 ≤ w k n) (let e : i ≡ i + 0 = omega arith in e) (omega arith) }
 
 -- The same for all slots.
 all-at : (w : ℕ → Node → ℕ) (j : ℕ) (ns : List Node) → j < length ns → w j (node_at ns j) ≤ slot_sum w 0 ns
@@ -76,10 +67,7 @@ all-at w j ns l = grind (arith, slot_sum, slot_sum-at)
 all-some : (w : ℕ → Node → ℕ) (ns : List Node) → 1 ≤ slot_sum w 0 ns → (j : ℕ) × (j < length ns) × (1 ≤ w j (node_at ns j))
 all-some w ns h =
     let there = slot_sum-some w 0 ns h in
-    (there.at, there.inside, subst (λ k. 1 ≤ w k (node_at ns there.at)) (none_on there.at) there.weighs)
-  where
-    none_on : (k : ℕ) → 0 + k ≡ k
-    none_on k = omega arith
+    (there.at, there.inside, subst (λ k. 1 ≤ w k (node_at ns there.at)) (let e : 0 + there.at ≡ there.at = omega arith in e) there.weighs)
 
 abbrev has_id : ℕ → Grant → Bool
 has_id id g = g.id == id
@@ -106,27 +94,12 @@ named-true ns i id l is e = grind arith
 
 -- No slot is named by an id that counts nothing.
 named-false : (ns : List Node) (id : ℕ) → slot_sum (alloc_weight (has_id id)) 0 ns ≡ 0 → is_named ns id ≡ false
-named-false ns id none = by_test (is_named ns id) refl
-  where
-    i : ℕ
-    i = id % 2 ^ 24
-
-    by_test : (b : Bool) → is_named ns id ≡ b → b ≡ false
-    by_test false e = refl
-    by_test true e =
-        let parts = and_parts _ _ e in
-        let alloc : (node_at ns (id % 2 ^ 24)).kind ≡ kind.Alloc = is_alloc-true _ parts.0 in
-        let age : (node_at ns (id % 2 ^ 24)).generation ≡ id / 2 ^ 24 = eqb-true _ _ parts.1 in
-        let inside : id % 2 ^ 24 < length ns = used-inside ns (id % 2 ^ 24) (subst (λ k. 0 < use_count k) (sym alloc) (omega arith)) in
-        let whole : id_of (id % 2 ^ 24) (node_at ns (id % 2 ^ 24)).generation ≡ id = ap (λ k. id_of (id % 2 ^ 24) k) age ∙ id_of-parts id in
-        let weight : alloc_weight (has_id id) (id % 2 ^ 24) (node_at ns (id % 2 ^ 24)) ≡ 1 =
-        ap (λ k. cond (is_alloc k) (one_if (eqb (id_of (id % 2 ^ 24) (node_at ns (id % 2 ^ 24)).generation) id)) 0) alloc ∙ ap one_if (eq-eqb _ _ whole) in
-        absurd (omega (arith, none, weight, all-at (alloc_weight (has_id id)) (id % 2 ^ 24) ns inside))
+named-false ns id none =
+    grind (arith, and_parts, is_alloc-true, eqb-true, eq-eqb, used-inside ns, id_of-parts id, one_if, all-at (alloc_weight (has_id id)) (id % 2 ^ 24) ns)
 
 -- A live id has a rectangle.
 pub not_missed : (o : Option Box) → IsSome o → option_map rectangle_of o ≡ None → ⊥
-not_missed None some e = absurd (cc)
-not_missed (Some b) some e = absurd (cc)
+not_missed o some e = grind arith
 
 -- The node that a slot shows.
 node_at-slot : (slots : List Slot) (i : ℕ) (s : Slot) → i < length slots → s ≡ get_or slots i s → node_at (nodes slots) i ≡ s.node

@@ -17,7 +17,7 @@ use Rattle.atlas_store.specs.declared.slots.Node.{Node}
 use Rattle.atlas_store.specs.declared.slots.Slot.{Slot}
 use Rattle.atlas_store.specs.declared.slots.NodeKind.TheVariants as kind
 use Rattle.atlas_model.specs.Trees as tree
-use Rattle.atlas_store.specs.Slots.Numbered.{End, Free, Alloc, Seq}
+use Rattle.atlas_store.specs.Slots.Numbered.{End, Free}
 use Rattle.atlas_model.proofs.TreeLemmas.TreeBasics.{live_among, free_among}
 use Rattle.atlas_model.proofs.TreeLemmas.TreeIdle.{nothing_live}
 use Rattle.atlas_store.proofs.SlotLemmas.Frames.{same-self}
@@ -29,9 +29,7 @@ use Rattle.atlas_store.proofs.SlotLemmas.LeafCounts.{live-Stands, free-Stands}
 -- Members that fill a side are some.
 pub nonempty-total : (n : Numbered) → 0 < total (erase n) → IsNonempty n
 nonempty-total End h = absurd (omega arith)
-nonempty-total (Free i e rest) h = omega (arith, same-self i)
-nonempty-total (Alloc i g e rest) h = omega (arith, same-self i)
-nonempty-total (Seq i e inner rest) h = omega (arith, same-self i)
+nonempty-total n h = omega (arith, same-self)
 
 pub origin-spot : (a : Axis) (start : ℕ) → start ≡ 0 → origin ≡ spot a 0 start
 origin-spot Horizontal start e = let back : 0 ≡ start = sym e in λ i. record { x = 0; y = back i }

@@ -1,6 +1,6 @@
 -- One slot more in a walk over slots.
 use Rattle.std.proofs.Common.{rules, ℕ, ◌+◌, ◌<◌, ◌≡◌, Bool, false, cond, List, [], ◌∷◌, get_or, drop, length, refl}
-use Rattle.std.proofs.Common.{sym, ap, subst, ◌∙◌}
+use Rattle.std.proofs.Common.{sym, ap, ◌∙◌}
 use Rattle.std.proofs.lemmas.Bool.{true≢false}
 use Rattle.std.proofs.lemmas.List.{at_drop_more}
 use Rattle.std.specs.Borrow.{Bor}
@@ -36,6 +36,26 @@ pub not_free : (k : NodeKind) (b : Bool) → b ≡ sameb the_type k kind.Free �
 not_free kind.Free b e f = absurd (true≢false (sym e ∙ f))
 not_free k b e f = refl
 
+-- And from one that isn't.
+allocated-past : (xs : List Slot) (i : ℕ) (d : Slot) (b : Bool) → i < length xs → b ≡ sameb the_type (get_or xs i d).node.kind kind.Alloc → b ≡ false
+    → allocated_from i (nodes (drop i xs)) ≡ allocated_from (i + 1) (nodes (drop (i + 1) xs))
+allocated-past xs i d b low test is =
+    at_drop_more (λ ys. allocated_from i (nodes ys)) xs i d low
+    ∙ ap (λ b. cond b (allocation_at i (get_or xs i d).node ∷ allocated_from (i + 1) (nodes (drop (i + 1) xs))) (allocated_from (i + 1) (nodes (drop (i + 1) xs)))) (not_alloc _ b test is)
+
+-- The same of free slots.
+pub free-next : (xs : List Slot) (i : ℕ) (d : Slot) → i < length xs → (get_or xs i d).node.kind ≡ kind.Free
+    → free_areas (nodes (drop i xs)) ≡ (get_or xs i d).node.area ∷ free_areas (nodes (drop (i + 1) xs))
+free-next xs i d low is =
+    at_drop_more (λ ys. free_areas (nodes ys)) xs i d low
+    ∙ ap (λ k. cond (is_free k) ((get_or xs i d).node.area ∷ free_areas (nodes (drop (i + 1) xs))) (free_areas (nodes (drop (i + 1) xs)))) is
+
+pub free-pass : (xs : List Slot) (i : ℕ) (d : Slot) (b : Bool) → i < length xs → b ≡ sameb the_type (get_or xs i d).node.kind kind.Free → b ≡ false
+    → free_areas (nodes (drop i xs)) ≡ free_areas (nodes (drop (i + 1) xs))
+free-pass xs i d b low test is =
+    at_drop_more (λ ys. free_areas (nodes ys)) xs i d low
+    ∙ ap (λ b. cond b ((get_or xs i d).node.area ∷ free_areas (nodes (drop (i + 1) xs))) (free_areas (nodes (drop (i + 1) xs)))) (not_free _ b test is)
+
 -- The call at one allocated slot more.
 pub visits-allocated : {F : Type 0} (g : Mut F (ℕ × (Bor Rectangle × Unit {0})) (Unit {0})) (f f' at last : F) (xs : List Slot) (i : ℕ) (d : Slot) (id : ℕ) (shown : Bor Rectangle)
     → i < length xs → (get_or xs i d).node.kind ≡ kind.Alloc → id ≡ id_of i (get_or xs i d).node.generation → shown.now ≡ (get_or xs i d).node.area
@@ -50,36 +70,21 @@ pub passes-allocated : {F : Type 0} (g : Mut F (ℕ × (Bor Rectangle × Unit {0
     → i < length xs → b ≡ sameb the_type (get_or xs i d).node.kind kind.Alloc → b ≡ false → at ≡ f
     → FoldsTo (CalledAtGrant g) at (allocated_from (i + 1) (nodes (drop (i + 1) xs))) last
     → FoldsTo (CalledAtGrant g) f (allocated_from i (nodes (drop i xs))) last
-passes-allocated g f at last xs i d b low test is here more =
-    subst (λ l. FoldsTo (CalledAtGrant g) f l last)
-    (sym
-    (at_drop_more (λ ys. allocated_from i (nodes ys)) xs i d low
-    ∙ ap (λ b. cond b (allocation_at i (get_or xs i d).node ∷ allocated_from (i + 1) (nodes (drop (i + 1) xs))) (allocated_from (i + 1) (nodes (drop (i + 1) xs)))) (not_alloc _ b test is)))
-    (subst (λ v. FoldsTo (CalledAtGrant g) v (allocated_from (i + 1) (nodes (drop (i + 1) xs))) last) here more)
+passes-allocated g f at last xs i d b low test is here more = search (rules, allocated-past)
 
 -- The call at one free slot more.
 pub visits-free : {F : Type 0} (g : Mut F (Bor Rectangle × Unit {0}) (Unit {0})) (f f' at last : F) (xs : List Slot) (i : ℕ) (d : Slot)
     → i < length xs → (get_or xs i d).node.kind ≡ kind.Free → CalledAt g f (get_or xs i d).node.area tt f' → at ≡ f'
     → FoldsTo (λ p x q. CalledAt g p x tt q) at (free_areas (nodes (drop (i + 1) xs))) last
     → FoldsTo (λ p x q. CalledAt g p x tt q) f (free_areas (nodes (drop i xs))) last
-visits-free g f f' at last xs i d low is call here more =
-    subst (λ l. FoldsTo (λ p x q. CalledAt g p x tt q) f l last)
-    (sym
-    (at_drop_more (λ ys. free_areas (nodes ys)) xs i d low
-    ∙ ap (λ k. cond (is_free k) ((get_or xs i d).node.area ∷ free_areas (nodes (drop (i + 1) xs))) (free_areas (nodes (drop (i + 1) xs)))) is))
-    (at, subst (λ v. CalledAt g f (get_or xs i d).node.area tt v) (sym here) call, more)
+visits-free g f f' at last xs i d low is call here more = search (rules, free-next)
 
 -- No call at a slot that isn't free.
 pub passes-free : {F : Type 0} (g : Mut F (Bor Rectangle × Unit {0}) (Unit {0})) (f at last : F) (xs : List Slot) (i : ℕ) (d : Slot) (b : Bool)
     → i < length xs → b ≡ sameb the_type (get_or xs i d).node.kind kind.Free → b ≡ false → at ≡ f
     → FoldsTo (λ p x q. CalledAt g p x tt q) at (free_areas (nodes (drop (i + 1) xs))) last
     → FoldsTo (λ p x q. CalledAt g p x tt q) f (free_areas (nodes (drop i xs))) last
-passes-free g f at last xs i d b low test is here more =
-    subst (λ l. FoldsTo (λ p x q. CalledAt g p x tt q) f l last)
-    (sym
-    (at_drop_more (λ ys. free_areas (nodes ys)) xs i d low
-    ∙ ap (λ b. cond b ((get_or xs i d).node.area ∷ free_areas (nodes (drop (i + 1) xs))) (free_areas (nodes (drop (i + 1) xs)))) (not_free _ b test is)))
-    (subst (λ v. FoldsTo (λ p x q. CalledAt g p x tt q) v (free_areas (nodes (drop (i + 1) xs))) last) here more)
+passes-free g f at last xs i d b low test is here more = search (rules, free-pass)
 
 -- A callback along a list: at its first item, and after a call of it along the rest.
 
@@ -97,12 +102,6 @@ module _ {F : Type 0} (g : Mut F (Bor Rectangle × Unit {0}) (Unit {0})) (xs : L
   abbrev From : F → ℕ → Type 0
   From f k = IsCallableAlong g (λ _. Unit {0}) f (free_areas (nodes (drop k xs)))
 
-  free-next : (get_or xs i d).node.kind ≡ kind.Free
-      → free_areas (nodes (drop i xs)) ≡ (get_or xs i d).node.area ∷ free_areas (nodes (drop (i + 1) xs))
-  free-next is =
-      at_drop_more (λ ys. free_areas (nodes ys)) xs i d low
-      ∙ ap (λ k. cond (is_free k) ((get_or xs i d).node.area ∷ free_areas (nodes (drop (i + 1) xs))) (free_areas (nodes (drop (i + 1) xs)))) is
-
   -- A callback may be called at a free slot.
   pub asks-free : (f : F) (shown : Bor Rectangle) → (get_or xs i d).node.kind ≡ kind.Free → shown.now ≡ (get_or xs i d).node.area → From f i → Takes g f (shown, tt)
   asks-free f shown is same h = search (rules, along-first, free-next)
@@ -113,12 +112,7 @@ module _ {F : Type 0} (g : Mut F (Bor Rectangle × Unit {0}) (Unit {0})) (xs : L
 
   -- A slot that isn't free is passed over.
   pub asks-past-free : (f at : F) (b : Bool) → b ≡ sameb the_type (get_or xs i d).node.kind kind.Free → b ≡ false → at ≡ f → From f i → From at (i + 1)
-  asks-past-free f at b test is here h =
-      subst (λ v. From v (i + 1)) (sym here)
-      (subst (λ l. IsCallableAlong g (λ _. Unit {0}) f l)
-      (at_drop_more (λ ys. free_areas (nodes ys)) xs i d low
-      ∙ ap (λ b. cond b ((get_or xs i d).node.area ∷ free_areas (nodes (drop (i + 1) xs))) (free_areas (nodes (drop (i + 1) xs)))) (not_free _ b test is))
-      h)
+  asks-past-free f at b test is here h = search (rules, free-pass)
 
 module _ {F : Type 0} (g : Mut F (ℕ × (Bor Rectangle × Unit {0})) (Unit {0})) (xs : List Slot) (i : ℕ) (d : Slot) (low : i < length xs) where
   abbrev GrantsFrom : F → ℕ → Type 0
@@ -136,9 +130,4 @@ module _ {F : Type 0} (g : Mut F (ℕ × (Bor Rectangle × Unit {0})) (Unit {0})
 
   -- A slot that isn't allocated is passed over.
   pub asks-past-allocated : (f at : F) (b : Bool) → b ≡ sameb the_type (get_or xs i d).node.kind kind.Alloc → b ≡ false → at ≡ f → GrantsFrom f i → GrantsFrom at (i + 1)
-  asks-past-allocated f at b test is here h =
-      subst (λ v. GrantsFrom v (i + 1)) (sym here)
-      (subst (λ l. IsCallableAlongGrants g (λ _. Unit {0}) f l)
-      (at_drop_more (λ ys. allocated_from i (nodes ys)) xs i d low
-      ∙ ap (λ b. cond b (allocation_at i (get_or xs i d).node ∷ allocated_from (i + 1) (nodes (drop (i + 1) xs))) (allocated_from (i + 1) (nodes (drop (i + 1) xs)))) (not_alloc _ b test is))
-      h)
+  asks-past-allocated f at b test is here h = search (rules, allocated-past)

@@ -2,8 +2,6 @@ use Rattle.std.proofs.Common.{◌≡◌, ◌∙◌, ap, ℕ, List, subst, arith}
 use Rattle.std.proofs.lemmas.List.{with_items_is}
 use Rattle.std.specs.Vec.{with_items}
 use Rattle.atlas_store.specs.declared.slots.Slot.{Slot}
-use Rattle.atlas_store.specs.declared.slots.Node.{Node}
-use Rattle.atlas_store.specs.declared.slots.NodeKind.TheVariants.{Free}
 use Rattle.atlas_store.specs.Slots.{nodes, node_at}
 use Rattle.atlas_store.specs.Slots.SlotCalls.{IsNextJoined}
 use Rattle.atlas_store.specs.Store.Holdings.{shelf_of, node_in}
@@ -45,9 +43,6 @@ module _ (g : given.Over) (c : goal.After-tick g) where
       subst (λ (j : ℕ). GivesBack (shelf_of c.args.self.now) mid new c.give_back.new.unused j) next-is
       (over-shelf (λ old left. GivesBack (shelf_of c.args.self.now) old left c.give_back.new.unused c.join_next-next.result.number) _ _ _ _ last
       (record { same_nodes = c.give_back.ensures.same_nodes; long = c.give_back.auto.slots; filed = c.give_back.ensures.filed }))
-
-  abbrev IsFreeIn : List Node → Type 0
-  IsFreeIn ns = (node_at ns c.args.at.number).kind ≡ Free
 
 pub returns : goal.returns
 returns g c =

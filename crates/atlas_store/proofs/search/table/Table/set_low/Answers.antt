@@ -11,11 +11,5 @@ invariant_of-self g c =
       read-head c.self.inside.heads.items,
     )
 
-pub returns-clause-heads : goal.returns-clause-heads
-returns-clause-heads g c = grind (arith, head_of-any, read-head)
-
-pub returns-clause-low : goal.returns-clause-low
-returns-clause-low g c = grind (arith, low_of-same)
-
-pub returns-clause-lows : goal.returns-clause-lows
-returns-clause-lows g c = grind (arith, low_of-other)
+pub returns : goal.returns
+returns g c = grind (arith, head_of-any, read-head, low_of-same, low_of-other)
