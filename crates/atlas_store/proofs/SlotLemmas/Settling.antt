@@ -6,7 +6,7 @@ use Rattle.atlas_store.specs.Slots.{node_at, use_count, no_slot}
 use Rattle.atlas_model.specs.Trees as tree
 use Rattle.atlas_model.specs.Trees.{IsNormal}
 use Rattle.atlas_store.specs.Slots.Numbered.{Numbered, tally, first_slot, same, numbers, erase, marked, joined, grown_by, lifted, lifted_to, is_free_at, is_alloc_at, is_seq_at, End, Free, Alloc, Seq}
-use Rattle.atlas_store.specs.Slots.Standing.{Sequence, Standing, Stands, IsWhole, IsSlot, inside}
+use Rattle.atlas_store.specs.Slots.Standing.{Sequence, Standing, Stands, IsWhole, IsSlot}
 use Rattle.atlas_store.proofs.SlotLemmas.Reading.{numbers-less}
 use Rattle.atlas_store.proofs.SlotLemmas.JoiningWrites.{used-inside, none-unused, not-none}
 use Rattle.atlas_store.proofs.SlotLemmas.Frames.{same-self, same-ne, split_pos}

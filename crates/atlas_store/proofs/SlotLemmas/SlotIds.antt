@@ -49,15 +49,7 @@ module _ (ns : List Node) where
   slot_id s before p (Alloc j g e rest) id i h f =
       search (rules, Contains-first, Contains-later, slot_id s j (p + e) rest id i h.3, same-ne)
   slot_id s before p (Seq j e inner rest) id i h f =
-      search (
-        rules,
-        split_pos,
-        Contains-append_left,
-        Contains-append_right,
-        slot_id (inside s j p e) no_slot s.start inner id i h.2,
-        slot_id s j (p + e) rest id i h.3,
-        same-ne,
-      )
+      search (rules, split_pos, Contains-append_left, Contains-append_right, slot_id _ _ _ inner id i h.2, slot_id s j (p + e) rest id i h.3, same-ne)
 
   -- A slot that isn't allocated is that of no allocated member.
   pub alloc_tally-none : (s : Sequence) (before p i : ℕ) (n : Numbered) → ((node_at ns i).kind ≡ kind.Alloc → ⊥) → Standing ns s before p n → alloc_tally i n ≡ 0

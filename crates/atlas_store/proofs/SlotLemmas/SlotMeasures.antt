@@ -1,5 +1,6 @@
 -- The rectangle that a used slot stores may be measured, and has a square.
-use Rattle.std.proofs.Common.{rules, ℕ, ◌+◌, ◌<◌, ◌^◌, List, arith}
+use Rattle.std.proofs.Common.{ℕ, ◌+◌, ◌<◌, ◌^◌, List, inl, inr, arith}
+use Rattle.std.proofs.lemmas.Bool.{cases_eq}
 use Rattle.std.proofs.lemmas.Int.{ints}
 use Rattle.atlas_store.specs.declared.slots.Node.{Node}
 use Rattle.atlas_model.specs.declared.geometry.Rectangle.{Rectangle}
@@ -46,14 +47,13 @@ area-span ns i s before p (Alloc j g e rest) h cut along across wide l =
       same-ne i j,
     )
 area-span ns i s before p (Seq j e inner rest) h cut along across wide l =
-    search (
-      rules,
-      split_pos,
-      same-ne,
-      member-span s p e (omega arith) across wide cut.0,
-      area-span ns i (inside s j p e) no_slot s.start inner h.2 cut.2 (omega (arith, cut.1)) (omega arith) cut.0,
-      area-span ns i s j (p + e) rest h.3 cut.3 (omega arith) across wide,
-    )
+    elim (cases_eq i j) [
+      | inl q ↦ rw (q, h.1) (member-span s p e (omega arith) across wide cut.0)
+      | inr ne ↦ elim (split_pos (tally i inner) (tally i rest) (omega (arith, same-ne i j ne))) [
+        | inl a ↦ area-span ns i (inside s j p e) no_slot s.start inner h.2 cut.2 (omega (arith, cut.1)) (omega arith) cut.0 a
+        | inr b ↦ area-span ns i s j (p + e) rest h.3 cut.3 (omega arith) across wide b
+      ]
+    ]
 
 -- Each used slot stores such a rectangle.
 pub Holds-span : (v : Shelf) (h : Holding) (i : ℕ) → Holds v h → 0 < use_count (node_at (nodes v.slots) i).kind → IsSpan (node_at (nodes v.slots) i).area
