@@ -1,11 +1,8 @@
 -- The axis of a cut, and that the parts of a cut rectangle tile it.
-use Rattle.std.proofs.Common.{◌≡◌, ℕ, ◌+◌, ◌-◌, ◌*◌, ◌<◌, ◌≤◌, Bool, true, false, cond, ◌&&◌, ◌⊎◌, [], ◌∷◌, ℤ, pos, ◌+ℤ◌}
-use Rattle.std.proofs.Common.{◌-ℤ◌, ◌≤ℤ◌, refl, ap, arith}
+use Rattle.std.proofs.Common.{◌≡◌, ℕ, ◌+◌, ◌*◌, ◌<◌, ◌≤◌, Bool, true, false, cond, ◌&&◌, ◌⊎◌, [], ◌∷◌, ℤ, pos, ◌+ℤ◌}
+use Rattle.std.proofs.Common.{◌-ℤ◌, ◌≤ℤ◌, arith}
 use Rattle.std.proofs.lemmas.Int.{ints}
 use Rattle.std.specs.Prelude.{int_le, int_lt}
-use Rattle.std.proofs.Math.Nat.{le-mul_of_pos_right}
-use Rattle.std.proofs.lemmas.Bool.{cond_below, cond_above}
-use Rattle.atlas_model.specs.Boxes.{Sides}
 use Rattle.atlas_model.specs.Boxes.Axis.{Horizontal, Vertical}
 use Rattle.atlas_model.specs.Cuts.{cap, cut_axis}
 use Rattle.atlas_model.specs.Pixels.{natural, sides_of}

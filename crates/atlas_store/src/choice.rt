@@ -1,4 +1,4 @@
-//! Rounded sizes and classes, and what a search compares of the boxes that it is shown.
+//! Rounded sizes, and what a search compares of the boxes that it is shown.
 ghost use Rattle.std.specs.Prelude.{◌≡◌, ◌-◌, ◌<◌, ◌≤◌, pos, ◌<ℤ◌, ◌≤ℤ◌, ◌↔◌, IsTrue, SomeIff};
 ghost use Rattle.atlas_model.specs.Boxes.{Fits, IsNonempty, IsPositive, box_sides};
 ghost use Rattle.atlas_model.specs.Choice.{AreValid, least_margin, rounded, up};

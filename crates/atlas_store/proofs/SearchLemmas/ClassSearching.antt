@@ -1,21 +1,19 @@
 -- A search before a row and a column: the request's own row and column first, and the rest only if no equal side was found.
-use Rattle.std.proofs.Common.{◌≡◌, ℕ, zero, suc, ◌+◌, ◌*◌, ◌<◌, ◌≤◌, ◌⊎◌, ◌==◌, ◌&&◌, ◌||◌, nat_lt, nat_le, max, Bool, true, false, cond, List, [], ◌∷◌, length, refl, ap, sym, ◌∙◌, subst, inl, inr, arith}
-use Rattle.std.proofs.lemmas.Bool.{cases_eq, cases_lt, cond_both, eq-eqb, eqb-true, true≢false}
+use Rattle.std.proofs.Common.{◌≡◌, ℕ, zero, suc, ◌+◌, ◌*◌, ◌<◌, ◌≤◌, ◌⊎◌, ◌==◌, ◌&&◌, ◌||◌, nat_lt, nat_le, Bool, true, false, cond, List, [], ◌∷◌, length, refl, ap, sym, ◌∙◌, subst, inl, inr, arith}
+use Rattle.std.proofs.lemmas.Bool.{cases_eq, cond_both, true≢false}
 use Rattle.std.proofs.lemmas.Bool.Decides.{nat_tests}
 use Rattle.atlas_store.specs.declared.search.bands.Place.{Place}
-use Rattle.atlas_model.specs.declared.geometry.Size.{Size}
 use Rattle.atlas_store.specs.declared.search.best.Best.{Best}
 use Rattle.atlas_store.specs.declared.search.masks.Mask.{Mask}
 use Rattle.atlas_store.specs.declared.search.table.ListHead.{ListHead}
 use Rattle.atlas_store.specs.Search.Bands.{band_of}
 use Rattle.atlas_store.specs.Search.Bests.{HasSeen}
-use Rattle.atlas_model.specs.Boxes.{Sides, Fits, IsPositive}
-use Rattle.atlas_model.specs.Choice.{Options, AreValid, class_of, HasEqualSide}
+use Rattle.atlas_model.specs.Boxes.{Sides}
+use Rattle.atlas_model.specs.Choice.{Options, class_of, HasEqualSide}
 use Rattle.atlas_store.specs.Search.Items.{Item, item_at, item_box, item_sides, shown_item, shown_items}
 use Rattle.atlas_store.specs.Slots.Lists.{occurs}
 use Rattle.atlas_store.specs.Search.Lookups.{AreBelow, AreListed, HasAdded, HasSearched, IsBeyond, IsInColumn, IsInRow, IsItemBelow, IsKnown, IsSearch}
 use Rattle.atlas_store.specs.Search.Masks.{has, IsMarked}
-use Rattle.atlas_model.specs.Pixels.{sides_of}
 use Rattle.atlas_store.specs.Search.Searches.{Shown}
 use Rattle.atlas_store.specs.Search.Tables.{is_used_at}
 use Rattle.atlas_store.proofs.SearchLemmas.Adding.{added-then, added-weaker}

@@ -1,5 +1,5 @@
 -- The best free entry of the lowest class with one that the request fits is the pick.
-use Rattle.std.proofs.Common.{ℕ, ◌<◌, [], ◌+◌, ◌≤◌, ◌≡◌, ◌≢◌, ◌==◌, List, length, map, get_or, sym, ap, ◌∙◌, arith, true, subst, inl, inr}
+use Rattle.std.proofs.Common.{ℕ, ◌<◌, [], ◌≤◌, ◌≡◌, ◌≢◌, ◌==◌, List, length, map, get_or, sym, ap, ◌∙◌, arith, true, subst, inl, inr}
 use Rattle.std.specs.Prelude.{Contains}
 use Rattle.std.proofs.lemmas.Bool.{cases_lt, true≢false}
 use Rattle.std.proofs.lemmas.List.{get_or_past, length-map}

@@ -4,7 +4,6 @@ use Rattle.std.proofs.lemmas.Bool.{eq-eqb, ne_eqb, cases_lt, cases_eq}
 use Rattle.std.proofs.lemmas.List.{get_or_past}
 use Rattle.atlas_store.specs.declared.slots.Node.{Node}
 use Rattle.atlas_store.specs.declared.slots.NodeKind.{NodeKind}
-use Rattle.atlas_store.specs.declared.slots.NodeKind.TheVariants as kind
 use Rattle.atlas_store.specs.Slots.{no_slot, node_at, blank_node, use_count, KeepsUse}
 use Rattle.atlas_store.specs.Slots.Numbered.{Numbered, tally, same, End, Free, Alloc, Seq}
 use Rattle.atlas_store.specs.Slots.Standing.{Sequence, Standing, inside}

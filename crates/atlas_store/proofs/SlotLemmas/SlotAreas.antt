@@ -6,7 +6,7 @@ use Rattle.atlas_model.specs.declared.geometry.Rectangle.{Rectangle}
 use Rattle.atlas_model.specs.Boxes.{Box}
 use Rattle.atlas_model.specs.Pixels.{rectangle_of, box_of}
 use Rattle.atlas_store.specs.Slots.{node_at, use_count, no_slot}
-use Rattle.atlas_store.specs.Slots.Numbered.{Numbered, tally, first_slot, End, Free}
+use Rattle.atlas_store.specs.Slots.Numbered.{Numbered, tally, first_slot, End}
 use Rattle.atlas_store.specs.Slots.Standing.{Sequence, Standing, Stands, IsTree}
 use Rattle.atlas_store.proofs.SlotLemmas.Suffixes.{suffix-at}
 

@@ -5,7 +5,7 @@ use Rattle.atlas_store.specs.declared.slots.Node.{Node}
 use Rattle.atlas_store.specs.declared.slots.Link.{Link}
 use Rattle.atlas_store.specs.declared.slots.NodeKind.TheVariants as kind
 use Rattle.atlas_store.specs.Slots.{node_at, blank_node, use_count, no_slot, KeepsUse}
-use Rattle.atlas_store.specs.Slots.Numbered.{Numbered, tally, first_slot, same, End, Free, Seq}
+use Rattle.atlas_store.specs.Slots.Numbered.{Numbered, tally, first_slot, same, End, Seq}
 use Rattle.atlas_store.specs.Slots.Standing.{Sequence, Standing, IsTree, IsSlot, with_previous}
 use Rattle.atlas_store.specs.Slots.SlotCalls.{CanSplitInto}
 use Rattle.atlas_store.specs.Slots.Parts.{front_node, back_node}

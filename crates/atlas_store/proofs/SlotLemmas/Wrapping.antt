@@ -4,7 +4,6 @@ use Rattle.atlas_store.specs.declared.slots.Link.{Link}
 use Rattle.atlas_store.specs.declared.slots.Node.{Node}
 use Rattle.atlas_store.specs.declared.slots.NodeKind.TheVariants as kind
 use Rattle.atlas_store.specs.declared.cut.Orientation.{Orientation}
-use Rattle.atlas_store.specs.declared.cut.Orientation.TheVariants as orientation
 use Rattle.atlas_model.specs.Boxes.{other}
 use Rattle.atlas_store.specs.Slots.{node_at, use_count, no_slot, axis_of}
 use Rattle.atlas_store.specs.Slots.Numbered.{Numbered, weigh, tally, first_slot, same, wrapped_at, wrapping, is_free_at}

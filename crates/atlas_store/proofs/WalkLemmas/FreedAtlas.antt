@@ -18,7 +18,7 @@ use Rattle.atlas_store.specs.declared.slots.Slot.{Slot}
 use Rattle.std.specs.Option.{IfSome}
 use Rattle.atlas_store.specs.declared.slots.NodeKind.TheVariants as kind
 use Rattle.atlas_model.specs.Trees as tree
-use Rattle.atlas_store.specs.Slots.Numbered.{End, Alloc}
+use Rattle.atlas_store.specs.Slots.Numbered.{End}
 use Rattle.atlas_store.proofs.SlotLemmas.Frames.{same-self}
 use Rattle.atlas_store.proofs.SlotLemmas.JoiningWrites.{none-unused, used-inside}
 use Rattle.atlas_store.proofs.SlotLemmas.Reading.{IsNonempty, tree_of-Stands}

@@ -10,14 +10,14 @@ use Rattle.atlas_store.specs.declared.search.masks.Mask.{Mask}
 use Rattle.atlas_store.specs.declared.search.table.ListHead.{ListHead}
 use Rattle.atlas_store.specs.Search.Bands.{band_of, list_of, start_of}
 use Rattle.atlas_store.specs.Search.Bests.{HasSeen, IsSameBest, found_at}
-use Rattle.atlas_model.specs.Boxes.{Sides, Box, Fits, IsPositive}
+use Rattle.atlas_model.specs.Boxes.{Sides, Box, Fits}
 use Rattle.atlas_model.specs.Choice.{Options, AreValid, class_of}
 use Rattle.atlas_store.specs.Search.Items.{Item, item_at, item_box, item_sides, shown_item, shown_items, IsPath}
 use Rattle.atlas_store.specs.Search.Items.{IsPrevious}
 use Rattle.atlas_store.specs.Slots.Links.{IsSolid}
 use Rattle.atlas_store.specs.Slots.Lists.{occurs}
 use Rattle.atlas_store.specs.Search.Masks.{IsMarked}
-use Rattle.atlas_model.specs.Pixels.{box_of, sides_of}
+use Rattle.atlas_model.specs.Pixels.{box_of}
 use Rattle.atlas_store.specs.Search.Ranks.{no_rank}
 use Rattle.atlas_store.specs.Search.Searches.{Shown, shown_at, IsBestShown}
 use Rattle.atlas_store.specs.Slots.{no_slot}

@@ -115,23 +115,6 @@ impl<A: Allocator> Table<A> {
         }
     }
 
-    /// Another slot, or none, comes first in a list.
-    pub fn set_head(&mut self, at: Place, first: Link)
-        requires row { at.row < BANDS }
-        requires column { at.column < BANDS }
-        ensures head { head_of self.new (number_of at) ≡ first }
-        ensures heads { (k : ℕ) → k ≢ number_of at → head_of self.new k ≡ head_of self.old k }
-        ensures lows { (k : ℕ) → low_of self.new k ≡ low_of self.old k }
-    {
-        let former = self.head(at);
-        self.heads[BANDS * at.row + at.column].first = first;
-        if first.number == NO_SLOT {
-            self.marks.unmark(at);
-        } else if former.number == NO_SLOT {
-            self.marks.mark(at);
-        }
-    }
-
     /// Another slot, or none, comes first in the list of this number, which has a slot.
     pub fn set_first(&mut self, number: usize, first: Link)
         requires number { number < LISTS }

@@ -1,8 +1,7 @@
-use Rattle.std.proofs.Common.{map, ◌==◌, Bool, [], subst, sym, arith}
+use Rattle.std.proofs.Common.{map, Bool, [], subst, sym, arith}
 use Rattle.atlas_store.specs.declared.search.best.Found.{Found}
-use Rattle.atlas_model.specs.Choice.{class_of}
 use Rattle.atlas_store.specs.Search.Bests.{HasSeen}
-use Rattle.atlas_store.specs.Search.Lookups.{IsBestBelow, IsSearch, IsStanding}
+use Rattle.atlas_store.specs.Search.Lookups.{IsBestBelow, IsStanding}
 use Rattle.atlas_model.specs.Pixels.{options_of, sides_of}
 use Rattle.atlas_store.proofs.SearchLemmas.ItemPicks.{best-found, free-inside, found-read, none-found, none-from, no_room-of_items, pick-of_items, seen-nothing}
 use Rattle.atlas_store.proofs.SearchLemmas.Windows.{fits-reaching, large-law, left-begin, left-next, none-left}

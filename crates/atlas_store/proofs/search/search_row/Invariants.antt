@@ -1,4 +1,4 @@
-use Rattle.std.proofs.Common.{map, ◌≡◌, ◌<◌, ℕ, false}
+use Rattle.std.proofs.Common.{map, ◌≡◌, ℕ, false}
 use Rattle.atlas_model.specs.Boxes.{Sides}
 use Rattle.atlas_model.specs.Choice.{Options}
 use Rattle.atlas_store.specs.Search.Lookups.{AreBelow, AreListed, HasAdded, IsInRow}
