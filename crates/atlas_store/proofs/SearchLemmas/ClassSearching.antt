@@ -76,9 +76,6 @@ KeepsBelow all below k = (j : ℕ) → has below j ≡ (has all j && nat_lt j k)
 pub marked-from : (all from : Mask) (k j : ℕ) → KeepsFrom all from k → IsMarked all j → k ≤ j → IsMarked from j
 marked-from all from k j is h l = is j ∙ and_of _ _ h (le_true k j l)
 
-pub from-marked : (all from : Mask) (k j : ℕ) → KeepsFrom all from k → IsMarked from j → IsMarked all j × (k ≤ j)
-from-marked all from k j is h = let p = and_both _ _ (sym (is j) ∙ h) in (p.0, true_le k j p.1)
-
 pub marked-below : (all below : Mask) (k j : ℕ) → KeepsBelow all below k → IsMarked all j → j < k → IsMarked below j
 marked-below all below k j is h l = is j ∙ and_of _ _ h (lt_true j k l)
 

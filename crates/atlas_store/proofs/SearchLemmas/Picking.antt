@@ -1,24 +1,16 @@
 -- The best of the boxes shown is the pick of all free boxes, where the classes are searched from the request's upwards.
-use Rattle.std.proofs.Common.{◌≡◌, ℕ, ◌<◌, ◌≤◌, ◌⊎◌, Bool, true, false, List, ℤ, inl, inr, arith}
+use Rattle.std.proofs.Common.{ℕ, ◌<◌, ◌≤◌, ◌⊎◌, Bool, true, false, List, inl, inr, arith}
 use Rattle.std.specs.Prelude.{◌==◌}
 use Rattle.std.specs.List.{Contains, All}
-use Rattle.std.proofs.lemmas.Int.{ints}
 use Rattle.std.proofs.lemmas.Bool.{eq-eqb, ne_eqb}
 use Rattle.std.proofs.lemmas.List.Elements.{All-contains}
 use Rattle.atlas_model.specs.Boxes.{Sides, Box, box_sides, Fits, IsNonempty, IsWithin}
-use Rattle.atlas_model.specs.Choice.{Options, up, rounded, reaches, class_of, HasEqualSide, IsFitting, IsCandidate, HasBetterMargin, IsPick, HasNoRoom}
+use Rattle.atlas_model.specs.Choice.{Options, up, rounded, class_of, HasEqualSide, IsFitting, IsCandidate, HasBetterMargin, IsPick, HasNoRoom}
 use Rattle.atlas_store.specs.Search.Requests.{CanBeRounded}
 use Rattle.atlas_store.specs.Search.Searches.{Shown, shown_at, IsAsGood, IsBestShown, FitsOnlyFrom, AreOfClass}
 use Rattle.atlas_store.proofs.SearchLemmas.Choosing.{margin-equal_side, equal_side-margin, equal_side_cases}
 
 -- Classes
-
-pub reaches-fits : (t : ℤ) (a b : Sides) → Fits a b → reaches t a ≡ true → reaches t b ≡ true
-reaches-fits t a b fits h = grind (arith, ints)
-
--- A larger size has no lower class.
-pub class_of-fits : (o : Options) (a b : Sides) → Fits a b → class_of o a ≤ class_of o b
-class_of-fits o a b fits = grind (arith, reaches-fits)
 
 pub class_of-below : (o : Options) (a : Sides) → class_of o a < 3
 class_of-below o a = grind arith
