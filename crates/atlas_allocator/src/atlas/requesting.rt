@@ -18,7 +18,6 @@ use std::alloc::Allocator;
 
 impl<A: Allocator + Copy> AtlasAllocator<A> {
     /// Grants a request, as `allocate` does. Where each slot is in its first generation, and none unused, it stays so.
-    #[inline(always)]
     pub(crate) fn request(&mut self, requested_size: Size) -> Result<Option<Allocation>, AtlasError>
         ensures step { Step (state_of self.old) (Allocate (sides_of requested_size)) (allocate_reply result)
             (state_of self.new) }
