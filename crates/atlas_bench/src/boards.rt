@@ -1,9 +1,9 @@
 //! A board of unit squares, of which every other one is freed.
-ghost use Rattle.std.specs.Prelude.{◌≡◌, ◌<◌, ◌≤◌, ◌+◌, ◌-◌, ◌*◌, ◌/◌, ◌^◌, IfOk, OnOk, length, vec_len};
+ghost use Rattle.std.specs.Prelude.{◌≡◌, ◌<◌, ◌≤◌, ◌+◌, ◌-◌, ◌*◌, ◌/◌, ◌^◌, IfOk, IsTrue, OnOk, length, vec_len};
 
 use crate::answers::Answers;
 use crate::error::BenchError;
-use guillotiere::{AllocId, AtlasAllocator, size2};
+use guillotiere::{AllocId, AtlasAllocator, AtlasError, size2};
 use std::alloc::Global;
 
 #[derive(Drop)]
@@ -27,24 +27,27 @@ impl Board {
             answers: Answers::new(),
         };
         for _ in 0..rows {
-            board.fill()?;
+            if !board.fill()? {
+                return Err(BenchError::WrongAnswer);
+            }
         }
         Ok(board)
     }
 
-    // Requests a square. `WrongAnswer` where it isn't granted.
-    fn fill(&mut self) -> Result<(), BenchError>
+    // Requests a square, and says whether it was granted.
+    fn fill(&mut self) -> Result<bool, AtlasError>
         requires { self.old.answers.calls + 1 < 2 ^ 64 }
-        ensures ids { OnOk result (vec_len self.new.ids ≡ vec_len self.old.ids + 1) }
-        ensures calls { OnOk result (self.new.answers.calls ≡ self.old.answers.calls + 1) }
+        ensures ids { IfOk result (λ granted. IsTrue granted → vec_len self.new.ids ≡ vec_len self.old.ids + 1) }
+        ensures calls { IfOk result (λ granted. IsTrue granted
+            → self.new.answers.calls ≡ self.old.answers.calls + 1) }
     {
         let Some(allocation) = self.atlas.allocate(size2(1, 1))? else {
-            return Err(BenchError::WrongAnswer);
+            return Ok(false);
         };
         let id = allocation.id;
         self.answers.granted(allocation);
         self.ids.push(id)?;
-        Ok(())
+        Ok(true)
     }
 
     // Requests two squares where no two are free side by side. `WrongAnswer` where they are granted.

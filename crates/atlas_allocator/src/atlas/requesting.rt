@@ -40,8 +40,7 @@ impl<A: Allocator + Copy> AtlasAllocator<A> {
         let plan = plan_for(&self.store.node(chosen.at), size);
         let needed = slots_needed(plan);
         make_room(&mut self.store, self.used, self.limit, needed)?;
-        let granted = grant(&mut self.store, chosen, plan);
         self.used += needed;
-        Ok(Some(granted))
+        Ok(Some(grant(&mut self.store, chosen, plan)))
     }
 }

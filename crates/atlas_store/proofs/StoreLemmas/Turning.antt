@@ -10,11 +10,12 @@ use Rattle.atlas_model.specs.Changes.{nf}
 use Rattle.atlas_store.specs.Slots.Calm.{IsCalmAt, IsCalmBut, NoneEmpty}
 use Rattle.atlas_store.specs.Slots.{nodes, rings, no_slot}
 use Rattle.atlas_store.specs.Slots.Numbered.{erase, numbers, same, tally, marked, lifted, first_slot}
+use Rattle.atlas_store.specs.Slots.Parts.{joined_node}
 use Rattle.atlas_store.specs.Slots.Standing.{IsSlot, IsWhole, IsTree}
 use Rattle.atlas_store.specs.Slots.Lists.{occurs}
 use Rattle.atlas_store.specs.Stored.{Shelf, Holding, Holds, IsDetachedOnly}
 use Rattle.atlas_store.specs.Store.Holdings.{IsDetachedLeaf, KeepsRoom, node_in, with_detached, with_free_lists, after_mark, after_join, after_lift}
-use Rattle.atlas_store.specs.Store.Freeing.{IsSettlingAt, IsTurned, IsFreeable, IsFreed}
+use Rattle.atlas_store.specs.Store.Freeing.{IsSettlingAt, IsTurned, IsApartNext, IsApart, IsFreeable, IsFreed}
 use Rattle.atlas_store.proofs.StoreLemmas.Filing.{with_mark-same, with_mark-other}
 use Rattle.atlas_store.proofs.ListLemmas.Occurrences.{same-self, same-ne, ne-from_same}
 use Rattle.atlas_store.proofs.SlotLemmas.Joining.{first-joined}
@@ -117,12 +118,12 @@ unused_list-apart : (u : Shelf) (less : Holding) (c j : ℕ) (rest : List ℕ) �
 unused_list-apart u less c j rest k given f e = grind (arith, same-self)
 
 -- What a join makes of two leaves that can be joined.
-pub settling-joined : (v u : Shelf) (i j at : ℕ) (h : Holding) → IsJoinable v i j at h → Holds u (after_join i (node_in v i).next.number h) → length u.slots ≡ length v.slots → IsCalmBut (nodes u.slots) i → (node_in u i).kind ≡ kind.Free → (less : Holding) × IsSettlingAt u i less × IsTurned h less
-settling-joined v u i j at h w was same_length calm free =
+pub settling-joined : (v u : Shelf) (i j at : ℕ) (h : Holding) → IsJoinable v i j at h → Holds u (after_join i (node_in v i).next.number h) → length u.slots ≡ length v.slots → IsCalmBut (nodes u.slots) i → node_in u i ≡ joined_node (node_in v i) (node_in v j) → (less : Holding) × IsSettlingAt u i less × IsTurned 1 h less
+settling-joined v u i j at h w was same_length calm leaf =
     let k : Holds u (after_join i j h) = subst (λ x. Holds u (after_join i x h)) w.next was in (
       after_join i j h,
       record {
-        leaf = record { holds = k; kind = free; detached = with_mark-other h.detached j false i (λ q. w.apart (sym q)) ∙ w.detached };
+        leaf = record { holds = k; kind = ap (λ (n : Node). n.kind) leaf ∙ w.free; detached = with_mark-other h.detached j false i (λ q. w.apart (sym q)) ∙ w.detached };
         only = grind (arith, with_mark-same, with_mark-other, w.only, same-ne);
         calm = calm;
         full = full-joined i h.tree w.full;
@@ -135,12 +136,44 @@ settling-joined v u i j at h w was same_length calm free =
       },
     )
 
--- A turn of a tree is one of the same tree with other lists.
-pub turned-same : (h free_lists less : Holding) → free_lists.tree ≡ h.tree → free_lists.sequence ≡ h.sequence → IsTurned free_lists less → IsTurned h less
-turned-same h free_lists less et es w = grind arith
+-- What no longer is free wasn't free.
+abbrev pub NoneFreed : (v u : Shelf) → Type 0
+NoneFreed v u = (k : ℕ) → (node_in u k).kind ≡ kind.Free → (node_in v k).kind ≡ kind.Free
+
+-- After a leaf that took in the next one nothing is free, since that one was calm.
+pub apart-next_joined : (v u : Shelf) (i j : ℕ) (h : Holding) → IsJoinable v i j i h → node_in u i ≡ joined_node (node_in v i) (node_in v j) → NoneFreed v u → IsApartNext u i
+apart-next_joined v u i j h w leaf frees f =
+    let e : (node_in u i).next.number ≡ (node_in v j).next.number = ap (λ (n : Node). n.next.number) leaf in
+    let back : (node_in v (node_in v j).next.number).kind ≡ kind.Free = frees _ (rw (← e) f) in
+    let can = can-join (nodes v.slots) i j _ (omega (arith, few-slots v h w.holds)) (tree-in v h w.holds) w.free w.next w.next_free refl in
+    can.apart.1 (w.calm.apart j w.apart w.next_free back)
+
+-- Nothing beside a leaf that was taken in by the previous one is free, since that one was calm.
+pub apart-previous_joined : (v u : Shelf) (i j : ℕ) (h : Holding) → IsJoinable v i j j h → IsApartNext v j → node_in u i ≡ joined_node (node_in v i) (node_in v j) → NoneFreed v u → IsApart u i
+apart-previous_joined v u i j h w next leaf frees =
+    let en : (node_in u i).next.number ≡ (node_in v j).next.number = ap (λ (n : Node). n.next.number) leaf in
+    let ep : (node_in u i).previous.number ≡ (node_in v i).previous.number = ap (λ (n : Node). n.previous.number) leaf in
+    record {
+      next = λ f. next (frees _ (rw (← en) f));
+      previous = λ f.
+          let q = (node_in v i).previous.number in
+          let free : (node_in v q).kind ≡ kind.Free = frees _ (rw (← ep) f) in
+          let leads : (node_in v q).next.number ≡ i = previous-leads (nodes v.slots) i (omega (arith, few-slots v h w.holds)) (whole-of v h w.holds) w.free free in
+          grind (arith, w.calm.apart);
+    }
+
+-- Turns of a tree are those of the same tree with other lists.
+pub turned-same : (n : ℕ) (h free_lists less : Holding) → free_lists.tree ≡ h.tree → free_lists.sequence ≡ h.sequence → IsTurned n free_lists less → IsTurned n h less
+turned-same n h free_lists less et es w = grind arith
+
+pub turned-none : (h : Holding) → IsTurned 0 h h
+turned-none h = grind arith
+
+pub turned-then : (n k : ℕ) (h m less : Holding) → IsTurned n h m → IsTurned k m less → IsTurned (n + k) h less
+turned-then n k h m less x y = grind arith
 
 -- What a lift makes of the leaf at work.
-pub settling-lifted : (v u : Shelf) (c at : ℕ) (h : Holding) → IsSettlingAt v at h → Holds u (after_lift c at h) → length u.slots ≡ length v.slots → IsCalmBut (nodes u.slots) c → (node_in u c).kind ≡ kind.Free → (less : Holding) × IsSettlingAt u c less × IsTurned h less
+pub settling-lifted : (v u : Shelf) (c at : ℕ) (h : Holding) → IsSettlingAt v at h → Holds u (after_lift c at h) → length u.slots ≡ length v.slots → IsCalmBut (nodes u.slots) c → (node_in u c).kind ≡ kind.Free → (less : Holding) × IsSettlingAt u c less × IsTurned 1 h less
 settling-lifted v u c at h w k same_length calm free =
     let ne : c ≡ at → ⊥ = unused_list-apart u (after_lift c at h) c at h.unused_list k refl free in
     let outer = with_detached c true (record h { tree = lifted c h.tree }) in (
@@ -160,8 +193,8 @@ settling-lifted v u c at h w k same_length calm free =
     )
 
 -- Where no neighbour is free and the leaf isn't alone in a container, the tree is normal.
-pub settled-at : (v : Shelf) (at : ℕ) (n : Node) (h : Holding) → n ≡ node_in v at → IsSettlingAt v at h → ((node_in v n.next.number).kind ≡ kind.Free → ⊥) → ((node_in v n.previous.number).kind ≡ kind.Free → ⊥) → (n.previous.number ≡ no_slot → n.next.number ≡ no_slot → n.parent.number ≡ no_slot) → IsNormal (erase h.tree)
-settled-at v at n h e w nn np alone = grind (arith, few-slots, settled, settling-tree_of)
+pub settled-at : (v : Shelf) (at : ℕ) (n : Node) (h : Holding) → n ≡ node_in v at → IsSettlingAt v at h → IsApart v at → (n.previous.number ≡ no_slot → n.next.number ≡ no_slot → n.parent.number ≡ no_slot) → IsNormal (erase h.tree)
+settled-at v at n h e w apart alone = grind (arith, few-slots, settled, settling-tree_of)
 
 -- A freeing between two turns, from the tree of h on: n slots were given back, and slot `at` of the tree of m settles.
 pub record IsFreeing (now : Shelf) (slot at n : ℕ) (h m : Holding) : Type 0 where
@@ -192,9 +225,9 @@ freeing-marked v u i n h w k calm free =
       first = first-marked i h.tree;
     }
 
--- A turn goes on with it.
-pub freeing-turned : (u : Shelf) (i next n : ℕ) (h m less : Holding) (at : ℕ) (now : Shelf) → IsFreeing now i at n h m → IsSettlingAt u next less → IsTurned m less → IsFreeing u i next (n + 1) h less
-freeing-turned u i next n h m less at now w s t = grind arith
+-- Turns go on with it.
+pub freeing-turned : (u : Shelf) (i next n k : ℕ) (h m less : Holding) (at : ℕ) (now : Shelf) → IsFreeing now i at n h m → IsSettlingAt u next less → IsTurned k m less → IsFreeing u i next (n + k) h less
+freeing-turned u i next n k h m less at now w s t = grind arith
 
 -- There are no more turns than slots.
 pub freeing-short : (v u : Shelf) (i at n : ℕ) (h m : Holding) → IsFreeable v i h → IsFreeing u i at n h m → n < length v.slots

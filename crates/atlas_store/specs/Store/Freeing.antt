@@ -17,18 +17,27 @@ pub record IsSettlingAt (v : Shelf) (at : ℕ) (h : Holding) : Type 0 where
   pub calm : IsCalmBut (nodes v.slots) at
   pub full : NoneEmpty (erase h.tree)
 
--- The normal form stays, and there is one member fewer.
-pub record IsTurned (h less : Holding) : Type 0 where
+-- The normal form stays, and there are n members fewer.
+pub record IsTurned (n : ℕ) (h less : Holding) : Type 0 where
   pub same_nf : nf (erase less.tree) ≡ nf (erase h.tree)
-  pub fewer : numbers less.tree + 1 ≡ numbers h.tree
+  pub fewer : numbers less.tree + n ≡ numbers h.tree
   pub sequence : less.sequence ≡ h.sequence
   pub first : first_slot less.tree ≡ first_slot h.tree
 
--- One turn went from slot `at` to the next one.
-pub record IsTurnTo {A : Type 0} (old new : Store A) (at next : ℕ) : Type 0 where
+-- n turns went from slot `at` to the next one.
+pub record IsTurnTo {A : Type 0} (old new : Store A) (at next n : ℕ) : Type 0 where
   pub turned : (h : Holding) → IsSettlingAt (shelf_of old) at h
-      → (less : Holding) × IsSettlingAt (shelf_of new) next less × IsTurned h less
-  pub counted : new.turns.count ≡ old.turns.count + 1
+      → (less : Holding) × IsSettlingAt (shelf_of new) next less × IsTurned n h less
+  pub counted : new.turns.count ≡ old.turns.count + n
+
+-- The slot after slot `at` isn't free.
+abbrev pub IsApartNext : Shelf → (at : ℕ) → Type 0
+IsApartNext v at = (node_in v (node_in v at).next.number).kind ≡ kind.Free → ⊥
+
+-- Neither slot beside slot `at` is free.
+pub record IsApart (v : Shelf) (at : ℕ) : Type 0 where
+  pub next : IsApartNext v at
+  pub previous : (node_in v (node_in v at).previous.number).kind ≡ kind.Free → ⊥
 
 -- There was nothing to do at slot `at`, and nothing was done.
 pub record IsSettled {A : Type 0} (old new : Store A) (at : ℕ) : Type 0 where

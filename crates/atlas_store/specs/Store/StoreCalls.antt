@@ -5,7 +5,7 @@ use Rattle.atlas_store.specs.declared.slots.Link.{Link}
 use Rattle.atlas_store.specs.declared.slots.NodeKind.TheVariants as kind
 use Rattle.atlas_store.specs.Slots.Calm.{IsCalmAt, IsCalmBut}
 use Rattle.atlas_store.specs.Slots.Links.{with_count}
-use Rattle.atlas_store.specs.Slots.Parts.{front_node, back_node, inner_node}
+use Rattle.atlas_store.specs.Slots.Parts.{front_node, back_node, inner_node, joined_node}
 use Rattle.atlas_store.specs.Slots.Reading.{extent_of}
 use Rattle.atlas_store.specs.Slots.{nodes, KeepsUse}
 use Rattle.atlas_store.specs.Stored.{Holding, Holds, HoldsWith}
@@ -192,7 +192,8 @@ pub record IsJoined {A : Type 0} (old new : Store A) (i j : ℕ) : Type 0 where
   pub kept : (h : Holding) → IsDetachedLeaf (shelf_of old) i h → h.detached j ≡ true
       → Holds (shelf_of new) (after_join i j h)
   pub calm : (k : ℕ) → IsCalmBut (nodes old.slots.items) k → (k ≡ i) ⊎ (k ≡ j) → IsCalmBut (nodes new.slots.items) i
-  pub free : (node_in (shelf_of new) i).kind ≡ kind.Free
+  pub leaf : node_in (shelf_of new) i ≡ joined_node (node_in (shelf_of old) i) (node_in (shelf_of old) j)
+  pub frees : (k : ℕ) → (node_in (shelf_of new) k).kind ≡ kind.Free → (node_in (shelf_of old) k).kind ≡ kind.Free
   pub room : KeepsRoom old new
   pub turns : new.turns.count ≡ old.turns.count + 1
 
