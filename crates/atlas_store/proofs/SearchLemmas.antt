@@ -12,6 +12,6 @@ pub mod Besting
 pub mod Showing
 pub mod Adding
 pub mod AddingLines
-pub mod ClassSearching
+pub mod SearchingBefore
 pub mod Windows
 pub mod ItemPicks

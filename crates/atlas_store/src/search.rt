@@ -1,5 +1,5 @@
 //! The search for the free box that a request takes, through the lists of a table.
-ghost use Rattle.std.specs.Prelude.{◌≡◌, ◌+◌, ◌*◌, ◌<◌, ◌≤◌, ◌==◌, ◌⊎◌, ℕ, true, [], map, List, None, IfSome};
+ghost use Rattle.std.specs.Prelude.{◌≡◌, ◌+◌, ◌*◌, ◌<◌, ◌≤◌, ◌==◌, ◌⊎◌, ℕ, max, true, [], map, List, None, IfSome};
 ghost use Rattle.atlas_model.specs.Boxes.{Box, IsPositive, Sides};
 ghost use Rattle.atlas_model.specs.Choice.{IsFitting, IsPick, Options, class_of};
 ghost use Rattle.atlas_store.specs.Search.Bests.{HasSeen};
@@ -163,19 +163,20 @@ fn search_rows<A: Allocator, E: Entry>(
 }
 
 // A row or column that each list with a slot reaches, of those from a place on, where these are the columns of its row;
-// not less than the place's own.
+// not less than the place's own, the greater of which is `far`.
 #[inline(always)]
-fn least_from<A: Allocator>(table: &Table<A>, own: Place, columns: Mask) -> usize
+fn least_from<A: Allocator>(table: &Table<A>, own: Place, far: usize, columns: Mask) -> usize
     requires columns { (j : ℕ) → own.column ≤ j → j < BANDS → is_used_at table.now (52 * own.row + j) ≡ true
         → IsMarked columns j }
     requires row { own.row < BANDS }
+    requires far { far ≡ max own.row own.column }
     ensures reached { (i j : ℕ) → i < BANDS → j < BANDS → own.row ≤ i → own.column ≤ j
         → is_used_at table.now (52 * i + j) ≡ true → (result ≤ i) ⊎ (result ≤ j) }
     ensures row { own.row ≤ result }
     ensures column { own.column ≤ result }
 {
     let rows = table.used().from(own.row + 1);
-    columns.or(rows).first().max(own.row).max(own.column)
+    columns.or(rows).first().max(far)
 }
 
 // Shows the free entries before a row and a column to a search that knows of none: those with an equal side first, which
@@ -229,10 +230,11 @@ pub fn pick<A: Allocator, E: Entry>(
     ensures standing { IfSome result (IsStanding (options_of options.now) table.now (map E.item entries.now)) }
 {
     let own = options.place_for(size);
-    let is_large = own.row.max(own.column) >= options.large();
+    let far = own.row.max(own.column);
+    let is_large = far >= options.large();
     let mut columns = table.row(own.row).from(own.column);
     let mut rows = table.column(own.column).from(own.row + 1);
-    let mut least = least_from(table, own, columns);
+    let mut least = least_from(table, own, far, columns);
     let mut best = Best::new(size, is_large);
     while least < BANDS {
         let end = options.end_after(least);

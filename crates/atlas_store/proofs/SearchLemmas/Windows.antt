@@ -14,7 +14,7 @@ use Rattle.atlas_store.specs.Search.Masks.{has, IsMarked}
 use Rattle.atlas_store.specs.Search.Tables.{is_used_at}
 use Rattle.atlas_store.proofs.SearchLemmas.Adding.{positive-at, used-at}
 use Rattle.atlas_store.proofs.SearchLemmas.BandLaws.{band_below, band_mono, class_of-most, start_mono, window_law}
-use Rattle.atlas_store.proofs.SearchLemmas.ClassSearching.{KeepsFrom, marked-from, or_left, or_right}
+use Rattle.atlas_store.proofs.SearchLemmas.SearchingBefore.{KeepsFrom, marked-from, or_left, or_right}
 
 -- Each used list from a place on reaches this row or column.
 abbrev pub AreReaching : List ListHead → (own : Place) → (least : ℕ) → Type 0

@@ -188,7 +188,6 @@ impl Scale {
     }
 
     // The band of a side.
-    #[tactic(auto, using(crate::proofs::SearchLemmas::BandLaws::band_below, crate::proofs::SearchLemmas::BandLaws::band_last))]
     fn band(&self, side: i32) -> usize
         requires { pos 0 <ℤ side }
         ensures band { result ≡ band_of (options_of self.now) (natural side) }

@@ -12,8 +12,8 @@ loop-least-init g c =
     let o = options_of c.args.options.now in
     let r = sides_of c.args.size in
     let own = c.place_for-own in
-    let large = large-law o r own.result.row own.result.column c.max.result c.large.result c.requires.listed.valid c.requires.positive own.ensures.row own.ensures.column
-    c.max.ensures c.large.ensures in (
+    let large = large-law o r own.result.row own.result.column c.max-far.result c.large.result c.requires.listed.valid c.requires.positive own.ensures.row own.ensures.column
+    c.max-far.ensures c.large.ensures in (
       record {
         listed = c.requires.listed;
         row = own.ensures.row;

@@ -1,5 +1,5 @@
 use Rattle.std.proofs.Common.{arith}
-use Rattle.atlas_store.proofs.SearchLemmas.ClassSearching.{rows-next}
+use Rattle.atlas_store.proofs.SearchLemmas.SearchingBefore.{rows-next}
 use Rattle.atlas_store.proofs.search.rows_with.Goals as goal
 
 pub loop-column-init : goal.loop-column-init

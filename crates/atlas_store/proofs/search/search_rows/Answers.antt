@@ -1,7 +1,7 @@
 use Rattle.std.proofs.Common.{map, refl, arith}
 use Rattle.atlas_store.proofs.SearchLemmas.Adding.{added-of}
 use Rattle.atlas_store.proofs.SearchLemmas.AddingLines.{rows-begin, rows-go_on, rest-marked}
-use Rattle.atlas_store.proofs.SearchLemmas.ClassSearching.{below-marked, marked-below, marked-from}
+use Rattle.atlas_store.proofs.SearchLemmas.SearchingBefore.{below-marked, marked-below, marked-from}
 use Rattle.atlas_store.proofs.search.search_rows.Goals as goal
 
 pub loop-row-init : goal.loop-row-init
