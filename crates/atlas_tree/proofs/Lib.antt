@@ -1,2 +1,2 @@
-pub mod Joins
+pub mod FreeingLemmas
 pub mod PlanLemmas

@@ -1,5 +1,5 @@
 use Rattle.std.proofs.Common.{◌-◌, length}
-use Rattle.atlas_tree.proofs.Joins.{IsUnderway}
+use Rattle.atlas_tree.proofs.FreeingLemmas.{IsUnderway}
 use Rattle.atlas_tree.proofs.freeing.free_leaf.Given as goal
 
 abbrev pub invariant-loop-container : goal.invariant-loop-container

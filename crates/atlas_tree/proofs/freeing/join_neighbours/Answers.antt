@@ -1,5 +1,5 @@
 use Rattle.std.proofs.Common.{◌+◌, arith}
-use Rattle.atlas_tree.proofs.Joins.{AreTurnsTo, turns-none, turn-then}
+use Rattle.atlas_tree.proofs.FreeingLemmas.{AreTurnsTo, turns-none, turn-then}
 use Rattle.atlas_tree.proofs.freeing.join_neighbours.Goals as goal
 use Rattle.atlas_tree.proofs.freeing.join_neighbours.Goals.{then-join_next, else-join_next}
 

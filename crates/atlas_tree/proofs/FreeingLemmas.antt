@@ -1,4 +1,4 @@
--- The joins of a freeing, seen from the store.
+-- The turns of a freeing, seen from the store.
 use Rattle.std.proofs.Common.{ℕ, ◌+◌, ◌<◌, ◌≡◌, length, subst, refl, arith, true}
 use Rattle.atlas_store.specs.declared.store.Store.{Store}
 use Rattle.atlas_store.specs.declared.slots.NodeKind.TheVariants as kind
