@@ -31,7 +31,7 @@ use std::alloc::Allocator;
 #[derive(Clone, Copy)]
 pub struct Chosen {
     pub at: Link,
-    pub list: usize,
+    pub list: u32,
     pub low: u32,
 }
 
@@ -46,7 +46,7 @@ pub fn choose<A: Allocator>(store: &Store<A>, size: Size) -> Option<Chosen>
     let found = pick(&store.slots, &store.lists, &store.options, size)?;
     Some(Chosen {
         at: found.at,
-        list: found.list,
+        list: found.list as u32,
         low: found.low,
     })
 }
@@ -86,7 +86,7 @@ pub fn grant<A: Allocator>(store: &mut Store<A>, chosen: Chosen, plan: Plan) -> 
     ensures { IsRequestGranted store.old store.new chosen plan result }
 {
     store.unlist(chosen.at);
-    store.sharpen(chosen.list, chosen.low);
+    store.sharpen(chosen.list as usize, chosen.low);
     let slot = place(store, chosen.at, plan);
     let node = store.node(slot);
     Allocation {
