@@ -60,11 +60,11 @@ before-corner : (b c : Box) → b.min.x < 4294967296 → c.min.x < 4294967296 �
 before-corner b c hb hc (inl l) = let h : b.min.y < c.min.y = omega (arith, ints, l) in omega (arith, h, hb, hc)
 before-corner b c hb hc (inr e) = let h : b.min.x < c.min.x = omega (arith, ints, e.1) in let s : b.min.y ≡ c.min.y = omega (arith, ints, e.0) in omega (arith, h, s)
 
--- From the limit on no box is ahead of the best one.
-unbeaten : (s : Best) (b : Box) (corner : ℕ) → b.min.x ≤ 2147483647 → b.min.y ≤ 2147483647 → corner ≡ corner_of b → s.limit ≤ corner
+-- Below the bar no box is ahead of the best one.
+unbeaten : (s : Best) (b : Box) (corner : ℕ) → b.min.x ≤ 2147483647 → b.min.y ≤ 2147483647 → corner ≡ corner_of b → s.bar < corner / 4294967296
     → (rank : ℕ) → IsAhead rank corner s → ⊥
 unbeaten s b corner hx hy cornered past rank first =
-    let settled = s.limited (omega (arith, hx, hy, cornered, past)) in omega (arith, first, past, settled.0, settled.1)
+    let barred = s.barred (omega (arith, hx, hy, cornered, past)) in omega (arith, first, past, barred.0, barred.1)
 
 -- A box that is ahead of the best one, and one that isn't.
 
@@ -164,8 +164,8 @@ module _ (s : Best) (is_large : Bool) (r : Sides) (shown : List Shown) (seen : H
     small_margin : least_margin r (box_of a) < no_rank
     small_margin = let most = natural-most a.max.x right in omega (arith, seen.positive.0, most)
 
-    pub past-limit : FitsSigned w32 a.min.y → s.limit ≤ corner → (at : ℕ) → HasSeen s is_large r (shown ++ shown_at (box_of a) at ∷ [])
-    past-limit top past =
+    pub past-bar : FitsSigned w32 a.min.y → s.bar < corner / 4294967296 → (at : ℕ) → HasSeen s is_large r (shown ++ shown_at (box_of a) at ∷ [])
+    past-bar top past =
         seen-unbeaten (box_of a) corner (omega (arith, in_sight)) small_margin cornered
         (unbeaten s (box_of a) corner in_sight (natural-most a.min.y top) cornered past)
 
@@ -182,10 +182,6 @@ module _ (s : Best) (is_large : Bool) (r : Sides) (shown : List Shown) (seen : H
 
       pub ranked-ahead : (at : ℕ) → IsAhead rank corner s → (rank < no_rank) × IsKeptOf is_large r (shown ++ shown_at (box_of a) at ∷ []) rank corner at
       ranked-ahead = kept-ahead (box_of a) rank corner (omega (arith, in_sight)) small_margin rank_is cornered fits_asked
-
--- Before the limit each equal side is ahead of it.
-pub ahead-equal : (s : Best) (corner : ℕ) → corner < s.limit → IsAhead 0 corner s
-ahead-equal s corner below = grind (arith, s.settled)
 
 -- The least `min.y` of a list.
 

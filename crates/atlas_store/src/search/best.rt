@@ -40,6 +40,9 @@ const NO_RANK: u32 = 2147483647;
 
 const NO_CORNER: u64 = 18446744073709551615;
 
+// The `min.y` that no box passes.
+const NO_BAR: u32 = 4294967295;
+
 /// The best of the boxes that a search was shown, list by list.
 #[derive(Clone, Copy)]
 pub struct Best {
@@ -49,12 +52,11 @@ pub struct Best {
     rank: u32,
     // Its `min`, as `corner` has it.
     corner: u64,
-    // The corner once there is an equal side: no box from there on is better.
-    limit: u64,
+    // Its `min.y` once there is an equal side: no box that begins below is better. Before that more than any.
+    bar: u32,
     spot: Spot,
     ghost positive: { IsPositive (sides_of size) },
-    ghost limited: { limit < no_corner → (rank ≡ 0) × (limit ≡ corner) },
-    ghost settled: { rank ≡ 0 → limit ≡ corner },
+    ghost barred: { bar < 4294967295 → (rank ≡ 0) × (bar ≡ corner / 4294967296) },
 }
 
 // The rank of a box with this least margin.
@@ -91,7 +93,7 @@ impl Best {
             is_large,
             rank: NO_RANK,
             corner: NO_CORNER,
-            limit: NO_CORNER,
+            bar: NO_BAR,
             spot: Spot {
                 at: Link::NONE,
                 before: Link::NONE,
@@ -108,7 +110,8 @@ impl Best {
         rank < self.rank || (rank == self.rank && corner < self.corner)
     }
 
-    // The rank of a box with this corner, if it is to be kept rather than the best one.
+    // The rank of a box with this corner, if it is to be kept rather than the best one. Where that has an equal side, a
+    // box that begins below it isn't.
     fn rank_ahead(&self, rectangle: Rectangle, corner: u64) -> Option<u32>
         requires unsigned { IsUnsigned rectangle }
         requires nonempty { IsNonempty (box_of rectangle) }
@@ -117,15 +120,12 @@ impl Best {
         ensures lesser { IfSome result (λ rank. rank ≤ self.now.rank) }
         ensures taken { IfSome result (λ rank. BecomesBest self.now (box_of rectangle) rank corner) }
     {
-        if corner >= self.limit {
+        if corner / 4294967296 > self.bar as u64 {
             return None;
         }
         let margin = margin_in(rectangle, self.size);
         if margin < 0 {
             return None;
-        }
-        if margin == 0 {
-            return Some(0);
         }
         let rank = rank(self.is_large, margin);
         if self.is_beaten_by(rank, corner) {
@@ -176,7 +176,11 @@ impl Best {
             is_large: self.is_large,
             rank,
             corner,
-            limit: if rank == 0 { corner } else { self.limit },
+            bar: if rank == 0 {
+                (corner / 4294967296) as u32
+            } else {
+                self.bar
+            },
             spot: Spot {
                 at,
                 before,
@@ -212,7 +216,7 @@ impl Best {
     pub fn settles(&self, low: u32) -> bool
         ensures { IsTrue result → (self.now.rank ≡ 0) × (self.now.corner / 4294967296 < low) }
     {
-        ((self.limit / 4294967296) as u32) < low
+        self.bar < low
     }
 
     /// Where the best of the boxes shown stands.

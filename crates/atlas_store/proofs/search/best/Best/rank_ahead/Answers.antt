@@ -1,15 +1,15 @@
-use Rattle.std.proofs.Common.{◌≡◌, ◌≤ℤ◌, ◌∙◌, pos, FitsSigned, w32, rules, arith, ap, subst, sym, to_z}
+use Rattle.std.proofs.Common.{◌≤ℤ◌, ◌∙◌, pos, FitsSigned, w32, rules, arith, subst, sym}
 use Rattle.std.proofs.lemmas.Int.{to_z-of_z, ints}
 use Rattle.std.proofs.lemmas.Bool.{true≢false}
 use Rattle.atlas_model.specs.Boxes.{Sides, Fits, box_sides}
-use Rattle.atlas_model.specs.Pixels.{natural, box_of}
+use Rattle.atlas_model.specs.Pixels.{box_of}
 use Rattle.atlas_store.specs.Search.Searches.{shown_at}
-use Rattle.atlas_store.proofs.SearchLemmas.Besting.{ahead-equal, asked, past-limit, rank-equal, ranked-ahead, ranked-behind, seen-unfit}
+use Rattle.atlas_store.proofs.SearchLemmas.Besting.{asked, past-bar, ranked-ahead, ranked-behind, seen-unfit}
 use Rattle.atlas_store.proofs.search.best.Best.rank_ahead.Goals as goal
 
 pub returns-then-corner-self-clause-passed : goal.returns-then-corner-self-clause-passed
 returns-then-corner-self-clause-passed c none is_large r shown seen =
-    past-limit c.args.self.now is_large r shown seen c.args.rectangle c.args.corner (search rules) (search rules) c.requires.corner
+    past-bar c.args.self.now is_large r shown seen c.args.rectangle c.args.corner (search rules) (search rules) c.requires.corner
     (search rules) c.if-corner-self.true
 
 pub returns-then-margin-lt0-clause-passed : goal.returns-then-margin-lt0-clause-passed
@@ -20,17 +20,6 @@ returns-then-margin-lt0-clause-passed c none is_large r shown seen at =
     let f : FitsSigned w32 m = search rules in
     seen-unfit s is_large r shown seen (shown_at (box_of c.args.rectangle) at)
     (λ fits. let h : pos 0 ≤ℤ m = c.margin_in-margin.ensures.fits.1 (subst P (sym (asked s is_large r shown seen)) fits) in omega (arith, ints))
-
-pub returns-then-margin-eq0-clause-taken : goal.returns-then-margin-eq0-clause-taken
-returns-then-margin-eq0-clause-taken c is_large r shown seen at =
-    let s = c.args.self.now in
-    let m = c.margin_in-margin.result in
-    let f : FitsSigned w32 m = search rules in
-    let zero : m ≡ pos 0 = sym (to_z-of_z w32 m f) ∙ ap (to_z w32) c.if-margin-eq0.true in
-    let h : pos 0 ≤ℤ m = omega (arith, ints) in
-    ranked-ahead s is_large r shown seen c.args.rectangle c.args.corner (search rules) (search rules) c.requires.corner m 0
-    (c.margin_in-margin.ensures.fits.0 h) (c.margin_in-margin.ensures.margin h) (sym (rank-equal s.is_large (natural m) (ap natural zero))) at
-    (ahead-equal s c.args.corner (omega (arith, c.if-corner-self.false)))
 
 pub returns-then-is_beaten_by-clause-taken : goal.returns-then-is_beaten_by-clause-taken
 returns-then-is_beaten_by-clause-taken c is_large r shown seen at =
