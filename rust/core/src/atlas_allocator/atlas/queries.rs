@@ -1,0 +1,32 @@
+// Erased from crates/atlas_allocator/src/atlas/queries.rt by rust/erase: don't edit.
+//! What may be asked of an atlas before a call.
+
+use crate::atlas_allocator::atlas::AtlasAllocator;
+use crate::atlas_model::{AllocatorOptions, Size};
+use crate::atlas_store::choice::rounded;
+use crate::atlas_tree::requests::choose;
+use wollemigo_support::alloc::Allocator;
+
+impl<A: Allocator + Copy> AtlasAllocator<A> {
+    /// The options of the atlas.
+    #[inline]
+    pub fn options(&self) -> AllocatorOptions {
+        self.store.options.plain()
+    }
+
+    /// Whether `grow` may be called with this size: neither side is less than the atlas's.
+    #[inline]
+    pub fn can_grow_to(&self, new_size: Size) -> bool {
+        self.size.width <= new_size.width && self.size.height <= new_size.height
+    }
+
+    /// Whether a request has room: its size isn't empty and, rounded up, fits a free rectangle. Then `allocate` grants
+    /// it, slots and memory aside; else it answers None. Takes one search, and no memory.
+    #[inline]
+    pub fn can_fit(&self, requested_size: Size) -> bool {
+        match rounded(requested_size, &self.store.options) {
+            Some(size) => choose(&self.store, size).is_some(),
+            None => false,
+        }
+    }
+}

@@ -1,0 +1,6 @@
+// Erased from crates/atlas_allocator/src/lib.rt by rust/erase: don't edit.
+//! The atlas allocator, which `guillotiere` gives to its callers, over the tree of slots of `atlas_tree`.
+
+mod atlas;
+
+pub use atlas::{store_of, AtlasAllocator};

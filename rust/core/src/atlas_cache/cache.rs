@@ -1,0 +1,257 @@
+// Erased from crates/atlas_cache/src/cache.rt by rust/erase: don't edit.
+//! The cache.
+
+mod clearing;
+mod figures;
+pub mod holding;
+mod repacking;
+mod walking;
+
+use crate::atlas_cache::cache::holding::{grant, look_up, oldest, place_of, take_out};
+use crate::atlas_cache::changes::{CacheChange, Changes};
+use crate::atlas_cache::counts::{count, Counts, NO_COUNTS};
+use crate::atlas_cache::entries::{DefaultHasher, Entries};
+use crate::atlas_cache::error::{CacheError, OptionsError};
+use crate::atlas_cache::inserted::Inserted;
+use crate::atlas_cache::options::CacheOptions;
+use crate::atlas_cache::places::Place;
+use crate::atlas_cache::rooms::Rooms;
+use crate::guillotiere::Size;
+use wollemigo_support::alloc::{Allocator, Global};
+use wollemigo_support::hash::{BuildHasher, BuildHasherDefault, Hash};
+
+/// Rectangles under keys in the pages of a texture array. Contracts see a `CacheState`: how the cache was made, the
+/// atlas of each page, the entries, the most recently used first, how many numbers they had so far, the frame, and how
+/// the cache was used.
+
+pub struct TextureCache<
+    K: Copy + Eq + Hash,
+    S: BuildHasher = DefaultHasher,
+    A: Allocator + Copy = Global,
+> {
+    rooms: Rooms<A>,
+    entries: Entries<K, S, A>,
+    frame: u64,
+    counts: Counts,
+}
+
+impl<K: Copy + Eq + Hash, A: Allocator + Copy> TextureCache<K, DefaultHasher, A> {
+    /// No pages and no entries. Takes no memory. An error says what is wrong with the options.
+    #[inline]
+    pub fn new(alloc: A, options: CacheOptions) -> Result<Self, OptionsError> {
+        TextureCache::with_hasher(alloc, options, BuildHasherDefault::new())
+    }
+}
+
+impl<K: Copy + Eq + Hash, S: BuildHasher, A: Allocator + Copy> TextureCache<K, S, A> {
+    /// The same, with a hasher for the keys.
+    #[inline]
+    pub fn with_hasher(alloc: A, options: CacheOptions, hasher: S) -> Result<Self, OptionsError> {
+        options.check()?;
+        Ok(TextureCache {
+            rooms: Rooms::new(alloc, options),
+            entries: Entries::with_hasher(alloc, hasher),
+            frame: 0,
+            counts: NO_COUNTS,
+        })
+    }
+}
+
+impl<K: Copy + Eq + Hash, S: BuildHasher, A: Allocator + Copy> TextureCache<K, S, A> {
+    /// A new frame: what was used before may go from now on. Frames are counted up to
+    /// 2^64 - 1; after that one no other begins.
+    #[inline]
+    pub fn begin_frame(&mut self) {
+        self.frame = count(self.frame);
+    }
+
+    /// How many entries there are.
+    #[inline]
+    pub fn len(&self) -> usize {
+        self.entries.len()
+    }
+
+    /// Whether there are none.
+    #[inline]
+    pub fn is_empty(&self) -> bool {
+        self.entries.is_empty()
+    }
+
+    /// How many pages there are.
+    #[inline]
+    pub fn pages(&self) -> u32 {
+        self.rooms.len()
+    }
+
+    /// The size of a page, in pixels; None if there is no such page.
+    #[inline]
+    pub fn page_size(&self, page: u32) -> Option<Size> {
+        if page < self.rooms.len() {
+            Some(self.rooms.page_size(page))
+        } else {
+            None
+        }
+    }
+
+    /// Says what each cache keeps, and does nothing: what is live on its pages is what the entries hold, each once;
+    /// each entry has its padding; two entries of one page lie apart, and each lies within its page, padding included;
+    /// and each has a key and a number of its own.
+    #[inline]
+    pub fn prove_kept(&self) {
+        self.rooms.prove_kept();
+        self.entries.prove_kept();
+    }
+
+    /// The place of a key; None if it isn't held. It counts as no use.
+    #[inline]
+    pub fn peek(&self, key: &K) -> Option<Place> {
+        let found = match look_up(&self.entries, key) {
+            Some((_, found)) => found,
+            _ => {
+                return None;
+            }
+        };
+        Some(place_of(found, &self.rooms.options()))
+    }
+
+    /// The place of a key, which is used in this frame from now on; None if it isn't held. Counts a hit or a miss.
+    #[inline]
+    pub fn get(&mut self, key: &K) -> Option<Place> {
+        self.entries.prove_kept();
+        let (number, entry) = match look_up(&self.entries, key) {
+            Some((number, entry)) => (number, entry),
+            _ => {
+                self.counts.misses = count(self.counts.misses);
+                return None;
+            }
+        };
+        self.counts.hits = count(self.counts.hits);
+        self.entries.touch(number, self.frame);
+        Some(place_of(entry, &self.rooms.options()))
+    }
+
+    /// A place for a key, which is used in this frame. A key that is held keeps its place, and is the most recently used
+    /// from now on, which counts as no hit; asked with another size, be it empty or too large, it is refused with
+    /// `OtherSize`, and nothing changes. A new key comes on the first page with room for its size, in pixels, with the
+    /// padding. Where none has, a page grows; where none can, one is added; and where all are there, the least recently
+    /// used entry goes that this frame didn't use; and so on. `FrameFull` if then each entry is in use and no page has
+    /// room, which isn't so as long as this frame has used nothing; `NeverFits` if the size, with the padding and
+    /// rounded up to the alignment, passes the largest page, and `EmptySize` if it is empty, and then nothing changes.
+    /// What was done is added to the changes, also after `FrameFull` and after an error: `Memory`, `Slots` if those of a
+    /// page don't suffice, or `Numbers` only where 4,294,967,295 entries are left.
+    #[inline]
+    pub fn insert(
+        &mut self,
+        key: K,
+        size: Size,
+        changes: &mut Changes<K, A>,
+    ) -> Result<Inserted, CacheError> {
+        self.entries.prove_kept();
+        if let Some((known, entry)) = look_up(&self.entries, &key) {
+            if entry.size != size {
+                return Err(CacheError::OtherSize);
+            }
+            self.entries.touch(known, self.frame);
+            return Ok(Inserted::Held(place_of(entry, &self.rooms.options())));
+        }
+        if !size.is_positive() {
+            return Ok(Inserted::EmptySize);
+        }
+        let asked = match self.rooms.options().asked(size) {
+            Some(asked) => asked,
+            _ => {
+                return Ok(Inserted::NeverFits);
+            }
+        };
+        self.insert_new(key, size, asked, changes)
+    }
+
+    /// A key goes: the place that it had; None if it isn't held. Takes no memory.
+    #[inline]
+    pub fn remove(&mut self, key: &K) -> Option<Place> {
+        self.entries.prove_kept();
+        let (number, gone) = match look_up(&self.entries, key) {
+            Some((number, gone)) => (number, gone),
+            _ => {
+                return None;
+            }
+        };
+        take_out(&mut self.rooms, &mut self.entries, number, gone);
+        Some(place_of(gone, &self.rooms.options()))
+    }
+
+    // Inserts a key that isn't held, of a size that can stand on a page.
+    #[inline]
+    fn insert_new(
+        &mut self,
+        key: K,
+        size: Size,
+        asked: Size,
+        changes: &mut Changes<K, A>,
+    ) -> Result<Inserted, CacheError> {
+        loop {
+            if let Some(place) = self.add(key, size, asked)? {
+                return Ok(Inserted::Placed(place));
+            }
+            if !self.make_room(asked, changes)? {
+                self.rooms.prove_kept();
+                return Ok(Inserted::FrameFull);
+            }
+        }
+    }
+
+    // Adds a key on the first page that has room for it; None if none has.
+    #[inline]
+    fn add(&mut self, key: K, size: Size, asked: Size) -> Result<Option<Place>, CacheError> {
+        let granted = grant(
+            &mut self.rooms,
+            &mut self.entries,
+            key,
+            size,
+            asked,
+            self.frame,
+        )?;
+        let entry = match granted {
+            Some(entry) => entry,
+            _ => {
+                return Ok(None);
+            }
+        };
+        Ok(Some(place_of(entry, &self.rooms.options())))
+    }
+
+    // One change for a request that has room on no page; `false` if nothing can be done.
+    #[inline]
+    fn make_room(&mut self, asked: Size, changes: &mut Changes<K, A>) -> Result<bool, CacheError> {
+        changes.reserve(1)?;
+        if let Some((page, size)) = self.rooms.grow_page()? {
+            changes.push_reserved(CacheChange::PageGrown { page, size });
+            return Ok(true);
+        }
+        if let Some((page, size)) = self.rooms.add_page()? {
+            changes.push_reserved(CacheChange::PageAdded { page, size });
+            return Ok(true);
+        }
+        Ok(self.evict(changes))
+    }
+
+    // The least recently used entry goes, if this frame didn't use it; whether it did.
+    #[inline]
+    fn evict(&mut self, changes: &mut Changes<K, A>) -> bool {
+        let (number, entry) = match oldest(&self.entries) {
+            Some((number, entry)) => (number, entry),
+            _ => {
+                return false;
+            }
+        };
+        if entry.frame == self.frame {
+            return false;
+        }
+        take_out(&mut self.rooms, &mut self.entries, number, entry);
+        self.counts.evictions = count(self.counts.evictions);
+        let place = place_of(entry, &self.rooms.options());
+        let key = entry.key;
+        changes.push_reserved(CacheChange::Evicted { key, place });
+        true
+    }
+}

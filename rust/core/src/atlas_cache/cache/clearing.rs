@@ -1,0 +1,68 @@
+// Erased from crates/atlas_cache/src/cache/clearing.rt by rust/erase: don't edit.
+//! What goes without another entry that comes, and room that is asked for beforehand.
+
+use crate::atlas_cache::cache::holding::{oldest, place_of, take_out};
+use crate::atlas_cache::cache::TextureCache;
+use crate::atlas_cache::changes::{CacheChange, Changes};
+use crate::atlas_cache::counts::count;
+use crate::atlas_cache::error::CacheError;
+use wollemigo_support::alloc::Allocator;
+use wollemigo_support::hash::{BuildHasher, Hash};
+
+impl<K: Copy + Eq + Hash, S: BuildHasher, A: Allocator + Copy> TextureCache<K, S, A> {
+    /// All keys go. The pages stay, with their sizes and with nothing on them, and so do the frame and the counts. No
+    /// change tells it: the caller forgets all places. Takes no memory.
+    #[inline]
+    pub fn clear(&mut self) {
+        self.entries.clear();
+        self.rooms.clear();
+    }
+
+    /// The entries that weren't used for at least so many frames go: with 1, what this frame didn't use; with 0, all.
+    /// Each is added to the changes as `Evicted`, the least recently used first. The others stay. The list of changes
+    /// is asked for room for as many as there are entries; with `Memory`, if that is refused, nothing changes.
+    #[inline]
+    pub fn trim(&mut self, frames: u64, changes: &mut Changes<K, A>) -> Result<(), CacheError> {
+        changes.reserve(self.entries.len())?;
+        self.drop_unused(frames, changes);
+        Ok(())
+    }
+
+    /// Asks for room for so many more entries: until there are so many more, an insert asks for no memory for them, but
+    /// only for pages and for changes. Nothing that a caller sees changes. `Memory` if memory is refused.
+    #[inline]
+    pub fn reserve(&mut self, additional: usize) -> Result<(), CacheError> {
+        self.entries.reserve(additional)
+    }
+
+    // The entries that weren't used for so many frames go.
+    #[inline]
+    fn drop_unused(&mut self, frames: u64, changes: &mut Changes<K, A>) {
+        self.entries.prove_kept();
+        'each: loop {
+            if !self.drop_last(frames, changes) {
+                return;
+            }
+        }
+    }
+
+    // The least recently used entry goes, if it wasn't used for so many frames; whether it did.
+    #[inline]
+    fn drop_last(&mut self, frames: u64, changes: &mut Changes<K, A>) -> bool {
+        let (number, entry) = match oldest(&self.entries) {
+            Some((number, entry)) => (number, entry),
+            _ => {
+                return false;
+            }
+        };
+        if self.frame - entry.frame < frames {
+            return false;
+        }
+        take_out(&mut self.rooms, &mut self.entries, number, entry);
+        self.counts.evictions = count(self.counts.evictions);
+        let place = place_of(entry, &self.rooms.options());
+        let key = entry.key;
+        changes.push_reserved(CacheChange::Evicted { key, place });
+        true
+    }
+}

@@ -1,0 +1,90 @@
+// Erased from crates/atlas_cache/src/cache/holding.rt by rust/erase: don't edit.
+//! Steps over the pages and the entries of a cache: what is live on the pages stays what the entries hold, each once.
+
+use crate::atlas_cache::entries::{Entries, Entry};
+use crate::atlas_cache::error::CacheError;
+use crate::atlas_cache::options::CacheOptions;
+use crate::atlas_cache::places::Place;
+use crate::atlas_cache::rooms::Rooms;
+use crate::guillotiere::Size;
+use wollemigo_support::alloc::Allocator;
+use wollemigo_support::hash::{BuildHasher, Hash};
+
+/// The entry of a key with its number; None if there is none.
+#[inline]
+pub fn look_up<K: Copy + Eq + Hash, S: BuildHasher, A: Allocator + Copy>(
+    entries: &Entries<K, S, A>,
+    key: &K,
+) -> Option<(u32, Entry<K>)> {
+    entries.prove_kept();
+    let number = entries.find(key)?;
+    Some((number, entries.entry(number)))
+}
+
+/// The least recently used entry with its number; None if there is none.
+#[inline]
+pub fn oldest<K: Copy + Eq + Hash, S: BuildHasher, A: Allocator + Copy>(
+    entries: &Entries<K, S, A>,
+) -> Option<(u32, Entry<K>)> {
+    entries.prove_kept();
+    let number = entries.oldest()?;
+    Some((number, entries.entry(number)))
+}
+
+/// The place of an entry.
+#[inline]
+pub fn place_of<K: Copy>(entry: Entry<K>, options: &CacheOptions) -> Place {
+    Place::new(
+        entry.number,
+        entry.page,
+        entry.rectangle,
+        entry.size,
+        options.padding,
+    )
+}
+
+/// A new entry on the first page that has room for it; None if none has. After an error no rectangle has moved.
+#[inline]
+pub fn grant<K: Copy + Eq + Hash, S: BuildHasher, A: Allocator + Copy>(
+    rooms: &mut Rooms<A>,
+    entries: &mut Entries<K, S, A>,
+    key: K,
+    size: Size,
+    asked: Size,
+    frame: u64,
+) -> Result<Option<Entry<K>>, CacheError> {
+    let (page, granted) = match rooms.place(asked)? {
+        Some((page, granted)) => (page, granted),
+        _ => {
+            return Ok(None);
+        }
+    };
+    let entry = Entry {
+        key,
+        size,
+        page,
+        id: granted.id,
+        rectangle: granted.rectangle,
+        number: 0,
+        frame,
+    };
+    match entries.push(entry) {
+        Ok(number) => Ok(Some(Entry { number, ..entry })),
+        Err(error) => {
+            rooms.free(page, granted.id);
+            Err(error)
+        }
+    }
+}
+
+/// An entry goes, and its rectangle is freed.
+#[inline]
+pub fn take_out<K: Copy + Eq + Hash, S: BuildHasher, A: Allocator + Copy>(
+    rooms: &mut Rooms<A>,
+    entries: &mut Entries<K, S, A>,
+    number: u32,
+    entry: Entry<K>,
+) {
+    entries.remove(number);
+    rooms.free(entry.page, entry.id);
+}

@@ -1,0 +1,101 @@
+// Erased from crates/atlas_cache/src/cache/repacking.rt by rust/erase: don't edit.
+//! A page's entries placed anew.
+
+use crate::atlas_cache::cache::holding::place_of;
+use crate::atlas_cache::cache::TextureCache;
+use crate::atlas_cache::changes::{CacheChange, Changes};
+use crate::atlas_cache::entries::{Entries, Entry};
+use crate::atlas_cache::error::CacheError;
+use crate::atlas_cache::options::CacheOptions;
+use crate::guillotiere::{AllocId, Change};
+use wollemigo_support::alloc::Allocator;
+use wollemigo_support::hash::{BuildHasher, Hash};
+
+// The change of an id, if there is one.
+#[inline]
+fn change_for(changes: &[Change], id: AllocId) -> Option<Change> {
+    changes.iter().copied().find(|change| change.old.id == id)
+}
+
+// An entry of the page is moved if a change names its id, and goes if none does. Either is told.
+#[inline]
+fn settle<K: Copy + Eq + Hash, S: BuildHasher, A: Allocator + Copy>(
+    entries: &mut Entries<K, S, A>,
+    options: &CacheOptions,
+    moves: &[Change],
+    number: u32,
+    entry: Entry<K>,
+    changes: &mut Changes<K, A>,
+) {
+    entries.prove_kept();
+    let from = place_of(entry, options);
+    let key = entry.key;
+    match change_for(moves, entry.id) {
+        Some(change) => {
+            let moved = Entry {
+                id: change.new.id,
+                rectangle: change.new.rectangle,
+                ..entry
+            };
+            entries.move_to(number, moved.id, moved.rectangle);
+            let to = place_of(moved, options);
+            changes.push_reserved(CacheChange::Moved { key, from, to });
+        }
+        None => {
+            entries.remove(number);
+            changes.push_reserved(CacheChange::Evicted { key, place: from });
+        }
+    }
+}
+
+// Each entry of the page is moved or goes, the most recently used first.
+#[inline]
+fn settle_all<K: Copy + Eq + Hash, S: BuildHasher, A: Allocator + Copy>(
+    entries: &mut Entries<K, S, A>,
+    options: &CacheOptions,
+    moves: &[Change],
+    page: u32,
+    changes: &mut Changes<K, A>,
+) {
+    let mut next = entries.newest();
+    for _ in 0..entries.len() {
+        let number = match next {
+            Some(number) => number,
+            _ => {
+                return;
+            }
+        };
+        entries.prove_kept();
+        let entry = entries.entry(number);
+        next = entries.older(number);
+        if entry.page == page {
+            settle(entries, options, moves, number, entry, changes);
+        }
+    }
+}
+
+impl<K: Copy + Eq + Hash, S: BuildHasher, A: Allocator + Copy> TextureCache<K, S, A> {
+    /// Places the rectangles of a page anew, the largest first, so that what is free comes together; the page doesn't
+    /// grow. Whether there is such a page; if not, nothing changes. Each entry of the page is added to the changes
+    /// once, the most recently used first: as `Moved`, also where it stays in its place, or as `Evicted`, which is
+    /// counted, where it found no room. Every other entry stays, and so do the order of use, the frame and the options.
+    ///
+    /// A place that an entry moves to can overlap one that a later change moves from: copy all pixels from the page as
+    /// it was before the call. `Slots` if the page has too few of them, `Memory` if memory is refused; then nothing
+    /// changes. Takes as many steps as there are entries, and for each entry of the page as many as the page has.
+    #[inline]
+    pub fn repack(&mut self, page: u32, changes: &mut Changes<K, A>) -> Result<bool, CacheError> {
+        if page >= self.rooms.len() {
+            return Ok(false);
+        }
+        self.entries.prove_kept();
+        let before = self.entries.len();
+        changes.reserve(before)?;
+        let list = self.rooms.repack(page)?;
+        let options = self.rooms.options();
+        settle_all(&mut self.entries, &options, &list.changes, page, changes);
+        let gone = (before - self.entries.len()) as u64;
+        self.counts.evictions = self.counts.evictions.saturating_add(gone);
+        Ok(true)
+    }
+}

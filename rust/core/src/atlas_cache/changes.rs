@@ -1,0 +1,23 @@
+// Erased from crates/atlas_cache/src/changes.rt by rust/erase: don't edit.
+//! What a cache did that its caller has to follow.
+use crate::atlas_cache::places::Place;
+use crate::guillotiere::Size;
+use wollemigo_support::alloc::Global;
+use wollemigo_support::prelude::Vec;
+
+/// What a call did. Pages are counted from 0, and sizes are in pixels.
+#[derive(Clone, Copy, Debug, PartialEq, Eq)]
+pub enum CacheChange<K> {
+    /// There is a new page, the last one: make a texture of this size.
+    PageAdded { page: u32, size: Size },
+    /// A page has this size from now on, and nothing on it moved: make its texture larger.
+    PageGrown { page: u32, size: Size },
+    /// A key is gone, and this was its place.
+    Evicted { key: K, place: Place },
+    /// A key moved on its page: copy `from.rectangle`, out of a copy of the page as it was before the call, to
+    /// `to.rectangle`.
+    Moved { key: K, from: Place, to: Place },
+}
+
+/// Changes in their order. A call adds what it did at the end, also where it was refused in the middle.
+pub type Changes<K, A = Global> = Vec<CacheChange<K>, A>;

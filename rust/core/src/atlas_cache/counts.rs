@@ -1,0 +1,26 @@
+// Erased from crates/atlas_cache/src/counts.rt by rust/erase: don't edit.
+//! How a cache was used.
+
+/// How often a cache had what it was asked for. A count that reaches 2^64 - 1 stays there.
+#[derive(Clone, Copy, Debug, PartialEq, Eq)]
+pub struct Counts {
+    /// The calls of `get` that found their key.
+    pub hits: u64,
+    /// The calls of `get` that didn't.
+    pub misses: u64,
+    /// The entries that were evicted: by an insertion, a trim or a repacking.
+    pub evictions: u64,
+}
+
+/// No calls yet.
+pub const NO_COUNTS: Counts = Counts {
+    hits: 0,
+    misses: 0,
+    evictions: 0,
+};
+
+/// One more, up to 2^64 - 1.
+#[inline]
+pub fn count(number: u64) -> u64 {
+    number.saturating_add(1)
+}

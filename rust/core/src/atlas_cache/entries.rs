@@ -1,0 +1,193 @@
+// Erased from crates/atlas_cache/src/entries.rt by rust/erase: don't edit.
+//! Entries under their keys, in the order of their use: each call takes a few steps and at most one look-up by a hash,
+//! however many entries there are.
+
+use crate::atlas_cache::error::CacheError;
+use crate::atlas_cache::recency::Recency;
+use crate::guillotiere::{AllocId, Rectangle, Size};
+use wollemigo_support::alloc::{Allocator, Global};
+use wollemigo_support::collections::HashMap;
+use wollemigo_support::hash::{BuildHasher, BuildHasherDefault, FoldHasher, Hash};
+use wollemigo_support::prelude::Vec;
+
+/// The hasher of `new`. Its seed is fixed: for keys that an attacker picks, give `with_hasher` a `RandomState`.
+pub type DefaultHasher = BuildHasherDefault<FoldHasher>;
+
+/// What a cache holds under a key.
+#[derive(Clone, Copy, Debug, PartialEq, Eq)]
+pub struct Entry<K> {
+    pub key: K,
+    /// What was asked for, without the padding, in pixels.
+    pub size: Size,
+    /// The page, counted from 0.
+    pub page: u32,
+    /// The id of its rectangle on that page.
+    pub id: AllocId,
+    /// Its rectangle on that page, with the padding, in pixels.
+    pub rectangle: Rectangle,
+    /// Its number.
+    pub number: u32,
+    /// The frame that used it last.
+    pub frame: u64,
+}
+
+/// Entries under their keys, in the order of their use. Each has a number; those of entries which are gone are given to
+/// later ones before new numbers are. Contracts see a `Table`: the numbers with their entries, the most recently used
+/// first, and how many numbers were ever given out.
+
+pub struct Entries<K: Copy + Eq + Hash, S: BuildHasher = DefaultHasher, A: Allocator = Global> {
+    map: HashMap<K, u32, S, A>,
+    recency: Recency<A>,
+    items: Vec<Entry<K>, A>,
+}
+
+// Puts an entry at a number: in the place of what stood there, or behind all.
+#[inline]
+fn store<K: Copy, A: Allocator>(items: &mut Vec<Entry<K>, A>, number: u32, entry: Entry<K>) {
+    if (number as usize) < items.len() {
+        items[number as usize] = entry;
+        return;
+    }
+    let _pushed = items.push(entry);
+}
+
+// Gives a key a number.
+#[inline]
+fn bind<K: Copy + Eq + Hash, S: BuildHasher, A: Allocator + Copy>(
+    map: &mut HashMap<K, u32, S, A>,
+    key: K,
+    number: u32,
+) {
+    let _inserted = map.insert(key, number);
+}
+
+impl<K: Copy + Eq + Hash, A: Allocator + Copy> Entries<K, DefaultHasher, A> {
+    /// No entries. Takes no memory.
+    #[inline]
+    pub fn new(alloc: A) -> Self {
+        Entries::with_hasher(alloc, BuildHasherDefault::new())
+    }
+}
+
+impl<K: Copy + Eq + Hash, S: BuildHasher, A: Allocator + Copy> Entries<K, S, A> {
+    /// No entries, with a hasher for the keys. Takes no memory.
+    #[inline]
+    pub fn with_hasher(alloc: A, hasher: S) -> Self {
+        Entries {
+            map: HashMap::with_hasher(alloc, hasher),
+            recency: Recency::new(alloc),
+            items: Vec::new(alloc),
+        }
+    }
+
+    /// How many entries there are.
+    #[inline]
+    pub fn len(&self) -> usize {
+        self.recency.len()
+    }
+
+    /// Whether there are none.
+    #[inline]
+    pub fn is_empty(&self) -> bool {
+        self.recency.is_empty()
+    }
+
+    /// Says what the entries keep, and does nothing: each has a number of its own, which was given out, and a key of its
+    /// own.
+    #[inline]
+    pub fn prove_kept(&self) {
+        self.recency.prove_kept();
+        let _map = &self.map;
+    }
+
+    /// The number of the entry with this key; None if there is none.
+    #[inline]
+    pub fn find(&self, key: &K) -> Option<u32> {
+        self.map.get(key).copied()
+    }
+
+    /// The entry of a number.
+    #[inline]
+    pub fn entry(&self, number: u32) -> Entry<K> {
+        self.items[number as usize]
+    }
+
+    /// The most recently used entry; None if there is none.
+    #[inline]
+    pub fn newest(&self) -> Option<u32> {
+        self.recency.newest()
+    }
+
+    /// The least recently used entry; None if there is none.
+    #[inline]
+    pub fn oldest(&self) -> Option<u32> {
+        self.recency.oldest()
+    }
+
+    /// The entry that was used next before this one; None if this is the least recently used.
+    #[inline]
+    pub fn older(&self, number: u32) -> Option<u32> {
+        self.recency.older(number)
+    }
+
+    /// An entry is used in this frame, and is the most recently used from now on.
+    #[inline]
+    pub fn touch(&mut self, number: u32, frame: u64) {
+        self.recency.touch(number);
+        let entry = &mut self.items[number as usize];
+        entry.frame = frame;
+    }
+
+    /// An entry with a new key joins, the most recently used from now on, and gets a number, whatever it had: one that is
+    /// none's, and the next one only if all that were given out are in use. `Numbers` only if all are, and `Memory` if
+    /// memory is refused; then nothing changes.
+    #[inline]
+    pub fn push(&mut self, entry: Entry<K>) -> Result<u32, CacheError> {
+        self.map.reserve(1)?;
+        self.items.reserve(1)?;
+        let number = self.recency.push()?;
+        let entry = Entry { number, ..entry };
+        store(&mut self.items, number, entry);
+        bind(&mut self.map, entry.key, number);
+        Ok(number)
+    }
+
+    /// An entry goes. Its number belongs to none from now on.
+    #[inline]
+    pub fn remove(&mut self, number: u32) {
+        let key = self.items[number as usize].key;
+        self.recency.remove(number);
+        let _number = self.map.remove(&key);
+    }
+
+    /// The rectangle of an entry is another one of its page from now on. The order stays.
+    #[inline]
+    pub fn move_to(&mut self, number: u32, id: AllocId, rectangle: Rectangle) {
+        let entry = &mut self.items[number as usize];
+        entry.id = id;
+        entry.rectangle = rectangle;
+    }
+
+    /// How many numbers were ever given out, since the entries were made or cleared: each number is below.
+    #[inline]
+    pub fn made(&self) -> u32 {
+        self.recency.made()
+    }
+
+    /// Asks for room for so many more entries. Nothing else changes. `Memory` if memory is refused.
+    #[inline]
+    pub fn reserve(&mut self, additional: usize) -> Result<(), CacheError> {
+        self.map.reserve(additional)?;
+        self.items.reserve(additional)?;
+        self.recency.reserve(additional)?;
+        Ok(())
+    }
+
+    /// All entries go. Keeps its memory.
+    #[inline]
+    pub fn clear(&mut self) {
+        self.map.clear();
+        self.recency.clear();
+        self.items.clear();
+    }
+}

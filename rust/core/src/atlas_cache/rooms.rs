@@ -1,0 +1,265 @@
+// Erased from crates/atlas_cache/src/rooms.rt by rust/erase: don't edit.
+//! The pages of a cache, each an atlas: small steps, of which none evicts.
+
+mod repacking;
+
+use crate::atlas_cache::error::CacheError;
+use crate::atlas_cache::options::CacheOptions;
+use crate::guillotiere::pages::{page_with_room, prove_page};
+use crate::guillotiere::{AllocId, Allocation, AtlasAllocator, AtlasError, Size};
+use wollemigo_support::alloc::{Allocator, Global};
+use wollemigo_support::prelude::Vec;
+
+/// The atlases of the pages of a cache. Contracts see a `RoomsState`: the options, and what each atlas stores.
+
+pub struct Rooms<A: Allocator + Copy = Global> {
+    pages: Vec<AtlasAllocator<A>, A>,
+    options: CacheOptions,
+}
+
+// Why a cache refuses what an atlas refused.
+#[inline]
+fn refusal(error: AtlasError) -> CacheError {
+    match error {
+        AtlasError::Slots => CacheError::Slots,
+        _ => CacheError::Memory,
+    }
+}
+
+// A page's number, or how many pages there are, as a `u32`.
+#[inline]
+fn number(page: usize, most: u32) -> u32 {
+    page as u32
+}
+
+// Grants a request on a page that has room for it.
+#[inline]
+fn take<A: Allocator + Copy>(
+    pages: &mut Vec<AtlasAllocator<A>, A>,
+    page: usize,
+    asked: Size,
+) -> Result<Allocation, CacheError> {
+    match pages[page].allocate(asked) {
+        Ok(Some(granted)) => Ok(granted),
+        Ok(None) => unreachable!(),
+        Err(error) => Err(refusal(error)),
+    }
+}
+
+// Grants a request on the first page that has room for it.
+#[inline]
+fn place_first<A: Allocator + Copy>(
+    pages: &mut Vec<AtlasAllocator<A>, A>,
+    options: &CacheOptions,
+    asked: Size,
+) -> Result<Option<(u32, Allocation)>, CacheError> {
+    let page = match page_with_room(pages, asked) {
+        Some(page) => page,
+        _ => {
+            return Ok(None);
+        }
+    };
+    let granted = take(pages, page, asked)?;
+    Ok(Some((number(page, options.pages), granted)))
+}
+
+// Frees the rectangle of an id of a page, if it has one.
+#[inline]
+fn give_back<A: Allocator + Copy>(pages: &mut Vec<AtlasAllocator<A>, A>, page: usize, id: AllocId) {
+    let _freed = pages[page].deallocate(id);
+}
+
+// Whether a page is at its largest.
+#[inline]
+fn is_largest(size: Size, largest: Size) -> bool {
+    size == largest
+}
+
+// The first page that isn't at its largest, and its size.
+#[inline]
+fn first_to_grow<A: Allocator + Copy>(
+    pages: &[AtlasAllocator<A>],
+    largest: Size,
+) -> Option<(usize, Size)> {
+    for page in 0..pages.len() {
+        let size = pages[page].size();
+        if !is_largest(size, largest) {
+            return Some((page, size));
+        }
+    }
+    None
+}
+
+// Twice a side, up to the largest.
+#[inline]
+fn doubled(side: i32, most: i32) -> i32 {
+    if side >= most - side {
+        most
+    } else {
+        side + side
+    }
+}
+
+// The size that a page grows to.
+#[inline]
+fn grown(size: Size, largest: Size) -> Size {
+    if size.width < largest.width && (size.width <= size.height || size.height >= largest.height) {
+        Size {
+            width: doubled(size.width, largest.width),
+            height: size.height,
+        }
+    } else {
+        Size {
+            width: size.width,
+            height: doubled(size.height, largest.height),
+        }
+    }
+}
+
+// A page grows to this size.
+#[inline]
+fn grow_to<A: Allocator + Copy>(
+    pages: &mut Vec<AtlasAllocator<A>, A>,
+    page: usize,
+    size: Size,
+) -> Result<(), CacheError> {
+    match pages[page].grow(size) {
+        Ok(()) => Ok(()),
+        Err(error) => Err(refusal(error)),
+    }
+}
+
+// The first page that isn't at its largest grows.
+#[inline]
+fn grow_first<A: Allocator + Copy>(
+    pages: &mut Vec<AtlasAllocator<A>, A>,
+    options: &CacheOptions,
+) -> Result<Option<(u32, Size)>, CacheError> {
+    let (page, old) = match first_to_grow(pages, options.largest_page) {
+        Some((page, old)) => (page, old),
+        _ => {
+            return Ok(None);
+        }
+    };
+    let size = grown(old, options.largest_page);
+    grow_to(pages, page, size)?;
+    Ok(Some((number(page, options.pages), size)))
+}
+
+// A new page with nothing on it comes last.
+#[inline]
+fn push_page<A: Allocator + Copy>(
+    pages: &mut Vec<AtlasAllocator<A>, A>,
+    options: &CacheOptions,
+) -> Result<(), CacheError> {
+    let alloc = *pages.allocator();
+    match AtlasAllocator::with_options(alloc, options.page, &options.atlas) {
+        Ok(page) => {
+            pages.push(page)?;
+            Ok(())
+        }
+        Err(_) => Err(CacheError::Memory),
+    }
+}
+
+// All rectangles of each page go.
+#[inline]
+fn clear_pages<A: Allocator + Copy>(pages: &mut Vec<AtlasAllocator<A>, A>) {
+    for page in 0..pages.len() {
+        let _cleared = pages[page].clear();
+    }
+}
+
+// Says of each page what `prove_page` says of one, and does nothing.
+#[inline]
+fn prove_pages<A: Allocator + Copy>(pages: &[AtlasAllocator<A>]) {
+    for page in 0..pages.len() {
+        prove_page(pages, page);
+    }
+}
+
+impl<A: Allocator + Copy> Rooms<A> {
+    /// No pages. Asks options of which `check` is Ok. Takes no memory.
+    #[inline]
+    pub fn new(alloc: A, options: CacheOptions) -> Self {
+        Rooms {
+            pages: Vec::new(alloc),
+            options,
+        }
+    }
+
+    /// How the cache was made.
+    #[inline]
+    pub fn options(&self) -> CacheOptions {
+        self.options
+    }
+
+    /// How many pages there are.
+    #[inline]
+    pub fn len(&self) -> u32 {
+        number(self.pages.len(), self.options.pages)
+    }
+
+    /// Whether there are none.
+    #[inline]
+    pub fn is_empty(&self) -> bool {
+        self.pages.is_empty()
+    }
+
+    /// The size of a page, in pixels. Asks that there is such a page.
+    #[inline]
+    pub fn page_size(&self, page: u32) -> Size {
+        self.pages[page as usize].size()
+    }
+
+    /// Says what the pages keep, and does nothing: each has the options of the cache, the greatest limit on slots and a
+    /// size from `page` to `largest_page`, and there are no more than the options allow; the rectangles of live ids of a page lie apart and
+    /// within it; an idle page of the largest size has room for whatever `CacheOptions::asked` asks for.
+    #[inline]
+    pub fn prove_kept(&self) {
+        prove_pages(&self.pages);
+    }
+
+    /// Grants a request on the first page that has room for it: the page, and what it granted, which has the sides that
+    /// were asked for, rounded up to the alignment. None if no page has
+    /// room. No page grows and no other rectangle moves. `Slots` if that page has too few of them, `Memory` if memory
+    /// is refused. Unless something is granted, nothing changes.
+    #[inline]
+    pub fn place(&mut self, asked: Size) -> Result<Option<(u32, Allocation)>, CacheError> {
+        place_first(&mut self.pages, &self.options, asked)
+    }
+
+    /// Frees the rectangle of an id of a page. Asks that the id is live there. No other rectangle moves. Takes no
+    /// memory.
+    #[inline]
+    pub fn free(&mut self, page: u32, id: AllocId) {
+        give_back(&mut self.pages, page as usize, id);
+    }
+
+    /// The first page that isn't at its largest grows: the page, and its size from now on, in pixels. Its lesser side
+    /// is doubled, up to the largest, or the other side if that one is at its largest. None exactly if each page is at
+    /// its largest. No rectangle moves. `Slots` if that page has too few of them, `Memory` if memory is refused. Unless
+    /// a page grows, nothing changes.
+    #[inline]
+    pub fn grow_page(&mut self) -> Result<Option<(u32, Size)>, CacheError> {
+        grow_first(&mut self.pages, &self.options)
+    }
+
+    /// A new page with nothing on it comes last: its number and its size, in pixels. None exactly if there are as many
+    /// as the options allow. No rectangle moves. `Memory` is the only error. Unless a page is added, nothing changes.
+    #[inline]
+    pub fn add_page(&mut self) -> Result<Option<(u32, Size)>, CacheError> {
+        let number = self.len();
+        if number == self.options.pages {
+            return Ok(None);
+        }
+        push_page(&mut self.pages, &self.options)?;
+        Ok(Some((number, self.options.page)))
+    }
+
+    /// All rectangles go. The pages stay, with their sizes. Takes no memory.
+    #[inline]
+    pub fn clear(&mut self) {
+        clear_pages(&mut self.pages);
+    }
+}

@@ -1,0 +1,56 @@
+// Erased from crates/atlas_sheet/src/options.rt by rust/erase: don't edit.
+//! What a sheet keeps to.
+
+use crate::atlas_sheet::allowed::Allowed;
+use crate::guillotiere::{size2, Size};
+
+/// How far apart sprites lie, and on what their places begin.
+#[derive(Clone, Copy, Debug, PartialEq, Eq)]
+pub struct Spacing {
+    /// How many pixels at least lie between two sprites, and between a sprite and the border.
+    pub padding: u16,
+    /// Each place, with the padding at its left and above, begins on multiples of these sides.
+    pub alignment: Size,
+}
+
+/// What a sheet keeps to, and how long better places are looked for.
+#[derive(Clone, Copy, Debug, PartialEq, Eq)]
+pub struct SheetOptions {
+    /// Which sheets are allowed. `fill` takes the greatest of them.
+    pub allowed: Allowed,
+    /// How many pixels at least lie between two sprites, and between a sprite and the border.
+    pub padding: u16,
+    /// Each sprite's place, with the padding at its left and above, begins on multiples of these sides, in pixels. Each
+    /// side is at least 1.
+    pub alignment: Size,
+    /// Whether a sprite may lie turned by 90 degrees.
+    pub turn: bool,
+    /// How many changes of the order are tried.
+    pub effort: u32,
+    /// Where the row of random changes begins. The same input has the same sheet on every machine.
+    pub seed: u64,
+}
+
+impl SheetOptions {
+    /// These sheets, no padding, alignment 1 in both directions, no turning, no changes of the order.
+    #[inline]
+    pub fn new(allowed: Allowed) -> SheetOptions {
+        SheetOptions {
+            allowed,
+            padding: 0,
+            alignment: size2(1, 1),
+            turn: false,
+            effort: 0,
+            seed: 0,
+        }
+    }
+
+    /// The padding and the alignment.
+    #[inline]
+    pub fn spacing(&self) -> Spacing {
+        Spacing {
+            padding: self.padding,
+            alignment: self.alignment,
+        }
+    }
+}

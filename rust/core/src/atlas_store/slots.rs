@@ -1,0 +1,133 @@
+// Erased from crates/atlas_store/src/slots.rt by rust/erase: don't edit.
+//! The slots of an atlas: the tree's part and the lists' part of each, and the calls that read and write them.
+
+pub mod batch;
+pub mod extending;
+pub mod lists;
+pub mod pick;
+pub mod placing;
+pub mod walks;
+
+use crate::atlas_model::Rectangle;
+use crate::atlas_store::cut::Orientation;
+
+/// What a slot of an atlas is used for.
+#[derive(Clone, Copy, Debug, PartialEq, Eq, Hash)]
+pub enum NodeKind {
+    /// A sequence of other slots.
+    Container,
+    /// An allocated rectangle.
+    Alloc,
+    /// A free rectangle.
+    Free,
+    /// Nothing: the slot may be taken.
+    Unused,
+}
+
+/// The number of a slot, or `NO_SLOT` for none.
+#[derive(Clone, Copy, Debug, PartialEq, Eq)]
+pub struct Link {
+    pub number: u32,
+}
+
+impl Link {
+    /// The link to no slot.
+    pub const NONE: Link = Link { number: NO_SLOT };
+}
+
+/// The number that stands for no slot.
+pub const NO_SLOT: u32 = 4294967295;
+
+/// The tree's part of a slot: its place among its siblings, what it is, and its rectangle.
+#[derive(Clone, Copy, Debug, PartialEq, Eq)]
+pub struct Node {
+    pub parent: Link,
+    pub previous: Link,
+    pub next: Link,
+    pub area: Rectangle,
+    pub kind: NodeKind,
+    pub axis: Orientation,
+    pub generation: u8,
+}
+
+/// The lists' part of a slot: its neighbours in its list of free or of unused slots.
+#[derive(Clone, Copy, Debug, PartialEq, Eq)]
+pub struct Ring {
+    pub previous: Link,
+    pub next: Link,
+}
+
+#[derive(Clone, Copy, Debug, PartialEq, Eq)]
+pub struct Slot {
+    pub node: Node,
+    pub ring: Ring,
+}
+
+/// The tree's part of a slot.
+#[inline]
+pub fn read_node(slots: &[Slot], at: Link) -> Node {
+    slots[at.number as usize].node
+}
+
+/// The lists' part of a slot.
+#[inline]
+pub fn read_ring(slots: &[Slot], at: Link) -> Ring {
+    slots[at.number as usize].ring
+}
+
+/// Writes the tree's part of a slot.
+#[inline]
+pub fn write_node(slots: &mut [Slot], at: Link, node: Node) {
+    let slot = &mut slots[at.number as usize];
+    slot.node = node;
+}
+
+/// What a slot is used for from now on.
+#[inline]
+pub fn set_kind(slots: &mut [Slot], at: Link, kind: NodeKind) {
+    let mut node = read_node(slots, at);
+    node.kind = kind;
+    write_node(slots, at, node);
+}
+
+/// What stands at `at`, if that is a slot, follows `previous` from now on.
+#[inline]
+pub fn set_previous(slots: &mut [Slot], at: Link, previous: Link) {
+    if at.number != NO_SLOT {
+        let mut node = read_node(slots, at);
+        node.previous = previous;
+        write_node(slots, at, node);
+    }
+}
+
+/// The first turn of a freeing: an allocated leaf becomes free.
+#[inline]
+pub fn mark_free(slots: &mut [Slot], slot: Link) {
+    set_kind(slots, slot, NodeKind::Free);
+}
+
+/// One turn of a freeing: a free leaf takes in the next one, which is free too. The answer is the slot of the next one,
+/// which is no longer used.
+#[inline]
+pub fn join_next(slots: &mut [Slot], slot: Link) -> Link {
+    let mut this = read_node(slots, slot);
+    let next_slot = this.next;
+    let next = read_node(slots, next_slot);
+    let after_slot = next.next;
+    this.next = after_slot;
+    this.area.max = next.area.max;
+    write_node(slots, slot, this);
+    set_previous(slots, after_slot, slot);
+    set_kind(slots, next_slot, NodeKind::Unused);
+    next_slot
+}
+
+/// One turn of a freeing: a lone free leaf gives its place to its container, which becomes free. The answer is the
+/// container's slot; the leaf's is no longer used.
+#[inline]
+pub fn lift(slots: &mut [Slot], child: Link) -> Link {
+    let container = read_node(slots, child).parent;
+    set_kind(slots, container, NodeKind::Free);
+    set_kind(slots, child, NodeKind::Unused);
+    container
+}

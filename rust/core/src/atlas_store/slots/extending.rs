@@ -1,0 +1,78 @@
+// Erased from crates/atlas_store/src/slots/extending.rt by rust/erase: don't edit.
+//! The calls by which the top sequence of the slots' tree is extended: its last leaf is enlarged, a leaf is appended,
+//! or the sequence is put into a new one along the other axis. They leave the lists alone.
+
+use crate::atlas_model::{point2, Rectangle, Size};
+use crate::atlas_store::cut::Orientation;
+use crate::atlas_store::slots::placing::across;
+use crate::atlas_store::slots::{read_node, write_node, Link, Node, NodeKind, Slot, NO_SLOT};
+
+/// The free leaf at `at` reaches to the far corner of a size.
+#[inline]
+pub fn stretch_leaf(slots: &mut [Slot], at: Link, size: Size) {
+    let mut leaf = read_node(slots, at);
+    leaf.area.max = point2(size.width, size.height);
+    write_node(slots, at, leaf);
+}
+
+// What lies beyond a rectangle along an axis, to the far corner of a size.
+#[inline]
+fn beyond(area: Rectangle, axis: Orientation, size: Size) -> Rectangle {
+    let min = match axis {
+        Orientation::Horizontal => point2(area.max.x, area.min.y),
+        Orientation::Vertical => point2(area.min.x, area.max.y),
+    };
+    let max = point2(size.width, size.height);
+    Rectangle { min, max }
+}
+
+/// The unused slot `fresh` becomes a free leaf after the last member of the top sequence, and reaches to the far corner
+/// of a size.
+#[inline]
+pub fn append_leaf(slots: &mut [Slot], last: Link, fresh: Link, size: Size) {
+    let mut leaf = read_node(slots, last);
+    let unused = read_node(slots, fresh);
+    let strip = Node {
+        previous: last,
+        next: Link::NONE,
+        area: beyond(leaf.area, leaf.axis, size),
+        kind: NodeKind::Free,
+        generation: unused.generation,
+        ..leaf
+    };
+    leaf.next = fresh;
+    write_node(slots, last, leaf);
+    write_node(slots, fresh, strip);
+}
+
+// Each member of the sequence that begins at `first` is held by the slot `container`.
+#[inline]
+fn hang(slots: &mut [Slot], first: Link, container: Link) {
+    let mut at = first;
+    while at.number != NO_SLOT {
+        let mut node = read_node(slots, at);
+        node.parent = container;
+        write_node(slots, at, node);
+        at = node.next;
+    }
+}
+
+/// The top sequence, which spans this size and whose first member is at `first`, becomes the only member of a new top
+/// sequence along the other axis: the unused slot `container` holds it. One pass along the sequence.
+#[inline]
+pub fn wrap_top(slots: &mut [Slot], first: Link, container: Link, size: Size) {
+    let none = Link::NONE;
+    let inner = read_node(slots, first);
+    let unused = read_node(slots, container);
+    let outer = Node {
+        parent: none,
+        previous: none,
+        next: none,
+        area: Rectangle::from(size),
+        kind: NodeKind::Container,
+        axis: across(inner.axis),
+        generation: unused.generation,
+    };
+    hang(slots, first, container);
+    write_node(slots, container, outer);
+}

@@ -1,0 +1,156 @@
+// Erased from crates/atlas_store/src/store.rt by rust/erase: don't edit.
+//! The slots of an atlas with their lists: each call keeps the tree that the slots stand for, and the lists, in order.
+
+pub mod extend;
+pub mod start;
+pub mod turns;
+
+use crate::atlas_store::search::bands::Scale;
+use crate::atlas_store::search::table::Table;
+use crate::atlas_store::slots::lists::{enlist, give_back, take_slot, unlist};
+use crate::atlas_store::slots::placing::{grant_leaf, split_leaf, wrap_leaf};
+use crate::atlas_store::slots::{
+    join_next, lift, mark_free, read_node, Link, Node, NodeKind, Slot, NO_SLOT,
+};
+use crate::atlas_store::store::turns::Turns;
+use wollemigo_support::alloc::{AllocError, Allocator};
+use wollemigo_support::prelude::Vec;
+
+/// The slots, the lists that run through them, and the options by which free slots are listed. `turns` counts the
+/// markings, joins and lifts, and is nothing at run time.
+
+pub struct Store<A: Allocator> {
+    pub slots: Vec<Slot, A>,
+    pub lists: Table<A>,
+    pub unused: Link,
+    pub options: Scale,
+    pub turns: Turns,
+}
+
+impl<A: Allocator> Store<A> {
+    /// A copy: the same slots and lists, in new memory of the same allocator. No turn was taken in it yet.
+    #[inline]
+    pub fn copy(&self) -> Result<Store<A>, AllocError>
+    where
+        A: Copy,
+    {
+        let slots = Vec::from_slice(*self.slots.allocator(), &self.slots)?;
+        let lists = self.lists.copy()?;
+        Ok(Store {
+            slots,
+            lists,
+            unused: self.unused,
+            options: self.options.copy(),
+            turns: Turns::new(),
+        })
+    }
+
+    /// The tree's part of a slot.
+    #[inline]
+    pub fn node(&self, at: Link) -> Node {
+        read_node(&self.slots, at)
+    }
+
+    /// Whether this is a slot of a free leaf.
+    #[inline]
+    pub fn is_free(&self, at: Link) -> bool {
+        at.number != NO_SLOT && read_node(&self.slots, at).kind == NodeKind::Free
+    }
+
+    /// Takes a free leaf out of its list.
+    #[inline(always)]
+    pub fn unlist(&mut self, at: Link) {
+        unlist(&mut self.slots, &mut self.lists, at);
+    }
+
+    /// `low` is at most the `min.y` of each slot of the list of this number.
+    #[inline]
+    pub fn sharpen(&mut self, list: usize, low: u32) {
+        self.lists.set_low(list, low);
+    }
+
+    /// Puts a detached leaf into its list.
+    #[inline(always)]
+    pub fn list(&mut self, at: Link) {
+        enlist(&mut self.slots, &mut self.lists, &self.options, at);
+    }
+
+    /// A detached leaf is granted.
+    #[inline]
+    pub fn grant(&mut self, at: Link) {
+        grant_leaf(&mut self.slots, at);
+    }
+
+    /// Takes an unused slot, the one given back last, or else a new one at the end. It is claimed.
+    #[inline]
+    pub fn take(&mut self) -> Link {
+        take_slot(&mut self.slots, &mut self.unused)
+    }
+
+    // A detached leaf keeps the first `extent` pixels along its axis, and the claimed slot takes the rest.
+    #[inline]
+    fn split_with(&mut self, at: Link, fresh: Link, extent: u32) {
+        split_leaf(&mut self.slots, at, fresh, extent);
+    }
+
+    // A detached leaf becomes a container, and the claimed slot its lone child.
+    #[inline]
+    fn wrap_with(&mut self, at: Link, fresh: Link) {
+        wrap_leaf(&mut self.slots, at, fresh);
+    }
+
+    /// A detached leaf keeps the first `extent` pixels along its axis; the slot that is returned takes the rest, and is
+    /// detached too.
+    #[inline(always)]
+    pub fn split(&mut self, at: Link, extent: u32) -> Link {
+        let fresh = self.take();
+        self.split_with(at, fresh, extent);
+        fresh
+    }
+
+    /// A detached leaf becomes a container; the slot that is returned is its lone child, as large, and detached in its
+    /// place.
+    #[inline]
+    pub fn wrap(&mut self, at: Link) -> Link {
+        let fresh = self.take();
+        self.wrap_with(at, fresh);
+        fresh
+    }
+
+    /// A detached leaf becomes a container of two, the first with `extent` pixels along the other axis; the slot of the
+    /// second is taken before that of the first. Both are detached.
+    #[inline]
+    pub fn wrap_two(&mut self, at: Link, extent: u32) -> (Link, Link) {
+        let back = self.take();
+        let front = self.take();
+        self.wrap_with(at, front);
+        self.split_with(front, back, extent);
+        (front, back)
+    }
+
+    /// A granted leaf becomes free, and is detached. One turn of a freeing.
+    #[inline]
+    pub fn mark(&mut self, at: Link) {
+        mark_free(&mut self.slots, at);
+        self.turns.tick();
+    }
+
+    /// A detached leaf takes in the next one, which is detached too and whose slot is given back. One turn of a
+    /// freeing.
+    #[inline]
+    pub fn join(&mut self, at: Link) {
+        let next = join_next(&mut self.slots, at);
+        give_back(&mut self.slots, &mut self.unused, next);
+        self.turns.tick();
+    }
+
+    /// A detached leaf that is alone in its container takes its place; its own slot is given back. One turn of a
+    /// freeing. The answer is the container's slot, which is detached now.
+    #[inline]
+    pub fn lift(&mut self, child: Link) -> Link {
+        let container = lift(&mut self.slots, child);
+        give_back(&mut self.slots, &mut self.unused, child);
+        self.turns.tick();
+        container
+    }
+}

@@ -1,0 +1,196 @@
+// Erased from crates/atlas_tree/src/requests.rt by rust/erase: don't edit.
+//! Granting a request: the free slot that it takes, how its leaf gives way (a plan), the slots that this needs, and the
+//! placing itself, by the calls of `store`.
+
+use crate::atlas_model::{Allocation, AtlasError, Size};
+use crate::atlas_store::cut::{orientation_of, Orientation};
+use crate::atlas_store::slots::lists::exact_size;
+use crate::atlas_store::slots::pick::pick;
+use crate::atlas_store::slots::walks::slot_id;
+use crate::atlas_store::slots::{Link, Node};
+use crate::atlas_store::store::Store;
+use wollemigo_support::alloc::Allocator;
+
+/// The free slot that a request takes, the number of its list, and at most the `min.y` of each other slot of that
+/// list.
+#[derive(Clone, Copy)]
+pub struct Chosen {
+    pub at: Link,
+    pub list: u32,
+    pub low: u32,
+}
+
+/// The free slot that a request of this rounded size takes; None if it fits none.
+#[inline]
+pub fn choose<A: Allocator>(store: &Store<A>, size: Size) -> Option<Chosen> {
+    let found = pick(&store.slots, &store.lists, &store.options, size)?;
+    Some(Chosen {
+        at: found.at,
+        list: found.list as u32,
+        low: found.low,
+    })
+}
+
+/// Makes room for slots beside those that are used. `Slots` if there would be more than the limit; `Memory`, if they
+/// are more than were ever used and more than there is room for, and memory for them is refused. The slots and their
+/// lists stay as they are.
+#[inline]
+pub fn make_room<A: Allocator>(
+    store: &mut Store<A>,
+    used: u32,
+    limit: u32,
+    needed: u32,
+) -> Result<(), AtlasError> {
+    if needed > limit - used {
+        return Err(AtlasError::Slots);
+    }
+    let all = (used + needed) as usize;
+    if all > store.slots.capacity() {
+        store.slots.reserve(all - store.slots.len())?;
+    }
+    Ok(())
+}
+
+/// Places a request in the slot that it takes, which gives way by this plan. The answer is its id and its rectangle.
+#[inline]
+pub fn grant<A: Allocator>(store: &mut Store<A>, chosen: Chosen, plan: Plan) -> Allocation {
+    store.unlist(chosen.at);
+    store.sharpen(chosen.list as usize, chosen.low);
+    let slot = place(store, chosen.at, plan);
+    let node = store.node(slot);
+    Allocation {
+        id: slot_id(slot.number as usize, node.generation),
+        rectangle: node.area,
+    }
+}
+
+/// How a free leaf gives way to a request that fits it, with the request's pixels along the leaf's sequence and across
+/// it (docs/MODEL.md, "Changes of a tree").
+#[derive(Clone, Copy, Debug, PartialEq, Eq)]
+pub enum Plan {
+    /// The leaf is granted whole.
+    Whole,
+    /// The leaf is cut along its sequence.
+    StripAlong(u32),
+    /// It is cut along its sequence, and its first part across.
+    CornerAlong(u32, u32),
+    /// It becomes a container, and is cut across.
+    StripAcross(u32),
+    /// It becomes a container, is cut across, and its first part along.
+    CornerAcross(u32, u32),
+}
+
+/// How many slots a plan takes.
+#[inline]
+pub fn slots_needed(plan: Plan) -> u32 {
+    match plan {
+        Plan::Whole => 0,
+        Plan::StripAlong(_) => 1,
+        Plan::CornerAlong(_, _) => 3,
+        Plan::StripAcross(_) => 2,
+        Plan::CornerAcross(_, _) => 4,
+    }
+}
+
+// The pixels of a size along an axis, and those across it.
+#[inline]
+fn along_and_across(size: Size, axis: Orientation) -> (u32, u32) {
+    let width = size.width as u32;
+    let height = size.height as u32;
+    match axis {
+        Orientation::Horizontal => (width, height),
+        Orientation::Vertical => (height, width),
+    }
+}
+
+// The plan for a request that has all pixels of a leaf but on one axis.
+#[inline]
+fn strip(leaf: &Node, axis: Orientation, pixels: u32) -> Plan {
+    if axis == leaf.axis {
+        Plan::StripAlong(pixels)
+    } else {
+        Plan::StripAcross(pixels)
+    }
+}
+
+// The plan for a request that is smaller than a leaf on both axes.
+#[inline]
+fn corner(leaf: &Node, whole: Size, size: Size) -> Plan {
+    let (along, across) = along_and_across(size, leaf.axis);
+    if orientation_of(whole, size) == leaf.axis {
+        Plan::CornerAlong(along, across)
+    } else {
+        Plan::CornerAcross(along, across)
+    }
+}
+
+/// The plan for a request that fits a leaf.
+#[inline]
+pub fn plan_for(leaf: &Node, size: Size) -> Plan {
+    let whole = exact_size(leaf.area);
+    if whole.width == size.width {
+        if whole.height == size.height {
+            Plan::Whole
+        } else {
+            strip(leaf, Orientation::Vertical, size.height as u32)
+        }
+    } else if whole.height == size.height {
+        strip(leaf, Orientation::Horizontal, size.width as u32)
+    } else {
+        corner(leaf, whole, size)
+    }
+}
+
+/// Carries out a plan in the detached leaf of a slot, for which there are slots. The answer is the slot that is
+/// granted.
+#[inline]
+pub fn place<A: Allocator>(store: &mut Store<A>, at: Link, plan: Plan) -> Link {
+    match plan {
+        Plan::Whole => {
+            store.grant(at);
+            at
+        }
+        Plan::StripAlong(along) => strip_along(store, at, along),
+        Plan::CornerAlong(along, across) => corner_along(store, at, along, across),
+        Plan::StripAcross(across) => strip_across(store, at, across),
+        Plan::CornerAcross(along, across) => corner_across(store, at, along, across),
+    }
+}
+
+#[inline]
+fn strip_along<A: Allocator>(store: &mut Store<A>, at: Link, along: u32) -> Link {
+    let split = store.split(at, along);
+    store.grant(at);
+    store.list(split);
+    at
+}
+
+#[inline]
+fn corner_along<A: Allocator>(store: &mut Store<A>, at: Link, along: u32, across: u32) -> Link {
+    let split = store.split(at, along);
+    let granted = store.wrap(at);
+    let leftover = store.split(granted, across);
+    store.grant(granted);
+    store.list(split);
+    store.list(leftover);
+    granted
+}
+
+#[inline]
+fn strip_across<A: Allocator>(store: &mut Store<A>, at: Link, across: u32) -> Link {
+    let (granted, split) = store.wrap_two(at, across);
+    store.grant(granted);
+    store.list(split);
+    granted
+}
+
+#[inline]
+fn corner_across<A: Allocator>(store: &mut Store<A>, at: Link, along: u32, across: u32) -> Link {
+    let (container, split) = store.wrap_two(at, across);
+    let granted = store.wrap(container);
+    let leftover = store.split(granted, along);
+    store.grant(granted);
+    store.list(split);
+    store.list(leftover);
+    granted
+}

@@ -1,0 +1,157 @@
+// Erased from crates/guillotiere/src/simple/boxes.rt by rust/erase: don't edit.
+//! The free boxes of the simple allocator, in the lists of a table.
+
+use crate::atlas_model::{point2, AtlasError, Rectangle};
+use crate::atlas_store::search::bands::Scale;
+use crate::atlas_store::search::best::Found;
+use crate::atlas_store::search::table::{Table, LISTS};
+use crate::atlas_store::search::Entry;
+use crate::atlas_store::slots::lists::exact_size;
+use crate::atlas_store::slots::{Link, NO_SLOT};
+use wollemigo_support::alloc::Allocator;
+use wollemigo_support::prelude::Vec;
+
+/// A free box and the entry after it in its list; or an unused entry, whose rectangle is empty, and the next one.
+#[derive(Clone, Copy, Debug, PartialEq, Eq)]
+pub struct FreeBox {
+    pub area: Rectangle,
+    pub after: Link,
+}
+
+impl Entry for FreeBox {
+    #[inline]
+    fn rectangle(&self) -> Rectangle {
+        self.area
+    }
+
+    #[inline]
+    fn after(&self) -> Link {
+        self.after
+    }
+}
+
+/// Free boxes, each in the list of its size, and entries that are unused; `used` counts the others.
+
+pub struct FreeBoxes<A: Allocator> {
+    pub entries: Vec<FreeBox, A>,
+    pub unused: Link,
+    pub used: u32,
+    pub table: Table<A>,
+}
+
+// The most entries: `NO_SLOT` is the number of none.
+const MOST_BOXES: usize = 4294967295;
+
+// An unused entry before this one.
+#[inline]
+fn unused_box(after: Link) -> FreeBox {
+    let corner = point2(0, 0);
+    FreeBox {
+        area: Rectangle {
+            min: corner,
+            max: corner,
+        },
+        after,
+    }
+}
+
+// The `min.y` of a box.
+#[inline]
+fn top_in(area: Rectangle) -> u32 {
+    area.min.y as u32
+}
+
+impl<A: Allocator> FreeBoxes<A> {
+    /// No box, and room for one. The only error is `Memory`.
+    #[inline]
+    pub fn new(alloc: A) -> Result<FreeBoxes<A>, AtlasError>
+    where
+        A: Copy,
+    {
+        let entries = Vec::with_capacity(alloc, 1)?;
+        let table = Table::new(alloc)?;
+        Ok(FreeBoxes {
+            entries,
+            unused: Link::NONE,
+            used: 0,
+            table,
+        })
+    }
+
+    // Takes the first of the unused entries, or else a new one, for which there is room.
+    #[inline]
+    fn take(&mut self) -> Link {
+        let at = self.unused;
+        self.used += 1;
+        if at.number == NO_SLOT {
+            let number = self.entries.len() as u32;
+            self.entries.push_reserved(unused_box(Link { number: 0 }));
+            Link { number }
+        } else {
+            self.unused = self.entries[at.number as usize].after;
+            at
+        }
+    }
+
+    // Puts a box into the entry that is claimed, and that into the box's list.
+    #[inline]
+    fn put(&mut self, at: Link, area: Rectangle, options: &Scale) {
+        let place = options.place_for(exact_size(area));
+        let after = self.table.head(place);
+        self.entries[at.number as usize] = FreeBox { area, after };
+        self.table.push(place, at, top_in(area));
+    }
+
+    /// Makes it sure that n more entries can be used. The only error is `Memory`, where that is more than there are,
+    /// and nothing changes but the room.
+    #[inline]
+    pub fn make_room(&mut self, n: u32) -> Result<(), AtlasError> {
+        let all = self.used as usize + n as usize;
+        let present = self.entries.len();
+        if all > present {
+            if all > MOST_BOXES {
+                return Err(AtlasError::Memory);
+            }
+            self.entries.reserve(all - present)?;
+        }
+        Ok(())
+    }
+
+    /// Adds a box, for which there is room.
+    #[inline]
+    pub fn add(&mut self, area: Rectangle, options: &Scale) {
+        let at = self.take();
+        self.put(at, area, options);
+    }
+
+    /// Leaves this box alone, in the room that there is. Takes no memory.
+    #[inline]
+    pub fn restart(&mut self, area: Rectangle, options: &Scale) {
+        self.entries.clear();
+        self.unused = Link::NONE;
+        self.used = 0;
+        self.table.clear();
+        self.add(area, options);
+    }
+
+    // `after` comes after `before` in the list of this number, or first where that is none.
+    #[inline]
+    fn lead(&mut self, list: usize, before: Link, after: Link) {
+        if before.number == NO_SLOT {
+            self.table.set_first(list, after);
+        } else {
+            self.entries[before.number as usize].after = after;
+        }
+    }
+
+    /// Takes a box out of its list; its entry is unused from then on.
+    #[inline]
+    pub fn remove(&mut self, found: Found, options: &Scale) {
+        let after = self.entries[found.at.number as usize].after;
+        self.lead(found.list, found.before, after);
+        self.table.set_low(found.list, found.low);
+        self.entries[found.at.number as usize] = unused_box(self.unused);
+        self.unused = found.at;
+        self.used -= 1;
+    }
+}

@@ -1,0 +1,76 @@
+// Erased from crates/atlas_bench/src/run.rt by rust/erase: don't edit.
+//! A run of the program, from the bytes of a reader to the bytes of a writer.
+
+use crate::answers::Answers;
+use crate::boards::{checker, search};
+use crate::caches::{cache, tiles};
+use crate::error::BenchError;
+use crate::growth::growth;
+use crate::recordings::recorded;
+use crate::sheets::rearrange;
+use crate::simple_sheets::{large_sheet, sheet};
+use crate::sizes::Kind;
+use crate::sprites::{sorted_sprite, sprite};
+use crate::textures::textures;
+use bench_jobs::jobs::{jobs, JobsError};
+use bench_jobs::workload::{Job, Workload};
+use wollemigo_support::alloc::{AllocError, Global};
+use wollemigo_support::io::{Read, Write};
+use wollemigo_support::prelude::{format, String, Vec};
+
+// Runs a job.
+fn run_job(alloc: Global, job: Job) -> Result<Answers, BenchError> {
+    match job.workload {
+        Workload::Glyph => cache(alloc, Kind::Glyphs, 2048, job.size),
+        Workload::Record => recorded(alloc, job.size),
+        Workload::Sprite => sprite(alloc, job.size),
+        Workload::SortedSprite => sorted_sprite(alloc, job.size),
+        Workload::Checker => checker(alloc, job.size),
+        Workload::Search => search(alloc, job.size),
+        Workload::Growth => growth(alloc, job.size),
+        Workload::Rearrange => rearrange(alloc, job.size),
+        Workload::Glyph1024 => cache(alloc, Kind::Glyphs, 1024, job.size),
+        Workload::Glyph4096 => cache(alloc, Kind::Glyphs, 4096, job.size),
+        Workload::Glyph8192 => cache(alloc, Kind::Glyphs, 8192, job.size),
+        Workload::Glyph16384 => cache(alloc, Kind::Glyphs, 16_384, job.size),
+        Workload::Mixed4096 => cache(alloc, Kind::Sprites, 4096, job.size),
+        Workload::Tiles => tiles(alloc, job.size),
+        Workload::Sheet => sheet(alloc, job.size),
+        Workload::Sheet16384 => large_sheet(alloc, job.size),
+        Workload::Cache => textures(alloc, job.size),
+    }
+}
+
+// The line that reports a job.
+fn report(alloc: Global, workload: Workload, answers: Answers) -> Result<String, BenchError> {
+    let name = workload.name();
+    let calls = answers.calls;
+    let checksum = answers.checksum;
+    Ok(format!(in alloc; "{name} {calls} {checksum}\n")?)
+}
+
+// The jobs that a text spells.
+fn spelled(alloc: Global, text: &[u8]) -> Result<Vec<Job>, BenchError> {
+    match jobs(alloc, text) {
+        Ok(jobs) => Ok(jobs),
+        Err(JobsError::BadLine(number)) => Err(BenchError::BadLine(number)),
+        Err(JobsError::Memory) => Err(BenchError::Memory(AllocError)),
+    }
+}
+
+/// Runs the jobs that the lines of the reader spell, and writes a line for each. Nothing is run where a line is bad.
+pub fn run<R: Read, W: Write>(
+    alloc: Global,
+    input: &mut R,
+    output: &mut W,
+) -> Result<(), BenchError> {
+    let mut text = Vec::new(alloc);
+    input.read_to_end(&mut text)?;
+    let jobs = spelled(alloc, &text)?;
+    for job in &jobs {
+        let answers = run_job(alloc, *job)?;
+        let line = report(alloc, job.workload, answers)?;
+        output.write_all(line.as_bytes())?;
+    }
+    Ok(())
+}

@@ -1,0 +1,134 @@
+// Erased from crates/atlas_pack/src/packing.rt by rust/erase: don't edit.
+//! What the library is asked, and what it answers.
+
+use pack_lines::{Frame, PackError, Settings, Sheets, Sprite};
+use wollemigo_core::atlas_model::Size;
+use wollemigo_core::atlas_sheet::{fill, pack_telling, Allowed, Placed, SheetError, SheetOptions};
+use wollemigo_support::alloc::{AllocError, Global};
+use wollemigo_support::io::Write;
+use wollemigo_support::prelude::{CollectIn, Vec};
+
+// The sheets that are allowed.
+fn allowed_of(sheets: Sheets) -> Allowed {
+    match sheets {
+        Sheets::One(size) => Allowed::One(size),
+        Sheets::Squares { least, greatest } => Allowed::Squares { least, greatest },
+        Sheets::Powers { greatest } => Allowed::Powers { greatest },
+        Sheets::Heights { width, greatest } => Allowed::Heights { width, greatest },
+    }
+}
+
+/// The library's options for these settings.
+pub fn sheet_options(settings: Settings) -> SheetOptions {
+    SheetOptions {
+        allowed: allowed_of(settings.sheets),
+        padding: settings.padding,
+        alignment: settings.alignment,
+        turn: settings.turn,
+        effort: settings.effort,
+        seed: u64::from(settings.seed),
+    }
+}
+
+// A sprite in its place.
+fn frame_of<'a>(sprite: Sprite<'a>, placed: Placed) -> Frame<'a> {
+    Frame {
+        sprite,
+        corner: placed.area.min,
+        turned: placed.turned,
+    }
+}
+
+/// The sizes of the sprites, in order.
+pub fn sizes_of(alloc: Global, sprites: &[Sprite<'_>]) -> Result<Vec<Size>, AllocError> {
+    sprites.iter().map(|sprite| sprite.size).collect_in(alloc)
+}
+
+/// Each sprite beside its place or none, in order.
+pub fn beside<'a>(
+    alloc: Global,
+    sprites: &[Sprite<'a>],
+    places: &[Option<Placed>],
+) -> Result<Vec<(Sprite<'a>, Option<Placed>)>, AllocError> {
+    sprites
+        .iter()
+        .copied()
+        .zip(places.iter().copied())
+        .collect_in(alloc)
+}
+
+/// The sprites that have places, in them, and those that have none, each in order.
+pub fn parted<'a>(
+    alloc: Global,
+    pairs: &[(Sprite<'a>, Option<Placed>)],
+) -> Result<(Vec<Frame<'a>>, Vec<Sprite<'a>>), AllocError> {
+    let mut frames = Vec::new(alloc);
+    let mut left = Vec::new(alloc);
+    for pair in pairs {
+        match pair.1 {
+            Some(placed) => frames.push(frame_of(pair.0, placed))?,
+            None => left.push(pair.0)?,
+        }
+    }
+    Ok((frames, left))
+}
+
+// Places that all are there.
+fn all_of(alloc: Global, places: &[Placed]) -> Result<Vec<Option<Placed>>, AllocError> {
+    places.iter().map(|placed| Some(*placed)).collect_in(alloc)
+}
+
+// The program's error where the library refuses these sizes. The sprites' lines stand after `before` others.
+fn fault_of(error: SheetError, sizes: &[Size], options: &SheetOptions, before: usize) -> PackError {
+    match error {
+        SheetError::Memory => PackError::Memory,
+        SheetError::EmptySheet => PackError::EmptySheet,
+        SheetError::EmptyRange => PackError::EmptyRange,
+        SheetError::EmptyAlignment => PackError::EmptyAlignment,
+        SheetError::EmptySprite(number) => PackError::EmptySprite(before + number + 1),
+        SheetError::GreatSprite(number) => PackError::GreatSprite(before + number + 1),
+    }
+}
+
+// Tells a person the size of a sheet. A failure is passed over.
+fn tell<P: Write>(progress: &mut P, size: Size) {
+    let _ = writeln!(progress, "sheet {} {}", size.width, size.height);
+}
+
+/// A sheet that takes all sprites, and their places. `NoSheet` where none is found. Where changes of the order are
+/// tried, `progress` has a line for each sheet as soon as it is found.
+pub fn pack_all<P: Write>(
+    alloc: Global,
+    sizes: &[Size],
+    options: &SheetOptions,
+    before: usize,
+    progress: &mut P,
+) -> Result<(Size, Vec<Option<Placed>>), PackError> {
+    let telling = options.effort > 0;
+    let packed = pack_telling(alloc, sizes, options, |size| {
+        if telling {
+            tell(progress, size);
+        }
+    });
+    match packed {
+        Ok(Some(sheet)) => {
+            let places = all_of(alloc, &sheet.places)?;
+            Ok((sheet.size, places))
+        }
+        Ok(None) => Err(PackError::NoSheet),
+        Err(error) => Err(fault_of(error, sizes, options, before)),
+    }
+}
+
+/// The greatest sheet that is allowed, and a place or none for each sprite.
+pub fn fill_one(
+    alloc: Global,
+    sizes: &[Size],
+    options: &SheetOptions,
+    before: usize,
+) -> Result<(Size, Vec<Option<Placed>>), PackError> {
+    match fill(alloc, sizes, options) {
+        Ok(filled) => Ok((filled.size, filled.places)),
+        Err(error) => Err(fault_of(error, sizes, options, before)),
+    }
+}

@@ -1,0 +1,237 @@
+// Erased from crates/atlas_pack/src/run.rt by rust/erase: don't edit.
+//! A run of the program, from the bytes of a reader to the bytes of a writer.
+
+use crate::packing::{beside, fill_one, pack_all, parted, sheet_options, sizes_of};
+use pack_lines::{read_job, sheet_json, sheet_lines, Frame, Job, PackError, Sprite};
+use wollemigo_core::atlas_model::Size;
+use wollemigo_core::atlas_sheet::Placed;
+use wollemigo_support::alloc::{AllocError, Global};
+use wollemigo_support::io::{Read, Write};
+use wollemigo_support::prelude::Vec;
+
+// The sheet that a job asks for, and a place or none for each of its sprites.
+fn answer<P: Write>(
+    alloc: Global,
+    job: &Job<'_>,
+    progress: &mut P,
+) -> Result<(Size, Vec<Option<Placed>>), PackError> {
+    let sizes = sizes_of(alloc, &job.sprites)?;
+    let options = sheet_options(job.settings);
+    if job.settings.fill {
+        return fill_one(alloc, &sizes, &options, job.before);
+    }
+    pack_all(alloc, &sizes, &options, job.before, progress)
+}
+
+// The text of a sheet.
+fn written(
+    alloc: Global,
+    json: bool,
+    sheet: Size,
+    frames: &[Frame<'_>],
+    left: &[Sprite<'_>],
+) -> Result<Vec<u8>, AllocError> {
+    if json {
+        return sheet_json(alloc, sheet, frames);
+    }
+    let lines = sheet_lines(alloc, sheet, frames, left)?;
+    Vec::from_slice(alloc, lines.as_bytes())
+}
+
+/// Reads lines to their end, packs the sprites that they name, and writes the sheet. Nothing is written where a line is
+/// bad or no sheet is found.
+pub fn run<R: Read, W: Write, P: Write>(
+    alloc: Global,
+    input: &mut R,
+    output: &mut W,
+    progress: &mut P,
+) -> Result<(), PackError> {
+    let mut text = Vec::new(alloc);
+    input.read_to_end(&mut text)?;
+    let job = read_job(alloc, &text)?;
+    let (sheet, places) = answer(alloc, &job, progress)?;
+    let pairs = beside(alloc, &job.sprites, &places)?;
+    let (frames, left) = parted(alloc, &pairs)?;
+    let told = written(alloc, job.settings.json, sheet, &frames, &left)?;
+    output.write_all(&told)?;
+    Ok(())
+}
+
+#[cfg(test)]
+mod tests {
+    use super::*;
+    use wollemigo_core::atlas_model::size2;
+    use wollemigo_core::atlas_sheet::{fill, pack, Allowed, SheetOptions};
+    use wollemigo_support::prelude::{assert, format, ExpectIn, HostRuntime, String, Vec};
+    use wollemigo_support::process::Abort;
+
+    // Each row: the lines in, and the lines out or what stops them.
+    const ROWS: [(&str, &str); 11] = [
+        (
+            "a 4 3\nb 4 3\n",
+            "sheet 8 4\na 0 0 4 3\nb 4 0 4 3\nfull 750\n",
+        ),
+        (
+            "sheet one 8 6\na 2 6\nb 6 6\n",
+            "sheet 8 6\na 6 0 2 6\nb 0 0 6 6\nfull 1000\n",
+        ),
+        (
+            "sheet json one 4 4\nq\" 4 4\n",
+            "{\"frames\":{\n\"q\\\"\":{\"frame\":{\"x\":0,\"y\":0,\"w\":4,\"h\":4},\"rotated\":false}
+},\"meta\":{\"size\":{\"w\":4,\"h\":4}}}\n",
+        ),
+        (
+            "sheet one 4 4 fill\na 4 4\nb 4 4\n",
+            "sheet 4 4\na 0 0 4 4\nb none\nfull 1000\n",
+        ),
+        (
+            "sheet one 4 4\na 4 4\nb 4 4\n",
+            "no sheet that is allowed takes all sprites",
+        ),
+        ("a 1 1\nb 0 1\n", "line 2: a side is below 1"),
+        ("sheet json\na 1 1\nb 1 0\n", "line 3: a side is below 1"),
+        (
+            "sheet padding 1\na 2147483647 1\n",
+            "line 2: the sprite is too large",
+        ),
+        ("sheet one 0 4\n", "line 1: a side of the sheet is below 1"),
+        (
+            "sheet powers 0\n",
+            "line 1: the greatest side is below the least",
+        ),
+        (
+            "sheet align 0 1\n",
+            "line 1: a side of the alignment is below 1",
+        ),
+    ];
+
+    // What is written, or what is told where nothing is.
+    fn outcome(alloc: Global, lines: &str, rt: &impl Abort) -> Vec<u8> {
+        let mut output = Vec::new(alloc);
+        let mut progress = Vec::new(alloc);
+        match run(alloc, &mut lines.as_bytes(), &mut output, &mut progress) {
+            Ok(()) => output,
+            Err(error) => {
+                let told = format!(in alloc; "{error}").expect_in(rt, "memory");
+                Vec::from_slice(alloc, told.as_bytes()).expect_in(rt, "memory")
+            }
+        }
+    }
+
+    #[test]
+    fn runs() {
+        let rt = HostRuntime;
+        for (row, (lines, told)) in ROWS.iter().enumerate() {
+            assert!(&rt;
+                outcome(rt.alloc(), lines, &rt).as_slice() == told.as_bytes(),
+                "row {row}"
+            );
+        }
+    }
+
+    // Sprites of which changes of the order by one seed fit into a lesser square than the ways find, and by another don't.
+    const SPRITES: &str = "a 9 4\nb 3 8\nc 5 5\nd 7 2\ne 2 9\nf 6 6\ng 4 3\nh 8 5\n";
+
+    // Their sizes.
+    fn sizes() -> [Size; 8] {
+        [
+            size2(9, 4),
+            size2(3, 8),
+            size2(5, 5),
+            size2(7, 2),
+            size2(2, 9),
+            size2(6, 6),
+            size2(4, 3),
+            size2(8, 5),
+        ]
+    }
+
+    // The library's options for this effort and this seed.
+    fn options_for(allowed: Allowed, effort: u32, seed: u64) -> SheetOptions {
+        SheetOptions {
+            allowed,
+            padding: 0,
+            alignment: size2(1, 1),
+            turn: false,
+            effort,
+            seed,
+        }
+    }
+
+    // The first line of the sheet that the library packs.
+    fn packed(alloc: Global, effort: u32, seed: u64, rt: &impl Abort) -> String {
+        let squares = Allowed::Squares {
+            least: 1,
+            greatest: 64,
+        };
+        let found =
+            pack(alloc, &sizes(), &options_for(squares, effort, seed)).expect_in(rt, "memory");
+        let Size { width, height } = found.expect_in(rt, "a sheet").size;
+        format!(in alloc; "sheet {width} {height}\n").expect_in(rt, "memory")
+    }
+
+    // Whether the library has a place for the seventh sprite.
+    fn has_seventh(alloc: Global, effort: u32, seed: u64, rt: &impl Abort) -> bool {
+        let one = Allowed::One(size2(16, 16));
+        let filled = fill(alloc, &sizes(), &options_for(one, effort, seed)).expect_in(rt, "memory");
+        matches!(filled.places.get(6), Some(Some(_)))
+    }
+
+    // Whether the program packs them into the sheet that the library does.
+    fn packs_alike(alloc: Global, effort: u32, seed: u64, rt: &impl Abort) -> bool {
+        let lines = format!(in alloc; "sheet squares 1 64 effort {effort} seed {seed}\n{SPRITES}");
+        let told = outcome(alloc, lines.expect_in(rt, "memory").as_str(), rt);
+        told.starts_with(packed(alloc, effort, seed, rt).as_bytes())
+    }
+
+    // Whether the program leaves the seventh sprite out where the library does.
+    fn fills_alike(alloc: Global, effort: u32, seed: u64, rt: &impl Abort) -> bool {
+        let words = format!(in alloc;
+            "sheet one 16 16 fill effort {effort} seed {seed}\n{SPRITES}"
+        );
+        let told = outcome(alloc, words.expect_in(rt, "memory").as_str(), rt);
+        let is_left = told.windows(7).any(|part| part == b"g none\n".as_slice());
+        is_left != has_seventh(alloc, effort, seed, rt)
+    }
+
+    #[test]
+    fn hands_on_effort_and_seed() {
+        let rt = HostRuntime;
+        for (effort, seed) in [(0, 0), (40, 1), (40, 2)] {
+            assert!(&rt;
+                packs_alike(rt.alloc(), effort, seed, &rt),
+                "{effort}, {seed}"
+            );
+            assert!(&rt;
+                fills_alike(rt.alloc(), effort, seed, &rt),
+                "{effort}, {seed}"
+            );
+        }
+    }
+
+    // Without this the test above would tell nothing.
+    #[test]
+    fn effort_and_seed_show() {
+        let rt = HostRuntime;
+        let with = packed(rt.alloc(), 40, 1, &rt);
+        assert!(&rt; with != packed(rt.alloc(), 0, 1, &rt));
+        assert!(&rt; with != packed(rt.alloc(), 40, 2, &rt));
+        assert!(&rt; has_seventh(rt.alloc(), 40, 1, &rt) && !has_seventh(rt.alloc(), 40, 2, &rt));
+    }
+
+    // What a person sees where changes of the order are tried.
+    fn progress(alloc: Global, rt: &impl Abort) -> Vec<u8> {
+        let mut output = Vec::new(alloc);
+        let mut progress = Vec::new(alloc);
+        let lines = b"sheet effort 5\na 4 3\nb 4 3\n";
+        run(alloc, &mut lines.as_slice(), &mut output, &mut progress).expect_in(rt, "a sheet");
+        progress
+    }
+
+    #[test]
+    fn tells_progress() {
+        let rt = HostRuntime;
+        let told = b"sheet 8 4\n";
+        assert!(&rt; progress(rt.alloc(), &rt).as_slice() == told.as_slice());
+    }
+}

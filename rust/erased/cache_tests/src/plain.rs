@@ -1,0 +1,325 @@
+// Erased from crates/cache_tests/src/plain.rt by rust/erase: don't edit.
+//! A plain model of a cache: what a caller knows of it, entry by entry, the most recently used first. It predicts what
+//! goes and what grows, but not where a new key comes: it only looks at where it came.
+
+use crate::asking::peek;
+use wollemigo_core::atlas_cache::entries::DefaultHasher;
+use wollemigo_core::atlas_cache::{CacheChange, CacheError, CacheOptions, Place, TextureCache};
+use wollemigo_core::guillotiere::{Rectangle, Size};
+use wollemigo_support::alloc::{Allocator, Global};
+use wollemigo_support::prelude::{IsSomeAnd, Vec};
+
+/// What is held under a key.
+#[derive(Clone, Copy)]
+pub struct Held {
+    pub key: u32,
+    pub size: Size,
+    pub place: Place,
+    /// The frame of its last use.
+    pub frame: u64,
+}
+
+/// What a caller knows of a cache.
+
+pub struct Plain {
+    pub options: CacheOptions,
+    /// The most recently used first.
+    pub held: Vec<Held>,
+    pub pages: Vec<Size>,
+    /// The most keys that there were at once, which is how many numbers they had.
+    pub numbers: usize,
+    pub frame: u64,
+}
+
+// A side and the padding at both of its ends.
+fn padded(side: i32, padding: i32) -> i64 {
+    i64::from(side) + 2 * i64::from(padding)
+}
+
+// A side that has grown: doubled, up to the largest.
+fn doubled(side: i32, largest: i32) -> i32 {
+    side.saturating_mul(2).min(largest)
+}
+
+// A page that has grown: its lesser side, the width of equal ones, or the other one if that is at its largest.
+fn grown(page: Size, largest: Size) -> Size {
+    let is_lesser = page.width <= page.height || page.height == largest.height;
+    if is_lesser && page.width < largest.width {
+        return Size {
+            width: doubled(page.width, largest.width),
+            ..page
+        };
+    }
+    Size {
+        height: doubled(page.height, largest.height),
+        ..page
+    }
+}
+
+fn lie_apart(a: Rectangle, b: Rectangle) -> bool {
+    let aside = a.max.x <= b.min.x || b.max.x <= a.min.x;
+    aside || a.max.y <= b.min.y || b.max.y <= a.min.y
+}
+
+fn lies_within(r: Rectangle, page: Size) -> bool {
+    let has_corner = 0 <= r.min.x && 0 <= r.min.y;
+    has_corner && r.max.x <= page.width && r.max.y <= page.height
+}
+
+// Whether an entry of this length lies behind its padding, and has padding behind it, from `outer.0` to `outer.1`.
+fn has_padding(outer: (i32, i32), inner: (i32, i32), length: i32, padding: i32) -> bool {
+    let (start, end) = (i64::from(inner.0), i64::from(inner.1));
+    let begins = start == i64::from(outer.0) + i64::from(padding);
+    begins && end == start + i64::from(length) && end + i64::from(padding) <= i64::from(outer.1)
+}
+
+// Whether a place shows an entry of this size, in pixels, with its padding.
+fn shows(place: Place, size: Size, padding: i32) -> bool {
+    let (outer, inner) = (place.rectangle, place.inner);
+    let (x, y) = ((outer.min.x, outer.max.x), (outer.min.y, outer.max.y));
+    has_padding(x, (inner.min.x, inner.max.x), size.width, padding)
+        && has_padding(y, (inner.min.y, inner.max.y), size.height, padding)
+}
+
+impl Plain {
+    /// Of a new cache.
+    pub fn new(alloc: Global, options: CacheOptions) -> Plain {
+        Plain {
+            options,
+            held: Vec::new(alloc),
+            pages: Vec::new(alloc),
+            numbers: 0,
+            frame: 0,
+        }
+    }
+
+    /// Where a key stands among what is held.
+    pub fn find(&self, key: u32) -> Option<usize> {
+        for at in 0..self.held.len() {
+            if self.held[at].key == key {
+                return Some(at);
+            }
+        }
+        None
+    }
+
+    /// The place of a key.
+    pub fn place_of(&self, key: u32) -> Option<Place> {
+        let at = self.find(key)?;
+        Some(self.held[at].place)
+    }
+
+    /// A key is used: its place.
+    pub fn touch(&mut self, key: u32) -> Result<Option<Place>, CacheError> {
+        let at = match self.find(key) {
+            Some(at) => at,
+            _ => {
+                return Ok(None);
+            }
+        };
+        let mut used = self.held.remove(at);
+        used.frame = self.frame;
+        self.held.insert(0, used)?;
+        Ok(Some(used.place))
+    }
+
+    /// A key goes: its place.
+    pub fn remove(&mut self, key: u32) -> Option<Place> {
+        let at = self.find(key)?;
+        let gone = self.held.remove(at);
+        Some(gone.place)
+    }
+
+    /// All keys go, and numbers begin again.
+    pub fn clear(&mut self) {
+        self.held.clear();
+        self.numbers = 0;
+    }
+
+    // Whether an entry wasn't used for so many frames.
+    fn is_unused(&self, held: Held, frames: u64) -> bool {
+        self.frame.wrapping_sub(held.frame) >= frames
+    }
+
+    /// The keys that weren't used for so many frames go. Whether these changes tell just them, the least recently used
+    /// first.
+    pub fn trim(&mut self, frames: u64, told: &[CacheChange<u32>]) -> bool {
+        for change in told {
+            let last = match self.held.pop() {
+                Some(last) => last,
+                _ => {
+                    return false;
+                }
+            };
+            let (key, place) = (last.key, last.place);
+            if *change != (CacheChange::Evicted { key, place }) || !self.is_unused(last, frames) {
+                return false;
+            }
+        }
+        match self.held.last() {
+            Some(last) => !self.is_unused(*last, frames),
+            None => true,
+        }
+    }
+
+    /// Whether a size, in pixels, fits an empty page of the largest size, padding included.
+    pub fn can_stand(&self, size: Size) -> bool {
+        let largest = self.options.largest_page;
+        let padding = self.options.padding;
+        0 < size.width
+            && 0 < size.height
+            && padded(size.width, padding) <= i64::from(largest.width)
+            && padded(size.height, padding) <= i64::from(largest.height)
+    }
+
+    // The first page that isn't at its largest, and its size when it has grown.
+    fn growth(&self) -> Option<(u32, Size)> {
+        let mut number = 0u32;
+        for page in &self.pages {
+            if *page != self.options.largest_page {
+                return Some((number, grown(*page, self.options.largest_page)));
+            }
+            number = number.wrapping_add(1);
+        }
+        None
+    }
+
+    // Whether every page is there, and at its largest.
+    fn is_full(&self) -> bool {
+        self.growth().is_none() && self.pages.len() as u64 == u64::from(self.options.pages)
+    }
+
+    // Whether such a page comes next.
+    fn adds(&self, page: u32, size: Size) -> bool {
+        let is_next = self.pages.len() as u64 == u64::from(page) && page < self.options.pages;
+        is_next && self.growth().is_none() && size == self.options.page
+    }
+
+    // Whether this entry goes next: the least recently used one, where this frame didn't use it.
+    fn evicts(&self, key: u32, place: Place) -> bool {
+        let last = match self.held.last() {
+            Some(last) => last,
+            _ => {
+                return false;
+            }
+        };
+        self.is_full() && last.key == key && last.place == place && last.frame < self.frame
+    }
+
+    // A page has this size from now on.
+    fn resize(&mut self, page: u32, size: Size) {
+        let page = page as usize;
+        if page < self.pages.len() {
+            self.pages[page] = size;
+        }
+    }
+
+    /// A change that the cache told. Whether it was the next one to be made.
+    pub fn follow(&mut self, change: CacheChange<u32>) -> Result<bool, CacheError> {
+        match change {
+            CacheChange::PageAdded { page, size } => {
+                let is_right = self.adds(page, size);
+                self.pages.push(size)?;
+                Ok(is_right)
+            }
+            CacheChange::PageGrown { page, size } => {
+                let is_right = self.growth() == Some((page, size));
+                self.resize(page, size);
+                Ok(is_right)
+            }
+            CacheChange::Evicted { key, place } => {
+                let is_right = self.evicts(key, place);
+                Ok(self.remove(key).is_some() && is_right)
+            }
+            CacheChange::Moved { .. } => Ok(false),
+        }
+    }
+
+    // Whether a place lies within its page and apart from the others of that page.
+    fn is_free(&self, place: Place) -> bool {
+        let within = self
+            .pages
+            .get(place.page as usize)
+            .is_some_and(|page| lies_within(place.rectangle, *page));
+        for other in &self.held {
+            if other.place.page == place.page && !lie_apart(other.place.rectangle, place.rectangle)
+            {
+                return false;
+            }
+        }
+        within
+    }
+
+    /// A new key has this place. Whether it can have it.
+    pub fn add(&mut self, key: u32, size: Size, place: Place) -> Result<bool, CacheError> {
+        let is_right = self.is_free(place) && shows(place, size, self.options.padding);
+        let new = Held {
+            key,
+            size,
+            place,
+            frame: self.frame,
+        };
+        self.held.insert(0, new)?;
+        self.numbers = self.numbers.max(self.held.len());
+        Ok(is_right)
+    }
+
+    /// Whether a new key may get no place: every page is there and at its largest, and this frame uses all keys.
+    pub fn is_exhausted(&self) -> bool {
+        for held in &self.held {
+            if held.frame != self.frame {
+                return false;
+            }
+        }
+        self.is_full()
+    }
+
+    // Whether a cache has these pages.
+    fn has_pages<A: Allocator + Copy>(&self, cache: &TextureCache<u32, DefaultHasher, A>) -> bool {
+        let mut number = 0u32;
+        for page in &self.pages {
+            if cache.page_size(number) != Some(*page) {
+                return false;
+            }
+            number = number.wrapping_add(1);
+        }
+        cache.pages() == number && cache.page_size(number).is_none()
+    }
+
+    // Whether a number is below those that were given out, and no other key's.
+    fn has_own_number(&self, own: Held) -> bool {
+        let mut same = 0u32;
+        for held in &self.held {
+            same = same.wrapping_add(u32::from(held.place.number == own.place.number));
+        }
+        same == 1 && (own.place.number as usize) < self.numbers
+    }
+
+    // Whether a cache tells these keys in this order of use.
+    fn has_order<A: Allocator + Copy>(&self, cache: &TextureCache<u32, DefaultHasher, A>) -> bool {
+        let mut next = cache.newest();
+        for held in &self.held {
+            if next != Some((held.key, held.place)) {
+                return false;
+            }
+            next = cache.older(&held.key);
+        }
+        next.is_none()
+    }
+
+    /// Whether a cache has these pages, and holds these keys at these places, in this order, and no others.
+    pub fn is_picture_of<A: Allocator + Copy>(
+        &self,
+        cache: &TextureCache<u32, DefaultHasher, A>,
+    ) -> bool {
+        for held in &self.held {
+            if peek(cache, held.key) != Some(held.place) || !self.has_own_number(*held) {
+                return false;
+            }
+        }
+        cache.numbers() as usize == self.numbers
+            && cache.len() == self.held.len()
+            && self.has_order(cache)
+            && self.has_pages(cache)
+    }
+}

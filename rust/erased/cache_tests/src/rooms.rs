@@ -1,0 +1,184 @@
+// Erased from crates/cache_tests/src/rooms.rt by rust/erase: don't edit.
+//! Pages of a cache, worked by hand.
+
+use test_memory::Refusing;
+use wollemigo_core::atlas_cache::rooms::Rooms;
+use wollemigo_core::atlas_cache::{CacheError, CacheOptions};
+use wollemigo_core::guillotiere::{point2, size2, Rectangle, Size, DEFAULT_OPTIONS};
+use wollemigo_support::alloc::Allocator;
+use wollemigo_support::prelude::{assert, assert_eq, HostRuntime};
+use wollemigo_support::test::Fail;
+
+// New pages of 32 by 16 pixels, up to 64 by 32, at most 2.
+fn options() -> CacheOptions {
+    CacheOptions {
+        page: size2(32, 16),
+        largest_page: size2(64, 32),
+        pages: 2,
+        padding: 0,
+        atlas: DEFAULT_OPTIONS,
+    }
+}
+
+// Both pages.
+fn two_pages<A: Allocator + Copy>(alloc: A) -> Result<Rooms<A>, CacheError> {
+    let mut rooms = Rooms::new(alloc, options());
+    let _first = rooms.add_page()?;
+    let _second = rooms.add_page()?;
+    Ok(rooms)
+}
+
+// The page and the rectangle that a request is granted.
+fn place<A: Allocator + Copy>(
+    rooms: &mut Rooms<A>,
+    asked: Size,
+) -> Result<Option<(u32, Rectangle)>, CacheError> {
+    let (page, granted) = match rooms.place(asked)? {
+        Some((page, granted)) => (page, granted),
+        _ => {
+            return Ok(None);
+        }
+    };
+    Ok(Some((page, granted.rectangle)))
+}
+
+// Whether there is room for a request, which is freed again.
+fn place_and_free<A: Allocator + Copy>(
+    rooms: &mut Rooms<A>,
+    asked: Size,
+) -> Result<bool, CacheError> {
+    let (page, granted) = match rooms.place(asked)? {
+        Some((page, granted)) => (page, granted),
+        _ => {
+            return Ok(false);
+        }
+    };
+    rooms.free(page, granted.id);
+    Ok(true)
+}
+
+// How many rectangles of the first page a repacking moves, where to the first of them, and how many it gives up.
+fn repack_first<A: Allocator + Copy>(
+    rooms: &mut Rooms<A>,
+) -> Result<(usize, Option<Rectangle>, usize), CacheError> {
+    if rooms.len() == 0 {
+        return Ok((0, None, 0));
+    }
+    let list = rooms.repack(0)?;
+    let first = list.changes.first().map(|change| change.new.rectangle);
+    Ok((list.changes.len(), first, list.failures.len()))
+}
+
+// The areas of the first page that are live and free.
+fn areas_of_first<A: Allocator + Copy>(rooms: &Rooms<A>) -> (u64, u64) {
+    if rooms.len() == 0 {
+        return (0, 0);
+    }
+    (rooms.live_area(0), rooms.free_area(0))
+}
+
+fn at(x: i32, y: i32, right: i32, bottom: i32) -> Rectangle {
+    Rectangle {
+        min: point2(x, y),
+        max: point2(right, bottom),
+    }
+}
+
+#[test]
+fn pages_are_added_up_to_the_most() -> Result<(), Fail> {
+    let rt = HostRuntime;
+    let mut rooms = Rooms::new(rt.alloc(), options());
+    assert!(rt; rooms.is_empty() && rooms.options() == options());
+    assert_eq!(rt; rooms.add_page()?, Some((0, size2(32, 16))));
+    assert_eq!(rt; rooms.add_page()?, Some((1, size2(32, 16))));
+    assert_eq!(rt; rooms.add_page()?, None);
+    assert_eq!(rt; rooms.len(), 2);
+    Ok(())
+}
+
+#[test]
+fn the_first_page_grows_first() -> Result<(), Fail> {
+    let rt = HostRuntime;
+    let mut rooms = two_pages(rt.alloc())?;
+    assert_eq!(rt; rooms.grow_page()?, Some((0, size2(32, 32))));
+    assert_eq!(rt; rooms.grow_page()?, Some((0, size2(64, 32))));
+    assert_eq!(rt; rooms.grow_page()?, Some((1, size2(32, 32))));
+    assert_eq!(rt; rooms.grow_page()?, Some((1, size2(64, 32))));
+    assert_eq!(rt; rooms.grow_page()?, None);
+    Ok(())
+}
+
+#[test]
+fn the_first_page_with_room_is_taken() -> Result<(), Fail> {
+    let rt = HostRuntime;
+    let mut rooms = two_pages(rt.alloc())?;
+    assert_eq!(rt;
+        place(&mut rooms, size2(32, 16))?,
+        Some((0, at(0, 0, 32, 16)))
+    );
+    assert_eq!(rt;
+        place(&mut rooms, size2(20, 16))?,
+        Some((1, at(0, 0, 20, 16)))
+    );
+    assert_eq!(rt; place(&mut rooms, size2(20, 10))?, None);
+    assert_eq!(rt;
+        place(&mut rooms, size2(12, 16))?,
+        Some((1, at(20, 0, 32, 16)))
+    );
+    Ok(())
+}
+
+#[test]
+fn what_is_freed_has_room_again() -> Result<(), Fail> {
+    let rt = HostRuntime;
+    let mut rooms = two_pages(rt.alloc())?;
+    assert_eq!(rt;
+        place(&mut rooms, size2(32, 16))?,
+        Some((0, at(0, 0, 32, 16)))
+    );
+    assert!(rt; place_and_free(&mut rooms, size2(32, 16))?);
+    assert!(rt; place_and_free(&mut rooms, size2(32, 16))?);
+    Ok(())
+}
+
+#[test]
+fn a_cleared_page_has_room() -> Result<(), Fail> {
+    let rt = HostRuntime;
+    let mut rooms = two_pages(rt.alloc())?;
+    let _first = place(&mut rooms, size2(32, 16))?;
+    rooms.clear();
+    assert_eq!(rt;
+        place(&mut rooms, size2(32, 16))?,
+        Some((0, at(0, 0, 32, 16)))
+    );
+    Ok(())
+}
+
+#[test]
+fn the_largest_is_packed_first() -> Result<(), Fail> {
+    let rt = HostRuntime;
+    let mut rooms = two_pages(rt.alloc())?;
+    assert_eq!(rt;
+        place(&mut rooms, size2(12, 16))?,
+        Some((0, at(0, 0, 12, 16)))
+    );
+    assert_eq!(rt;
+        place(&mut rooms, size2(16, 16))?,
+        Some((0, at(12, 0, 28, 16)))
+    );
+    assert_eq!(rt; areas_of_first(&rooms), (448, 64));
+    assert_eq!(rt; repack_first(&mut rooms)?, (2, Some(at(0, 0, 16, 16)), 0));
+    assert_eq!(rt; areas_of_first(&rooms), (448, 64));
+    Ok(())
+}
+
+#[test]
+fn a_refusal_changes_no_page() -> Result<(), Fail> {
+    let rt = HostRuntime;
+    let heap = Refusing::new(rt.alloc());
+    let mut rooms = Rooms::new(&heap, options());
+    heap.refuse_every();
+    assert_eq!(rt; rooms.add_page(), Err(CacheError::Memory));
+    assert!(rt; rooms.is_empty());
+    Ok(())
+}

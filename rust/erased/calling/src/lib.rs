@@ -1,0 +1,23 @@
+// Erased from crates/calling/src/lib.rt by rust/erase: don't edit.
+//! What callers write first over an atlas. All is proved with no proof file but `apart::two` and `tiled`, which show
+//! how a clause and a law are cited.
+#![forbid(unsafe_code)]
+#![allow(dead_code, unused_imports, unused_labels, unused_variables)]
+
+mod apart;
+mod asked;
+mod back;
+mod boxes;
+mod first;
+mod frames;
+mod glyphs;
+mod keep;
+mod lists;
+mod moves;
+mod pages;
+mod plain;
+mod reserved;
+mod sheet;
+mod shown;
+mod tiled;
+mod total;

@@ -1,0 +1,64 @@
+// Erased from crates/guillotiere_c/src/atlas_handle.rt by rust/erase: don't edit.
+//! What C holds of an atlas.
+
+use crate::held::{hold, release, Held};
+use wollemigo_core::guillotiere::AtlasAllocator;
+use wollemigo_support::alloc::Global;
+use wollemigo_support::prelude::Box;
+
+use core::mem::replace;
+
+/// A place for an atlas: it holds one, or nothing, and then it is null.
+#[repr(C)]
+pub struct AtlasHandle {
+    at: *mut u8,
+}
+
+impl AtlasHandle {
+    /// A handle that holds nothing.
+    pub fn none() -> AtlasHandle {
+        AtlasHandle {
+            at: std::ptr::null_mut(),
+        }
+    }
+
+    /// Lets a handle go. Asks that it holds nothing, so that nothing is lost.
+    pub fn forget(handle: AtlasHandle) {
+        let AtlasHandle { at: _ } = handle;
+    }
+
+    /// Whether it holds an atlas.
+    pub fn holds(&mut self) -> bool {
+        !self.at.is_null()
+    }
+
+    /// A handle that holds what was taken apart.
+    pub fn close(held: Held<AtlasAllocator, Global>) -> AtlasHandle {
+        let Held { at, alloc: _ } = held;
+        AtlasHandle { at: at as *mut u8 }
+    }
+
+    /// What it holds, taken apart. Asks that it holds an atlas.
+    pub fn open(alloc: Global, handle: AtlasHandle) -> Held<AtlasAllocator, Global> {
+        let AtlasHandle { at } = handle;
+        Held {
+            at: at as *mut AtlasAllocator,
+            alloc,
+        }
+    }
+}
+
+impl AtlasHandle {
+    /// Takes the atlas out; the handle holds nothing then. Asks that it holds an atlas.
+    pub fn take(&mut self, alloc: Global) -> Box<AtlasAllocator> {
+        let handle = replace(self, AtlasHandle::none());
+        release(AtlasHandle::open(alloc, handle))
+    }
+
+    /// Puts an atlas in. Asks that the handle holds nothing.
+    pub fn put(&mut self, atlas: Box<AtlasAllocator>) {
+        atlas.prove_sound();
+        let empty = replace(self, AtlasHandle::close(hold(atlas)));
+        AtlasHandle::forget(empty);
+    }
+}

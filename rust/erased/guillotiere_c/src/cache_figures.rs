@@ -1,0 +1,85 @@
+// Erased from crates/guillotiere_c/src/cache_figures.rt by rust/erase: don't edit.
+//! The exports that tell of a cache: how many keys and pages it has, and how it was used.
+
+use crate::cache_handle::CacheHandle;
+use crate::plain::{plain_size, PlainSize, DONE, EMPTY, NO_PAGE};
+use crate::plain_cache::{plain_counts, PlainCounts};
+use wollemigo_support::alloc::Global;
+
+/// How many keys are held. `DONE`.
+#[no_mangle]
+pub extern "C" fn guillotiere_cache_len(cache: &mut CacheHandle, len: &mut usize) -> u32 {
+    let alloc = Global;
+    if !cache.holds() {
+        return EMPTY;
+    }
+    let held = cache.take(alloc);
+    *len = held.len();
+    cache.put(held);
+    DONE
+}
+
+/// How many numbers keys had so far, since the cache was made or cleared: the number of each place is below. `DONE`.
+#[no_mangle]
+pub extern "C" fn guillotiere_cache_numbers(cache: &mut CacheHandle, numbers: &mut u32) -> u32 {
+    let alloc = Global;
+    if !cache.holds() {
+        return EMPTY;
+    }
+    let held = cache.take(alloc);
+    *numbers = held.numbers();
+    cache.put(held);
+    DONE
+}
+
+/// How many pages there are. `DONE`.
+#[no_mangle]
+pub extern "C" fn guillotiere_cache_page_count(cache: &mut CacheHandle, pages: &mut u32) -> u32 {
+    let alloc = Global;
+    if !cache.holds() {
+        return EMPTY;
+    }
+    let held = cache.take(alloc);
+    *pages = held.pages();
+    cache.put(held);
+    DONE
+}
+
+/// The size of a page, in pixels. Pages are counted from 0. `DONE`; `NO_PAGE`.
+#[no_mangle]
+pub extern "C" fn guillotiere_cache_page_size(
+    cache: &mut CacheHandle,
+    page: u32,
+    size: &mut PlainSize,
+) -> u32 {
+    let alloc = Global;
+    if !cache.holds() {
+        return EMPTY;
+    }
+    let held = cache.take(alloc);
+    let found = held.page_size(page);
+    cache.put(held);
+    match found {
+        Some(found) => {
+            *size = plain_size(found);
+            DONE
+        }
+        None => NO_PAGE,
+    }
+}
+
+/// How often `guillotiere_cache_get` found its key and how often it didn't, and how many keys were evicted. `DONE`.
+#[no_mangle]
+pub extern "C" fn guillotiere_cache_statistics(
+    cache: &mut CacheHandle,
+    counts: &mut PlainCounts,
+) -> u32 {
+    let alloc = Global;
+    if !cache.holds() {
+        return EMPTY;
+    }
+    let held = cache.take(alloc);
+    *counts = plain_counts(held.statistics());
+    cache.put(held);
+    DONE
+}

@@ -1,0 +1,173 @@
+// Erased from crates/guillotiere_c/src/plain_cache.rt by rust/erase: don't edit.
+//! What crosses to C of caches: options, places, changes and counts. All lengths are in pixels.
+
+use crate::plain::{
+    plain_rectangle, plain_size, PlainOptions, PlainRectangle, PlainSize, BAD_ATLAS, BAD_PADDING,
+    DONE, EMPTY, EMPTY_PAGE, EVICTED, LARGEST_PAGE, MEMORY, MOVED, NOTHING_FITS, NO_PAGES, NUMBERS,
+    OTHER_SIZE, PAGE_ADDED, PAGE_GROWN, SLOTS,
+};
+use wollemigo_core::atlas_cache::{
+    CacheChange, CacheError, CacheOptions, Counts, OptionsError, Place,
+};
+use wollemigo_core::guillotiere::{size2, AllocatorOptions};
+
+/// As `CacheOptions`.
+#[repr(C)]
+#[derive(Clone, Copy)]
+pub struct PlainCacheOptions {
+    pub page: PlainSize,
+    pub largest_page: PlainSize,
+    pub pages: u32,
+    pub padding: i32,
+    pub atlas: PlainOptions,
+}
+
+/// As `Place`.
+#[repr(C)]
+#[derive(Clone, Copy)]
+pub struct PlainPlace {
+    pub number: u32,
+    pub page: u32,
+    pub rectangle: PlainRectangle,
+    pub inner: PlainRectangle,
+}
+
+/// As `CacheChange`. What its kind doesn't name has no meaning.
+#[repr(C)]
+#[derive(Clone, Copy)]
+pub struct PlainCacheChange {
+    pub kind: u32,
+    pub page: u32,
+    pub size: PlainSize,
+    pub key: u64,
+    pub from: PlainPlace,
+    pub to: PlainPlace,
+}
+
+/// As `Counts`.
+#[repr(C)]
+#[derive(Clone, Copy)]
+pub struct PlainCounts {
+    pub hits: u64,
+    pub misses: u64,
+    pub evictions: u64,
+}
+
+// No place.
+const NO_CORNERS: PlainRectangle = PlainRectangle {
+    min_x: 0,
+    min_y: 0,
+    max_x: 0,
+    max_y: 0,
+};
+
+// No place.
+const NOWHERE: PlainPlace = PlainPlace {
+    number: 0,
+    page: 0,
+    rectangle: NO_CORNERS,
+    inner: NO_CORNERS,
+};
+
+// No change.
+const NOTHING: PlainCacheChange = PlainCacheChange {
+    kind: 0,
+    page: 0,
+    size: PlainSize {
+        width: 0,
+        height: 0,
+    },
+    key: 0,
+    from: NOWHERE,
+    to: NOWHERE,
+};
+
+/// The same for C.
+pub fn plain_place(place: Place) -> PlainPlace {
+    PlainPlace {
+        number: place.number,
+        page: place.page,
+        rectangle: plain_rectangle(place.rectangle),
+        inner: plain_rectangle(place.inner),
+    }
+}
+
+/// The same for C.
+pub fn plain_counts(counts: Counts) -> PlainCounts {
+    PlainCounts {
+        hits: counts.hits,
+        misses: counts.misses,
+        evictions: counts.evictions,
+    }
+}
+
+/// The same for C.
+pub fn plain_cache_change(change: CacheChange<u64>) -> PlainCacheChange {
+    match change {
+        CacheChange::PageAdded { page, size } => PlainCacheChange {
+            kind: PAGE_ADDED,
+            page,
+            size: plain_size(size),
+            ..NOTHING
+        },
+        CacheChange::PageGrown { page, size } => PlainCacheChange {
+            kind: PAGE_GROWN,
+            page,
+            size: plain_size(size),
+            ..NOTHING
+        },
+        CacheChange::Evicted { key, place } => PlainCacheChange {
+            kind: EVICTED,
+            key,
+            from: plain_place(place),
+            ..NOTHING
+        },
+        CacheChange::Moved { key, from, to } => PlainCacheChange {
+            kind: MOVED,
+            key,
+            from: plain_place(from),
+            to: plain_place(to),
+            ..NOTHING
+        },
+    }
+}
+
+/// The same for Rattle.
+pub fn cache_options_for(options: &PlainCacheOptions) -> CacheOptions {
+    CacheOptions {
+        page: size2(options.page.width, options.page.height),
+        largest_page: size2(options.largest_page.width, options.largest_page.height),
+        pages: options.pages,
+        padding: options.padding,
+        atlas: AllocatorOptions {
+            alignment: size2(
+                options.atlas.alignment_width,
+                options.atlas.alignment_height,
+            ),
+            small_size_threshold: options.atlas.small_size_threshold,
+            large_size_threshold: options.atlas.large_size_threshold,
+        },
+    }
+}
+
+/// The status of an error of a cache.
+pub fn status_of_cache_error(error: CacheError) -> u32 {
+    match error {
+        CacheError::Memory => MEMORY,
+        CacheError::Numbers => NUMBERS,
+        CacheError::Slots => SLOTS,
+        CacheError::OtherSize => OTHER_SIZE,
+    }
+}
+
+/// The status of an error of options.
+pub fn status_of_options_error(error: OptionsError) -> u32 {
+    match error {
+        OptionsError::EmptyPage => EMPTY_PAGE,
+        OptionsError::LargestPage => LARGEST_PAGE,
+        OptionsError::NoPages => NO_PAGES,
+        OptionsError::Padding => BAD_PADDING,
+        OptionsError::Atlas => BAD_ATLAS,
+        OptionsError::NothingFits => NOTHING_FITS,
+    }
+}

@@ -1,0 +1,26 @@
+// Erased from crates/guillotiere_tests/src/lib.rt by rust/erase: don't edit.
+//! Rows of calls of an atlas and of sessions, and what they answer. Expected values are worked by hand from the rules,
+//! or recorded from the Rust crate `guillotiere` 0.7.0; none is an answer of the code under test.
+#![forbid(unsafe_code)]
+#![allow(dead_code, unused_imports, unused_labels, unused_variables)]
+
+#[cfg(test)]
+mod atlas_calls;
+#[cfg(test)]
+mod atlas_extremes;
+#[cfg(test)]
+mod atlas_freeing;
+#[cfg(test)]
+mod atlas_grants;
+#[cfg(test)]
+mod atlas_growth;
+#[cfg(test)]
+mod atlas_rearranging;
+#[cfg(test)]
+mod atlas_starts;
+#[cfg(test)]
+mod node_kinds;
+#[cfg(test)]
+mod playing;
+#[cfg(test)]
+mod session_rows;

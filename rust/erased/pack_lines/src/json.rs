@@ -1,0 +1,86 @@
+// Erased from crates/pack_lines/src/json.rt by rust/erase: don't edit.
+//! A sheet as JSON.
+
+use crate::frames::Frame;
+use wollemigo_core::atlas_model::{Point, Size};
+use wollemigo_support::alloc::{AllocError, Global};
+use wollemigo_support::prelude::{format, String, Vec};
+
+// A name as a JSON string.
+fn quote(alloc: Global, name: &str) -> Result<Vec<u8>, AllocError> {
+    let mut text = Vec::from_slice(alloc, b"\"")?;
+    for byte in name.as_bytes() {
+        if *byte == b'"' || *byte == b'\\' {
+            text.push(b'\\')?;
+        }
+        text.push(*byte)?;
+    }
+    text.push(b'"')?;
+    Ok(text)
+}
+
+// What JSON says of a sprite that is turned, or not.
+fn rotated(turned: bool) -> &'static str {
+    if turned {
+        "true"
+    } else {
+        "false"
+    }
+}
+
+// Where a sprite lies.
+fn corner(alloc: Global, at: Point) -> Result<String, AllocError> {
+    let Point { x, y } = at;
+    format!(in alloc; ":{{\"frame\":{{\"x\":{x},\"y\":{y}")
+}
+
+// The size of a sprite, and whether it is turned.
+fn sides(alloc: Global, size: Size, turned: bool) -> Result<String, AllocError> {
+    let Size { width, height } = size;
+    let rotated = rotated(turned);
+    format!(in alloc; ",\"w\":{width},\"h\":{height}}},\"rotated\":{rotated}}}")
+}
+
+// A sprite: its name and its frame.
+fn frame_json(alloc: Global, frame: Frame<'_>) -> Result<Vec<u8>, AllocError> {
+    let mut text = quote(alloc, frame.sprite.name)?;
+    let corner = corner(alloc, frame.corner)?;
+    text.extend_from_slice(corner.as_bytes())?;
+    let sides = sides(alloc, frame.sprite.size, frame.turned)?;
+    text.extend_from_slice(sides.as_bytes())?;
+    Ok(text)
+}
+
+// The frames in order, with a comma between two.
+fn frames_json(alloc: Global, frames: &[Frame<'_>]) -> Result<Vec<u8>, AllocError> {
+    let (first, others) = match frames.split_first() {
+        Some((first, others)) => (first, others),
+        _ => {
+            return Ok(Vec::new(alloc));
+        }
+    };
+    let mut text = frame_json(alloc, *first)?;
+    for next in others {
+        text.extend_from_slice(b",\n")?;
+        let next = frame_json(alloc, *next)?;
+        text.extend_from_slice(&next)?;
+    }
+    Ok(text)
+}
+
+// The size of the sheet, and the end.
+fn meta(alloc: Global, sheet: Size) -> Result<String, AllocError> {
+    let Size { width, height } = sheet;
+    format!(in alloc; "\n}},\"meta\":{{\"size\":{{\"w\":{width},\"h\":{height}}}}}}}\n")
+}
+
+/// A sheet as a JSON object: `frames` by the names of the sprites, in order, each with its `frame` (`x`, `y`, `w`, `h`)
+/// and `rotated`; and `meta` with the `size` of the sheet (`w`, `h`). It takes memory for the text.
+pub fn sheet_json(alloc: Global, sheet: Size, frames: &[Frame<'_>]) -> Result<Vec<u8>, AllocError> {
+    let mut text = Vec::from_slice(alloc, b"{\"frames\":{\n")?;
+    let frames = frames_json(alloc, frames)?;
+    text.extend_from_slice(&frames)?;
+    let meta = meta(alloc, sheet)?;
+    text.extend_from_slice(meta.as_bytes())?;
+    Ok(text)
+}

@@ -1,0 +1,180 @@
+// Erased from crates/pack_lines/src/settings.rt by rust/erase: don't edit.
+//! What the first line may set.
+
+use atlas_words::words::{first_word, number_argument};
+use wollemigo_core::atlas_model::{size2, Size};
+
+/// Which sheets are allowed, in pixels.
+#[derive(Clone, Copy, Debug, PartialEq, Eq)]
+pub enum Sheets {
+    /// `one W H`: this size alone.
+    One(Size),
+    /// `squares LEAST GREATEST`: squares with a side of these numbers or between them.
+    Squares { least: i32, greatest: i32 },
+    /// `powers GREATEST`: each side a power of two, up to this one.
+    Powers { greatest: i32 },
+    /// `width W GREATEST`: this width, and a height up to the second number.
+    Heights { width: i32, greatest: i32 },
+}
+
+/// What one setting sets.
+#[derive(Clone, Copy, Debug, PartialEq, Eq)]
+pub enum Setting {
+    /// Which sheets are allowed.
+    Allowed(Sheets),
+    /// `padding N`: how many pixels at least lie between two sprites, and between a sprite and the border.
+    Padding(u16),
+    /// `align W H`: the sides on whose multiples places begin, with their padding.
+    Align(Size),
+    /// `turn`: sprites may lie turned by 90 degrees.
+    Turn,
+    /// `effort N`: how many changes of the order are tried.
+    Effort(u32),
+    /// `seed N`: where the row of random changes begins.
+    Seed(u32),
+    /// `fill`: as many sprites are placed as the greatest sheet takes.
+    Fill,
+    /// `json`: the sheet is written as JSON.
+    Json,
+}
+
+/// What a sheet keeps to, and how it is written.
+#[derive(Clone, Copy, Debug, PartialEq, Eq)]
+pub struct Settings {
+    /// Which sheets are allowed.
+    pub sheets: Sheets,
+    /// How many pixels at least lie between two sprites, and between a sprite and the border.
+    pub padding: u16,
+    /// The sides on whose multiples places begin, with their padding.
+    pub alignment: Size,
+    /// Whether sprites may lie turned by 90 degrees.
+    pub turn: bool,
+    /// How many changes of the order are tried.
+    pub effort: u32,
+    /// Where the row of random changes begins.
+    pub seed: u32,
+    /// Whether as many sprites are placed as the greatest sheet takes, in place of all in a small one.
+    pub fill: bool,
+    /// Whether the sheet is written as JSON.
+    pub json: bool,
+}
+
+/// Powers of two up to 4096, no padding, alignment 1 in both directions, no turning, no changes of the order; as lines.
+pub const DEFAULT_SETTINGS: Settings = Settings {
+    sheets: Sheets::Powers { greatest: 4096 },
+    padding: 0,
+    alignment: Size {
+        width: 1,
+        height: 1,
+    },
+    turn: false,
+    effort: 0,
+    seed: 0,
+    fill: false,
+    json: false,
+};
+
+// The settings with one changed.
+fn change(settings: &mut Settings, setting: Setting) {
+    match setting {
+        Setting::Allowed(sheets) => settings.sheets = sheets,
+        Setting::Padding(pixels) => settings.padding = pixels,
+        Setting::Align(size) => settings.alignment = size,
+        Setting::Turn => settings.turn = true,
+        Setting::Effort(changes) => settings.effort = changes,
+        Setting::Seed(start) => settings.seed = start,
+        Setting::Fill => settings.fill = true,
+        Setting::Json => settings.json = true,
+    }
+}
+
+// A number that isn't below 0.
+fn from_zero(number: i32) -> Option<u32> {
+    u32::try_from(number).ok()
+}
+
+// The setting of a word alone.
+fn alone(word: &[u8]) -> Option<Setting> {
+    if word == b"turn".as_slice() {
+        return Some(Setting::Turn);
+    }
+    if word == b"fill".as_slice() {
+        return Some(Setting::Fill);
+    }
+    if word == b"json".as_slice() {
+        return Some(Setting::Json);
+    }
+    None
+}
+
+// The setting of a word and a number.
+fn with_number(word: &[u8], number: i32) -> Option<Setting> {
+    if word == b"powers".as_slice() {
+        return Some(Setting::Allowed(Sheets::Powers { greatest: number }));
+    }
+    if word == b"padding".as_slice() {
+        let pixels = from_zero(number)?;
+        return u16::try_from(pixels).ok().map(Setting::Padding);
+    }
+    if word == b"effort".as_slice() {
+        return from_zero(number).map(Setting::Effort);
+    }
+    if word == b"seed".as_slice() {
+        return from_zero(number).map(Setting::Seed);
+    }
+    None
+}
+
+// The setting of a word and two numbers.
+fn with_numbers(word: &[u8], first: i32, second: i32) -> Option<Setting> {
+    if word == b"one".as_slice() {
+        return Some(Setting::Allowed(Sheets::One(size2(first, second))));
+    }
+    if word == b"squares".as_slice() {
+        return Some(Setting::Allowed(Sheets::Squares {
+            least: first,
+            greatest: second,
+        }));
+    }
+    if word == b"width".as_slice() {
+        return Some(Setting::Allowed(Sheets::Heights {
+            width: first,
+            greatest: second,
+        }));
+    }
+    if word == b"align".as_slice() {
+        return Some(Setting::Align(size2(first, second)));
+    }
+    None
+}
+
+// The setting that a text begins with, after a space, and what follows it.
+fn next_setting(text: &[u8]) -> Option<(Setting, &[u8])> {
+    let (space, after) = text.split_first()?;
+    if *space != b' ' {
+        return None;
+    }
+    let (word, rest) = first_word(after);
+    if let Some(setting) = alone(word) {
+        return Some((setting, rest));
+    }
+    let (first, rest) = number_argument(rest)?;
+    if let Some(setting) = with_number(word, first) {
+        return Some((setting, rest));
+    }
+    let (second, rest) = number_argument(rest)?;
+    Some((with_numbers(word, first, second)?, rest))
+}
+
+/// What settings, each after one space, change of `DEFAULT_SETTINGS`; of two of one kind the later holds. None for
+/// every other text.
+pub fn read_settings(text: &[u8]) -> Option<Settings> {
+    let mut settings = DEFAULT_SETTINGS;
+    let mut rest = text;
+    while !rest.is_empty() {
+        let (setting, after) = next_setting(rest)?;
+        change(&mut settings, setting);
+        rest = after;
+    }
+    Some(settings)
+}

@@ -1,0 +1,419 @@
+// Erased from crates/recording_tests/src/replay.rt by rust/erase: don't edit.
+//! Replays: rows of recordings that are whole, cut or made up, and a long session.
+
+use test_memory::Refusing;
+use wollemigo_core::guillotiere::{
+    size2, AllocId, Allocation, ChangeList, Point, Rectangle, Size, DEFAULT_OPTIONS,
+};
+use wollemigo_core::guillotiere_recording::{
+    Event, Recorder, Recording, RecordingAllocator, RecordingError, ReplayFault,
+};
+use wollemigo_support::alloc::{Allocator, Global};
+use wollemigo_support::prelude::{assert, HostRuntime, Vec};
+use wollemigo_support::process::Abort;
+use wollemigo_support::test::Fail;
+
+type Corners = (i32, i32, i32, i32);
+
+fn allocation((name, (left, top, right, bottom)): (u32, Corners)) -> Allocation {
+    Allocation {
+        id: AllocId::deserialize(name),
+        rectangle: Rectangle {
+            min: Point { x: left, y: top },
+            max: Point {
+                x: right,
+                y: bottom,
+            },
+        },
+    }
+}
+
+// A session of an atlas; each side is at least 1 pixel.
+fn begun<A: Allocator + Copy>(
+    alloc: A,
+    (width, height): (u16, u16),
+) -> Result<RecordingAllocator<A>, RecordingError> {
+    let whole = size2(i32::from(width).max(1), i32::from(height).max(1));
+    RecordingAllocator::new(alloc, whole)
+}
+
+fn request<A: Allocator + Copy>(
+    session: &mut RecordingAllocator<A>,
+    (width, height): (i32, i32),
+) -> Result<Option<Allocation>, RecordingError> {
+    session.allocate(size2(width, height))
+}
+
+fn free<A: Allocator + Copy>(
+    session: &mut RecordingAllocator<A>,
+    name: u32,
+) -> Result<(), RecordingError> {
+    session.deallocate(AllocId::deserialize(name))
+}
+
+fn finished<A: Allocator + Copy>(session: RecordingAllocator<A>) -> Recording<A> {
+    session.finish()
+}
+
+// Three boxes one below another that fill an atlas.
+fn filled<A: Allocator + Copy>(alloc: A) -> Result<RecordingAllocator<A>, RecordingError> {
+    let mut session = begun(alloc, (100, 300))?;
+    for _ in 0..3u32 {
+        request(&mut session, (100, 100))?;
+    }
+    Ok(session)
+}
+
+// The same; then no room for a fourth, the middle one freed, and the others placed anew.
+fn column<A: Allocator + Copy>(alloc: A) -> Result<Recording<A>, RecordingError> {
+    let mut session = filled(alloc)?;
+    request(&mut session, (1, 1))?;
+    free(&mut session, 1)?;
+    session.rearrange()?;
+    Ok(finished(session))
+}
+
+// Whether a replay answers these counts of grants, freeings and failed requests, and these live boxes.
+fn ends<A: Allocator + Copy>(
+    recording: &Recording<A>,
+    counts: (u64, u64, u64),
+    live: &[(u32, Corners)],
+) -> Result<bool, ReplayFault> {
+    let stats = recording.replay()?;
+    let same = stats
+        .live
+        .iter()
+        .zip(live)
+        .all(|(shown, expected)| *shown == allocation(*expected));
+    let counted = (
+        stats.allocations,
+        stats.deallocations,
+        stats.failed_allocations,
+    ) == counts;
+    Ok(counted && same && stats.live.len() == live.len())
+}
+
+// Removes an event that is there.
+fn remove<A: Allocator + Copy>(rt: &impl Abort, recording: &mut Recording<A>, at: usize) {
+    assert!(rt; at < recording.events().len());
+    recording.remove_event(at);
+}
+
+fn are_equal<A: Allocator + Copy>(one: &Recording<A>, other: &Recording<A>) -> bool {
+    one.events() == other.events()
+}
+
+const MOVED: &[(u32, Corners)] = &[(0, (0, 100, 100, 200)), (2, (0, 0, 100, 100))];
+
+#[test]
+fn a_session_is_replayed() -> Result<(), Fail> {
+    let rt = HostRuntime;
+    let recording = column(rt.alloc())?;
+    assert!(rt; ends(&recording, (3, 1, 1), MOVED) == Ok(true));
+    Ok(())
+}
+
+#[test]
+fn an_idle_session_is_replayed() -> Result<(), Fail> {
+    let rt = HostRuntime;
+    let idle = finished(begun(rt.alloc(), (10, 10))?);
+    assert!(rt; ends(&idle, (0, 0, 0), &[]) == Ok(true));
+    Ok(())
+}
+
+// The whole atlas is granted and freed; and, where it is asked for, granted again.
+fn granted(alloc: Global, again: bool) -> Result<Recording<Global>, RecordingError> {
+    let mut session = begun(alloc, (100, 100))?;
+    request(&mut session, (100, 100))?;
+    free(&mut session, 0)?;
+    if again {
+        request(&mut session, (100, 100))?;
+    }
+    Ok(finished(session))
+}
+
+#[test]
+fn a_second_grant_has_a_name_of_its_own() -> Result<(), Fail> {
+    let rt = HostRuntime;
+    let mut recording = granted(rt.alloc(), true)?;
+    let live = [(1, (0, 0, 100, 100))];
+    assert!(rt; ends(&recording, (2, 1, 0), &live) == Ok(true));
+    remove(&rt, &mut recording, 1);
+    assert!(rt; ends(&recording, (2, 0, 0), &[]) == Err(ReplayFault::Differs(1)));
+    Ok(())
+}
+
+#[test]
+fn a_request_without_room_is_replayed() -> Result<(), Fail> {
+    let rt = HostRuntime;
+    let mut session = begun(rt.alloc(), (10, 10))?;
+    assert!(rt; request(&mut session, (11, 1)) == Ok(None));
+    let mut recording = finished(session);
+    assert!(rt; ends(&recording, (0, 0, 1), &[]) == Ok(true));
+    remove(&rt, &mut recording, 0);
+    assert!(rt; ends(&recording, (0, 0, 0), &[]) == Ok(true));
+    Ok(())
+}
+
+// What a recording answers without one of its events.
+fn fault_without(
+    rt: &impl Abort,
+    mut recording: Recording<Global>,
+    at: usize,
+) -> Option<ReplayFault> {
+    remove(rt, &mut recording, at);
+    recording.replay().err()
+}
+
+#[test]
+fn cut_recordings() -> Result<(), Fail> {
+    let rt = HostRuntime;
+    let recording = finished(filled(rt.alloc())?);
+    assert!(rt; fault_without(&rt, recording, 0) == Some(ReplayFault::Differs(0)));
+    let recording = granted(rt.alloc(), false)?;
+    assert!(rt; fault_without(&rt, recording, 0) == Some(ReplayFault::BadEvent(0)));
+    Ok(())
+}
+
+// Without the third grant the last request has room; without the freeing another list is the answer.
+#[test]
+fn cut_columns() -> Result<(), Fail> {
+    let rt = HostRuntime;
+    let recording = column(rt.alloc())?;
+    assert!(rt; fault_without(&rt, recording, 2) == Some(ReplayFault::Differs(2)));
+    let recording = column(rt.alloc())?;
+    assert!(rt; fault_without(&rt, recording, 4) == Some(ReplayFault::Differs(4)));
+    Ok(())
+}
+
+// What two made up events, or the first alone, are answered; finished again, their recorder has none.
+fn fault_of(
+    rt: &impl Abort,
+    alloc: Global,
+    first: Event<Global>,
+    second: Option<Event<Global>>,
+) -> Result<Option<ReplayFault>, RecordingError> {
+    let mut recorder = Recorder::new(alloc, size2(10, 10), &DEFAULT_OPTIONS);
+    recorder.record(first)?;
+    if let Some(event) = second {
+        recorder.record(event)?;
+    }
+    let fault = recorder.finish().replay().err();
+    assert!(rt; recorder.finish().events().is_empty());
+    Ok(fault)
+}
+
+fn box_of_seven(corners: Corners) -> Event<Global> {
+    Event::Allocate(size2(4, 4), Some(allocation((7, corners))))
+}
+
+#[test]
+fn made_up_events_that_no_call_has() -> Result<(), Fail> {
+    let rt = HostRuntime;
+    let alloc = rt.alloc();
+    let resize = Event::ResizeAndRearrange(size2(0, 5), ChangeList::empty(alloc));
+    let first = Some(ReplayFault::BadEvent(0));
+    assert!(rt; fault_of(&rt, alloc, Event::Grow(size2(9, 10)), None)? == first);
+    assert!(rt; fault_of(&rt, alloc, resize, None)? == first);
+    let twice = Some(box_of_seven((0, 0, 4, 4)));
+    let fault = fault_of(&rt, alloc, box_of_seven((0, 0, 4, 4)), twice)?;
+    assert!(rt; fault == Some(ReplayFault::BadEvent(1)));
+    Ok(())
+}
+
+#[test]
+fn made_up_answers() -> Result<(), Fail> {
+    let rt = HostRuntime;
+    let alloc = rt.alloc();
+    let first = Some(ReplayFault::Differs(0));
+    assert!(rt; fault_of(&rt, alloc, box_of_seven((0, 0, 4, 5)), None)? == first);
+    assert!(rt; fault_of(&rt, alloc, Event::Allocate(size2(4, 4), None), None)? == first);
+    assert!(rt; fault_of(&rt, alloc, box_of_seven((1, 0, 5, 4)), None)? == first);
+    Ok(())
+}
+
+#[test]
+fn a_made_up_name_is_that_of_its_box() -> Result<(), Fail> {
+    let rt = HostRuntime;
+    let mut made = Recorder::new(rt.alloc(), size2(10, 10), &DEFAULT_OPTIONS);
+    made.record(box_of_seven((0, 0, 4, 4)))?;
+    let recording = made.finish();
+    assert!(rt; ends(&recording, (1, 0, 0), &[(7, (0, 0, 4, 4))]) == Ok(true));
+    Ok(())
+}
+
+#[test]
+fn refused_replays() -> Result<(), Fail> {
+    let rt = HostRuntime;
+    let heap = Refusing::new(rt.alloc());
+    let recording = column(&heap)?;
+    let copy = recording.clone()?;
+    let mut refusals = 0u32;
+    for number in 1..1000u32 {
+        heap.refuse_nth(number);
+        let answer = ends(&recording, (3, 1, 1), MOVED);
+        assert!(rt; are_equal(&recording, &copy));
+        if !heap.is_done() {
+            assert!(rt; answer == Ok(true));
+            break;
+        }
+        assert!(rt; answer == Err(ReplayFault::Memory));
+        refusals = number;
+    }
+    assert!(rt; refusals > 5, "too few requests for memory");
+    Ok(())
+}
+
+#[test]
+fn an_event_is_removed_without_memory() -> Result<(), Fail> {
+    let rt = HostRuntime;
+    let heap = Refusing::new(rt.alloc());
+    let mut recording = column(&heap)?;
+    heap.refuse_every();
+    remove(&rt, &mut recording, 5);
+    assert!(rt; recording.events().len() == 5);
+    Ok(())
+}
+
+// The next word of the generator splitmix64.
+fn next(state: &mut u64) -> u64 {
+    *state = state.wrapping_add(0x9e37_79b9_7f4a_7c15);
+    let mut z = *state;
+    z = (z ^ (z >> 30)).wrapping_mul(0xbf58_476d_1ce4_e5b9);
+    z = (z ^ (z >> 27)).wrapping_mul(0x94d0_49bb_1331_11eb);
+    z ^ (z >> 31)
+}
+
+// A number below the bound; 0 where that is 0.
+fn below(state: &mut u64, bound: u16) -> u16 {
+    if bound == 0 {
+        return 0;
+    }
+    ((next(state) >> 40) % u64::from(bound)) as u16
+}
+
+fn side(state: &mut u64, bound: u16) -> i32 {
+    i32::from(below(state, bound))
+}
+
+// Makes the atlas larger by up to 7 pixels a side.
+fn grow(
+    rt: &impl Abort,
+    session: &mut RecordingAllocator<Global>,
+    state: &mut u64,
+) -> Result<(), RecordingError> {
+    let before = session.size();
+    let larger = Size {
+        width: before.width.saturating_add(side(state, 8)),
+        height: before.height.saturating_add(side(state, 8)),
+    };
+    assert!(rt; session.size().width <= larger.width);
+    assert!(rt; session.size().height <= larger.height);
+    session.grow(larger)
+}
+
+// Asks for a box of up to 59 pixels a side.
+fn ask(
+    session: &mut RecordingAllocator<Global>,
+    live: &mut Vec<AllocId>,
+    state: &mut u64,
+) -> Result<(), RecordingError> {
+    let sides = (side(state, 60), side(state, 60));
+    if let Some(granted) = request(session, sides)? {
+        live.push(granted.id)?;
+    }
+    Ok(())
+}
+
+// Frees one of the live boxes, if there is one.
+fn give_back(
+    session: &mut RecordingAllocator<Global>,
+    live: &mut Vec<AllocId>,
+    state: &mut u64,
+) -> Result<(), RecordingError> {
+    let count = u16::try_from(live.len()).unwrap_or(u16::MAX);
+    let at = usize::from(below(state, count));
+    if at < live.len() {
+        session.deallocate(live.swap_remove(at))?;
+    }
+    Ok(())
+}
+
+// A random session of 20000 calls: requests, freeings and a few growths.
+fn long_session(rt: &impl Abort, alloc: Global) -> Result<RecordingAllocator<Global>, Fail> {
+    let mut session = begun(alloc, (512, 512))?;
+    let mut live: Vec<AllocId> = Vec::new(alloc);
+    let mut state = 7u64;
+    for _ in 0..20000u32 {
+        match below(&mut state, 200) {
+            0 => grow(rt, &mut session, &mut state)?,
+            1..=110 => ask(&mut session, &mut live, &mut state)?,
+            _ => give_back(&mut session, &mut live, &mut state)?,
+        }
+    }
+    Ok(session)
+}
+
+#[test]
+fn long_recording() -> Result<(), Fail> {
+    let rt = HostRuntime;
+    let session = long_session(&rt, rt.alloc())?;
+    let live = session.allocations()?;
+    let recording = session.finish();
+    let stats = recording.replay()?;
+    assert!(rt; live.len() > 10, "too few live boxes");
+    assert!(rt; stats.live.as_slice() == live.as_slice());
+    let copy = stats.clone()?;
+    assert!(rt; copy == stats);
+    Ok(())
+}
+
+// The same event with names counted down from the greatest.
+fn turned(event: &Event<Global>) -> Result<Event<Global>, RecordingError> {
+    Ok(match event {
+        Event::Allocate(size, Some(granted)) => {
+            let name = AllocId::deserialize(u32::MAX - granted.id.serialize());
+            Event::Allocate(
+                *size,
+                Some(Allocation {
+                    id: name,
+                    rectangle: granted.rectangle,
+                }),
+            )
+        }
+        Event::Deallocate(name) => {
+            Event::Deallocate(AllocId::deserialize(u32::MAX - name.serialize()))
+        }
+        other => other.clone()?,
+    })
+}
+
+// The same recording, its names counted down from the greatest.
+fn turned_recording(
+    alloc: Global,
+    recording: &Recording<Global>,
+) -> Result<Recording<Global>, RecordingError> {
+    let mut recorder = Recorder::new(alloc, size2(512, 512), &DEFAULT_OPTIONS);
+    for event in recording.events() {
+        recorder.record(turned(event)?)?;
+    }
+    Ok(recorder.finish())
+}
+
+fn are_turned(shown: &[Allocation], live: &[Allocation]) -> bool {
+    let same = shown.iter().zip(live.iter().rev()).all(|(one, other)| {
+        one.rectangle == other.rectangle && one.id.serialize() == u32::MAX - other.id.serialize()
+    });
+    same && shown.len() == live.len()
+}
+
+#[test]
+fn falling_names() -> Result<(), Fail> {
+    let rt = HostRuntime;
+    let session = long_session(&rt, rt.alloc())?;
+    let live = session.allocations()?;
+    let recording = turned_recording(rt.alloc(), &session.finish())?;
+    let stats = recording.replay()?;
+    assert!(rt; are_turned(stats.live.as_slice(), live.as_slice()));
+    Ok(())
+}

@@ -1,0 +1,259 @@
+// Erased from crates/sheet_tests/src/climbing.rt by rust/erase: don't edit.
+//! Sheets with turning, alignment and changes of the order.
+use crate::filling::{are_apart, sprites_of};
+use test_memory::Refusing;
+use wollemigo_core::atlas_sheet::{
+    fill, pack, pack_telling, Allowed, Placed, SheetError, SheetOptions,
+};
+use wollemigo_core::guillotiere::{size2, Size};
+use wollemigo_support::alloc::Global;
+use wollemigo_support::prelude::{assert, HostRuntime, IsSomeAnd, Vec};
+use wollemigo_support::process::Abort;
+use wollemigo_support::test::Fail;
+
+// Whether a place has its sprite's sides, turned where it says so.
+fn has_sides(sprite: Size, placed: Placed) -> bool {
+    let width = placed.area.max.x.wrapping_sub(placed.area.min.x);
+    let height = placed.area.max.y.wrapping_sub(placed.area.min.y);
+    if placed.turned {
+        width == sprite.height && height == sprite.width
+    } else {
+        width == sprite.width && height == sprite.height
+    }
+}
+
+// Whether a coordinate without the padding is a multiple.
+fn is_multiple(coordinate: i32, padding: i32, alignment: i32) -> bool {
+    coordinate
+        .wrapping_sub(padding)
+        .checked_rem(alignment)
+        .is_some_and(|rest| rest == 0)
+}
+
+// Whether a place keeps the padding to the border and begins on multiples of the alignment.
+fn keeps_to(placed: Placed, sheet: Size, options: &SheetOptions) -> bool {
+    let padding = i32::from(options.padding);
+    let area = placed.area;
+    padding <= area.min.x
+        && padding <= area.min.y
+        && area.max.x <= sheet.width.wrapping_sub(padding)
+        && area.max.y <= sheet.height.wrapping_sub(padding)
+        && is_multiple(area.min.x, padding, options.alignment.width)
+        && is_multiple(area.min.y, padding, options.alignment.height)
+        && (options.turn || !placed.turned)
+}
+
+// Whether each place is good and apart from those after it.
+fn all_good(sprites: &[Size], places: &[Placed], sheet: Size, options: &SheetOptions) -> bool {
+    let padding = i32::from(options.padding);
+    for (number, (sprite, placed)) in sprites.iter().zip(places).enumerate() {
+        if !has_sides(*sprite, *placed) || !keeps_to(*placed, sheet, options) {
+            return false;
+        }
+        for other in places.iter().skip(number).skip(1) {
+            if !are_apart(placed.area, other.area, padding) {
+                return false;
+            }
+        }
+    }
+    true
+}
+
+// Whether the numbers from 0 to `count` stand in the order, each once.
+fn is_order(order: &[usize], count: usize) -> bool {
+    for number in 0..count {
+        if order.iter().filter(|n| **n == number).count() != 1 {
+            return false;
+        }
+    }
+    order.len() == count
+}
+
+const SQUARES: Allowed = Allowed::Squares {
+    least: 1,
+    greatest: 2000,
+};
+
+const ONE: Size = Size {
+    width: 1,
+    height: 1,
+};
+
+const WIDE: Size = Size {
+    width: 8,
+    height: 4,
+};
+
+const HEIGHTS: Allowed = Allowed::Heights {
+    width: 120,
+    greatest: 2000,
+};
+
+// Inputs: the seed of the sprites, what is allowed, the padding, the alignment, and whether sprites may be turned.
+const INPUTS: [(u32, Allowed, u16, Size, bool); 5] = [
+    (1, SQUARES, 0, ONE, true),
+    (2, SQUARES, 2, WIDE, true),
+    (3, Allowed::Powers { greatest: 1024 }, 1, ONE, false),
+    (4, HEIGHTS, 3, WIDE, true),
+    (5, SQUARES, 1, ONE, false),
+];
+
+// Whether the sheet of random sprites is good, the same a second time, and no larger than without effort.
+fn packs_well(alloc: Global, seed: u32, options: &SheetOptions) -> Result<bool, Fail> {
+    let sprites = sprites_of(alloc, seed, 24, 40)?;
+    let sheet = match pack(alloc, &sprites, options)? {
+        Some(sheet) => sheet,
+        _ => {
+            return Ok(false);
+        }
+    };
+    let again = match pack(alloc, &sprites, options)? {
+        Some(again) => again,
+        _ => {
+            return Ok(false);
+        }
+    };
+    let plain = SheetOptions {
+        effort: 0,
+        ..*options
+    };
+    let first = match pack(alloc, &sprites, &plain)? {
+        Some(first) => first,
+        _ => {
+            return Ok(false);
+        }
+    };
+    Ok(all_good(&sprites, &sheet.places, sheet.size, options)
+        && is_order(&sheet.order, sprites.len())
+        && sheet.places == again.places
+        && sheet.order == again.order
+        && pixels(sheet.size) <= pixels(first.size))
+}
+
+// How many pixels a sheet has.
+fn pixels(size: Size) -> u64 {
+    u64::from(size.width.unsigned_abs()) * u64::from(size.height.unsigned_abs())
+}
+
+#[test]
+fn random_sprites() -> Result<(), Fail> {
+    let rt = HostRuntime;
+    for (seed, allowed, padding, alignment, turn) in INPUTS {
+        let options = SheetOptions {
+            allowed,
+            padding,
+            alignment,
+            turn,
+            effort: 30,
+            seed: u64::from(seed),
+        };
+        assert!(rt; packs_well(rt.alloc(), seed, &options)?, "seed {seed}");
+    }
+    Ok(())
+}
+
+// A sprite of 8 x 2 goes into 2 x 8 only turned; it takes a change of the order to turn it.
+#[test]
+fn turned() -> Result<(), Fail> {
+    let rt = HostRuntime;
+    let mut options = SheetOptions::new(Allowed::One(size2(2, 8)));
+    assert!(rt; pack(rt.alloc(), &[size2(8, 2)], &options)?.is_none());
+    options.effort = 50;
+    assert!(rt; pack(rt.alloc(), &[size2(8, 2)], &options)?.is_none());
+    options.turn = true;
+    let found = pack(rt.alloc(), &[size2(8, 2)], &options)?;
+    assert!(rt; found.is_some_and(|sheet| sheet.places.get(0).is_some_and(|p| p.turned)));
+    options.effort = 0;
+    assert!(rt; pack(rt.alloc(), &[size2(8, 2)], &options)?.is_none());
+    Ok(())
+}
+
+// Two sprites of 3 x 3 on multiples of 4, with 1 pixel of padding: 1 + 3 and the next multiple.
+#[test]
+fn aligned() -> Result<(), Fail> {
+    let rt = HostRuntime;
+    let options = SheetOptions {
+        padding: 1,
+        alignment: size2(8, 4),
+        ..SheetOptions::new(Allowed::One(size2(16, 5)))
+    };
+    let filled = fill(rt.alloc(), &[size2(3, 3), size2(3, 3)], &options)?;
+    let second = filled.places.get(1).copied().flatten();
+    assert!(rt; second.is_none() && filled.used_area == 9 && filled.order.len() == 2);
+    Ok(())
+}
+
+// Each request for memory refused in turn, until there are no more: the error every time, and then a sheet.
+fn refuses(alloc: Global, sprites: &[Size], options: &SheetOptions) -> bool {
+    let heap = Refusing::new(alloc);
+    for number in 1..10_000 {
+        heap.refuse_nth(number);
+        let packed = pack(&heap, sprites, options);
+        if !heap.is_done() {
+            return matches!(&packed, Ok(Some(_))) && number > 1;
+        }
+        if !matches!(&packed, Err(SheetError::Memory)) {
+            return false;
+        }
+    }
+    false
+}
+
+#[test]
+fn refused_memory() {
+    let rt = HostRuntime;
+    let sprites = [size2(3, 5), size2(4, 4), size2(1, 7)];
+    for effort in [0, 1, 3] {
+        let options = SheetOptions {
+            effort,
+            turn: true,
+            ..SheetOptions::new(Allowed::Squares {
+                least: 8,
+                greatest: 12,
+            })
+        };
+        assert!(&rt; refuses(rt.alloc(), &sprites, &options));
+    }
+}
+
+// The sizes that are told of two sprites: beside each other they need 3 + 4 pixels, and below each other 5 + 4.
+#[test]
+fn told() -> Result<(), Fail> {
+    let rt = HostRuntime;
+    let sprites = [size2(3, 5), size2(4, 4)];
+    let options = SheetOptions {
+        effort: 20,
+        ..SheetOptions::new(SQUARES)
+    };
+    let mut sizes = Vec::new(rt.alloc());
+    let found = pack_telling(rt.alloc(), &sprites, &options, |size| {
+        let _ = sizes.push(size);
+    })?;
+    assert!(rt; found.is_some() && sizes.as_slice() == [size2(7, 7)].as_slice());
+    Ok(())
+}
+
+// Whether each size has fewer pixels than the one before it.
+fn are_falling(sizes: &[Size]) -> bool {
+    sizes
+        .iter()
+        .zip(sizes.iter().skip(1))
+        .all(|(one, next)| pixels(*next) < pixels(*one))
+}
+
+// Of 24 random sprites: the sizes fall, the first is found without effort, and the last is that of the sheet.
+#[test]
+fn told_of_many() -> Result<(), Fail> {
+    let rt = HostRuntime;
+    let sprites = sprites_of(rt.alloc(), 7, 24, 40)?;
+    let mut options = SheetOptions::new(SQUARES);
+    let first = pack(rt.alloc(), &sprites, &options)?.map(|sheet| sheet.size);
+    options.effort = 60;
+    let mut sizes = Vec::new(rt.alloc());
+    let found = pack_telling(rt.alloc(), &sprites, &options, |size| {
+        let _ = sizes.push(size);
+    })?;
+    assert!(rt; are_falling(&sizes) && sizes.get(0).copied() == first);
+    assert!(rt; found.map(|sheet| sheet.size) == sizes.last().copied());
+    Ok(())
+}

@@ -1,0 +1,145 @@
+// Erased from crates/tool_tests/src/whole.rt by rust/erase: don't edit.
+//! Runs of all commands of the tool, with each request for memory refused in turn, and lines that are bad.
+
+use crate::playing::{play, play_with_refusals, run_text, Row};
+use atlas_lines::{parse_line, ToolEnd};
+use wollemigo_support::alloc::{AllocError, Global};
+use wollemigo_support::prelude::{assert, assert_eq, HostRuntime, Vec};
+use wollemigo_support::test::Fail;
+
+const REARRANGED: Row = (
+    b"atlas 100 300\nalloc 100 100\nalloc 100 100\nalloc 100 100\nfree 1\nrearrange\nlive\nholes\nempty\n",
+    b"ok\nid 0 at 0 0 100 100\nid 1 at 0 100 100 200\nid 2 at 0 200 100 300\nok\nmoved 2 0 200 100 300 to 0 0 0 100 100\nmoved 0 0 0 100 100 to 1 0 100 100 200\nchanges 2 failures 0\nbox 0 0 0 100 100\nbox 1 0 100 100 200\nlive 2\nhole 0 200 100 300\nholes 1\nfalse\n",
+    ToolEnd::Done,
+);
+
+const STARTED: Row = (
+    b"atlas 100 300\nalloc 100 100\nalloc 100 100\nalloc 100 100\nfree 0\nfree 1\nfrom-atlas\nsimple 1 1\nfrom-atlas\ntake 100 100\ntake 100 100\ntake 100 100\n",
+    b"ok\nid 0 at 0 0 100 100\nid 1 at 0 100 100 200\nid 2 at 0 200 100 300\nok\nok\nno simple\nok\nok\nat 0 0 100 100\nat 0 100 100 200\nnone\n",
+    ToolEnd::Done,
+);
+
+const ROWS: [Row; 9] = [
+    REARRANGED,
+    STARTED,
+    (
+        b"from-atlas\natlas 100 100\nalloc 20 60\nfrom-atlas\nsimple 1 1\nfrom-atlas\ntake 80 100\ntake 20 40\ntake 1 1\n",
+        b"no atlas\nok\nid 3 at 0 0 20 60\nno simple\nok\nok\nat 20 0 100 100\nat 0 60 20 100\nnone\n",
+        ToolEnd::Done,
+    ),
+    // A simple allocator alone.
+    (
+        b"simple 5 5\nfrom-atlas\ntake 5 5\n",
+        b"ok\nno atlas\nat 0 0 5 5\n",
+        ToolEnd::Done,
+    ),
+    (
+        b"alloc 5 5\nfree x\nsize\n",
+        b"no atlas\nbad line 2\n",
+        ToolEnd::BadLine(2),
+    ),
+    (
+        b"atlas 0 5\nsize\natlas 64 64 8 8 32 256\nalloc 9 1\nalloc 2147483647 1\nfree 4294967295\ngrow 63 64\nholes\nsize\nempty\n",
+        b"bad call\nno atlas\nok\nid 2 at 0 0 16 8\nnone\nrefused not live\nbad call\nhole 16 0 64 8\nhole 0 8 64 64\nholes 2\nsize 64 64\nfalse\n",
+        ToolEnd::Done,
+    ),
+    (
+        b"atlas 100 300\nalloc 100 100\nalloc 100 100\nalloc 100 100\nfree 1\nresize 100 150\nresize 0 9\nsize\nclear\nempty\nholes\n",
+        b"ok\nid 0 at 0 0 100 100\nid 1 at 0 100 100 200\nid 2 at 0 200 100 300\nok\nmoved 2 0 200 100 300 to 0 0 0 100 100\nlost 0 0 0 100 100\nchanges 1 failures 1\nbad call\nsize 100 150\nok\ntrue\nhole 0 0 100 150\nholes 1\n",
+        ToolEnd::Done,
+    ),
+    // Without an atlas.
+    (
+        b"clear\nrearrange\nresize 5 5\nresize 0 0\nsimple 9 9\ntake 9 9\n",
+        b"no atlas\nno atlas\nno atlas\nno atlas\nok\nat 0 0 9 9\n",
+        ToolEnd::Done,
+    ),
+    // With nothing live, and with a side below 0.
+    (
+        b"atlas 8 9\nrearrange\nresize -1 9\nresize 9 -2147483648\nresize 9 8\nsize\nclear\nempty\n",
+        b"ok\nchanges 0 failures 0\nbad call\nbad call\nchanges 0 failures 0\nsize 9 8\nok\ntrue\n",
+        ToolEnd::Done,
+    ),
+];
+
+// Each of these is bad, alone and as the second line.
+const BAD_LINES: [&[u8]; 26] = [
+    b" take 1 1",
+    b"take 1 1 ",
+    b"take +1 1",
+    b"take - 1",
+    b"take 1",
+    b"Take 1 1",
+    b"free -1",
+    b"free 4294967296",
+    b"clear ",
+    b" clear",
+    b"clear 1",
+    b"Clear",
+    b"clea",
+    b"clears",
+    b"rearrange 1 1",
+    b"rearrange ",
+    b"resize",
+    b"resize 1",
+    b"resize 1 1 1",
+    b"resize 1 1 ",
+    b"resize 1 2147483648",
+    b"from_atlas",
+    b"from-atlas 1",
+    b"take 1 1\r",
+    b"take 1 1\0",
+    b"take 1 1\xff",
+];
+
+#[test]
+fn rows() {
+    let rt = HostRuntime;
+    for row in ROWS {
+        play(&rt, rt.alloc(), row, &[1, 7, 100000]);
+    }
+}
+
+// A line between two that are well.
+fn between(alloc: Global, line: &[u8]) -> Result<Vec<u8>, AllocError> {
+    let mut text = Vec::new(alloc);
+    text.extend_from_slice(b"simple 10 10\n")?;
+    text.extend_from_slice(line)?;
+    text.extend_from_slice(b"\ntake 1 1\n")?;
+    Ok(text)
+}
+
+#[test]
+fn bad_second_lines() -> Result<(), Fail> {
+    let rt = HostRuntime;
+    for line in BAD_LINES {
+        assert!(rt; parse_line(line).is_none(), "{line:?}");
+        let text = between(rt.alloc(), line)?;
+        let mut held = Vec::new(rt.alloc());
+        let got = run_text(rt.alloc(), &text, &mut held);
+        let same = held.as_slice() == b"ok\nbad line 2\n".as_slice();
+        assert!(rt; same && got == Ok(ToolEnd::BadLine(2)), "{line:?}");
+    }
+    Ok(())
+}
+
+#[test]
+fn rows_with_each_request_for_memory_refused_in_turn() {
+    let rt = HostRuntime;
+    for row in [REARRANGED, STARTED] {
+        play_with_refusals(&rt, rt.alloc(), row);
+    }
+}
+
+// A line of 121 bytes spells no command, also where one of 120 bytes does.
+#[test]
+fn a_command_has_at_most_120_bytes() -> Result<(), Fail> {
+    let rt = HostRuntime;
+    let mut line = Vec::new(rt.alloc());
+    line.extend_from_slice(b"take 1 ")?;
+    line.resize(120, b'0')?;
+    assert!(rt; parse_line(&line).is_some());
+    line.push(b'0')?;
+    assert_eq!(rt; parse_line(&line), None);
+    Ok(())
+}

@@ -1,0 +1,184 @@
+//! The crates of the repository: what crates.txt says of them, and where each goes.
+use crate::fault::Fault;
+use crate::rules::Place;
+use std::collections::{BTreeMap, BTreeSet};
+use std::fs;
+use std::path::{Path, PathBuf};
+
+/// A crate of crates.txt.
+#[derive(Clone, Debug)]
+pub struct Crate {
+    pub name: String,
+    pub is_static_library: bool,
+    pub needs: Vec<String>,
+}
+
+/// The crates that become modules of the library's one crate: those that these stand on, and these.
+const LIBRARY: [&str; 5] = [
+    "guillotiere",
+    "guillotiere_recording",
+    "atlas_sheet",
+    "atlas_cache",
+    "guillotiere_total",
+];
+
+/// Crates that don't erase, and stand in rust/ by hand.
+const BY_HAND: [&str; 1] = ["test_memory"];
+
+/// Libraries of the kit that an erased crate doesn't need.
+const KIT: [&str; 1] = ["thiserror"];
+
+/// All crates, and which of them make up the library.
+pub struct Crates {
+    pub all: Vec<Crate>,
+    pub library: BTreeSet<String>,
+}
+
+impl Crates {
+    /// Reads crates.txt.
+    pub fn read(root: &Path) -> Result<Crates, Fault> {
+        let path = root.join("crates.txt");
+        let text =
+            fs::read_to_string(&path).map_err(|e| Fault::of("crates.txt", &e.to_string()))?;
+        let mut all = Vec::new();
+        for (number, line) in text.lines().enumerate() {
+            let line = line.split('#').next().unwrap_or("").trim();
+            if line.is_empty() {
+                continue;
+            }
+            let (head, needs) = line.split_once(':').ok_or_else(|| {
+                Fault(format!("crates.txt:{}: a line without a colon", number + 1))
+            })?;
+            let mut words = head.split_whitespace();
+            let name = words.next().unwrap_or("").to_string();
+            let is_static_library = words.any(|w| w == "staticlib");
+            let needs = needs
+                .split_whitespace()
+                .filter(|n| !KIT.contains(n))
+                .map(str::to_string)
+                .collect();
+            all.push(Crate {
+                name,
+                is_static_library,
+                needs,
+            });
+        }
+        let library = library_of(&all);
+        Ok(Crates { all, library })
+    }
+
+    /// Those that are erased.
+    pub fn erased(&self) -> impl Iterator<Item = &Crate> {
+        self.all
+            .iter()
+            .filter(|c| !BY_HAND.contains(&c.name.as_str()))
+    }
+
+    /// Where the sources of a crate go.
+    pub fn place(&self, of: &Crate) -> Place {
+        Place {
+            name: of.name.clone(),
+            is_library: self.library.contains(&of.name),
+            library: self.library.clone(),
+        }
+    }
+
+    /// Where a source of a crate goes, below rust/.
+    pub fn target(&self, of: &Crate, file: &Path) -> PathBuf {
+        let file = file.with_extension("rs");
+        if !self.library.contains(&of.name) {
+            return Path::new("erased").join(&of.name).join("src").join(file);
+        }
+        let file = if file == Path::new("lib.rs") {
+            PathBuf::from("mod.rs")
+        } else {
+            file
+        };
+        Path::new("core/src").join(&of.name).join(file)
+    }
+
+    /// The root of the library's one crate.
+    pub fn library_root(&self) -> String {
+        let mut text = String::from(LIBRARY_HEAD);
+        for name in &self.library {
+            text.push_str(&format!("pub mod {};\n", name));
+        }
+        text
+    }
+
+    /// The manifest of a package of its own.
+    pub fn manifest(&self, of: &Crate, is_program: bool) -> String {
+        let mut text = format!(
+            "# Written by rust/erase from crates.txt: don't edit.\n[package]\nname = \"{}\"\nversion = \"0.7.0\"\n\
+             edition = \"2021\"\nrust-version = \"1.63\"\nlicense = \"MIT OR Apache-2.0\"\npublish = false\n",
+            of.name
+        );
+        if of.is_static_library {
+            text.push_str(
+                "\n[lib]\nname = \"guillotiere\"\ncrate-type = [\"staticlib\", \"cdylib\"]\ndoc = false\n",
+            );
+        }
+        let support = if of.is_static_library {
+            "\"raw\", \"std\""
+        } else {
+            "\"std\""
+        };
+        text.push_str("\n[dependencies]\n");
+        let needs_core = of.needs.iter().any(|n| self.library.contains(n));
+        if needs_core {
+            text.push_str("wollemigo-core = { path = \"../../core\" }\n");
+        }
+        text.push_str(&format!(
+            "wollemigo-support = {{ path = \"../../support\", features = [{}] }}\n",
+            support
+        ));
+        for need in of.needs.iter().filter(|n| !self.library.contains(*n)) {
+            let folder = if BY_HAND.contains(&need.as_str()) {
+                "../.."
+            } else {
+                ".."
+            };
+            text.push_str(&format!(
+                "{} = {{ path = \"{}/{}\" }}\n",
+                need, folder, need
+            ));
+        }
+        if is_program {
+            text.push_str("\n[dev-dependencies]\nstored = { path = \"../../stored\" }\n");
+        }
+        text
+    }
+}
+
+const LIBRARY_HEAD: &str = "\
+// Written by rust/erase from crates.txt: don't edit.
+//! The library crates of `crates/` with their contracts erased, a module each. `wollemigo` is the crate to use: here a
+//! call's conditions stand in its documentation, and nothing tests them.
+#![no_std]
+#![forbid(unsafe_code)]
+#![allow(dead_code, unused_imports, unused_labels, unused_variables)]
+
+";
+
+fn library_of(all: &[Crate]) -> BTreeSet<String> {
+    let needs: BTreeMap<&str, &Vec<String>> =
+        all.iter().map(|c| (c.name.as_str(), &c.needs)).collect();
+    let mut found = BTreeSet::new();
+    let mut left: Vec<&str> = LIBRARY
+        .iter()
+        .copied()
+        .filter(|n| needs.contains_key(n))
+        .collect();
+    while let Some(name) = left.pop() {
+        if found.insert(name.to_string()) {
+            left.extend(
+                needs
+                    .get(name)
+                    .into_iter()
+                    .flat_map(|n| n.iter())
+                    .map(String::as_str),
+            );
+        }
+    }
+    found
+}

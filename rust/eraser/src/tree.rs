@@ -1,0 +1,233 @@
+//! All that the sources of a repository give: files by their paths below rust/.
+use crate::crates::{Crate, Crates};
+use crate::fault::Fault;
+use crate::{erased, layout};
+use std::collections::{BTreeMap, BTreeSet};
+use std::fs;
+use std::path::{Path, PathBuf};
+use std::sync::Mutex;
+use std::thread;
+
+/// The folders below rust/ that have nothing but what is written here.
+const FOLDERS: [&str; 2] = ["core/src", "erased"];
+
+/// Files by their paths below rust/, and how often each rule was applied.
+#[derive(Default)]
+pub struct Tree {
+    pub files: BTreeMap<PathBuf, String>,
+    pub counts: BTreeMap<u32, usize>,
+}
+
+/// A source that is still to be erased.
+struct Job<'a> {
+    of: &'a Crate,
+    path: PathBuf,
+    file: PathBuf,
+}
+
+impl Tree {
+    /// Erases all sources of the repository at `root`.
+    pub fn made(root: &Path) -> Result<Tree, Fault> {
+        let crates = Crates::read(root)?;
+        let mut jobs = Vec::new();
+        let mut tree = Tree::default();
+        tree.files
+            .insert(PathBuf::from("core/src/lib.rs"), crates.library_root());
+        for of in crates.erased() {
+            let folder = root.join("crates").join(&of.name);
+            let is_program = folder.join("src/main.rt").is_file();
+            for file in sources(&folder.join("src"))? {
+                jobs.push(Job {
+                    of,
+                    path: folder.join("src").join(&file),
+                    file,
+                });
+            }
+            if !crates.library.contains(&of.name) {
+                let package = Path::new("erased").join(&of.name);
+                tree.files
+                    .insert(package.join("Cargo.toml"), crates.manifest(of, is_program));
+                if is_program {
+                    tree.files
+                        .insert(package.join("tests/stored.rs"), stored_test(&of.name));
+                }
+            }
+        }
+        tree.erase_all(root, &crates, jobs)?;
+        Ok(tree)
+    }
+
+    fn erase_all(&mut self, root: &Path, crates: &Crates, jobs: Vec<Job<'_>>) -> Result<(), Fault> {
+        let jobs = Mutex::new(jobs);
+        let made = Mutex::new(Ok(&mut *self));
+        thread::scope(|scope| {
+            for _ in 0..4 {
+                scope.spawn(|| loop {
+                    let job = match jobs.lock().map(|mut j| j.pop()) {
+                        Ok(Some(job)) => job,
+                        _ => return,
+                    };
+                    let done = erase_one(root, crates, &job);
+                    if let Ok(mut made) = made.lock() {
+                        match (&mut *made, done) {
+                            (Ok(tree), Ok((text, counts))) => {
+                                tree.files.insert(crates.target(job.of, &job.file), text);
+                                for (rule, n) in counts {
+                                    *tree.counts.entry(rule).or_insert(0) += n;
+                                }
+                            }
+                            (Err(Fault(a)), Err(Fault(b))) if *a <= b => {}
+                            (_, Err(fault)) => *made = Err(fault),
+                            _ => {}
+                        }
+                    }
+                });
+            }
+        });
+        made.into_inner()
+            .unwrap_or_else(|e| e.into_inner())
+            .map(|_| ())
+    }
+
+    /// What differs below rust/ from what is made: a line each.
+    pub fn differences(&self, rust: &Path) -> Result<Vec<String>, Fault> {
+        let mut found = Vec::new();
+        for (path, text) in &self.files {
+            match fs::read_to_string(rust.join(path)) {
+                Ok(there) if there == *text => {}
+                Ok(there) => {
+                    let line = there
+                        .lines()
+                        .zip(text.lines())
+                        .take_while(|(a, b)| a == b)
+                        .count()
+                        + 1;
+                    found.push(format!(
+                        "rust/{}:{}: differs from what its source gives",
+                        path.display(),
+                        line
+                    ));
+                }
+                Err(_) => found.push(format!("rust/{}: isn't there", path.display())),
+            }
+        }
+        for path in there(rust)? {
+            if !self.files.contains_key(&path) {
+                found.push(format!("rust/{}: comes from no source", path.display()));
+            }
+        }
+        Ok(found)
+    }
+
+    /// Writes what differs, and takes away what comes from no source. How many files changed.
+    pub fn write(&self, rust: &Path) -> Result<usize, Fault> {
+        let mut changed = 0;
+        for (path, text) in &self.files {
+            let path = rust.join(path);
+            if fs::read_to_string(&path).map_or(false, |there| there == *text) {
+                continue;
+            }
+            let failed = |e: std::io::Error| Fault::of(&path.display().to_string(), &e.to_string());
+            if let Some(folder) = path.parent() {
+                fs::create_dir_all(folder).map_err(failed)?;
+            }
+            fs::write(&path, text).map_err(failed)?;
+            changed += 1;
+        }
+        for path in there(rust)? {
+            if !self.files.contains_key(&path) {
+                let path = rust.join(path);
+                fs::remove_file(&path)
+                    .map_err(|e| Fault::of(&path.display().to_string(), &e.to_string()))?;
+                changed += 1;
+            }
+        }
+        Ok(changed)
+    }
+}
+
+fn erase_one(
+    root: &Path,
+    crates: &Crates,
+    job: &Job<'_>,
+) -> Result<(String, BTreeMap<u32, usize>), Fault> {
+    let name = format!("crates/{}/src/{}", job.of.name, job.file.display());
+    let text = fs::read_to_string(&job.path).map_err(|e| Fault::of(&name, &e.to_string()))?;
+    let (text, counts) = erased(&name, &text, &crates.place(job.of))?;
+    let is_root = job.file == Path::new("lib.rt") || job.file == Path::new("main.rt");
+    let mut whole = format!("// Erased from {} by rust/erase: don't edit.\n", name);
+    if is_root && !crates.library.contains(&job.of.name) {
+        whole.push_str(&with_head(&text, job.of.is_static_library));
+    } else {
+        whole.push_str(&text);
+    }
+    Ok((layout::laid_out(&name, &whole, &root.join("rust"))?, counts))
+}
+
+/// The text of a root file with the attributes of its crate, behind its documentation.
+fn with_head(text: &str, is_static_library: bool) -> String {
+    let is_head = |line: &&str| line.starts_with("//!");
+    let documentation: Vec<&str> = text.lines().take_while(is_head).collect();
+    let rest: Vec<&str> = text.lines().skip(documentation.len()).collect();
+    let safe = if is_static_library {
+        ""
+    } else {
+        "#![forbid(unsafe_code)]\n"
+    };
+    format!(
+        "{}\n{}#![allow(dead_code, unused_imports, unused_labels, unused_variables)]\n\n{}\n",
+        documentation.join("\n"),
+        safe,
+        rest.join("\n")
+    )
+}
+
+fn stored_test(name: &str) -> String {
+    format!(
+        "// Written by rust/erase: don't edit.\n//! What the program writes is what its proved form wrote.\n\n#[test]\n\
+         fn it_writes_what_is_stored() {{\n    stored::compare(env!(\"CARGO_BIN_EXE_{name}\"), \"{name}\");\n}}\n",
+        name = name
+    )
+}
+
+/// The sources below a folder, by their paths there.
+fn sources(folder: &Path) -> Result<BTreeSet<PathBuf>, Fault> {
+    files_below(folder, &|path| {
+        path.extension().map_or(false, |e| e == "rt")
+    })
+}
+
+/// The files below rust/ in the folders that have nothing but what is written here.
+fn there(rust: &Path) -> Result<BTreeSet<PathBuf>, Fault> {
+    let mut found = BTreeSet::new();
+    for folder in FOLDERS {
+        if rust.join(folder).is_dir() {
+            for path in files_below(&rust.join(folder), &|_| true)? {
+                found.insert(Path::new(folder).join(path));
+            }
+        }
+    }
+    Ok(found)
+}
+
+fn files_below(
+    folder: &Path,
+    is_wanted: &dyn Fn(&Path) -> bool,
+) -> Result<BTreeSet<PathBuf>, Fault> {
+    let failed = |e: std::io::Error| Fault::of(&folder.display().to_string(), &e.to_string());
+    let mut found = BTreeSet::new();
+    for entry in fs::read_dir(folder).map_err(failed)? {
+        let entry = entry.map_err(failed)?;
+        let (path, name) = (entry.path(), PathBuf::from(entry.file_name()));
+        if path.is_dir() {
+            found.extend(
+                files_below(&path, is_wanted)?
+                    .into_iter()
+                    .map(|p| name.join(p)),
+            );
+        } else if is_wanted(&path) {
+            found.insert(name);
+        }
+    }
+    Ok(found)
+}

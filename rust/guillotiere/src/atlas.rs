@@ -1,0 +1,373 @@
+//! The atlas allocator.
+use crate::error::expected;
+use crate::shown::Shown;
+use crate::{
+    convert, AllocId, Allocation, AllocatorOptions, Areas, AtlasError, ChangeList, Rectangle, Size,
+    SlotCount, DEFAULT_OPTIONS,
+};
+use alloc::vec::Vec;
+use core::fmt;
+use core::ops::Index;
+use wollemigo_core::guillotiere as library;
+use wollemigo_core::guillotiere_total::{atlas as total, CallError};
+use wollemigo_support::alloc::Global;
+
+/// Hands out rectangles inside one large rectangle, the atlas, takes them back and joins free space at once.
+///
+/// ```
+/// use guillotiere::{size2, AtlasAllocator};
+///
+/// let mut atlas = AtlasAllocator::new(size2(1024, 1024));
+/// let glyph = atlas.allocate(size2(20, 60)).unwrap();
+/// assert_eq!(atlas[glyph.id], glyph.rectangle);
+/// assert_eq!(glyph.rectangle.size(), size2(20, 60));
+/// atlas.deallocate(glyph.id);
+/// assert!(atlas.is_empty());
+/// ```
+///
+/// A call panics if its condition fails, or if memory or slots run out; the text of the panic says which. Each such
+/// call has a `try_` form that returns the error as a value:
+///
+/// ```
+/// use guillotiere::{size2, AtlasAllocator, AtlasError};
+///
+/// let mut atlas = AtlasAllocator::new(size2(64, 64));
+/// assert_eq!(atlas.try_grow(size2(32, 99)), Err(AtlasError::Shrinks));
+/// assert_eq!(atlas.size(), size2(64, 64));
+/// ```
+pub struct AtlasAllocator {
+    atlas: library::AtlasAllocator<Global>,
+    shown: Shown,
+}
+
+// At most so many more slots are used by one request.
+const SLOTS_OF_A_REQUEST: usize = 4;
+
+impl AtlasAllocator {
+    fn over(made: library::AtlasAllocator<Global>) -> Self {
+        AtlasAllocator {
+            atlas: made,
+            shown: Shown::new(),
+        }
+    }
+
+    /// An atlas of this size with `DEFAULT_OPTIONS`: one free rectangle.
+    ///
+    /// # Panics
+    ///
+    /// If a side is below 1, or memory runs out.
+    #[track_caller]
+    pub fn new(size: Size) -> Self {
+        expected(AtlasAllocator::try_new(size))
+    }
+
+    /// `new` with the error as a value: `EmptySize` or `Memory`.
+    pub fn try_new(size: Size) -> Result<Self, AtlasError> {
+        AtlasAllocator::try_with_options(size, &DEFAULT_OPTIONS)
+    }
+
+    /// The same with these options.
+    ///
+    /// # Panics
+    ///
+    /// Where `new` does, and if a side of the alignment is below 1 or the small threshold is above the large one.
+    #[track_caller]
+    pub fn with_options(size: Size, options: &AllocatorOptions) -> Self {
+        expected(AtlasAllocator::try_with_options(size, options))
+    }
+
+    /// `with_options` with the error as a value: `EmptySize`, `Alignment`, `Thresholds` or `Memory`.
+    pub fn try_with_options(size: Size, options: &AllocatorOptions) -> Result<Self, AtlasError> {
+        let options = convert::library_options(options);
+        let made = total::with_options(Global, convert::library_size(size), &options)?;
+        Ok(AtlasAllocator::over(made))
+    }
+
+    /// The same with a limit on the slots that are used at once, from 1 to `MOST_SLOTS`. An error is `EmptySize`,
+    /// `Alignment`, `Thresholds`, `SlotLimit` or `Memory`.
+    pub fn try_with_slot_limit(
+        size: Size,
+        options: &AllocatorOptions,
+        limit: u32,
+    ) -> Result<Self, AtlasError> {
+        let options = convert::library_options(options);
+        let made = total::with_slot_limit(Global, convert::library_size(size), &options, limit)?;
+        Ok(AtlasAllocator::over(made))
+    }
+
+    /// A copy that shares nothing with this one. `Memory` is the only error.
+    pub fn try_clone(&self) -> Result<Self, AtlasError> {
+        Ok(AtlasAllocator {
+            atlas: self.atlas.clone()?,
+            shown: self.shown.try_clone()?,
+        })
+    }
+
+    /// The size of the atlas, in pixels.
+    pub fn size(&self) -> Size {
+        convert::size(self.atlas.size())
+    }
+
+    /// The options of the atlas.
+    pub fn options(&self) -> AllocatorOptions {
+        convert::options(&self.atlas.options())
+    }
+
+    /// Whether no id is live.
+    pub fn is_empty(&self) -> bool {
+        self.atlas.is_empty()
+    }
+
+    /// How many slots are used, the most that were used at once since the last start, and how many may be used.
+    pub fn slots(&self) -> SlotCount {
+        convert::slots(self.atlas.slots())
+    }
+
+    /// The areas of all live and of all free rectangles, in unit squares. Two passes over the slots.
+    pub fn areas(&self) -> Areas {
+        Areas {
+            allocated: self.atlas.allocated_area(),
+            free: self.atlas.free_area(),
+        }
+    }
+
+    /// The rectangle of a live id; None for every other id.
+    #[inline]
+    pub fn get(&self, id: AllocId) -> Option<Rectangle> {
+        let found = self.atlas.get(convert::library_id(id))?;
+        Some(convert::rectangle(&found))
+    }
+
+    /// Asks for a rectangle of this size. None if a side is below 1, or the size, rounded up to the alignment, fits no
+    /// free rectangle.
+    ///
+    /// # Panics
+    ///
+    /// If memory or slots run out.
+    #[track_caller]
+    #[inline]
+    pub fn allocate(&mut self, requested_size: Size) -> Option<Allocation> {
+        expected(self.try_allocate(requested_size))
+    }
+
+    /// `allocate` with the error as a value: `Slots` or `Memory`.
+    #[inline]
+    pub fn try_allocate(&mut self, requested_size: Size) -> Result<Option<Allocation>, AtlasError> {
+        self.shown
+            .reserve(self.atlas.slots().kept as usize + SLOTS_OF_A_REQUEST)?;
+        let granted = self.atlas.allocate(convert::library_size(requested_size))?;
+        Ok(granted.map(|granted| {
+            let granted = convert::allocation(&granted);
+            self.shown.put(&granted);
+            granted
+        }))
+    }
+
+    /// Whether a request of this size has room: then `allocate` grants it, slots and memory aside; else it answers
+    /// None. Takes one search, and no memory.
+    pub fn can_fit(&self, requested_size: Size) -> bool {
+        self.atlas.can_fit(convert::library_size(requested_size))
+    }
+
+    /// Takes memory for so many more slots than are used; nothing else changes. While there is memory for 4
+    /// more slots no request is refused memory, and for 3 no growth; a request uses at most 4, a growth at most 3, a
+    /// freeing none. The memory stays until the atlas is rearranged or dropped, and a copy has none of it. An error is
+    /// `Slots` or `Memory`.
+    pub fn try_reserve(&mut self, additional: u32) -> Result<(), AtlasError> {
+        self.atlas.reserve(additional)?;
+        let slots = self.atlas.slots();
+        let kept = slots.kept.max(slots.used + additional);
+        self.shown.reserve(kept as usize + SLOTS_OF_A_REQUEST)
+    }
+
+    /// Frees the rectangle of a live id. Takes no memory.
+    ///
+    /// # Panics
+    ///
+    /// If the id isn't live.
+    #[track_caller]
+    #[inline]
+    pub fn deallocate(&mut self, node_id: AllocId) {
+        expected(self.try_deallocate(node_id));
+    }
+
+    /// `deallocate` with the error as a value: `NotLive`.
+    #[inline]
+    pub fn try_deallocate(&mut self, node_id: AllocId) -> Result<(), AtlasError> {
+        Ok(self.atlas.deallocate(convert::library_id(node_id))?)
+    }
+
+    /// Frees the rectangles of a list of ids, all or none. `NotLive` if one isn't live or is listed twice; `Memory`.
+    pub fn try_deallocate_all(&mut self, ids: &[AllocId]) -> Result<(), AtlasError> {
+        let mut library_ids = Vec::new();
+        library_ids
+            .try_reserve_exact(ids.len())
+            .map_err(|_| AtlasError::Memory)?;
+        library_ids.extend(ids.iter().map(|id| convert::library_id(*id)));
+        Ok(self.atlas.deallocate_all(&library_ids)?)
+    }
+
+    /// Starts again at the present size and options; no id is live then. Takes no memory.
+    pub fn clear(&mut self) {
+        expected(self.atlas.clear().map_err(AtlasError::from));
+    }
+
+    /// Starts again at this size and with these options; no id is live then. Takes no memory.
+    ///
+    /// # Panics
+    ///
+    /// If a side of the size or of the alignment is below 1, or the small threshold is above the large one.
+    #[track_caller]
+    pub fn reset(&mut self, size: Size, options: &AllocatorOptions) {
+        expected(self.try_reset(size, options));
+    }
+
+    /// `reset` with the error as a value: `EmptySize`, `Alignment` or `Thresholds`.
+    pub fn try_reset(&mut self, size: Size, options: &AllocatorOptions) -> Result<(), AtlasError> {
+        let options = convert::library_options(options);
+        Ok(total::reset(
+            &mut self.atlas,
+            convert::library_size(size),
+            &options,
+        )?)
+    }
+
+    /// Makes the atlas larger; every live id keeps its rectangle.
+    ///
+    /// # Panics
+    ///
+    /// If a side shrinks, or memory or slots run out.
+    #[track_caller]
+    pub fn grow(&mut self, new_size: Size) {
+        expected(self.try_grow(new_size));
+    }
+
+    /// `grow` with the error as a value: `Shrinks`, `Slots` or `Memory`.
+    pub fn try_grow(&mut self, new_size: Size) -> Result<(), AtlasError> {
+        Ok(total::grow(
+            &mut self.atlas,
+            convert::library_size(new_size),
+        )?)
+    }
+
+    /// Whether `grow` may be called with this size: no side shrinks.
+    pub fn can_grow_to(&self, new_size: Size) -> bool {
+        self.atlas.can_grow_to(convert::library_size(new_size))
+    }
+
+    /// `resize_and_rearrange` at the present size.
+    ///
+    /// # Panics
+    ///
+    /// If memory or slots run out.
+    #[track_caller]
+    pub fn rearrange(&mut self) -> ChangeList {
+        expected(self.try_rearrange())
+    }
+
+    /// `rearrange` with the error as a value: `Slots` or `Memory`.
+    pub fn try_rearrange(&mut self) -> Result<ChangeList, AtlasError> {
+        self.rearranged(|atlas| Ok(atlas.rearrange()?))
+    }
+
+    /// Places what is allocated anew in an empty atlas of this size, the largest first; all former ids are void.
+    ///
+    /// # Panics
+    ///
+    /// If a side is below 1, or memory or slots run out.
+    #[track_caller]
+    pub fn resize_and_rearrange(&mut self, new_size: Size) -> ChangeList {
+        expected(self.try_resize_and_rearrange(new_size))
+    }
+
+    /// `resize_and_rearrange` with the error as a value: `EmptySize`, `Slots` or `Memory`.
+    pub fn try_resize_and_rearrange(&mut self, new_size: Size) -> Result<ChangeList, AtlasError> {
+        self.rearranged(|atlas| total::resize_and_rearrange(atlas, convert::library_size(new_size)))
+    }
+
+    // Memory for the lists and for what is shown comes first, so that nothing is refused after the rearranging.
+    fn rearranged(
+        &mut self,
+        call: impl FnOnce(
+            &mut library::AtlasAllocator<Global>,
+        ) -> Result<library::ChangeList, CallError>,
+    ) -> Result<ChangeList, AtlasError> {
+        let mut live = 0;
+        self.atlas.for_each_allocated_rectangle(|_, _| live += 1);
+        let mut list = ChangeList::empty();
+        let refused = |_| AtlasError::Memory;
+        list.changes.try_reserve_exact(live).map_err(refused)?;
+        list.failures.try_reserve_exact(live).map_err(refused)?;
+        self.shown.reserve(1 + SLOTS_OF_A_REQUEST * live)?;
+        let moved = call(&mut self.atlas)?;
+        list.changes
+            .extend(moved.changes.as_slice().iter().map(convert::change));
+        list.failures
+            .extend(moved.failures.as_slice().iter().map(convert::allocation));
+        for change in &list.changes {
+            self.shown.put(&change.new);
+        }
+        Ok(list)
+    }
+
+    /// Calls `callback` on each free rectangle once, in an order that is left open.
+    pub fn for_each_free_rectangle<F>(&self, mut callback: F)
+    where
+        F: FnMut(&Rectangle),
+    {
+        self.atlas
+            .for_each_free_rectangle(|free: &library::Rectangle| {
+                callback(&convert::rectangle(free))
+            });
+    }
+
+    /// Calls `callback` on each live id and its rectangle once, by rising slot.
+    pub fn for_each_allocated_rectangle<F>(&self, mut callback: F)
+    where
+        F: FnMut(AllocId, &Rectangle),
+    {
+        self.atlas.for_each_allocated_rectangle(
+            |id: library::AllocId, area: &library::Rectangle| {
+                callback(convert::id(id), &convert::rectangle(area))
+            },
+        );
+    }
+
+    pub(crate) fn library(&self) -> &library::AtlasAllocator<Global> {
+        &self.atlas
+    }
+}
+
+impl Index<AllocId> for AtlasAllocator {
+    type Output = Rectangle;
+
+    /// The rectangle of a live id.
+    ///
+    /// # Panics
+    ///
+    /// If the id isn't live.
+    #[track_caller]
+    #[inline]
+    fn index(&self, index: AllocId) -> &Rectangle {
+        let live = self.atlas.get(convert::library_id(index));
+        expected(live.ok_or(AtlasError::NotLive));
+        self.shown.of(index)
+    }
+}
+
+impl Clone for AtlasAllocator {
+    #[track_caller]
+    fn clone(&self) -> Self {
+        expected(self.try_clone())
+    }
+}
+
+impl fmt::Debug for AtlasAllocator {
+    fn fmt(&self, f: &mut fmt::Formatter<'_>) -> fmt::Result {
+        f.debug_struct("AtlasAllocator")
+            .field("size", &self.size())
+            .field("options", &self.options())
+            .field("slots", &self.slots())
+            .finish_non_exhaustive()
+    }
+}

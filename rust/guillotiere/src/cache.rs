@@ -1,0 +1,453 @@
+//! Rectangles under keys in the pages of a texture array: pages are added and grow as they are needed, and at their
+//! limit the least recently used keys go. The crate `guillotiere` has nothing of the kind.
+//!
+//! ```
+//! use guillotiere::cache::{CacheChange, CacheOptions, Inserted, TextureCache};
+//! use guillotiere::{size2, DEFAULT_OPTIONS};
+//!
+//! let mut glyphs = TextureCache::new(&CacheOptions {
+//!     page: size2(512, 512),
+//!     largest_page: size2(2048, 2048),
+//!     pages: 4,
+//!     padding: 1,
+//!     atlas: DEFAULT_OPTIONS,
+//! })
+//! .unwrap();
+//! glyphs.begin_frame();
+//! let inserted = glyphs.insert('g', size2(20, 30))?;
+//! while let Some(change) = glyphs.next_change() {
+//!     match change {
+//!         CacheChange::PageAdded { page, size } => println!("texture {page} has {size:?} pixels"),
+//!         CacheChange::PageGrown { page, size } => println!("texture {page} grows to {size:?}"),
+//!         CacheChange::Evicted { key, .. } => println!("{key} is gone"),
+//!         CacheChange::Moved { key, to, .. } => println!("{key} is at {to:?}"),
+//!     }
+//! }
+//! match inserted {
+//!     Inserted::Placed(place) => println!("write its pixels at {place:?}"),
+//!     Inserted::Held(place) => println!("draw it from {place:?}"),
+//!     Inserted::FrameFull => println!("draw what this frame has, begin a new one, and insert again"),
+//!     Inserted::NeverFits | Inserted::EmptySize => println!("it has no place"),
+//! }
+//! assert_eq!(glyphs.get('g'), inserted.place());
+//! # Ok::<(), guillotiere::cache::CacheError>(())
+//! ```
+use crate::{convert, AllocatorOptions, Rectangle, Size};
+use core::fmt;
+use core::hash::{BuildHasher, Hash};
+use wollemigo_core::atlas_cache as library;
+pub use wollemigo_core::atlas_cache::entries::DefaultHasher;
+use wollemigo_support::alloc::Global;
+use wollemigo_support::vec::Vec as LibraryVec;
+
+/// How a cache is made. Lengths are in pixels.
+#[derive(Copy, Clone, Debug, PartialEq, Eq, Hash)]
+pub struct CacheOptions {
+    /// The size of a new page; it isn't empty.
+    pub page: Size,
+    /// The size up to which pages grow; neither side is less than that of `page`.
+    pub largest_page: Size,
+    /// The most pages; at least 1.
+    pub pages: u32,
+    /// What stays free on all four sides of an entry; at least 0.
+    pub padding: i32,
+    /// The options of each page's atlas; they are valid.
+    pub atlas: AllocatorOptions,
+}
+
+/// Where an entry lies, in pixels.
+#[derive(Copy, Clone, Debug, PartialEq)]
+pub struct Place {
+    /// The number of the entry. It stays until the entry is gone, and no other entry has it meanwhile; the numbers of
+    /// entries that are gone are given out again before new ones, so what a caller keeps of each entry fits a list.
+    pub number: u32,
+    /// The page, counted from 0.
+    pub page: u32,
+    /// The rectangle with its padding, which no other entry of the page overlaps. Its border shows what lay there
+    /// before: clear it.
+    pub rectangle: Rectangle,
+    /// The rectangle that has the sides that were asked for: behind the padding, from the left and from above.
+    pub inner: Rectangle,
+}
+
+/// What an insertion answers.
+#[derive(Copy, Clone, Debug, PartialEq)]
+pub enum Inserted {
+    /// The key is new, and this is its place: its pixels are to be written there.
+    Placed(Place),
+    /// The key was held, and this is its place still, with the pixels that were written there.
+    Held(Place),
+    /// Every page is there and at its largest, each entry was used in this frame, and no page has room: draw what this
+    /// frame has, begin a new one, and insert again.
+    FrameFull,
+    /// The size passes the largest page, with the padding on all sides and rounded up to the alignment.
+    NeverFits,
+    /// A side of the size is below 1.
+    EmptySize,
+}
+
+impl Inserted {
+    /// The place that was given, whether the key is new or was held; None if none was.
+    pub fn place(self) -> Option<Place> {
+        match self {
+            Inserted::Placed(place) | Inserted::Held(place) => Some(place),
+            Inserted::FrameFull | Inserted::NeverFits | Inserted::EmptySize => None,
+        }
+    }
+}
+
+/// What a call did.
+#[derive(Copy, Clone, Debug, PartialEq)]
+pub enum CacheChange<K = u64> {
+    /// There is a new page, the last one: make a texture of this size.
+    PageAdded {
+        /// Its number, counted from 0.
+        page: u32,
+        /// Its size, in pixels.
+        size: Size,
+    },
+    /// A page has this size from now on, and nothing on it moved: make its texture larger.
+    PageGrown {
+        /// Its number, counted from 0.
+        page: u32,
+        /// Its size, in pixels.
+        size: Size,
+    },
+    /// A key is gone.
+    Evicted {
+        /// The key.
+        key: K,
+        /// Where it was.
+        place: Place,
+    },
+    /// A key moved, by a repacking: copy what it shows from the page as it was before.
+    Moved {
+        /// The key.
+        key: K,
+        /// Where it was.
+        from: Place,
+        /// Where it is.
+        to: Place,
+    },
+}
+
+/// How often a cache had what it was asked for. A count that reaches 2^64 - 1 stays there.
+#[derive(Copy, Clone, Debug, PartialEq, Eq)]
+pub struct Counts {
+    /// The calls of `get` that found their key.
+    pub hits: u64,
+    /// The calls of `get` that didn't.
+    pub misses: u64,
+    /// The entries that were evicted.
+    pub evictions: u64,
+}
+
+/// Why a call was refused.
+#[derive(Copy, Clone, Debug, PartialEq, Eq, Hash)]
+#[non_exhaustive]
+pub enum CacheError {
+    /// A request for memory was refused.
+    Memory,
+    /// All 4,294,967,295 numbers of entries are in use.
+    Numbers,
+    /// The slots of a page's atlas don't suffice.
+    Slots,
+    /// The key is held with another size.
+    OtherSize,
+}
+
+impl fmt::Display for CacheError {
+    fn fmt(&self, f: &mut fmt::Formatter<'_>) -> fmt::Result {
+        f.write_str(match self {
+            CacheError::Memory => "memory was refused",
+            CacheError::Numbers => "no number is left for an entry",
+            CacheError::Slots => "no slot is left on a page",
+            CacheError::OtherSize => "the key is held with another size",
+        })
+    }
+}
+
+#[cfg(feature = "std")]
+impl std::error::Error for CacheError {}
+
+impl From<library::CacheError> for CacheError {
+    fn from(error: library::CacheError) -> CacheError {
+        match error {
+            library::CacheError::Memory => CacheError::Memory,
+            library::CacheError::Numbers => CacheError::Numbers,
+            library::CacheError::Slots => CacheError::Slots,
+            library::CacheError::OtherSize => CacheError::OtherSize,
+        }
+    }
+}
+
+/// What is wrong with the options of a cache.
+#[derive(Copy, Clone, Debug, PartialEq, Eq, Hash)]
+#[non_exhaustive]
+pub enum OptionsError {
+    /// A side of `page` is below 1.
+    EmptyPage,
+    /// A side of `largest_page` is less than that of `page`.
+    LargestPage,
+    /// `pages` is 0.
+    NoPages,
+    /// `padding` is below 0.
+    Padding,
+    /// A side of the alignment of `atlas` is below 1, or its thresholds are out of order.
+    Atlas,
+    /// Not even a size of 1 by 1, with the padding and rounded up to the alignment, fits `largest_page`.
+    NothingFits,
+}
+
+impl fmt::Display for OptionsError {
+    fn fmt(&self, f: &mut fmt::Formatter<'_>) -> fmt::Result {
+        f.write_str(match self {
+            OptionsError::EmptyPage => "a side of a new page is below 1",
+            OptionsError::LargestPage => "the largest page is smaller than a new one",
+            OptionsError::NoPages => "no pages are allowed",
+            OptionsError::Padding => "the padding is below 0",
+            OptionsError::Atlas => "the options of the atlas are not valid",
+            OptionsError::NothingFits => "nothing fits the largest page with its padding",
+        })
+    }
+}
+
+#[cfg(feature = "std")]
+impl std::error::Error for OptionsError {}
+
+impl From<library::OptionsError> for OptionsError {
+    fn from(error: library::OptionsError) -> OptionsError {
+        match error {
+            library::OptionsError::EmptyPage => OptionsError::EmptyPage,
+            library::OptionsError::LargestPage => OptionsError::LargestPage,
+            library::OptionsError::NoPages => OptionsError::NoPages,
+            library::OptionsError::Padding => OptionsError::Padding,
+            library::OptionsError::Atlas => OptionsError::Atlas,
+            library::OptionsError::NothingFits => OptionsError::NothingFits,
+        }
+    }
+}
+
+fn library_options(options: &CacheOptions) -> library::CacheOptions {
+    library::CacheOptions {
+        page: convert::library_size(options.page),
+        largest_page: convert::library_size(options.largest_page),
+        pages: options.pages,
+        padding: options.padding,
+        atlas: convert::library_options(&options.atlas),
+    }
+}
+
+fn place_of(place: library::Place) -> Place {
+    Place {
+        number: place.number,
+        page: place.page,
+        rectangle: convert::rectangle(&place.rectangle),
+        inner: convert::rectangle(&place.inner),
+    }
+}
+
+fn inserted_of(inserted: library::Inserted) -> Inserted {
+    match inserted {
+        library::Inserted::Placed(place) => Inserted::Placed(place_of(place)),
+        library::Inserted::Held(place) => Inserted::Held(place_of(place)),
+        library::Inserted::FrameFull => Inserted::FrameFull,
+        library::Inserted::NeverFits => Inserted::NeverFits,
+        library::Inserted::EmptySize => Inserted::EmptySize,
+    }
+}
+
+fn keyed<K>(found: (K, library::Place)) -> (K, Place) {
+    (found.0, place_of(found.1))
+}
+
+fn change_of<K>(change: library::CacheChange<K>) -> CacheChange<K> {
+    match change {
+        library::CacheChange::PageAdded { page, size } => CacheChange::PageAdded {
+            page,
+            size: convert::size(size),
+        },
+        library::CacheChange::PageGrown { page, size } => CacheChange::PageGrown {
+            page,
+            size: convert::size(size),
+        },
+        library::CacheChange::Evicted { key, place } => CacheChange::Evicted {
+            key,
+            place: place_of(place),
+        },
+        library::CacheChange::Moved { key, from, to } => CacheChange::Moved {
+            key,
+            from: place_of(from),
+            to: place_of(to),
+        },
+    }
+}
+
+/// Rectangles under keys in the pages of a texture array.
+///
+/// What a call did to keys and pages waits in the cache until `next_change` hands it over. The hasher that is taken
+/// where none is given is fast, and its seed is fixed: for keys that a stranger picks give another.
+pub struct TextureCache<K: Copy + Eq + Hash = u64, S: BuildHasher = DefaultHasher> {
+    cache: library::TextureCache<K, S, Global>,
+    changes: LibraryVec<library::CacheChange<K>, Global>,
+    // How many of the changes were handed over.
+    handed: usize,
+}
+
+impl<K: Copy + Eq + Hash> TextureCache<K> {
+    /// No pages and no entries. Takes no memory. An error says what is wrong with the options.
+    pub fn new(options: &CacheOptions) -> Result<Self, OptionsError> {
+        let cache = library::TextureCache::new(Global, library_options(options))?;
+        Ok(TextureCache::over(cache))
+    }
+}
+
+impl<K: Copy + Eq + Hash, S: BuildHasher> TextureCache<K, S> {
+    fn over(cache: library::TextureCache<K, S, Global>) -> Self {
+        TextureCache {
+            cache,
+            changes: LibraryVec::new(Global),
+            handed: 0,
+        }
+    }
+
+    /// The same, with a hasher for the keys.
+    pub fn with_hasher(options: &CacheOptions, hasher: S) -> Result<Self, OptionsError> {
+        let cache = library::TextureCache::with_hasher(Global, library_options(options), hasher)?;
+        Ok(TextureCache::over(cache))
+    }
+
+    /// A new frame: what was used before may go from now on.
+    pub fn begin_frame(&mut self) {
+        self.cache.begin_frame()
+    }
+
+    /// The place of a key, which is used in this frame from now on; None if it isn't held. Counts a hit or a miss.
+    pub fn get(&mut self, key: K) -> Option<Place> {
+        self.cache.get(&key).map(place_of)
+    }
+
+    /// The place of a key; None if it isn't held. It counts as no use.
+    pub fn peek(&self, key: K) -> Option<Place> {
+        self.cache.peek(&key).map(place_of)
+    }
+
+    /// A place for a key, which is used in this frame: the one that it has, if it is held, or a new one. What was done to
+    /// other keys and to pages is told by `next_change`, also after `FrameFull` and after an error: follow it before the
+    /// place is used.
+    pub fn insert(&mut self, key: K, size: Size) -> Result<Inserted, CacheError> {
+        let size = convert::library_size(size);
+        let inserted = self.cache.insert(key, size, &mut self.changes)?;
+        Ok(inserted_of(inserted))
+    }
+
+    /// A key goes: the place that it had; None if it isn't held. No change tells it.
+    pub fn remove(&mut self, key: K) -> Option<Place> {
+        self.cache.remove(&key).map(place_of)
+    }
+
+    /// The first change that wasn't handed over yet, which is handed over now; None if there is none.
+    pub fn next_change(&mut self) -> Option<CacheChange<K>> {
+        let change = *self.changes.as_slice().get(self.handed)?;
+        self.handed += 1;
+        if self.handed == self.changes.len() {
+            self.changes.clear();
+            self.handed = 0;
+        }
+        Some(change_of(change))
+    }
+
+    /// All keys go; the pages stay. No change tells it, and the changes that weren't handed over stay.
+    pub fn clear(&mut self) {
+        self.cache.clear()
+    }
+
+    /// The keys that weren't used for at least so many frames go, each told by a change, the least recently used first.
+    pub fn trim(&mut self, frames: u64) -> Result<(), CacheError> {
+        Ok(self.cache.trim(frames, &mut self.changes)?)
+    }
+
+    /// Places the keys of a page anew, the largest first, so that what is free comes together; whether there is such a
+    /// page. Each of its keys is told by a change, as moved, also where it stays, or as evicted, where it found no
+    /// room. A place that a key moves to can overlap one that a later change moves from: copy all pixels from the page
+    /// as it was.
+    pub fn repack(&mut self, page: u32) -> Result<bool, CacheError> {
+        Ok(self.cache.repack(page, &mut self.changes)?)
+    }
+
+    /// Takes memory for so many more entries.
+    pub fn reserve(&mut self, additional: usize) -> Result<(), CacheError> {
+        Ok(self.cache.reserve(additional)?)
+    }
+
+    /// How many numbers entries had so far, since the cache was made or cleared: each entry's number is below.
+    pub fn numbers(&self) -> u32 {
+        self.cache.numbers()
+    }
+
+    /// How many keys are held.
+    pub fn len(&self) -> usize {
+        self.cache.len()
+    }
+
+    /// Whether there are none.
+    pub fn is_empty(&self) -> bool {
+        self.cache.is_empty()
+    }
+
+    /// The most recently used key, and its place. It counts as no use.
+    pub fn newest(&self) -> Option<(K, Place)> {
+        self.cache.newest().map(keyed)
+    }
+
+    /// The least recently used key, and its place. It counts as no use.
+    pub fn oldest(&self) -> Option<(K, Place)> {
+        self.cache.oldest().map(keyed)
+    }
+
+    /// The key that was used next before this one, and its place. It counts as no use.
+    pub fn older(&self, key: K) -> Option<(K, Place)> {
+        self.cache.older(&key).map(keyed)
+    }
+
+    /// How many pages there are.
+    pub fn pages(&self) -> u32 {
+        self.cache.pages()
+    }
+
+    /// The size of a page, in pixels; None if there is no such page.
+    pub fn page_size(&self, page: u32) -> Option<Size> {
+        self.cache.page_size(page).map(convert::size)
+    }
+
+    /// The area of all entries of a page together, with their padding and what alignment added, in unit squares; None
+    /// if there is no such page.
+    pub fn live_area(&self, page: u32) -> Option<u64> {
+        self.cache.live_area(page)
+    }
+
+    /// The area of a page that no entry takes, in unit squares; None if there is no such page.
+    pub fn free_area(&self, page: u32) -> Option<u64> {
+        self.cache.free_area(page)
+    }
+
+    /// The counts since the cache was made.
+    pub fn statistics(&self) -> Counts {
+        let counts = self.cache.statistics();
+        Counts {
+            hits: counts.hits,
+            misses: counts.misses,
+            evictions: counts.evictions,
+        }
+    }
+}
+
+impl<K: Copy + Eq + Hash, S: BuildHasher> fmt::Debug for TextureCache<K, S> {
+    fn fmt(&self, f: &mut fmt::Formatter<'_>) -> fmt::Result {
+        f.debug_struct("TextureCache")
+            .field("len", &self.len())
+            .field("pages", &self.pages())
+            .field("statistics", &self.statistics())
+            .finish_non_exhaustive()
+    }
+}

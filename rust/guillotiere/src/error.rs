@@ -1,0 +1,85 @@
+//! Why a call of an allocator can't be made, or was refused.
+use core::fmt;
+use wollemigo_core::guillotiere as library;
+use wollemigo_core::guillotiere_total::CallError;
+
+/// Which condition of a call fails, or why the call was refused. After an error everything is as before the call.
+#[derive(Copy, Clone, Debug, PartialEq, Eq, Hash)]
+#[non_exhaustive]
+pub enum AtlasError {
+    /// A side of the size is below 1.
+    EmptySize,
+    /// A side of the alignment is below 1.
+    Alignment,
+    /// The small threshold is above the large one.
+    Thresholds,
+    /// The limit on slots isn't from 1 to `MOST_SLOTS`.
+    SlotLimit,
+    /// A side of the new size is less than the present one.
+    Shrinks,
+    /// An id isn't live, or is in a list of ids twice.
+    NotLive,
+    /// More slots would be used than the atlas's limit allows.
+    Slots,
+    /// A request for memory was refused.
+    Memory,
+}
+
+impl fmt::Display for AtlasError {
+    fn fmt(&self, f: &mut fmt::Formatter<'_>) -> fmt::Result {
+        f.write_str(match self {
+            AtlasError::EmptySize => "a side of the size is below 1",
+            AtlasError::Alignment => "a side of the alignment is below 1",
+            AtlasError::Thresholds => "the small threshold is above the large one",
+            AtlasError::SlotLimit => "the limit on slots is not from 1 to 16777216",
+            AtlasError::Shrinks => "a side of the new size is less than the present one",
+            AtlasError::NotLive => "the id is not live",
+            AtlasError::Slots => "no slot is left",
+            AtlasError::Memory => "memory was refused",
+        })
+    }
+}
+
+#[cfg(feature = "std")]
+impl std::error::Error for AtlasError {}
+
+impl From<library::AtlasError> for AtlasError {
+    fn from(error: library::AtlasError) -> AtlasError {
+        match error {
+            library::AtlasError::NotLive => AtlasError::NotLive,
+            library::AtlasError::Slots => AtlasError::Slots,
+            library::AtlasError::Memory => AtlasError::Memory,
+        }
+    }
+}
+
+impl From<CallError> for AtlasError {
+    fn from(error: CallError) -> AtlasError {
+        match error {
+            CallError::EmptySize => AtlasError::EmptySize,
+            CallError::Alignment => AtlasError::Alignment,
+            CallError::Thresholds => AtlasError::Thresholds,
+            CallError::SlotLimit => AtlasError::SlotLimit,
+            CallError::Shrinks => AtlasError::Shrinks,
+            CallError::Refused(error) => AtlasError::from(error),
+            // No call here names a page or asks a rectangle of the library for its sides.
+            CallError::NoPage | CallError::Unmeasurable => unreachable!("{}", error),
+        }
+    }
+}
+
+/// Panics with the text of the error.
+#[track_caller]
+#[inline]
+pub(crate) fn expected<T>(answer: Result<T, AtlasError>) -> T {
+    match answer {
+        Ok(value) => value,
+        Err(error) => failed(error),
+    }
+}
+
+#[track_caller]
+#[cold]
+fn failed(error: AtlasError) -> ! {
+    panic!("{}", error)
+}

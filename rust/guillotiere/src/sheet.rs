@@ -1,0 +1,228 @@
+//! Sheets of sprites that are known beforehand: all of them in the smallest sheet, or as many as one sheet takes. The
+//! crate `guillotiere` has nothing of the kind.
+//!
+//! ```
+//! use guillotiere::sheet::{pack, Allowed, SheetOptions};
+//! use guillotiere::size2;
+//!
+//! let allowed = Allowed::Squares { least: 1, greatest: 4096 };
+//! let options = SheetOptions { padding: 1, effort: 100, ..SheetOptions::new(allowed) };
+//! let sheet = pack(&[size2(20, 60), size2(64, 48)], &options)?.unwrap();
+//! assert_eq!(sheet.places.len(), 2); // a place for each sprite, in their order
+//! # Ok::<(), guillotiere::sheet::SheetError>(())
+//! ```
+use crate::{convert, size2, Rectangle, Size};
+use alloc::vec::Vec;
+use core::fmt;
+use wollemigo_core::atlas_sheet as library;
+use wollemigo_core::guillotiere::Size as LibrarySize;
+use wollemigo_support::alloc::Global;
+
+/// Which sheets are allowed, in pixels.
+#[derive(Copy, Clone, Debug, PartialEq, Eq, Hash)]
+pub enum Allowed {
+    /// This size alone.
+    One(Size),
+    /// Squares.
+    Squares {
+        /// The least side.
+        least: i32,
+        /// The greatest side.
+        greatest: i32,
+    },
+    /// Each side a power of two. The sides may differ.
+    Powers {
+        /// The greatest side.
+        greatest: i32,
+    },
+    /// One width, and each height from 1 on.
+    Heights {
+        /// The width.
+        width: i32,
+        /// The greatest height.
+        greatest: i32,
+    },
+}
+
+/// What a sheet keeps to, and how long a better one is looked for.
+#[derive(Copy, Clone, Debug, PartialEq, Eq, Hash)]
+pub struct SheetOptions {
+    /// Which sheets are allowed. `fill` takes the greatest of them.
+    pub allowed: Allowed,
+    /// How many pixels at least lie between two sprites, and between a sprite and the border.
+    pub padding: u16,
+    /// Each place, with the padding at its left and above, begins on multiples of these sides; both are above 0.
+    pub alignment: Size,
+    /// Whether a sprite may lie turned by 90 degrees.
+    pub turn: bool,
+    /// How many changes of the order are tried.
+    pub effort: u32,
+    /// Where the row of random changes begins. The same input has the same sheet on every machine.
+    pub seed: u64,
+}
+
+impl SheetOptions {
+    /// These sheets, no padding, alignment 1 in both directions, no turning, no changes of the order.
+    pub fn new(allowed: Allowed) -> Self {
+        SheetOptions {
+            allowed,
+            padding: 0,
+            alignment: size2(1, 1),
+            turn: false,
+            effort: 0,
+            seed: 0,
+        }
+    }
+}
+
+/// Where a sprite lies in a sheet.
+#[derive(Copy, Clone, Debug, PartialEq)]
+pub struct Placed {
+    /// Its place, in pixels, without the padding.
+    pub area: Rectangle,
+    /// Whether it is turned by 90 degrees: the place is as wide as the sprite is high.
+    pub turned: bool,
+}
+
+/// A sheet that takes all sprites.
+#[derive(Clone, Debug, PartialEq)]
+pub struct Sheet {
+    /// The size of the sheet, in pixels.
+    pub size: Size,
+    /// A place for each sprite, in the order of the sprites.
+    pub places: Vec<Placed>,
+    /// How many pixels these places have together.
+    pub used_area: u128,
+}
+
+/// A filled sheet.
+#[derive(Clone, Debug, PartialEq)]
+pub struct Filled {
+    /// The size of the sheet, in pixels.
+    pub size: Size,
+    /// A place or none for each sprite, in the order of the sprites.
+    pub places: Vec<Option<Placed>>,
+    /// How many pixels these places have together.
+    pub used_area: u128,
+}
+
+/// Why there is no sheet.
+#[derive(Copy, Clone, Debug, PartialEq, Eq, Hash)]
+#[non_exhaustive]
+pub enum SheetError {
+    /// A request for memory was refused.
+    Memory,
+    /// A side of the sheet, or the least that is allowed, is below 1.
+    EmptySheet,
+    /// No sheet is allowed: the greatest side is below the least.
+    EmptyRange,
+    /// A side of the alignment is below 1.
+    EmptyAlignment,
+    /// The sprite with this number, counted from 0, has a side below 1.
+    EmptySprite(usize),
+    /// The sprite with this number, counted from 0, passes 2147483647 pixels with the padding at both its sides.
+    GreatSprite(usize),
+}
+
+impl fmt::Display for SheetError {
+    fn fmt(&self, f: &mut fmt::Formatter<'_>) -> fmt::Result {
+        match self {
+            SheetError::Memory => f.write_str("memory was refused"),
+            SheetError::EmptySheet => f.write_str("a side of the sheet is below 1"),
+            SheetError::EmptyRange => f.write_str("the greatest side is below the least"),
+            SheetError::EmptyAlignment => f.write_str("a side of the alignment is below 1"),
+            SheetError::EmptySprite(number) => write!(f, "sprite {} has a side below 1", number),
+            SheetError::GreatSprite(number) => write!(f, "sprite {} is too large", number),
+        }
+    }
+}
+
+#[cfg(feature = "std")]
+impl std::error::Error for SheetError {}
+
+impl From<library::SheetError> for SheetError {
+    fn from(error: library::SheetError) -> SheetError {
+        match error {
+            library::SheetError::Memory => SheetError::Memory,
+            library::SheetError::EmptySheet => SheetError::EmptySheet,
+            library::SheetError::EmptyRange => SheetError::EmptyRange,
+            library::SheetError::EmptyAlignment => SheetError::EmptyAlignment,
+            library::SheetError::EmptySprite(number) => SheetError::EmptySprite(number),
+            library::SheetError::GreatSprite(number) => SheetError::GreatSprite(number),
+        }
+    }
+}
+
+fn library_options(options: &SheetOptions) -> library::SheetOptions {
+    let allowed = match options.allowed {
+        Allowed::One(size) => library::Allowed::One(convert::library_size(size)),
+        Allowed::Squares { least, greatest } => library::Allowed::Squares { least, greatest },
+        Allowed::Powers { greatest } => library::Allowed::Powers { greatest },
+        Allowed::Heights { width, greatest } => library::Allowed::Heights { width, greatest },
+    };
+    library::SheetOptions {
+        allowed,
+        padding: options.padding,
+        alignment: convert::library_size(options.alignment),
+        turn: options.turn,
+        effort: options.effort,
+        seed: options.seed,
+    }
+}
+
+// A list of other values in the same order.
+fn listed<T, U>(items: &[T], of: impl Fn(&T) -> U) -> Result<Vec<U>, SheetError> {
+    let mut list = Vec::new();
+    list.try_reserve_exact(items.len())
+        .map_err(|_| SheetError::Memory)?;
+    list.extend(items.iter().map(of));
+    Ok(list)
+}
+
+fn library_sizes(sprites: &[Size]) -> Result<Vec<LibrarySize>, SheetError> {
+    listed(sprites, |sprite| convert::library_size(*sprite))
+}
+
+fn placed(placed: &library::Placed) -> Placed {
+    Placed {
+        area: convert::rectangle(&placed.area),
+        turned: placed.turned,
+    }
+}
+
+/// Packs all sprites into the smallest sheet of those allowed that is found; None where not even the greatest took them
+/// all. `crates/atlas_sheet/README.md` says what is tried.
+pub fn pack(sprites: &[Size], options: &SheetOptions) -> Result<Option<Sheet>, SheetError> {
+    pack_telling(sprites, options, |_| {})
+}
+
+/// `pack`, and calls `told` with the size of each sheet that takes all sprites as soon as it is found, smaller and
+/// smaller ones. The last is the size of the sheet.
+pub fn pack_telling(
+    sprites: &[Size],
+    options: &SheetOptions,
+    mut told: impl FnMut(Size),
+) -> Result<Option<Sheet>, SheetError> {
+    let sprites = library_sizes(sprites)?;
+    let options = library_options(options);
+    let told = |size: LibrarySize| told(convert::size(size));
+    let sheet = match library::pack_telling(Global, &sprites, &options, told)? {
+        Some(sheet) => sheet,
+        None => return Ok(None),
+    };
+    Ok(Some(Sheet {
+        size: convert::size(sheet.size),
+        places: listed(sheet.places.as_slice(), placed)?,
+        used_area: sheet.used_area,
+    }))
+}
+
+/// Fills the greatest sheet that is allowed with as many pixels of sprites as are found to fit.
+pub fn fill(sprites: &[Size], options: &SheetOptions) -> Result<Filled, SheetError> {
+    let filled = library::fill(Global, &library_sizes(sprites)?, &library_options(options))?;
+    Ok(Filled {
+        size: convert::size(filled.size),
+        places: listed(filled.places.as_slice(), |place| place.as_ref().map(placed))?,
+        used_area: filled.used_area,
+    })
+}

@@ -1,0 +1,174 @@
+//! The simple allocator.
+use crate::error::expected;
+use crate::{
+    convert, AllocatorOptions, AtlasAllocator, AtlasError, Rectangle, Size, SlotCount,
+    DEFAULT_OPTIONS,
+};
+use core::fmt;
+use wollemigo_core::guillotiere as library;
+use wollemigo_core::guillotiere_total::simple as total;
+use wollemigo_support::alloc::Global;
+
+/// A simpler allocator, which hands out rectangles and takes none back.
+///
+/// ```
+/// use guillotiere::{size2, AtlasAllocator, SimpleAtlasAllocator};
+///
+/// let mut atlas = AtlasAllocator::new(size2(100, 100));
+/// atlas.allocate(size2(100, 60)).unwrap();
+/// let mut simple = SimpleAtlasAllocator::new(size2(1, 1));
+/// simple.init_from_allocator(&atlas);
+/// assert!(simple.allocate(size2(100, 41)).is_none());
+/// assert!(simple.allocate(size2(100, 40)).is_some());
+/// ```
+pub struct SimpleAtlasAllocator {
+    simple: library::SimpleAtlasAllocator<Global>,
+}
+
+impl SimpleAtlasAllocator {
+    /// An allocator of this size with `DEFAULT_OPTIONS`.
+    ///
+    /// # Panics
+    ///
+    /// If a side is below 1, or memory runs out.
+    #[track_caller]
+    pub fn new(size: Size) -> Self {
+        expected(SimpleAtlasAllocator::try_new(size))
+    }
+
+    /// `new` with the error as a value: `EmptySize` or `Memory`.
+    pub fn try_new(size: Size) -> Result<Self, AtlasError> {
+        SimpleAtlasAllocator::try_with_options(size, &DEFAULT_OPTIONS)
+    }
+
+    /// The same with these options.
+    ///
+    /// # Panics
+    ///
+    /// Where `new` does, and if a side of the alignment is below 1 or the small threshold is above the large one.
+    #[track_caller]
+    pub fn with_options(size: Size, options: &AllocatorOptions) -> Self {
+        expected(SimpleAtlasAllocator::try_with_options(size, options))
+    }
+
+    /// `with_options` with the error as a value: `EmptySize`, `Alignment`, `Thresholds` or `Memory`.
+    pub fn try_with_options(size: Size, options: &AllocatorOptions) -> Result<Self, AtlasError> {
+        let options = convert::library_options(options);
+        let simple = total::with_options(Global, convert::library_size(size), &options)?;
+        Ok(SimpleAtlasAllocator { simple })
+    }
+
+    /// The size of the allocator, in pixels.
+    pub fn size(&self) -> Size {
+        convert::size(self.simple.size())
+    }
+
+    /// The options of the allocator.
+    pub fn options(&self) -> AllocatorOptions {
+        convert::options(&self.simple.options())
+    }
+
+    /// How many entries are used, one for each free rectangle, how many there are, and how many there may be.
+    pub fn slots(&self) -> SlotCount {
+        convert::slots(self.simple.slots())
+    }
+
+    /// Whether one free rectangle has the allocator's size.
+    pub fn is_empty(&self) -> bool {
+        self.simple.is_empty()
+    }
+
+    /// Asks for a rectangle of this size. None if a side is below 1, or the size, rounded up to the alignment, fits no
+    /// free rectangle.
+    ///
+    /// # Panics
+    ///
+    /// If memory runs out.
+    #[track_caller]
+    #[inline]
+    pub fn allocate(&mut self, requested_size: Size) -> Option<Rectangle> {
+        expected(self.try_allocate(requested_size))
+    }
+
+    /// `allocate` with the error as a value: `Memory`.
+    #[inline]
+    pub fn try_allocate(&mut self, requested_size: Size) -> Result<Option<Rectangle>, AtlasError> {
+        let granted = self
+            .simple
+            .allocate(convert::library_size(requested_size))?;
+        Ok(granted.as_ref().map(convert::rectangle))
+    }
+
+    /// Starts again at the present size and options. Takes no memory.
+    pub fn clear(&mut self) {
+        expected(self.simple.clear().map_err(AtlasError::from));
+    }
+
+    /// Starts again at this size and with these options. Takes no memory.
+    ///
+    /// # Panics
+    ///
+    /// If a side of the size or of the alignment is below 1, or the small threshold is above the large one.
+    #[track_caller]
+    pub fn reset(&mut self, size: Size, options: &AllocatorOptions) {
+        expected(self.try_reset(size, options));
+    }
+
+    /// `reset` with the error as a value: `EmptySize`, `Alignment` or `Thresholds`.
+    pub fn try_reset(&mut self, size: Size, options: &AllocatorOptions) -> Result<(), AtlasError> {
+        let options = convert::library_options(options);
+        Ok(total::reset(
+            &mut self.simple,
+            convert::library_size(size),
+            &options,
+        )?)
+    }
+
+    /// Makes the allocator larger.
+    ///
+    /// # Panics
+    ///
+    /// If a side shrinks, or memory runs out.
+    #[track_caller]
+    pub fn grow(&mut self, new_size: Size) {
+        expected(self.try_grow(new_size));
+    }
+
+    /// `grow` with the error as a value: `Shrinks` or `Memory`.
+    pub fn try_grow(&mut self, new_size: Size) -> Result<(), AtlasError> {
+        Ok(total::grow(
+            &mut self.simple,
+            convert::library_size(new_size),
+        )?)
+    }
+
+    /// Whether `grow` may be called with this size: no side shrinks.
+    pub fn can_grow_to(&self, new_size: Size) -> bool {
+        self.simple.can_grow_to(convert::library_size(new_size))
+    }
+
+    /// Takes over an atlas's size, options and free rectangles, so that it never grants what is live there.
+    ///
+    /// # Panics
+    ///
+    /// If memory runs out.
+    #[track_caller]
+    pub fn init_from_allocator(&mut self, src: &AtlasAllocator) {
+        expected(self.try_init_from_allocator(src));
+    }
+
+    /// `init_from_allocator` with the error as a value: `Memory`.
+    pub fn try_init_from_allocator(&mut self, src: &AtlasAllocator) -> Result<(), AtlasError> {
+        Ok(self.simple.init_from_allocator(src.library())?)
+    }
+}
+
+impl fmt::Debug for SimpleAtlasAllocator {
+    fn fmt(&self, f: &mut fmt::Formatter<'_>) -> fmt::Result {
+        f.debug_struct("SimpleAtlasAllocator")
+            .field("size", &self.size())
+            .field("options", &self.options())
+            .field("slots", &self.slots())
+            .finish_non_exhaustive()
+    }
+}

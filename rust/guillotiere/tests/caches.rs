@@ -1,0 +1,188 @@
+//! Rectangles under keys.
+use guillotiere::cache::*;
+use guillotiere::*;
+
+fn area(x: i32, y: i32, width: i32, height: i32) -> Rectangle {
+    Rectangle {
+        min: point2(x, y),
+        max: point2(x + width, y + height),
+    }
+}
+
+// One page, of 16 by 16, which grows to 16 by 32.
+fn one_page() -> CacheOptions {
+    CacheOptions {
+        page: size2(16, 16),
+        largest_page: size2(16, 32),
+        pages: 1,
+        padding: 0,
+        atlas: DEFAULT_OPTIONS,
+    }
+}
+
+#[test]
+fn pages_come_and_grow() {
+    let mut cache = TextureCache::new(&one_page()).unwrap();
+    cache.begin_frame();
+    let inserted = cache.insert(7, size2(16, 32)).unwrap();
+    assert_eq!(
+        inserted,
+        Inserted::Placed(Place {
+            number: 0,
+            page: 0,
+            rectangle: area(0, 0, 16, 32),
+            inner: area(0, 0, 16, 32)
+        })
+    );
+    assert_eq!(
+        cache.next_change(),
+        Some(CacheChange::PageAdded {
+            page: 0,
+            size: size2(16, 16)
+        })
+    );
+    assert_eq!(
+        cache.next_change(),
+        Some(CacheChange::PageGrown {
+            page: 0,
+            size: size2(16, 32)
+        })
+    );
+    assert_eq!(cache.next_change(), None);
+    assert_eq!(
+        (cache.pages(), cache.page_size(0), cache.page_size(1)),
+        (1, Some(size2(16, 32)), None)
+    );
+}
+
+#[test]
+fn the_least_recently_used_key_gives_way() {
+    let mut cache = TextureCache::new(&one_page()).unwrap();
+    cache.begin_frame();
+    let place = cache.insert(7, size2(16, 32)).unwrap().place().unwrap();
+    assert_eq!(cache.insert(8, size2(1, 1)), Ok(Inserted::FrameFull));
+    cache.begin_frame();
+    assert!(matches!(
+        cache.insert(8, size2(1, 1)),
+        Ok(Inserted::Placed(_))
+    ));
+    let changes: Vec<CacheChange> = std::iter::from_fn(|| cache.next_change()).collect();
+    assert_eq!(changes[2..], [CacheChange::Evicted { key: 7, place }]);
+    assert!(cache.get(8).is_some() && cache.get(7).is_none() && cache.peek(8).is_some());
+    assert_eq!(
+        cache.statistics(),
+        Counts {
+            hits: 1,
+            misses: 1,
+            evictions: 1
+        }
+    );
+}
+
+#[test]
+fn keys_go() {
+    let mut cache = TextureCache::new(&one_page()).unwrap();
+    let place = cache.insert(7, size2(2, 3)).unwrap().place();
+    assert_eq!(cache.insert(7, size2(3, 2)), Err(CacheError::OtherSize));
+    assert_eq!(
+        cache.insert(7, size2(2, 3)),
+        Ok(Inserted::Held(place.unwrap()))
+    );
+    assert_eq!((cache.remove(7), cache.remove(7)), (place, None));
+    let place = cache.insert(8, size2(2, 3)).unwrap().place().unwrap();
+    cache.trim(0).unwrap();
+    while let Some(change) = cache.next_change() {
+        assert!(
+            matches!(change, CacheChange::PageAdded { .. })
+                || change == CacheChange::Evicted { key: 8, place }
+        );
+    }
+    cache.insert(9, size2(2, 3)).unwrap();
+    assert_eq!((cache.len(), cache.is_empty()), (1, false));
+    assert_eq!((cache.repack(0), cache.repack(9)), (Ok(true), Ok(false)));
+    assert!(
+        matches!(cache.next_change(), Some(CacheChange::Moved { key: 9, from, to }) if from == to)
+    );
+    cache.clear();
+    assert_eq!((cache.len(), cache.is_empty()), (0, true));
+}
+
+#[test]
+fn sizes_that_get_no_place() {
+    let mut cache = TextureCache::new(&one_page()).unwrap();
+    cache.begin_frame();
+    let rows = [
+        (size2(0, 1), Inserted::EmptySize),
+        (size2(1, -1), Inserted::EmptySize),
+        (size2(17, 1), Inserted::NeverFits),
+        (size2(1, 33), Inserted::NeverFits),
+    ];
+    for (size, answer) in rows {
+        assert_eq!(cache.insert(1, size), Ok(answer), "{:?}", size);
+        assert_eq!(answer.place(), None);
+    }
+    assert_eq!((cache.len(), cache.numbers(), cache.pages()), (0, 0, 0));
+}
+
+#[test]
+fn numbers_are_dense() {
+    let mut cache = TextureCache::new(&one_page()).unwrap();
+    let number = |cache: &TextureCache, key| cache.peek(key).unwrap().number;
+    for key in 0..3 {
+        cache.insert(key, size2(1, 1)).unwrap();
+        assert_eq!(number(&cache, key), key as u32);
+    }
+    cache.remove(1);
+    cache.insert(9, size2(1, 1)).unwrap();
+    assert_eq!((number(&cache, 9), number(&cache, 2)), (1, 2));
+    assert_eq!(cache.numbers(), 3);
+}
+
+#[test]
+fn options_that_are_wrong() {
+    let error = |options| TextureCache::<u64>::new(&options).err();
+    assert_eq!(
+        error(CacheOptions {
+            page: size2(0, 1),
+            ..one_page()
+        }),
+        Some(OptionsError::EmptyPage)
+    );
+    assert_eq!(
+        error(CacheOptions {
+            page: size2(17, 1),
+            ..one_page()
+        }),
+        Some(OptionsError::LargestPage)
+    );
+    assert_eq!(
+        error(CacheOptions {
+            pages: 0,
+            ..one_page()
+        }),
+        Some(OptionsError::NoPages)
+    );
+    assert_eq!(
+        error(CacheOptions {
+            padding: -1,
+            ..one_page()
+        }),
+        Some(OptionsError::Padding)
+    );
+    let atlas = AllocatorOptions {
+        alignment: size2(0, 1),
+        ..DEFAULT_OPTIONS
+    };
+    assert_eq!(
+        error(CacheOptions {
+            atlas,
+            ..one_page()
+        }),
+        Some(OptionsError::Atlas)
+    );
+    let wide = CacheOptions {
+        padding: 8,
+        ..one_page()
+    };
+    assert_eq!(error(wide), Some(OptionsError::NothingFits));
+}

@@ -1,0 +1,202 @@
+//! Each request for memory refused in turn: a call that gives an error leaves everything as it was.
+use guillotiere::cache::{CacheError, CacheOptions, TextureCache};
+use guillotiere::sheet::{fill, pack, Allowed, SheetError, SheetOptions};
+use guillotiere::*;
+use std::alloc::{GlobalAlloc, Layout, System};
+use std::cell::Cell;
+use std::ptr::null_mut;
+
+thread_local! {
+    // How many more requests of this thread are granted.
+    static GRANTED: Cell<usize> = const { Cell::new(usize::MAX) };
+}
+
+struct Refusing;
+
+fn is_granted() -> bool {
+    GRANTED.with(|left| {
+        let more = left.get();
+        if more != usize::MAX {
+            left.set(more.saturating_sub(1));
+        }
+        more > 0
+    })
+}
+
+// SAFETY: `System` does it all; null is the answer of an allocator that has no memory.
+unsafe impl GlobalAlloc for Refusing {
+    unsafe fn alloc(&self, layout: Layout) -> *mut u8 {
+        if is_granted() {
+            System.alloc(layout)
+        } else {
+            null_mut()
+        }
+    }
+
+    unsafe fn dealloc(&self, block: *mut u8, layout: Layout) {
+        System.dealloc(block, layout)
+    }
+}
+
+#[global_allocator]
+static ALLOCATOR: Refusing = Refusing;
+
+// A call with so many requests granted, and no more.
+fn granting<T>(requests: usize, call: impl FnOnce() -> T) -> T {
+    GRANTED.with(|left| left.set(requests));
+    let answer = call();
+    GRANTED.with(|left| left.set(usize::MAX));
+    answer
+}
+
+type Call = fn(&mut AtlasAllocator) -> Result<(), AtlasError>;
+
+fn allocate_some(atlas: &mut AtlasAllocator) -> Result<(), AtlasError> {
+    let turn = atlas.slots().used as i32;
+    atlas
+        .try_allocate(size2(3 + turn % 7, 2 + turn % 5))
+        .map(drop)
+}
+
+// Frees the first and the third of what is live.
+fn free_two(atlas: &mut AtlasAllocator) -> Result<(), AtlasError> {
+    let mut ids = [AllocId::deserialize(0); 3];
+    let mut found = 0;
+    atlas.for_each_allocated_rectangle(|id, _| {
+        if found < 3 {
+            ids[found] = id;
+            found += 1;
+        }
+    });
+    atlas.try_deallocate_all(&[ids[0], ids[2]])
+}
+
+const CALLS: &[Call] = &[
+    allocate_some,
+    allocate_some,
+    allocate_some,
+    |atlas| atlas.try_reserve(20),
+    allocate_some,
+    allocate_some,
+    free_two,
+    |atlas| atlas.try_grow(size2(64, 48)),
+    allocate_some,
+    |atlas| atlas.try_rearrange().map(drop),
+    allocate_some,
+    |atlas| atlas.try_resize_and_rearrange(size2(9, 40)).map(drop),
+    |atlas| atlas.try_clone().map(|copy| *atlas = copy),
+    allocate_some,
+];
+
+type State = (Size, SlotCount, Vec<(AllocId, Rectangle)>, Vec<Rectangle>);
+
+fn state_of(atlas: &AtlasAllocator) -> State {
+    let (mut live, mut free) = (Vec::new(), Vec::new());
+    atlas.for_each_allocated_rectangle(|id, area| {
+        assert_eq!((atlas[id], atlas.get(id)), (*area, Some(*area)));
+        live.push((id, *area));
+    });
+    atlas.for_each_free_rectangle(|area| free.push(*area));
+    (atlas.size(), atlas.slots(), live, free)
+}
+
+// The atlas after so many calls, none of which is refused.
+fn played(calls: usize) -> AtlasAllocator {
+    let mut atlas = AtlasAllocator::new(size2(32, 32));
+    for call in &CALLS[..calls] {
+        call(&mut atlas).unwrap();
+    }
+    atlas
+}
+
+#[test]
+fn an_atlas_stays_where_memory_is_refused() {
+    let mut refused = 0;
+    for (number, call) in CALLS.iter().enumerate() {
+        let after = state_of(&played(number + 1));
+        for requests in 0.. {
+            let mut atlas = played(number);
+            let before = state_of(&atlas);
+            if granting(requests, || call(&mut atlas)).is_ok() {
+                assert_eq!(state_of(&atlas), after);
+                break;
+            }
+            refused += 1;
+            assert_eq!(granting(0, || call(&mut atlas)), Err(AtlasError::Memory));
+            assert_eq!(state_of(&atlas), before);
+            call(&mut atlas).unwrap();
+            assert_eq!(state_of(&atlas), after);
+        }
+    }
+    assert!(refused >= 10);
+}
+
+#[test]
+fn nothing_is_asked_for_where_room_is_reserved() {
+    let mut atlas = AtlasAllocator::new(size2(64, 64));
+    atlas.try_reserve(41).unwrap();
+    let ids = granting(0, || {
+        [(); 10].map(|_| atlas.allocate(size2(5, 3)).unwrap().id)
+    });
+    granting(0, || {
+        ids.iter().for_each(|id| atlas.deallocate(*id));
+        atlas.clear();
+    });
+    assert!(atlas.is_empty());
+}
+
+#[test]
+fn starts_are_refused() {
+    let error = granting(0, || AtlasAllocator::try_new(size2(9, 9)).err());
+    assert_eq!(error, Some(AtlasError::Memory));
+    let error = granting(0, || SimpleAtlasAllocator::try_new(size2(9, 9)).err());
+    assert_eq!(error, Some(AtlasError::Memory));
+}
+
+#[test]
+fn sheets_are_refused() {
+    let sprites = [size2(4, 4), size2(3, 9), size2(7, 2)];
+    let options = SheetOptions::new(Allowed::Squares {
+        least: 1,
+        greatest: 64,
+    });
+    let sheet = pack(&sprites, &options);
+    let requests = (0..).find(|requests| {
+        let found = granting(*requests, || pack(&sprites, &options));
+        assert!(found == Err(SheetError::Memory) || found == sheet);
+        found == sheet
+    });
+    assert!(requests > Some(3));
+    let filled = fill(&sprites, &options).unwrap();
+    assert_eq!(
+        granting(0, || fill(&sprites, &options)),
+        Err(SheetError::Memory)
+    );
+    assert_eq!((filled.places.len(), filled.used_area), (3, 16 + 27 + 14));
+}
+
+#[test]
+fn a_cache_stays_where_memory_is_refused() {
+    let options = CacheOptions {
+        page: size2(16, 16),
+        largest_page: size2(16, 32),
+        pages: 2,
+        padding: 1,
+        atlas: DEFAULT_OPTIONS,
+    };
+    let mut cache = TextureCache::<u64>::new(&options).unwrap();
+    for key in 0..20 {
+        cache.begin_frame();
+        let mut requests = 0;
+        let place = loop {
+            match granting(requests, || cache.insert(key, size2(6, 5))) {
+                Ok(inserted) => break inserted.place().unwrap(),
+                Err(error) => assert_eq!(error, CacheError::Memory),
+            }
+            assert_eq!(cache.peek(key), None);
+            requests += 1;
+        };
+        assert_eq!(cache.get(key), Some(place));
+    }
+    assert!(cache.len() < 20 && cache.pages() == 2);
+}
