@@ -100,7 +100,7 @@ impl GlyphCache {
         let placed = self.cache.insert(key, size_of(key), &mut self.changes)?;
         add_changes(&mut self.answers, &self.changes)?;
         self.changes.clear();
-        match placed {
+        match placed.place() {
             Some(place) => self.answers.shown(place),
             None => self.answers.refused(),
         }

@@ -1,15 +1,15 @@
 -- What the calls keep of entries: the map answers with the number of the entry with a key.
-use Rattle.std.proofs.Common.{ℕ, ◌+◌, ◌<◌, ◌≤◌, ◌≡◌, inl, inr, Bool, true, false, cond, max, List, [], ◌∷◌, length, Option, None, Some, IfSome, is_some, sym, ap, subst, ◌∙◌, arith, slice_get, length-set, set}
+use Rattle.std.proofs.Common.{ℕ, refl, ◌+◌, ◌<◌, ◌≤◌, ◌≡◌, inl, inr, Bool, true, false, cond, max, List, [], ◌∷◌, length, Option, None, Some, IfSome, is_some, sym, ap, subst, ◌∙◌, arith, slice_get, length-set, set}
 use Rattle.std.specs.Option.{option_map_or}
 use Rattle.std.specs.Cmp.{IsEquivalence}
 use Rattle.std.specs.HashMap.{HashMap, get}
 use Rattle.std.specs.List.{AllByRecursion, IsDistinct}
 use Rattle.std.proofs.lemmas.Bool.{cases_eq, cases_Bool, cond-true, cond-false, false≢true}
 use Rattle.std.proofs.lemmas.Map.Keys.{IsDistinct-cons}
-use Rattle.std.proofs.lemmas.Option.{same_Some, none-some}
+use Rattle.std.proofs.lemmas.Option.{same_Some, none-some, slice_get_within}
 use Rattle.guillotiere.specs.declared.Rectangle.{Rectangle}
 use Rattle.atlas_cache.specs.declared.entries.Entry.{Entry}
-use Rattle.atlas_cache.specs.Entries.{IsNumber, entry_at, keys, moved, number_of, numbers, touched, without_number}
+use Rattle.atlas_cache.specs.Entries.{AreNumbered, IsNumber, entry_at, keys, moved, number_of, numbers, touched, without_number}
 use Rattle.atlas_cache.specs.Orders.{IsEntry, IsFreshNumber, Order, gone, with_newest, times_in, one_if_same, used, without_first}
 use Rattle.atlas_cache.specs.Tables.{AreKept, numbered}
 use Rattle.atlas_cache.proofs.RingLemmas.{times_in-without, one_if_same-self, one_if_same-ne}
@@ -66,10 +66,11 @@ module _ {K S : Type 0} (eq : K → K → Bool) (map : HashMap K ℕ S) (order :
     once = h.once;
     found = λ k n e. h.found k n (sym (same_get k) ∙ e);
     known = λ k n w. same_get k ∙ h.known k n w;
+    own = h.own;
   }
 
   -- What belongs to one number changes, but not its key.
-  module _ (n : ℕ) (e e' : Entry K) (new : List (Entry K)) (l : IsEntry n order) (s : slice_get items n ≡ Some e) (t : slice_get new n ≡ Some e') (key : e'.key ≡ e.key) (size : length new ≡ length items) (o : (k : ℕ) → (k ≡ n → ⊥) → slice_get new k ≡ slice_get items k) where
+  module _ (n : ℕ) (e e' : Entry K) (new : List (Entry K)) (l : IsEntry n order) (s : slice_get items n ≡ Some e) (t : slice_get new n ≡ Some e') (key : e'.key ≡ e.key) (label : e'.number ≡ e.number) (size : length new ≡ length items) (o : (k : ℕ) → (k ≡ n → ⊥) → slice_get new k ≡ slice_get items k) where
     back : (k : K) (m : ℕ) (x : Entry K) → slice_get new m ≡ Some x → eq k x.key ≡ true → (y : Entry K) × (slice_get items m ≡ Some y) × (eq k y.key ≡ true)
     back k m x p q =
         elim (cases_eq m n) [
@@ -93,6 +94,11 @@ module _ {K S : Type 0} (eq : K → K → Bool) (map : HashMap K ℕ S) (order :
       once = h.once;
       found = λ k m g. let w = h.found k m g in let r = forth k m w.entry w.stored w.same in record { listed = w.listed; entry = r.0; stored = r.1; same = r.2 };
       known = λ k m w. let r = back k m w.entry w.stored w.same in h.known k m (record { listed = w.listed; entry = r.0; stored = r.1; same = r.2 });
+      own = λ m x p. elim (cases_eq m n) [
+        | inl is ↦ (let same_entry : e' ≡ x = same_Some e' x (sym t ∙ ap (slice_get new) (sym is) ∙ p) in
+            ap (λ (v : Entry K). v.number) (sym same_entry) ∙ label ∙ h.own n e s ∙ sym is)
+        | inr ne ↦ h.own m x (sym (o m ne) ∙ p)
+      ];
     }
 
   -- An entry is used.
@@ -105,6 +111,7 @@ module _ {K S : Type 0} (eq : K → K → Bool) (map : HashMap K ℕ S) (order :
         once = λ m. omega (arith, h.once m, times_in-without n order.entries l m);
         found = λ k m g. let w = h.found k m g in record { listed = omega (arith, w.listed, times_in-without n order.entries l m); entry = w.entry; stored = w.stored; same = w.same };
         known = λ k m w. h.known k m (record { listed = there m w.listed; entry = w.entry; stored = w.stored; same = w.same });
+        own = h.own;
       }
 
   -- An entry goes, from the map and from the order.
@@ -130,10 +137,11 @@ module _ {K S : Type 0} (eq : K → K → Bool) (map : HashMap K ℕ S) (order :
                   absurd (omega (arith, w.listed, ended, ap (λ v. times_in v (without_first n order.entries)) is)))
               | inr f ↦ u k ∙ cond-false (eq e.key k) None (get eq map k) f ∙ g
             ];
+        own = h.own;
       }
 
   -- An entry with a new key joins.
-  module _ (laws : IsEquivalence eq) (n : ℕ) (e : Entry K) (new : HashMap K ℕ S) (stored : List (Entry K)) (fresh : IsFreshNumber n order) (absent : get eq map e.key ≡ None) (u : (k : K) → get eq new k ≡ cond (eq e.key k) (Some n) (get eq map k)) (t : slice_get stored n ≡ Some e) (o : (k : ℕ) → (k ≡ n → ⊥) → k < length items → slice_get stored k ≡ slice_get items k) (size : length stored ≡ max (length items) (n + 1)) where
+  module _ (laws : IsEquivalence eq) (n : ℕ) (e : Entry K) (new : HashMap K ℕ S) (stored : List (Entry K)) (fresh : IsFreshNumber n order) (absent : get eq map e.key ≡ None) (u : (k : K) → get eq new k ≡ cond (eq e.key k) (Some n) (get eq map k)) (t : slice_get stored n ≡ Some e) (o : (k : ℕ) → (k ≡ n → ⊥) → k < length items → slice_get stored k ≡ slice_get items k) (size : length stored ≡ max (length items) (n + 1)) (label : e.number ≡ n) where
     apart : (m : ℕ) → IsEntry m order → m ≡ n → ⊥
     apart m i q = omega (arith, i, fresh.free, ap (λ v. times_in v order.entries) q)
 
@@ -164,6 +172,12 @@ module _ {K S : Type 0} (eq : K → K → Bool) (map : HashMap K ℕ S) (order :
               | inr f ↦ u k ∙ cond-false (eq e.key k) (Some n) (get eq map k) f ∙ h.known k m (record { listed = listed; entry = w.entry; stored = old; same = w.same })
             ])
       ];
+      own = λ m x p. elim (cases_eq m n) [
+        | inl is ↦ (let same_entry : e ≡ x = same_Some e x (sym t ∙ ap (slice_get stored) (sym is) ∙ p) in
+            ap (λ (v : Entry K). v.number) (sym same_entry) ∙ label ∙ sym is)
+        | inr ne ↦ (let inside : m < length stored = slice_get_within stored m x p in
+            h.own m x (sym (o m ne (omega (arith, inside, size, ne, fresh.next, h.made))) ∙ p))
+      ];
     }
 
   -- What a new entry makes of the list of entries.
@@ -171,6 +185,30 @@ module _ {K S : Type 0} (eq : K → K → Bool) (map : HashMap K ℕ S) (order :
   joined-is n e stored fresh t o =
       numbered-cons stored n order.entries e t ∙
       ap (λ r. (n, e) ∷ r) (numbered-same items stored order.entries (λ k l. o k (λ q. omega (arith, l, fresh.free, ap (λ v. times_in v order.entries) q)) (h.inside k l)))
+
+  -- Each entry has its number.
+  pub labels : (ns : List ℕ) → AreNumbered (numbered items ns)
+  labels [] = tt
+  labels (n ∷ ns) = go (slice_get items n) refl (labels ns)
+    where
+      go : (o : Option (Entry K)) → slice_get items n ≡ o → AreNumbered (numbered items ns)
+          → AreNumbered (numbered items (n ∷ ns))
+      go None is rest = rw is rest
+      go (Some e) is rest = rw is (h.own n e is, rest)
+
+  -- And their numbers are below what those of the order are below.
+  pub labels-below : (bound : ℕ) (ns : List ℕ) → ((m : ℕ) → 0 < times_in m ns → m < bound)
+      → AllByRecursion (λ (e : ℕ × Entry K). e.0 < bound) (numbered items ns)
+  labels-below bound [] inner = tt
+  labels-below bound (n ∷ ns) inner =
+      go (slice_get items n) refl (inner n (omega (arith, one_if_same-self n)))
+      (labels-below bound ns (λ m i. inner m (omega (arith, i))))
+    where
+      go : (o : Option (Entry K)) → slice_get items n ≡ o → n < bound
+          → AllByRecursion (λ (e : ℕ × Entry K). e.0 < bound) (numbered items ns)
+          → AllByRecursion (λ (e : ℕ × Entry K). e.0 < bound) (numbered items (n ∷ ns))
+      go None is first rest = rw is rest
+      go (Some e) is first rest = rw is (first, rest)
 
   -- A number that is new is that of no entry.
   pub new-none : (es : List (ℕ × Entry K)) → numbered items order.entries ≡ es → (n : ℕ) → IsFreshNumber n order → is_some (entry_at n es) ≡ false
@@ -186,10 +224,10 @@ module _ {K S : Type 0} (eq : K → K → Bool) (map : HashMap K ℕ S) (order :
       ]
 
   -- What belongs to a number is written, with the key that it had.
-  module _ (n : ℕ) (r e : Entry K) (l : IsEntry n order) (s : slice_get items n ≡ Some r) (key : e.key ≡ r.key) where
+  module _ (n : ℕ) (r e : Entry K) (l : IsEntry n order) (s : slice_get items n ≡ Some r) (key : e.key ≡ r.key) (label : e.number ≡ r.number) where
     pub kept-written : AreKept eq map order (set items n e)
     kept-written =
-        kept-changed n r e (set items n e) l s (slice_get-set_same items n e (h.inside n l)) key (length-set items n e) (λ k ne. slice_get-set_other items n k e ne)
+        kept-changed n r e (set items n e) l s (slice_get-set_same items n e (h.inside n l)) key label (length-set items n e) (λ k ne. slice_get-set_other items n k e ne)
 
   pub touched-is : (n frame : ℕ) (r : Entry K) → IsEntry n order → slice_get items n ≡ Some r → numbered (set items n (record r { frame = frame })) (n ∷ without_first n order.entries) ≡ touched n frame (numbered items order.entries)
   touched-is n frame r l s =

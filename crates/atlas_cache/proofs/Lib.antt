@@ -13,7 +13,9 @@ pub mod ApartLemmas
 pub mod CacheLemmas
 pub mod HoldingLemmas
 pub mod KeyLemmas
+pub mod InsertLemmas
 pub mod LoopLemmas
+pub mod NumberLemmas
 pub mod PictureLemmas
 pub mod StandLemmas
 pub mod TrimLemmas

@@ -1,12 +1,12 @@
 -- Changes, one after another.
-use Rattle.std.proofs.Common.{◌≡◌, Bool, List, [], ◌∷◌, ◌++◌, Option, None, Some, Result, inl, inr, refl, sym, ap, subst, ◌∙◌, append_assoc}
+use Rattle.std.proofs.Common.{◌≡◌, Bool, List, [], ◌∷◌, ◌++◌, None, Some, Result, inl, inr, refl, sym, ap, subst, ◌∙◌, append_assoc}
 use Rattle.std.proofs.lemmas.{Bool.{cases_Bool}}
 use Rattle.guillotiere.specs.declared.Size.{Size}
 use Rattle.atlas_cache.specs.declared.changes.CacheChange.{CacheChange}
 use Rattle.atlas_cache.specs.declared.changes.CacheChange.TheVariants.{PageAdded, PageGrown, Evicted, Moved}
 use Rattle.atlas_cache.specs.declared.entries.Entry.{Entry}
 use Rattle.atlas_cache.specs.declared.error.CacheError.{CacheError}
-use Rattle.atlas_cache.specs.declared.places.Place.{Place}
+use Rattle.atlas_cache.specs.declared.inserted.Inserted.{Inserted}
 use Rattle.atlas_cache.specs.Caches.{CacheState, entry_for, HasNoPageFor}
 use Rattle.atlas_cache.specs.Changes.{Does, DoesOne, Ends, Inserts, Leads}
 
@@ -35,7 +35,7 @@ module _ {K : Type 0} where
     leads = leads-last asked was.made one.change s t u was.leads none one.does;
   }
 
-  does_options : (c : CacheChange K) (s t : CacheState K) → Does c s t → t.options ≡ s.options
+  pub does_options : (c : CacheChange K) (s t : CacheState K) → Does c s t → t.options ≡ s.options
   does_options (PageAdded page size) s t does = does.keeps.options
   does_options (PageGrown page size) s t does = does.keeps.options
   does_options (Evicted key place) s t does = does.options
@@ -62,7 +62,7 @@ module _ {K : Type 0} where
         → entry_for eq k s.entries ≡ None → entry_for eq k t.entries ≡ None
     one_absent before after s t one none = does_absent one.change s t one.does none
 
-  pub inserted : (asked : Size) (key : K) (size : Size) (result : Result (Option Place) CacheError)
+  pub inserted : (asked : Size) (key : K) (size : Size) (result : Result Inserted CacheError)
       (before after : List (CacheChange K)) (s t u : CacheState K) → Reached asked before after s t → Ends asked key size result t u
       → Inserts asked key size result before after s u
   inserted asked key size result before after s t u was ends =

@@ -4,7 +4,7 @@ use Rattle.atlas_cache.specs.declared.recency.links.Link.{Link}
 use Rattle.atlas_cache.specs.Orders.{Order, IsFreshNumber, one_if_same, times_in, without_first, used, gone, with_newest}
 use Rattle.atlas_cache.specs.Rings.{HasSpare, IsRecency, IsRing, run, no_entry, next_at}
 use Rattle.atlas_cache.proofs.RingLemmas.{length-line, one_if_same-self, times_in-without, length-without_first}
-use Rattle.atlas_cache.proofs.SpareLemmas.{IsRecency-made, order-is, HasSpare-same, HasSpare-given, new-free}
+use Rattle.atlas_cache.proofs.SpareLemmas.{IsRecency-made, order-is, HasSpare-same, HasSpare-given, new-free, none-spare}
 
 -- The stored order.
 abbrev pub stored : List Link → (ends : Link) → (count : ℕ) → Order
@@ -78,5 +78,9 @@ module _ (links mid new : List Link) (ends last : Link) (u v n i : ℕ) (h : IsR
   joined-is =
       order-is new last (n + 1) (max (length links) (i + 1)) (i ∷ run links ends n) joined-ring (omega (arith, length-old)) (w.size ∙ w.made)
 
-  pub joined-new : i ≤ length links → IsFreshNumber i (stored links ends n)
-  joined-new e = record { free = free; next = e }
+  pub joined-new : i ≤ length links → (i ≡ length links → u ≡ no_entry) → IsFreshNumber i (stored links ends n)
+  joined-new e last = record {
+    free = free;
+    next = e;
+    dense = λ is. none-spare links ends u (run links ends n) h.rest (last is) h.short;
+  }

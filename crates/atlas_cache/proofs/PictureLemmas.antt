@@ -8,6 +8,8 @@ use Rattle.atlas_cache.specs.declared.changes.CacheChange.{CacheChange}
 use Rattle.atlas_cache.specs.declared.changes.CacheChange.TheVariants.{PageAdded, PageGrown, Evicted, Moved}
 use Rattle.atlas_cache.specs.declared.entries.Entry.{Entry}
 use Rattle.atlas_cache.specs.declared.error.CacheError.{CacheError}
+use Rattle.atlas_cache.specs.declared.inserted.Inserted.{Inserted}
+use Rattle.atlas_cache.specs.declared.inserted.Inserted.TheVariants.{Placed, Held, FrameFull, NeverFits, EmptySize}
 use Rattle.atlas_cache.specs.declared.places.Place.{Place}
 use Rattle.atlas_cache.specs.Caches.{CacheState, entry_for, place_for, shown, HaveOwnKeys}
 use Rattle.atlas_cache.specs.Changes.{Picture, all_changed, changed, picture_of, placed, Adds, Does, Inserts, Leads, LooksSame, Removes, ShowsSame, Uses}
@@ -94,10 +96,10 @@ module _ {K : Type 0} (eq : K → K → Bool) where
 
   module _ (laws : IsEquivalence eq) where
     -- A new key.
-    pub inserts_tell : (asked : Size) (key : K) (size : Size) (result : Result (Option Place) CacheError)
+    pub inserts_tell : (asked : Size) (key : K) (size : Size) (result : Result Inserted CacheError)
         (before after : List (CacheChange K)) (s t : CacheState K) → HaveOwnKeys eq s.entries
         → Inserts asked key size result before after s t → Tells eq key result before after s t
-    inserts_tell asked key size (Ok (Some place)) before after s t own ins =
+    inserts_tell asked key size (Ok (Placed place)) before after s t own ins =
         let so_far = (told laws asked ins.made s ins.done own ins.leads).0 in
         let noted = same_after (Moved key place place) _ _ so_far in
         record {
@@ -105,7 +107,10 @@ module _ {K : Type 0} (eq : K → K → Bool) where
           listed = ins.listed;
           shows = same_both _ _ _ noted (added laws asked key size place ins.done t ins.ends);
         }
-    inserts_tell asked key size (Ok None) before after s t own ins =
+    inserts_tell asked key size (Ok (Held place)) before after s t own ins = absurd ins.ends
+    inserts_tell asked key size (Ok NeverFits) before after s t own ins = absurd ins.ends
+    inserts_tell asked key size (Ok EmptySize) before after s t own ins = absurd ins.ends
+    inserts_tell asked key size (Ok FrameFull) before after s t own ins =
         let so_far = (told laws asked ins.made s ins.done own ins.leads).0 in
         record {
           made = ins.made;

@@ -182,3 +182,11 @@ all-used links ends u xs h e m = go h.spare h.line h.inside h.all
     go : (spare : List ℕ) → RunsForward (next_at links ends) u spare → ((k : ℕ) → 0 < times_in k xs + times_in k spare → k < length links) → length xs + length spare ≡ length links → length xs ≡ no_entry
     go [] l inside all = omega (arith, all, m)
     go (x ∷ rest) l inside all = let i = inside x (omega (arith, one_if_same-self x)) in absurd (omega (arith, i, l.0, e, m))
+
+-- Where no number is spare, all that were made are in use.
+pub none-spare : (links : List Link) (ends : Link) (u : ℕ) (xs : List ℕ) → HasSpare links ends u xs → u ≡ no_entry → length links ≤ no_entry → length xs ≡ length links
+none-spare links ends u xs h e short = go h.spare h.line h.inside h.all
+  where
+    go : (spare : List ℕ) → RunsForward (next_at links ends) u spare → ((k : ℕ) → 0 < times_in k xs + times_in k spare → k < length links) → length xs + length spare ≡ length links → length xs ≡ length links
+    go [] l inside all = omega (arith, all)
+    go (x ∷ rest) l inside all = let i = inside x (omega (arith, one_if_same-self x)) in absurd (omega (arith, i, l.0, e, short))

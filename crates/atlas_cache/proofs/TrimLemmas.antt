@@ -29,6 +29,7 @@ module _ {K : Type 0} where
     pub was : s.entries ≡ t.entries ++ gone
     pub unused : AllByRecursion (IsUnusedFor frames s.frame) gone
     pub listed : now ≡ before ++ all_evicted s.options.padding gone
+    pub numbers : t.numbers ≡ s.numbers
     pub sizes : page_sizes t.pages ≡ page_sizes s.pages
     pub options : t.options ≡ s.options
     pub frame : t.frame ≡ s.frame
@@ -49,6 +50,7 @@ module _ {K : Type 0} where
       was = sym (append-none s.entries);
       unused = tt;
       listed = sym (append-none before);
+      numbers = refl;
       sizes = refl;
       options = refl;
       frame = refl;
@@ -76,6 +78,7 @@ module _ {K : Type 0} where
                 ∙ ap (λ xs. xs ++ Evicted e.key (shown t.options.padding e) ∷ []) h.listed
                 ∙ append_assoc before so_far (Evicted e.key (shown t.options.padding e) ∷ [])
                 ∙ ap (λ (o : CacheOptions). before ++ (so_far ++ Evicted e.key (shown o.padding e) ∷ [])) h.options;
+            numbers = one.numbers ∙ h.numbers;
             sizes = one.sizes ∙ h.sizes;
             options = one.options ∙ h.options;
             frame = one.frame ∙ h.frame;
@@ -92,6 +95,7 @@ module _ {K : Type 0} where
       unused = h.unused;
       used = used;
       listed = h.listed;
+      numbers = h.numbers;
       sizes = h.sizes;
       options = h.options;
       frame = h.frame;

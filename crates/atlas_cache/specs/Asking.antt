@@ -8,23 +8,7 @@ use Rattle.guillotiere.specs.Pixels.{box_of, natural, options_of, rectangle_of, 
 use Rattle.guillotiere.specs.Replies.{IsExact}
 use Rattle.atlas_cache.specs.declared.options.CacheOptions.{CacheOptions}
 use Rattle.atlas_cache.specs.declared.error.OptionsError.{OptionsError}
-use Rattle.atlas_cache.specs.declared.error.OptionsError.TheVariants.{EmptyPage, LargestPage, NoPages, Padding, Atlas}
-
--- A cache can be made with these options.
-pub record AreUsable (o : CacheOptions) : Type 0 where
-  pub page : IsPositive (sides_of o.page)
-  pub largest : Fits (sides_of o.page) (sides_of o.largest_page)
-  pub pages : 0 < o.pages
-  pub padding : pos 0 ≤ℤ o.padding
-  pub atlas : AreValid (options_of o.atlas)
-
--- What an error says of options.
-abbrev pub IsFaultIn : CacheOptions → OptionsError → Type 0
-IsFaultIn o EmptyPage = IsPositive (sides_of o.page) → ⊥
-IsFaultIn o LargestPage = Fits (sides_of o.page) (sides_of o.largest_page) → ⊥
-IsFaultIn o NoPages = o.pages ≡ 0
-IsFaultIn o Padding = o.padding <ℤ pos 0
-IsFaultIn o Atlas = AreValid (options_of o.atlas) → ⊥
+use Rattle.atlas_cache.specs.declared.error.OptionsError.TheVariants.{EmptyPage, LargestPage, NoPages, Padding, Atlas, NothingFits}
 
 -- The sides of an entry with the padding at both ends of each.
 abbrev pub bordered : CacheOptions → Size → Sides
@@ -36,6 +20,28 @@ pub record CanStand (o : CacheOptions) (size : Size) : Type 0 where
   pub positive : IsPositive (sides_of size)
   pub width : (rounded (options_of o.atlas) (bordered o size)).width ≤ natural o.largest_page.width
   pub height : (rounded (options_of o.atlas) (bordered o size)).height ≤ natural o.largest_page.height
+
+-- The least size that isn't empty.
+abbrev pub one_pixel : Size
+one_pixel = record { width = pos 1; height = pos 1 }
+
+-- A cache can be made with these options.
+pub record AreUsable (o : CacheOptions) : Type 0 where
+  pub page : IsPositive (sides_of o.page)
+  pub largest : Fits (sides_of o.page) (sides_of o.largest_page)
+  pub pages : 0 < o.pages
+  pub padding : pos 0 ≤ℤ o.padding
+  pub atlas : AreValid (options_of o.atlas)
+  pub room : CanStand o one_pixel
+
+-- What an error says of options: what is wrong, and that nothing of what is looked at before is.
+abbrev pub IsFaultIn : CacheOptions → OptionsError → Type 0
+IsFaultIn o EmptyPage = IsPositive (sides_of o.page) → ⊥
+IsFaultIn o LargestPage = IsPositive (sides_of o.page) × (Fits (sides_of o.page) (sides_of o.largest_page) → ⊥)
+IsFaultIn o NoPages = Fits (sides_of o.page) (sides_of o.largest_page) × (o.pages ≡ 0)
+IsFaultIn o Padding = (0 < o.pages) × (o.padding <ℤ pos 0)
+IsFaultIn o Atlas = (pos 0 ≤ℤ o.padding) × (AreValid (options_of o.atlas) → ⊥)
+IsFaultIn o NothingFits = AreValid (options_of o.atlas) × (CanStand o one_pixel → ⊥)
 
 -- The rectangle is at least as large as an entry of this size with its padding.
 pub record IsBorderedBy (padding : ℤ) (size : Size) (r : Rectangle) : Type 0 where

@@ -1,5 +1,5 @@
 -- What a cache holds, and what it keeps.
-use Rattle.std.specs.Prelude.{◌≡◌, ◌+◌, ◌<◌, ◌≤◌, ◌==◌, ◌&&◌, ℕ, ℤ, Bool, false, List, [], ◌∷◌, length, map, find}
+use Rattle.std.specs.Prelude.{◌≡◌, ◌≢◌, ◌+◌, ◌<◌, ◌≤◌, ◌==◌, ◌&&◌, ℕ, ℤ, Bool, false, List, [], ◌∷◌, length, map, find}
 use Rattle.std.specs.Prelude.{if◌then◌else◌}
 use Rattle.std.specs.Prelude.{Option, Some, option_map, slice_get}
 use Rattle.std.specs.List.{AllByRecursion}
@@ -19,11 +19,12 @@ use Rattle.atlas_cache.specs.Entries.{entry_at}
 use Rattle.atlas_cache.specs.Rooms.{growth_left, page_sizes, AreAllLargest}
 
 -- What contracts see of a cache: how it was made, the atlas of each page, the entries, the most recently used first,
--- the frame, and how it was used.
+-- how many numbers entries had so far, the frame, and how it was used.
 pub record CacheState (K : Type 0) : Type 0 where
   pub options : CacheOptions
   pub pages : List AtlasValue
   pub entries : List (Entry K)
+  pub numbers : ℕ
   pub frame : ℕ
   pub counts : Counts
 
@@ -32,9 +33,10 @@ module _ {K : Type 0} where
   abbrev pub entries_of : List (ℕ × Entry K) → List (Entry K)
   entries_of es = map (λ e. e.1) es
 
-  -- What a caller is shown of an entry: its page, its rectangle there, and that without the padding.
+  -- What a caller is shown of an entry: its number, its page, its rectangle there, and that without the padding.
   abbrev pub shown : (padding : ℤ) → Entry K → Place
-  shown padding e = record { page = e.page; rectangle = e.rectangle; inner = inner_of padding e.size e.rectangle }
+  shown padding e =
+      record { number = e.number; page = e.page; rectangle = e.rectangle; inner = inner_of padding e.size e.rectangle }
 
   -- The entry of a key.
   abbrev pub entry_for : (K → K → Bool) → K → List (Entry K) → Option (Entry K)
@@ -102,6 +104,15 @@ module _ {K : Type 0} where
   HaveOwnKeys eq [] = Unit {0}
   HaveOwnKeys eq (e ∷ es) = AllByRecursion (λ f. eq e.key f.key ≡ false) es × HaveOwnKeys eq es
 
+  -- No two entries have one number.
+  abbrev pub HaveOwnNumbers : List (Entry K) → Type 0
+  HaveOwnNumbers [] = Unit {0}
+  HaveOwnNumbers (e ∷ es) = AllByRecursion (λ f. e.number ≢ f.number) es × HaveOwnNumbers es
+
+  -- Each number of an entry is below this one.
+  abbrev pub HaveNumbersBelow : ℕ → List (Entry K) → Type 0
+  HaveNumbersBelow n es = AllByRecursion (λ e. e.number < n) es
+
   -- No pixel of a page lies in two entries, their padding included: two entries of one page lie apart.
   abbrev pub EntriesLieApart : List (Entry K) → Type 0
   EntriesLieApart [] = Unit {0}
@@ -125,6 +136,7 @@ module _ {K : Type 0} where
         options = o;
         pages = [];
         entries = [];
+        numbers = 0;
         frame = 0;
         counts = record { hits = 0; misses = 0; evictions = 0 };
       }

@@ -1,7 +1,9 @@
 -- What a cache does, change by change, and what a caller learns of it.
-use Rattle.std.specs.Prelude.{◌≡◌, ◌≢◌, ◌<◌, ℕ, Bool, List, [], ◌∷◌, ◌++◌, length, Option, Some, None, Result, Ok, Err}
+use Rattle.std.specs.Prelude.{◌≡◌, ◌≢◌, ◌+◌, ◌<◌, ◌≤◌, max, ℕ, Bool, List, [], ◌∷◌, ◌++◌, length, Option, Some, None, Result, Ok, Err}
 use Rattle.std.specs.Prelude.{if◌then◌else◌, slice_set}
 use Rattle.guillotiere.specs.declared.Size.{Size}
+use Rattle.guillotiere.specs.Boxes.{IsPositive}
+use Rattle.guillotiere.specs.Pixels.{sides_of}
 use Rattle.guillotiere.specs.Stored.{AtlasValue}
 use Rattle.guillotiere.specs.Pages.{AddsBoxOn, HasSameRectangles, LeavesNoBoxOn, NoneHasRoomBelow}
 use Rattle.atlas_cache.specs.declared.changes.CacheChange.{CacheChange}
@@ -9,10 +11,13 @@ use Rattle.atlas_cache.specs.declared.changes.CacheChange.TheVariants.{PageAdded
 use Rattle.atlas_cache.specs.declared.entries.Entry.{Entry}
 use Rattle.atlas_cache.specs.declared.error.CacheError.{CacheError}
 use Rattle.atlas_cache.specs.declared.error.CacheError.TheVariants.{OtherSize}
+use Rattle.atlas_cache.specs.declared.inserted.Inserted.{Inserted}
+use Rattle.atlas_cache.specs.declared.inserted.Inserted.TheVariants.{Placed, Held, FrameFull, NeverFits, EmptySize}
 use Rattle.atlas_cache.specs.declared.places.Place.{Place}
-use Rattle.atlas_cache.specs.Caches.{CacheState, place_for, shown, AreAllInUse, HasNoPageFor, IsFull}
+use Rattle.atlas_cache.specs.Asking.{CanStand}
+use Rattle.atlas_cache.specs.Caches.{CacheState, entry_for, place_for, shown, AreAllInUse, HasNoPageFor, IsFull}
 use Rattle.atlas_cache.specs.Counting.{one_more}
-use Rattle.atlas_cache.specs.Rooms.{page_sizes, AreAllLargest, IsAtLeast, IsFirstToGrow}
+use Rattle.atlas_cache.specs.Rooms.{page_sizes, AreAllLargest, IsAtLeast, IsFirstToGrow, IsRounded}
 
 -- A caller's picture of a cache: the place of each key, and the size of each page.
 pub record Picture (K : Type 0) : Type 0 where
@@ -48,6 +53,7 @@ module _ {K : Type 0} where
   -- Entries, frame, options and counts stay. The pages may change.
   pub record KeepsEntries (s t : CacheState K) : Type 0 where
     pub entries : t.entries ≡ s.entries
+    pub numbers : t.numbers ≡ s.numbers
     pub options : t.options ≡ s.options
     pub frame : t.frame ≡ s.frame
     pub counts : t.counts ≡ s.counts
@@ -78,6 +84,7 @@ module _ {K : Type 0} where
     pub unused : entry.frame < s.frame
     pub leaves : LeavesNoBoxOn s.pages t.pages entry.page entry.id
     pub sizes : page_sizes t.pages ≡ page_sizes s.pages
+    pub numbers : t.numbers ≡ s.numbers
     pub options : t.options ≡ s.options
     pub frame : t.frame ≡ s.frame
     pub counts : t.counts ≡ record s.counts { evictions = one_more s.counts.evictions }
@@ -111,12 +118,17 @@ module _ {K : Type 0} where
     pub lowest : NoneHasRoomBelow asked old entry.page
     pub adds : AddsBoxOn old new entry.page entry.id entry.rectangle
 
-  -- A key is added, the most recently used from now on.
+  -- A key is added, the most recently used from now on. Its number is one that was given out before, or, if all of those
+  -- are in use, the next one.
   pub record Adds (asked : Size) (key : K) (size : Size) (place : Place) (s t : CacheState K) : Type 0 where
     pub entry : Entry K
     pub first : t.entries ≡ entry ∷ s.entries
     pub placed : GetsPlace asked key size s.frame s.pages t.pages entry
+    pub sides : IsRounded s.options asked entry.rectangle
     pub shows : place ≡ shown s.options.padding entry
+    pub next : entry.number ≤ s.numbers
+    pub dense : entry.number ≡ s.numbers → length s.entries ≡ s.numbers
+    pub numbers : t.numbers ≡ max s.numbers (entry.number + 1)
     pub sizes : page_sizes t.pages ≡ page_sizes s.pages
     pub options : t.options ≡ s.options
     pub frame : t.frame ≡ s.frame
@@ -135,14 +147,16 @@ module _ {K : Type 0} where
     pub in_use : AreAllInUse s
 
   -- How an insert ends, once its changes are made: the key is added, or nothing can be done, or it is refused.
-  abbrev pub Ends : (asked : Size) (key : K) (size : Size) → Result (Option Place) CacheError → (s t : CacheState K)
-      → Type 0
-  Ends asked key size (Ok (Some place)) s t = Adds asked key size place s t
-  Ends asked key size (Ok None) s t = (s ≡ t) × IsExhausted asked s
+  abbrev pub Ends : (asked : Size) (key : K) (size : Size) → Result Inserted CacheError → (s t : CacheState K) → Type 0
+  Ends asked key size (Ok (Placed place)) s t = Adds asked key size place s t
+  Ends asked key size (Ok (Held place)) s t = ⊥
+  Ends asked key size (Ok FrameFull) s t = (s ≡ t) × IsExhausted asked s
+  Ends asked key size (Ok NeverFits) s t = ⊥
+  Ends asked key size (Ok EmptySize) s t = ⊥
   Ends asked key size (Err error) s t = LooksSame s t
 
   -- What an insert of a new key did: it made changes, listed in their order, and then it ended so.
-  pub record Inserts (asked : Size) (key : K) (size : Size) (result : Result (Option Place) CacheError)
+  pub record Inserts (asked : Size) (key : K) (size : Size) (result : Result Inserted CacheError)
       (before after : List (CacheChange K)) (s t : CacheState K) : Type 0 where
     pub made : List (CacheChange K)
     pub listed : after ≡ before ++ made
@@ -157,13 +171,25 @@ module _ {K : Type 0} where
     pub was : s.entries ≡ newer ++ entry ∷ older
     pub is : t.entries ≡ record entry { frame = s.frame } ∷ (newer ++ older)
     pub pages : t.pages ≡ s.pages
+    pub numbers : t.numbers ≡ s.numbers
     pub options : t.options ≡ s.options
     pub frame : t.frame ≡ s.frame
 
+  -- The key isn't held, and the size is empty.
+  pub record IsNewAndEmpty (eq : K → K → Bool) (key : K) (size : Size) (s : CacheState K) : Type 0 where
+    pub absent : entry_for eq key s.entries ≡ None
+    pub empty : IsPositive (sides_of size) → ⊥
+
+  -- The key isn't held, and not even an empty page of the largest size has room for the size, which isn't empty.
+  pub record IsNewAndTooLarge (eq : K → K → Bool) (key : K) (size : Size) (s : CacheState K) : Type 0 where
+    pub absent : entry_for eq key s.entries ≡ None
+    pub positive : IsPositive (sides_of size)
+    pub large : CanStand s.options size → ⊥
+
   -- What an insert of a key does that is held: it is used, or nothing happens if it has another size.
-  pub record FindsKnown (entry : Entry K) (size : Size) (result : Result (Option Place) CacheError)
+  pub record FindsKnown (entry : Entry K) (size : Size) (result : Result Inserted CacheError)
       (s t : CacheState K) : Type 0 where
-    pub same : entry.size ≡ size → (result ≡ Ok (Some (shown s.options.padding entry))) × Uses entry s t
+    pub same : entry.size ≡ size → (result ≡ Ok (Held (shown s.options.padding entry))) × Uses entry s t
         × (t.counts ≡ s.counts)
     pub other : entry.size ≢ size → (result ≡ Err OtherSize) × (t ≡ s)
 
@@ -174,6 +200,7 @@ module _ {K : Type 0} where
     pub was : s.entries ≡ newer ++ entry ∷ older
     pub is : t.entries ≡ newer ++ older
     pub leaves : LeavesNoBoxOn s.pages t.pages entry.page entry.id
+    pub numbers : t.numbers ≡ s.numbers
     pub sizes : page_sizes t.pages ≡ page_sizes s.pages
     pub options : t.options ≡ s.options
     pub frame : t.frame ≡ s.frame

@@ -10,9 +10,11 @@ use Rattle.atlas_cache.specs.Counting.{one_more}
 use Rattle.atlas_cache.specs.Rooms.{page_sizes, IsNothingLive}
 
 module _ {K : Type 0} where
-  -- No entry is left and nothing is live. The pages keep their sizes, and the frame and the counts stay.
+  -- No entry is left and nothing is live; numbers begin again at 0. The pages keep their sizes, and the frame and the
+  -- counts stay.
   pub record Clears (s t : CacheState K) : Type 0 where
     pub entries : t.entries ≡ []
+    pub numbers : t.numbers ≡ 0
     pub nothing : IsNothingLive t.pages
     pub sizes : page_sizes t.pages ≡ page_sizes s.pages
     pub options : t.options ≡ s.options
@@ -42,6 +44,7 @@ module _ {K : Type 0} where
     pub last : s.entries ≡ t.entries ++ entry ∷ []
     pub unused : IsUnusedFor frames s.frame entry
     pub listed : after ≡ before ++ Evicted entry.key (shown s.options.padding entry) ∷ []
+    pub numbers : t.numbers ≡ s.numbers
     pub sizes : page_sizes t.pages ≡ page_sizes s.pages
     pub options : t.options ≡ s.options
     pub frame : t.frame ≡ s.frame
@@ -55,6 +58,7 @@ module _ {K : Type 0} where
     pub unused : AllByRecursion (IsUnusedFor frames s.frame) gone
     pub used : AllByRecursion (IsUsedSince frames s.frame) t.entries
     pub listed : after ≡ before ++ all_evicted s.options.padding gone
+    pub numbers : t.numbers ≡ s.numbers
     pub sizes : page_sizes t.pages ≡ page_sizes s.pages
     pub options : t.options ≡ s.options
     pub frame : t.frame ≡ s.frame

@@ -1,9 +1,16 @@
 -- Entries of a cache under their numbers, the most recently used first.
-use Rattle.std.specs.Prelude.{ℕ, Bool, nat_eq, if◌then◌else◌, List, [], ◌∷◌, map, Option, None, Some, IsSome}
+use Rattle.std.specs.Prelude.{◌≡◌, ◌≤◌, ℕ, Bool, nat_eq, if◌then◌else◌, List, [], ◌∷◌, length, map, Option, None, Some}
+use Rattle.std.specs.Prelude.{IsNone, IsSome}
+use Rattle.std.specs.List.{AllByRecursion}
 use Rattle.std.specs.Option.{option_map_or}
 use Rattle.std.specs.Map.{keys_of, lookup, remove_entry}
 use Rattle.guillotiere.specs.declared.Rectangle.{Rectangle}
 use Rattle.atlas_cache.specs.declared.entries.Entry.{Entry}
+
+-- Entries under their numbers, the most recently used first, and how many numbers were given out so far: 0, 1 and so on.
+pub record Table (K : Type 0) : Type 0 where
+  pub entries : List (ℕ × Entry K)
+  pub made : ℕ
 
 module _ {K : Type 0} where
   -- The entry of a number.
@@ -26,6 +33,16 @@ module _ {K : Type 0} where
   -- The keys of the entries.
   abbrev pub keys : List (ℕ × Entry K) → List K
   keys es = map (λ e. e.1.key) es
+
+  -- Each entry has its number.
+  abbrev pub AreNumbered : List (ℕ × Entry K) → Type 0
+  AreNumbered es = AllByRecursion (λ e. e.1.number ≡ e.0) es
+
+  -- The number of a new entry: one that was given out before, or, if all of those are in use, the next one.
+  pub record IsNextNumber (n : ℕ) (t : Table K) : Type 0 where
+    pub free : IsNone (entry_at n t.entries)
+    pub next : n ≤ t.made
+    pub dense : n ≡ t.made → length t.entries ≡ t.made
 
   -- The others, without the entry of a number.
   abbrev pub without_number : ℕ → List (ℕ × Entry K) → List (ℕ × Entry K)

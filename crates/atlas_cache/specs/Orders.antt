@@ -1,5 +1,5 @@
 -- Entries by their numbers, in the order of their use.
-use Rattle.std.specs.Prelude.{ℕ, ◌+◌, ◌≡◌, ◌<◌, ◌≤◌, ◌==◌, max, if◌then◌else◌, List, [], ◌∷◌, Option, None, Some}
+use Rattle.std.specs.Prelude.{ℕ, ◌+◌, ◌≡◌, ◌<◌, ◌≤◌, ◌==◌, max, if◌then◌else◌, List, [], ◌∷◌, length, Option, None, Some}
 
 -- The entries, the most recently used first, and how many numbers were given out so far: 0, 1 and so on.
 pub record Order : Type 0 where
@@ -43,10 +43,11 @@ used k o = record o { entries = k ∷ without_first k o.entries }
 abbrev pub gone : ℕ → Order → Order
 gone k o = record o { entries = without_first k o.entries }
 
--- The number isn't that of an entry: one that was given out before, or the next one.
+-- The number isn't that of an entry: one that was given out before, or, if all of those are in use, the next one.
 pub record IsFreshNumber (k : ℕ) (o : Order) : Type 0 where
   pub free : times_in k o.entries ≡ 0
   pub next : k ≤ o.made
+  pub dense : k ≡ o.made → length o.entries ≡ o.made
 
 -- A new entry is the most recently used.
 abbrev pub with_newest : ℕ → Order → Order

@@ -3,7 +3,8 @@ use Rattle.std.specs.Prelude.{◌≡◌, ◌≢◌, ◌⊎◌, ◌<◌, ◌≤�
 use Rattle.std.specs.Prelude.{if◌then◌else◌, List, length, map, sum_by, Some, None, slice_get}
 use Rattle.guillotiere.specs.declared.Rectangle.{Rectangle}
 use Rattle.guillotiere.specs.declared.Size.{Size}
-use Rattle.guillotiere.specs.Boxes.{Fits, Sides}
+use Rattle.guillotiere.specs.Boxes.{box_sides, Fits, Sides}
+use Rattle.guillotiere.specs.Choice.{rounded}
 use Rattle.guillotiere.specs.Pages.{rectangle_on, NoneHasRoomBelow}
 use Rattle.guillotiere.specs.Pixels.{box_of, natural, options_of, sides_of, size_of}
 use Rattle.guillotiere.specs.Replies.{IsExact}
@@ -30,10 +31,12 @@ size_of_page s = size_of (state_of s).size
 abbrev pub page_sizes : List AtlasValue → List Size
 page_sizes pages = map size_of_page pages
 
--- The atlas of a page: it is sound and has the options of the cache, and its size is from `page` to `largest_page`.
+-- The atlas of a page: it is sound, has the options of the cache and the greatest limit on slots, and its size is from
+-- `page` to `largest_page`.
 pub record IsPageOf (o : CacheOptions) (s : AtlasValue) : Type 0 where
   pub sound : IsSound (state_of s)
   pub options : (state_of s).options ≡ options_of o.atlas
+  pub limit : (state_of s).limit ≡ 16777216
   pub least : Fits (sides_of o.page) (state_of s).size
   pub most : Fits (state_of s).size (sides_of o.largest_page)
 
@@ -56,6 +59,10 @@ pub record IsAtLeast (size : Size) (r : Rectangle) : Type 0 where
   pub exact : IsExact r
   pub wide : (box_of r).min.x + natural size.width ≤ (box_of r).max.x
   pub high : (box_of r).min.y + natural size.height ≤ (box_of r).max.y
+
+-- The rectangle has just the sides that were asked for, rounded up to the alignment.
+abbrev pub IsRounded : CacheOptions → (asked : Size) → Rectangle → Type 0
+IsRounded o asked r = box_sides (box_of r) ≡ rounded (options_of o.atlas) (sides_of asked)
 
 -- A page of these sides grows in width, and not in height: its width isn't the greater side, or its height is at its
 -- largest.

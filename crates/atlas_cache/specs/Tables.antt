@@ -20,7 +20,8 @@ module _ {K : Type 0} where
     pub stored : slice_get items n ≡ Some entry
     pub same : eq k entry.key ≡ true
 
-  -- What the three keep: the map answers with the number of the entry with that key.
+  -- What the three keep: the map answers with the number of the entry with that key, and
+  -- each entry has its number.
   pub record AreKept {S : Type 0} (eq : K → K → Bool) (map : HashMap K ℕ S) (order : Order)
       (items : List (Entry K)) : Type 0 where
     pub made : order.made ≤ length items
@@ -28,3 +29,4 @@ module _ {K : Type 0} where
     pub once : (n : ℕ) → times_in n order.entries ≤ 1
     pub found : (k : K) (n : ℕ) → get eq map k ≡ Some n → HasKey eq k n order items
     pub known : (k : K) (n : ℕ) → HasKey eq k n order items → get eq map k ≡ Some n
+    pub own : (n : ℕ) (e : Entry K) → slice_get items n ≡ Some e → e.number ≡ n

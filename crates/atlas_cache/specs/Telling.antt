@@ -2,19 +2,32 @@
 use Rattle.std.specs.Prelude.{◌≡◌, Bool, List, ◌++◌, Option, Some, None, Result, Ok, Err}
 use Rattle.atlas_cache.specs.declared.changes.CacheChange.{CacheChange}
 use Rattle.atlas_cache.specs.declared.error.CacheError.{CacheError}
+use Rattle.atlas_cache.specs.declared.inserted.Inserted.{Inserted}
+use Rattle.atlas_cache.specs.declared.inserted.Inserted.TheVariants.{Placed, Held, FrameFull, NeverFits, EmptySize}
 use Rattle.atlas_cache.specs.declared.places.Place.{Place}
 use Rattle.atlas_cache.specs.Caches.{CacheState}
 use Rattle.atlas_cache.specs.Changes.{Picture, all_changed, picture_of, placed, ShowsSame}
 
+-- The place that an answer has.
+abbrev pub given_by : Inserted → Option Place
+given_by (Placed place) = Some place
+given_by (Held place) = Some place
+given_by FrameFull = None
+given_by NeverFits = None
+given_by EmptySize = None
+
 module _ {K : Type 0} where
   -- The picture with the place that a call gave for a key.
-  abbrev pub with_given : (K → K → Bool) → K → Result (Option Place) CacheError → Picture K → Picture K
-  with_given eq key (Ok (Some place)) p = placed eq key (Some place) p
-  with_given eq key (Ok None) p = p
+  abbrev pub with_given : (K → K → Bool) → K → Result Inserted CacheError → Picture K → Picture K
+  with_given eq key (Ok (Placed place)) p = placed eq key (Some place) p
+  with_given eq key (Ok (Held place)) p = placed eq key (Some place) p
+  with_given eq key (Ok FrameFull) p = p
+  with_given eq key (Ok NeverFits) p = p
+  with_given eq key (Ok EmptySize) p = p
   with_given eq key (Err error) p = p
 
   -- A caller who follows the changes that were added, and notes the place that was given, knows what the cache holds.
-  pub record Tells (eq : K → K → Bool) (key : K) (result : Result (Option Place) CacheError)
+  pub record Tells (eq : K → K → Bool) (key : K) (result : Result Inserted CacheError)
       (before after : List (CacheChange K)) (s t : CacheState K) : Type 0 where
     pub made : List (CacheChange K)
     pub listed : after ≡ before ++ made

@@ -1,5 +1,5 @@
 //! The cache.
-ghost use Rattle.std.specs.Prelude.{◌≡◌, ◌≢◌, ◌↔◌, ◌<◌, [], false, length, slice_get, IfErr, IfOk, IfSome, IsOk};
+ghost use Rattle.std.specs.Prelude.{◌≡◌, ◌≢◌, ◌↔◌, ◌⊎◌, ◌<◌, [], false, length, slice_get, IfErr, IfOk, IfSome, IsOk};
 ghost use Rattle.std.specs.Prelude.{IsSome, IsTrue};
 ghost use Rattle.std.specs.Prelude.{None, Ok, OnErr, vec_capacity, vec_len};
 ghost use Rattle.guillotiere.specs.Pixels.{size_of};
@@ -7,6 +7,8 @@ ghost use Rattle.atlas_cache.specs.Asking.{bordered, AreUsable, CanStand, IsFaul
 ghost use Rattle.atlas_cache.specs.Counting.{one_more};
 ghost use Rattle.atlas_cache.specs.Refusals.{IsRefusedNew};
 ghost use Rattle.atlas_cache.specs.Rooms.{page_sizes, IsRefusal};
+ghost use Rattle.atlas_cache.specs.declared.inserted.Inserted.TheVariants.{EmptySize, FrameFull, Held, NeverFits};
+ghost use Rattle.atlas_cache.specs.declared.inserted.Inserted.TheVariants.{Placed};
 
 mod clearing;
 mod figures;
@@ -19,6 +21,7 @@ use crate::changes::{CacheChange, Changes};
 use crate::counts::{Counts, NO_COUNTS, count};
 use crate::entries::{DefaultHasher, Entries};
 use crate::error::{CacheError, OptionsError};
+use crate::inserted::Inserted;
 use crate::options::CacheOptions;
 use crate::places::Place;
 use crate::rooms::Rooms;
@@ -28,7 +31,8 @@ use std::hash::{BuildHasher, BuildHasherDefault, Hash};
 use std::marker::Model;
 
 /// Rectangles under keys in the pages of a texture array. Contracts see a `CacheState`: how the cache was made, the
-/// atlas of each page, the entries, the most recently used first, the frame, and how the cache was used.
+/// atlas of each page, the entries, the most recently used first, how many numbers they had so far, the frame, and how
+/// the cache was used.
 #[derive(Drop)]
 pub struct TextureCache<
     K: Copy + Eq + Hash,
@@ -49,7 +53,8 @@ impl<K: Copy + Eq + Hash, S: BuildHasher, A: Allocator + Copy> Model for Texture
     ghost view = { λ c. record {
       options = c.rooms.options;
       pages = c.rooms.pages;
-      entries = entries_of c.entries;
+      entries = entries_of c.entries.entries;
+      numbers = c.entries.made;
       frame = c.frame;
       counts = c.counts;
     } };
@@ -57,7 +62,8 @@ impl<K: Copy + Eq + Hash, S: BuildHasher, A: Allocator + Copy> Model for Texture
     ghost invariant = { λ c. IsKept (record {
       options = c.rooms.options;
       pages = c.rooms.pages;
-      entries = entries_of c.entries;
+      entries = entries_of c.entries.entries;
+      numbers = c.entries.made;
       frame = c.frame;
       counts = c.counts;
     }) };
@@ -97,16 +103,17 @@ impl<K: Copy + Eq + Hash, S: BuildHasher + Drop, A: Allocator + Copy> TextureCac
 
 impl<K: Copy + Eq + Hash, S: BuildHasher, A: Allocator + Copy> TextureCache<K, S, A> {
     ghost use Rattle.atlas_cache.specs.Caches.{entry_for, place_for, steps_left, AreAllInUse, EntriesLieApart};
-    ghost use Rattle.atlas_cache.specs.Caches.{EntriesLieWithin, HasNoPageFor, HaveOwnKeys, IsFull, IsKept};
-    ghost use Rattle.atlas_cache.specs.Caches.{IsNoneInUse};
+    ghost use Rattle.atlas_cache.specs.Caches.{EntriesLieWithin, HasNoPageFor, HaveNumbersBelow, HaveOwnKeys};
+    ghost use Rattle.atlas_cache.specs.Caches.{HaveOwnNumbers, IsFull, IsKept, IsNoneInUse};
     ghost use Rattle.atlas_cache.specs.Changes.{picture_of, placed, Adds, DoesOne, FindsKnown, Inserts, IsExhausted};
-    ghost use Rattle.atlas_cache.specs.Changes.{LooksSame, Removes, ShowsSame, Uses};
+    ghost use Rattle.atlas_cache.specs.Changes.{IsNewAndEmpty, IsNewAndTooLarge, LooksSame, Removes, ShowsSame, Uses};
     ghost use Rattle.atlas_cache.specs.Telling.{Tells};
 
     /// A new frame: what was used before may go from now on. Frames are counted up to
     /// 2^64 - 1; after that one no other begins.
     pub fn begin_frame(&mut self)
         ensures frame { self.new ≡ record self.old { frame = one_more self.old.frame } }
+        ensures unused { self.old.frame < 18446744073709551615 → IsNoneInUse self.new }
         ensures told { ShowsSame (picture_of K.eq self.old) (picture_of K.eq self.new) }
     {
         self.frame = count(self.frame);
@@ -146,12 +153,14 @@ impl<K: Copy + Eq + Hash, S: BuildHasher, A: Allocator + Copy> TextureCache<K, S
 
     /// Says what each cache keeps, and does nothing: what is live on its pages is what the entries hold, each once;
     /// each entry has its padding; two entries of one page lie apart, and each lies within its page, padding included;
-    /// and each has a key of its own.
+    /// and each has a key and a number of its own.
     pub fn prove_kept(&self)
         ensures kept { IsKept self.now }
         ensures apart { EntriesLieApart self.now.entries }
         ensures within { EntriesLieWithin self.now.pages self.now.entries }
         ensures keys { HaveOwnKeys K.eq self.now.entries }
+        ensures numbers { HaveOwnNumbers self.now.entries }
+        ensures below { HaveNumbersBelow self.now.numbers self.now.entries }
     {
         self.rooms.prove_kept();
         self.entries.prove_kept();
@@ -189,31 +198,37 @@ impl<K: Copy + Eq + Hash, S: BuildHasher, A: Allocator + Copy> TextureCache<K, S
         Some(place_of(entry, &self.rooms.options()))
     }
 
-    /// A place for a key, which is used in this frame. A key that is held keeps its place; asked with another size, it
-    /// is refused with `OtherSize`, and nothing changes. A new key comes on the first page with room for its size, in
-    /// pixels, with the padding. Where none has, a page grows; where none can, one is added; and where all are there,
-    /// the least recently used entry goes that this frame didn't use; and so on. None if the size is empty or doesn't
-    /// fit the largest page, and then nothing changes, or if all entries are in use and no page has room; so as long as
-    /// this frame has used nothing, whatever fits gets a place. What was done is added to the changes, also after an
-    /// error: `Memory`, `Slots` if those of a page don't suffice, or `Numbers` only where 4,294,967,295 entries are
-    /// left.
+    /// A place for a key, which is used in this frame. A key that is held keeps its place, and is the most recently used
+    /// from now on, which counts as no hit; asked with another size, be it empty or too large, it is refused with
+    /// `OtherSize`, and nothing changes. A new key comes on the first page with room for its size, in pixels, with the
+    /// padding. Where none has, a page grows; where none can, one is added; and where all are there, the least recently
+    /// used entry goes that this frame didn't use; and so on. `FrameFull` if then each entry is in use and no page has
+    /// room, which isn't so as long as this frame has used nothing; `NeverFits` if the size, with the padding and
+    /// rounded up to the alignment, passes the largest page, and `EmptySize` if it is empty, and then nothing changes.
+    /// What was done is added to the changes, also after `FrameFull` and after an error: `Memory`, `Slots` if those of a
+    /// page don't suffice, or `Numbers` only where 4,294,967,295 entries are left.
     pub fn insert(
         &mut self,
         key: K,
         size: Size,
         changes: &mut Changes<K, A>,
-    ) -> Result<Option<Place>, CacheError>
+    ) -> Result<Inserted, CacheError>
         ensures known { IfSome (entry_for K.eq key self.old.entries) (λ e.
             FindsKnown e size result self.old self.new × (changes.new.items ≡ changes.old.items)) }
-        ensures outside { entry_for K.eq key self.old.entries ≡ None → (CanStand self.old.options size → ⊥)
-            → (result ≡ Ok None) × (self.new ≡ self.old) × (changes.new.items ≡ changes.old.items) }
+        ensures empty { (result ≡ Ok EmptySize) ↔ IsNewAndEmpty K.eq key size self.old }
+        ensures never { (result ≡ Ok NeverFits) ↔ IsNewAndTooLarge K.eq key size self.old }
+        ensures nothing { (result ≡ Ok EmptySize) ⊎ (result ≡ Ok NeverFits)
+            → (self.new ≡ self.old) × (changes.new.items ≡ changes.old.items) }
+        ensures placed { (place : Place) → result ≡ Ok (Placed place) → place_for K.eq self.old key ≡ None }
+        ensures held { (place : Place) → result ≡ Ok (Held place) → place_for K.eq self.old key ≡ Some place }
         ensures new { entry_for K.eq key self.old.entries ≡ None → CanStand self.old.options size
             → Inserts (size_of (bordered self.old.options size)) key size result changes.old.items changes.new.items
             self.old self.new }
         ensures told { Tells K.eq key result changes.old.items changes.new.items self.old self.new }
         ensures errors { entry_for K.eq key self.old.entries ≡ None
             → IfErr result (IsRefusedNew (length self.new.entries)) }
-        ensures room { IsNoneInUse self.old → CanStand self.old.options size → result ≢ Ok None }
+        ensures room { IsNoneInUse self.old → result ≢ Ok FrameFull }
+        ensures stays { (self.new.options ≡ self.old.options) × (self.new.frame ≡ self.old.frame) }
     {
         self.entries.prove_kept();
         if let Some((known, entry)) = look_up(&self.entries, &key) {
@@ -221,10 +236,13 @@ impl<K: Copy + Eq + Hash, S: BuildHasher, A: Allocator + Copy> TextureCache<K, S
                 return Err(CacheError::OtherSize);
             }
             self.entries.touch(known, self.frame);
-            return Ok(Some(place_of(entry, &self.rooms.options())));
+            return Ok(Inserted::Held(place_of(entry, &self.rooms.options())));
+        }
+        if !size.is_positive() {
+            return Ok(Inserted::EmptySize);
         }
         let Some(asked) = self.rooms.options().asked(size) else {
-            return Ok(None);
+            return Ok(Inserted::NeverFits);
         };
         self.insert_new(key, size, asked, changes)
     }
@@ -251,21 +269,21 @@ impl<K: Copy + Eq + Hash, S: BuildHasher, A: Allocator + Copy> TextureCache<K, S
         size: Size,
         asked: Size,
         changes: &mut Changes<K, A>,
-    ) -> Result<Option<Place>, CacheError>
+    ) -> Result<Inserted, CacheError>
         requires absent { entry_for K.eq key self.old.entries ≡ None }
         requires stands { CanStand self.old.options size }
         requires asked { asked ≡ size_of (bordered self.old.options size) }
         ensures inserts { Inserts asked key size result changes.old.items changes.new.items self.old self.new }
         ensures errors { IfErr result (IsRefusedNew (length self.new.entries)) }
-        ensures room { IsNoneInUse self.old → result ≢ Ok None }
+        ensures room { IsNoneInUse self.old → result ≢ Ok FrameFull }
     {
         loop {
             if let Some(place) = self.add(key, size, asked)? {
-                return Ok(Some(place));
+                return Ok(Inserted::Placed(place));
             }
             if !self.make_room(asked, changes)? {
                 self.rooms.prove_kept();
-                return Ok(None);
+                return Ok(Inserted::FrameFull);
             }
         }
     }

@@ -12,7 +12,8 @@ pub enum CacheChange<K> {
     PageGrown { page: u32, size: Size },
     /// A key is gone, and this was its place.
     Evicted { key: K, place: Place },
-    /// A key moved: copy what it shows.
+    /// A key moved on its page: copy `from.rectangle`, out of a copy of the page as it was before the call, to
+    /// `to.rectangle`.
     Moved { key: K, from: Place, to: Place },
 }
 

@@ -9,7 +9,7 @@ pub struct Counts {
     pub hits: u64,
     /// The calls of `get` that didn't.
     pub misses: u64,
-    /// The entries that made room for others.
+    /// The entries that were evicted: by an insertion, a trim or a repacking.
     pub evictions: u64,
 }
 

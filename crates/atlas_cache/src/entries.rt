@@ -4,7 +4,7 @@ ghost use Rattle.std.specs.Prelude.{◌≡◌, ◌≢◌, ◌↔◌, ◌+◌, �
 ghost use Rattle.std.specs.Prelude.{IfErr, IfOk, IfSome, IsNone, IsOkUnless, IsTrue, OnErr, nat_eq, slice_get};
 ghost use Rattle.std.specs.Prelude.{vec_capacity, vec_len};
 ghost use Rattle.std.specs.HashMap.{Updates, spare};
-ghost use Rattle.std.specs.List.{IsDistinct};
+ghost use Rattle.std.specs.List.{AllByRecursion, IsDistinct};
 ghost use Rattle.atlas_cache.specs.Orders.{newest_of, oldest_of};
 ghost use Rattle.atlas_cache.specs.Refusals.{IsWithoutNumber};
 
@@ -31,12 +31,15 @@ pub struct Entry<K> {
     pub id: AllocId,
     /// Its rectangle on that page, with the padding, in pixels.
     pub rectangle: Rectangle,
+    /// Its number.
+    pub number: u32,
     /// The frame that used it last.
     pub frame: u64,
 }
 
-/// Entries under their keys, in the order of their use. Each has a number; that of an entry which is gone is given to a
-/// later one. Contracts see a list of the numbers with their entries, the most recently used first.
+/// Entries under their keys, in the order of their use. Each has a number; those of entries which are gone are given to
+/// later ones before new numbers are. Contracts see a `Table`: the numbers with their entries, the most recently used
+/// first, and how many numbers were ever given out.
 #[derive(Drop)]
 pub struct Entries<K: Copy + Eq + Hash, S: BuildHasher = DefaultHasher, A: Allocator = Global> {
     map: HashMap<K, u32, S, A>,
@@ -45,14 +48,13 @@ pub struct Entries<K: Copy + Eq + Hash, S: BuildHasher = DefaultHasher, A: Alloc
 }
 
 impl<K: Copy + Eq + Hash, S: BuildHasher, A: Allocator> Model for Entries<K, S, A> {
-    ghost use Rattle.std.specs.Prelude.{ℕ, List};
-    ghost use Rattle.atlas_cache.specs.declared.entries.Entry.{Entry};
+    ghost use Rattle.atlas_cache.specs.Entries.{Table};
 
-    ghost Value = { List (ℕ × Entry K) };
+    ghost Value = { Table K };
 
     ghost use Rattle.atlas_cache.specs.Tables.{AreKept, numbered};
 
-    ghost view = { λ s. numbered s.items.items s.recency.entries };
+    ghost view = { λ s. record { entries = numbered s.items.items s.recency.entries; made = s.recency.made } };
 
     ghost invariant = { λ s. AreKept K.eq s.map s.recency s.items.items };
 }
@@ -88,19 +90,21 @@ fn bind<K: Copy + Eq + Hash, S: BuildHasher, A: Allocator + Copy>(
 impl<K: Copy + Eq + Hash, A: Allocator + Copy> Entries<K, DefaultHasher, A> {
     /// No entries. Takes no memory.
     pub fn new(alloc: A) -> Self
-        ensures { result ≡ [] }
+        ensures entries { result.entries ≡ [] }
+        ensures made { result.made ≡ 0 }
     {
         Entries::with_hasher(alloc, BuildHasherDefault::new())
     }
 }
 
 impl<K: Copy + Eq + Hash, S: BuildHasher, A: Allocator + Copy> Entries<K, S, A> {
-    ghost use Rattle.atlas_cache.specs.Entries.{IsNumber, entry_at, keys, moved, number_of, numbers, touched};
+    ghost use Rattle.atlas_cache.specs.Entries.{AreNumbered, IsNextNumber, IsNumber, entry_at, keys, moved, number_of, numbers, touched};
     ghost use Rattle.atlas_cache.specs.Entries.{without_number};
 
     /// No entries, with a hasher for the keys. Takes no memory.
     pub fn with_hasher(alloc: A, hasher: S) -> Self
-        ensures { result ≡ [] }
+        ensures entries { result.entries ≡ [] }
+        ensures made { result.made ≡ 0 }
     {
         Entries {
             map: HashMap::with_hasher(alloc, hasher),
@@ -111,90 +115,99 @@ impl<K: Copy + Eq + Hash, S: BuildHasher, A: Allocator + Copy> Entries<K, S, A> 
 
     /// How many entries there are.
     pub fn len(&self) -> usize
-        ensures { result ≡ length self.now }
+        ensures { result ≡ length self.now.entries }
     {
         self.recency.len()
     }
 
     /// Whether there are none.
     pub fn is_empty(&self) -> bool
-        ensures { IsTrue result ↔ (self.now ≡ []) }
+        ensures { IsTrue result ↔ (self.now.entries ≡ []) }
     {
         self.recency.is_empty()
     }
 
-    /// Says what the entries keep, and does nothing: each has a number of its own and a key of its own.
+    /// Says what the entries keep, and does nothing: each has a number of its own, which was given out, and a key of its
+    /// own.
     pub fn prove_kept(&self)
-        ensures numbers { IsDistinct nat_eq (numbers self.now) }
-        ensures keys { IsDistinct K.eq (keys self.now) }
+        ensures numbers { IsDistinct nat_eq (numbers self.now.entries) }
+        ensures keys { IsDistinct K.eq (keys self.now.entries) }
+        ensures own { AreNumbered self.now.entries }
+        ensures made { AllByRecursion (λ e. e.0 < self.now.made) self.now.entries }
     {
+        self.recency.prove_kept();
         let _map = &self.map;
     }
 
     /// The number of the entry with this key; None if there is none.
     pub fn find(&self, key: &K) -> Option<u32>
-        ensures number { result ≡ number_of K.eq key.now self.now }
-        ensures entry { IfSome result (λ number. IsNumber number self.now) }
+        ensures number { result ≡ number_of K.eq key.now self.now.entries }
+        ensures entry { IfSome result (λ number. IsNumber number self.now.entries) }
     {
         self.map.get(key).copied()
     }
 
     /// The entry of a number.
     pub fn entry(&self, number: u32) -> Entry<K>
-        requires { IsNumber number self.now }
-        ensures { entry_at number self.now ≡ Some result }
+        requires { IsNumber number self.now.entries }
+        ensures { entry_at number self.now.entries ≡ Some result }
     {
         self.items[number as usize]
     }
 
     /// The most recently used entry; None if there is none.
     pub fn newest(&self) -> Option<u32>
-        ensures first { result ≡ newest_of (numbers self.now) }
-        ensures entry { IfSome result (λ number. IsNumber number self.now) }
+        ensures first { result ≡ newest_of (numbers self.now.entries) }
+        ensures entry { IfSome result (λ number. IsNumber number self.now.entries) }
     {
         self.recency.newest()
     }
 
     /// The least recently used entry; None if there is none.
     pub fn oldest(&self) -> Option<u32>
-        ensures last { result ≡ oldest_of (numbers self.now) }
-        ensures entry { IfSome result (λ number. IsNumber number self.now) }
+        ensures last { result ≡ oldest_of (numbers self.now.entries) }
+        ensures entry { IfSome result (λ number. IsNumber number self.now.entries) }
     {
         self.recency.oldest()
     }
 
     /// The entry that was used next before this one; None if this is the least recently used.
     pub fn older(&self, number: u32) -> Option<u32>
-        requires { IsNumber number self.now }
-        ensures next { (newer older : List ℕ) → numbers self.now ≡ newer ++ number ∷ older
+        requires { IsNumber number self.now.entries }
+        ensures next { (newer older : List ℕ) → numbers self.now.entries ≡ newer ++ number ∷ older
             → result ≡ newest_of older }
-        ensures entry { IfSome result (λ number. IsNumber number self.now) }
+        ensures entry { IfSome result (λ number. IsNumber number self.now.entries) }
     {
         self.recency.older(number)
     }
 
     /// An entry is used in this frame, and is the most recently used from now on.
     pub fn touch(&mut self, number: u32, frame: u64)
-        requires { IsNumber number self.old }
-        ensures { self.new ≡ touched number frame self.old }
+        requires { IsNumber number self.old.entries }
+        ensures entries { self.new.entries ≡ touched number frame self.old.entries }
+        ensures made { self.new.made ≡ self.old.made }
     {
         self.recency.touch(number);
         let entry = &mut self.items[number as usize];
         entry.frame = frame;
     }
 
-    /// An entry with a new key joins, the most recently used from now on: its number, which was none's. `Numbers` only
-    /// if all are in use, and `Memory` if memory is refused; then nothing changes.
+    /// An entry with a new key joins, the most recently used from now on, and gets a number, whatever it had: one that is
+    /// none's, and the next one only if all that were given out are in use. `Numbers` only if all are, and `Memory` if
+    /// memory is refused; then nothing changes.
     pub fn push(&mut self, entry: Entry<K>) -> Result<u32, CacheError>
-        requires { IsNone (number_of K.eq entry.key self.old) }
-        ensures new { IfOk result (λ number. IsNone (entry_at number self.old)) }
-        ensures joined { IfOk result (λ number. self.new ≡ (number, entry) ∷ self.old) }
+        requires { IsNone (number_of K.eq entry.key self.old.entries) }
+        ensures new { IfOk result (λ number. IsNextNumber number self.old) }
+        ensures joined { IfOk result (λ number. self.new.entries
+            ≡ (number, record entry { number = number }) ∷ self.old.entries) }
+        ensures made { IfOk result (λ number. self.new.made ≡ max self.old.made (number + 1)) }
         ensures refused { OnErr result (self.new ≡ self.old) }
-        ensures errors { IfErr result (IsWithoutNumber (length self.old)) }
+        ensures errors { IfErr result (IsWithoutNumber (length self.old.entries)) }
     {
         self.map.reserve(1)?;
         self.items.reserve(1)?;
         let number = self.recency.push()?;
+        let entry = Entry { number, ..entry };
         store(&mut self.items, number, entry);
         bind(&mut self.map, entry.key, number);
         Ok(number)
@@ -202,8 +215,9 @@ impl<K: Copy + Eq + Hash, S: BuildHasher, A: Allocator + Copy> Entries<K, S, A> 
 
     /// An entry goes. Its number belongs to none from now on.
     pub fn remove(&mut self, number: u32)
-        requires { IsNumber number self.old }
-        ensures { self.new ≡ without_number number self.old }
+        requires { IsNumber number self.old.entries }
+        ensures entries { self.new.entries ≡ without_number number self.old.entries }
+        ensures made { self.new.made ≡ self.old.made }
     {
         let key = self.items[number as usize].key;
         self.recency.remove(number);
@@ -212,12 +226,20 @@ impl<K: Copy + Eq + Hash, S: BuildHasher, A: Allocator + Copy> Entries<K, S, A> 
 
     /// The rectangle of an entry is another one of its page from now on. The order stays.
     pub fn move_to(&mut self, number: u32, id: AllocId, rectangle: Rectangle)
-        requires { IsNumber number self.old }
-        ensures { self.new ≡ moved number id rectangle self.old }
+        requires { IsNumber number self.old.entries }
+        ensures entries { self.new.entries ≡ moved number id rectangle self.old.entries }
+        ensures made { self.new.made ≡ self.old.made }
     {
         let entry = &mut self.items[number as usize];
         entry.id = id;
         entry.rectangle = rectangle;
+    }
+
+    /// How many numbers were ever given out, since the entries were made or cleared: each number is below.
+    pub fn made(&self) -> u32
+        ensures { result ≡ self.now.made }
+    {
+        self.recency.made()
     }
 
     /// Asks for room for so many more entries. Nothing else changes. `Memory` if memory is refused.
@@ -233,7 +255,8 @@ impl<K: Copy + Eq + Hash, S: BuildHasher, A: Allocator + Copy> Entries<K, S, A> 
 
     /// All entries go. Keeps its memory.
     pub fn clear(&mut self)
-        ensures { self.new ≡ [] }
+        ensures entries { self.new.entries ≡ [] }
+        ensures made { self.new.made ≡ 0 }
     {
         self.map.clear();
         self.recency.clear();

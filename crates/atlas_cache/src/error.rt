@@ -40,6 +40,9 @@ pub enum OptionsError {
     /// An alignment of `atlas` is below 1, or its thresholds are out of order.
     #[error("the options of the atlas are not valid")]
     Atlas,
+    /// Not even a size of 1 by 1, with the padding and rounded up to the alignment, fits `largest_page`.
+    #[error("nothing fits the largest page with its padding")]
+    NothingFits,
 }
 
 impl From<AllocError> for CacheError {

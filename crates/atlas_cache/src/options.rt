@@ -2,8 +2,8 @@
 ghost use Rattle.std.specs.Prelude.{◌≡◌, ◌↔◌, ◌+◌, ◌*◌, ◌<◌, ◌≤◌, pos, ◌<ℤ◌, ◌≤ℤ◌, IfErr, IsTrue, Ok, SomeIff};
 ghost use Rattle.atlas_cache.specs.Asking.{AreUsable, CanStand, IsFaultIn, bordered};
 ghost use Rattle.guillotiere.specs.Boxes.{Fits, IsPositive};
-ghost use Rattle.guillotiere.specs.Choice.{up};
-ghost use Rattle.guillotiere.specs.Pixels.{natural, sides_of, size_of};
+ghost use Rattle.guillotiere.specs.Choice.{up, AreValid};
+ghost use Rattle.guillotiere.specs.Pixels.{natural, options_of, sides_of, size_of};
 
 use crate::error::OptionsError;
 use guillotiere::{AllocatorOptions, Size};
@@ -17,7 +17,7 @@ pub struct CacheOptions {
     pub largest_page: Size,
     /// The most pages; at least 1.
     pub pages: u32,
-    /// What stays free on all four sides of an entry, in pixels; at least 0.
+    /// The width of the border on all four sides of an entry, in pixels; at least 0.
     pub padding: i32,
     /// The options of each page's atlas; they are valid.
     pub atlas: AllocatorOptions,
@@ -53,8 +53,36 @@ fn asked_side(side: i32, padding: i32, alignment: i32, most: i32) -> Option<i32>
     }
 }
 
+// The least size that isn't empty.
+const ONE_PIXEL: Size = Size {
+    width: 1,
+    height: 1,
+};
+
 impl CacheOptions {
-    /// Whether a cache can be made so: Ok, or else what is wrong.
+    // What `asked` gives.
+    fn asked_of(&self, size: Size) -> Option<Size>
+        requires padding { pos 0 ≤ℤ self.now.padding }
+        requires atlas { AreValid (options_of self.now.atlas) }
+        requires largest { IsPositive (sides_of self.now.largest_page) }
+        ensures { SomeIff result (CanStand self.now size) (size_of (bordered self.now size)) }
+    {
+        let width = asked_side(
+            size.width,
+            self.padding,
+            self.atlas.alignment.width,
+            self.largest_page.width,
+        )?;
+        let height = asked_side(
+            size.height,
+            self.padding,
+            self.atlas.alignment.height,
+            self.largest_page.height,
+        )?;
+        Some(Size { width, height })
+    }
+
+    /// Whether a cache can be made so: Ok, or else the first thing that is wrong, in the order of `OptionsError`.
     pub fn check(&self) -> Result<(), OptionsError>
         ensures ok { (result ≡ Ok tt) ↔ AreUsable self.now }
         ensures fault { IfErr result (IsFaultIn self.now) }
@@ -74,6 +102,9 @@ impl CacheOptions {
         if !self.atlas.is_valid() {
             return Err(OptionsError::Atlas);
         }
+        if self.asked_of(ONE_PIXEL).is_none() {
+            return Err(OptionsError::NothingFits);
+        }
         Ok(())
     }
 
@@ -84,18 +115,6 @@ impl CacheOptions {
         requires { AreUsable self.now }
         ensures { SomeIff result (CanStand self.now size) (size_of (bordered self.now size)) }
     {
-        let width = asked_side(
-            size.width,
-            self.padding,
-            self.atlas.alignment.width,
-            self.largest_page.width,
-        )?;
-        let height = asked_side(
-            size.height,
-            self.padding,
-            self.atlas.alignment.height,
-            self.largest_page.height,
-        )?;
-        Some(Size { width, height })
+        self.asked_of(size)
     }
 }

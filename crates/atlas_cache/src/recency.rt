@@ -81,6 +81,7 @@ fn take_number<A: Allocator>(links: &mut Vec<Link, A>, unused: &mut u32) -> Resu
     ensures rest { IfOk result (λ n. (ends : Link) (xs : List ℕ) → HasSpare links.old.items ends unused.old xs
         → HasSpare links.new.items ends unused.new (n ∷ xs)) }
     ensures next { IfOk result (λ n. n ≤ length links.old.items) }
+    ensures dense { IfOk result (λ n. n ≡ length links.old.items → unused.old ≡ no_entry) }
     ensures made { IfOk result (λ n. length links.new.items ≡ max (length links.old.items) (n + 1)) }
     ensures short { length links.new.items ≤ no_entry }
     ensures refused { OnErr result ((links.new.items ≡ links.old.items) × (unused.new ≡ unused.old)) }
@@ -173,8 +174,8 @@ impl<A: Allocator> Recency<A> {
         Some(own.next)
     }
 
-    /// A new entry, the most recently used from now on: its number. That is one that belongs to no entry, or else the
-    /// next one. `Numbers` only if all are in use, and `Memory` if memory is refused; then nothing changes.
+    /// A new entry, the most recently used from now on: its number. That is one that was given out before and belongs to no
+    /// entry, or, if all of those are in use, the next one. `Numbers` only if all are in use, and `Memory` if memory is refused; then nothing changes.
     pub fn push(&mut self) -> Result<u32, CacheError>
         ensures new { IfOk result (λ number. IsFreshNumber number self.old) }
         ensures joined { IfOk result (λ number. self.new ≡ with_newest number self.old) }
@@ -203,6 +204,13 @@ impl<A: Allocator> Recency<A> {
         give_back(&mut self.links, &mut self.ends, number, self.unused);
         self.unused = number;
         self.count -= 1;
+    }
+
+    /// How many numbers were ever given out, since the order was made or cleared: each number is below.
+    pub fn made(&self) -> u32
+        ensures { result ≡ self.now.made }
+    {
+        self.links.len() as u32
     }
 
     /// Asks for room for so many more entries. Nothing else changes. `Memory` if memory is refused.

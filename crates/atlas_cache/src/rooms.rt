@@ -12,7 +12,7 @@ ghost use Rattle.atlas_cache.specs.declared.options.CacheOptions.{CacheOptions};
 ghost use Rattle.atlas_cache.specs.Asking.{AreUsable};
 ghost use Rattle.atlas_cache.specs.Rooms.{grown_sides, growth_left, page_sizes, AreAllLargest, AreLargestBelow};
 ghost use Rattle.atlas_cache.specs.Rooms.{rooms_of, IsAtLeast, IsFirstToGrow, IsNothingLive, IsRefusal, KeepsRooms};
-ghost use Rattle.atlas_cache.specs.Rooms.{LargestHasRoom};
+ghost use Rattle.atlas_cache.specs.Rooms.{IsRounded, LargestHasRoom};
 
 mod repacking;
 
@@ -69,6 +69,8 @@ fn take<A: Allocator + Copy>(
     requires room { HasRoomOn asked pages.old.items page }
     ensures adds { IfOk result (λ a. AddsBoxOn pages.old.items pages.new.items page a.id a.rectangle) }
     ensures large { IfOk result (λ a. IsAtLeast asked a.rectangle) }
+    ensures sides { (o : CacheOptions) → KeepsRooms (rooms_of o pages.old.items)
+        → IfOk result (λ a. IsRounded o asked a.rectangle) }
     ensures sizes { page_sizes pages.new.items ≡ page_sizes pages.old.items }
     ensures kept { (o : CacheOptions) → KeepsRooms (rooms_of o pages.old.items)
         → KeepsRooms (rooms_of o pages.new.items) }
@@ -92,6 +94,8 @@ fn place_first<A: Allocator + Copy>(
     ensures adds { IfOk result (λ placed. IfSome placed (λ place.
         AddsBoxOn pages.old.items pages.new.items place.0 place.1.id place.1.rectangle)) }
     ensures large { IfOk result (λ placed. IfSome placed (λ place. IsAtLeast asked place.1.rectangle)) }
+    ensures sides { IfOk result (λ placed. IfSome placed (λ place.
+        IsRounded options.now asked place.1.rectangle)) }
     ensures first { IfOk result (λ placed. IfSome placed (λ place.
         NoneHasRoomBelow asked pages.old.items place.0)) }
     ensures page { IfOk result (λ placed. IfSome placed (λ place. place.0 < length pages.old.items)) }
@@ -322,8 +326,8 @@ impl<A: Allocator + Copy> Rooms<A> {
         self.pages[page as usize].size()
     }
 
-    /// Says what the pages keep, and does nothing: each has the options of the cache and a size from `page` to
-    /// `largest_page`, and there are no more than the options allow; the rectangles of live ids of a page lie apart and
+    /// Says what the pages keep, and does nothing: each has the options of the cache, the greatest limit on slots and a
+    /// size from `page` to `largest_page`, and there are no more than the options allow; the rectangles of live ids of a page lie apart and
     /// within it; an idle page of the largest size has room for whatever `CacheOptions::asked` asks for.
     pub fn prove_kept(&self)
         ensures kept { KeepsRooms self.now }
@@ -334,13 +338,16 @@ impl<A: Allocator + Copy> Rooms<A> {
         prove_pages(&self.pages);
     }
 
-    /// Grants a request on the first page that has room for it: the page, and what it granted. None if no page has
+    /// Grants a request on the first page that has room for it: the page, and what it granted, which has the sides that
+    /// were asked for, rounded up to the alignment. None if no page has
     /// room. No page grows and no other rectangle moves. `Slots` if that page has too few of them, `Memory` if memory
     /// is refused. Unless something is granted, nothing changes.
     pub fn place(&mut self, asked: Size) -> Result<Option<(u32, Allocation)>, CacheError>
         ensures adds { IfOk result (λ placed. IfSome placed (λ place.
             AddsBoxOn self.old.pages self.new.pages place.0 place.1.id place.1.rectangle)) }
         ensures large { IfOk result (λ placed. IfSome placed (λ place. IsAtLeast asked place.1.rectangle)) }
+        ensures sides { IfOk result (λ placed. IfSome placed (λ place.
+            IsRounded self.old.options asked place.1.rectangle)) }
         ensures first { IfOk result (λ placed. IfSome placed (λ place.
             NoneHasRoomBelow asked self.old.pages place.0)) }
         ensures page { IfOk result (λ placed. IfSome placed (λ place. place.0 < length self.old.pages)) }

@@ -1,6 +1,6 @@
 -- From the lines that are read to the text that is written.
 use Rattle.std.specs.Prelude.{◌≡◌, ℕ, ◌+◌, ◌⊎◌, ⊤, Bool, true, false, if◌then◌else◌, Option, Some, None, List, [], ◌∷◌}
-use Rattle.std.specs.Prelude.{map, flat_map}
+use Rattle.std.specs.Prelude.{map, flat_map, length, take, All}
 use Rattle.std.specs.List.{zip}
 use Rattle.std.specs.Io.KnownBytes.{Appends}
 use Rattle.atlas_model.specs.declared.geometry.Size.{Size}
@@ -12,9 +12,11 @@ use Rattle.atlas_sheet.specs.declared.options.SheetOptions.{SheetOptions}
 use Rattle.atlas_sheet.specs.declared.placed.Placed.{Placed}
 use Rattle.atlas_sheet.specs.declared.ways.TheConstants.{WAYS}
 use Rattle.atlas_sheet.specs.Allowances.{IsAllowed, IsGreatest}
-use Rattle.atlas_sheet.specs.Lying.{IsShown}
-use Rattle.atlas_sheet.specs.Packings.{IsNoLarger, NoneIsFound}
+use Rattle.atlas_sheet.specs.Fillings.{IsBestFound, IsNoBetter, ways_tried}
+use Rattle.atlas_sheet.specs.Lying.{IsShown, areas_of}
+use Rattle.atlas_sheet.specs.Packings.{IsFirstFound, IsNoLarger, NoneIsFound}
 use Rattle.atlas_sheet.specs.Settings.{IsSheetFault, spacing_of}
+use Rattle.atlas_sheet.specs.Sheets.{used_area}
 use Rattle.atlas_words.specs.Devices.{HoldsBytes}
 use Rattle.pack_lines.specs.declared.error.PackError.{PackError}
 use Rattle.pack_lines.specs.declared.error.PackError.TheVariants as error
@@ -69,7 +71,8 @@ left_of sprites places = flat_map left_in (zip sprites places)
 abbrev pub written : (json : Bool) → Size → List Frame → (left : List Sprite) → List ℕ
 written json sheet frames left = if json then json_of sheet frames else text_of sheet frames left
 
--- What `pack` answers: an allowed sheet with a place for each sprite, no larger than what the ways find.
+-- What `pack` answers: an allowed sheet with a place for each sprite, no larger than what the ways find; without effort it is that which
+-- they find.
 pub record IsFound (o : SheetOptions) (sizes : List Size) (sheet : Size) (places : List (Option Placed)) : Type 0 where
   pub allowed : IsAllowed o.allowed (sides_of sheet)
   pub all : List Placed
@@ -77,12 +80,17 @@ pub record IsFound (o : SheetOptions) (sizes : List Size) (sheet : Size) (places
   pub order : List ℕ
   pub shown : IsShown (sides_of sheet) (spacing_of o) o.turn sizes order places
   pub larger : IsNoLarger WAYS o.allowed (spacing_of o) sizes (sides_of sheet)
+  pub first : o.effort ≡ 0 → IsFirstFound WAYS o.allowed (spacing_of o) sizes (sides_of sheet) order (areas_of places)
 
--- What `fill` answers: the greatest sheet that is allowed, with a place or none for each sprite.
+-- What `fill` answers: the greatest sheet that is allowed, with a place or none for each sprite. The places have no fewer pixels than those
+-- that any of the ways finds; without effort they are those of the best of these.
 pub record IsFilled (o : SheetOptions) (sizes : List Size) (sheet : Size) (places : List (Option Placed)) : Type 0 where
   pub greatest : IsGreatest o.allowed (sides_of sheet)
   pub order : List ℕ
   pub shown : IsShown (sides_of sheet) (spacing_of o) o.turn sizes order places
+  pub best : All (IsNoBetter (sides_of sheet) (spacing_of o) sizes (used_area (areas_of places))) (take (ways_tried (length sizes)) WAYS)
+  pub plain : o.effort ≡ 0
+      → IsBestFound (take (ways_tried (length sizes)) WAYS) (sides_of sheet) (spacing_of o) sizes order (areas_of places)
 
 -- What the library answers to these options, where it is to fill a sheet or not.
 abbrev pub Answers : (fill : Bool) → SheetOptions → List Size → (sheet : Size) → List (Option Placed) → Type 0

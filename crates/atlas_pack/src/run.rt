@@ -71,6 +71,8 @@ pub fn run<R: Read, W: Write, P: Write>(
 #[cfg(test)]
 mod tests {
     use super::*;
+    use atlas_model::size2;
+    use atlas_sheet::{Allowed, SheetOptions, fill, pack};
     use std::process::Abort;
 
     // Each row: the lines in, and the lines out or what stops them.
@@ -134,6 +136,93 @@ mod tests {
                 "row {row}"
             );
         }
+    }
+
+    // Sprites of which changes of the order by one seed fit into a lesser square than the ways find, and by another don't.
+    const SPRITES: &str = "a 9 4\nb 3 8\nc 5 5\nd 7 2\ne 2 9\nf 6 6\ng 4 3\nh 8 5\n";
+
+    // Their sizes.
+    fn sizes() -> [Size; 8] {
+        [
+            size2(9, 4),
+            size2(3, 8),
+            size2(5, 5),
+            size2(7, 2),
+            size2(2, 9),
+            size2(6, 6),
+            size2(4, 3),
+            size2(8, 5),
+        ]
+    }
+
+    // The library's options for this effort and this seed.
+    fn options_for(allowed: Allowed, effort: u32, seed: u64) -> SheetOptions {
+        SheetOptions {
+            allowed,
+            padding: 0,
+            alignment: size2(1, 1),
+            turn: false,
+            effort,
+            seed,
+        }
+    }
+
+    // The first line of the sheet that the library packs.
+    fn packed(alloc: Global, effort: u32, seed: u64, rt: &impl Abort) -> String {
+        let squares = Allowed::Squares {
+            least: 1,
+            greatest: 64,
+        };
+        let found = pack(alloc, &sizes(), &options_for(squares, effort, seed)).expect(rt, "memory");
+        let Size { width, height } = found.expect(rt, "a sheet").size;
+        format!(in alloc; "sheet {width} {height}\n").expect(rt, "memory")
+    }
+
+    // Whether the library has a place for the seventh sprite.
+    fn has_seventh(alloc: Global, effort: u32, seed: u64, rt: &impl Abort) -> bool {
+        let one = Allowed::One(size2(16, 16));
+        let filled = fill(alloc, &sizes(), &options_for(one, effort, seed)).expect(rt, "memory");
+        matches!(filled.places.get(6), Some(Some(_)))
+    }
+
+    // Whether the program packs them into the sheet that the library does.
+    fn packs_alike(alloc: Global, effort: u32, seed: u64, rt: &impl Abort) -> bool {
+        let lines = format!(in alloc; "sheet squares 1 64 effort {effort} seed {seed}\n{SPRITES}");
+        let told = outcome(alloc, lines.expect(rt, "memory").as_str(), rt);
+        told.starts_with(packed(alloc, effort, seed, rt).as_bytes())
+    }
+
+    // Whether the program leaves the seventh sprite out where the library does.
+    fn fills_alike(alloc: Global, effort: u32, seed: u64, rt: &impl Abort) -> bool {
+        let words = format!(in alloc;
+            "sheet one 16 16 fill effort {effort} seed {seed}\n{SPRITES}"
+        );
+        let told = outcome(alloc, words.expect(rt, "memory").as_str(), rt);
+        let is_left = told.windows(7).any(|part| part == b"g none\n".as_slice());
+        is_left != has_seventh(alloc, effort, seed, rt)
+    }
+
+    #[test]
+    fn hands_on_effort_and_seed(rt: HostRuntime) {
+        for (effort, seed) in [(0, 0), (40, 1), (40, 2)] {
+            assert!(&rt;
+                packs_alike(rt.alloc(), effort, seed, &rt),
+                "{effort}, {seed}"
+            );
+            assert!(&rt;
+                fills_alike(rt.alloc(), effort, seed, &rt),
+                "{effort}, {seed}"
+            );
+        }
+    }
+
+    // Without this the test above would tell nothing.
+    #[test]
+    fn effort_and_seed_show(rt: HostRuntime) {
+        let with = packed(rt.alloc(), 40, 1, &rt);
+        assert!(&rt; with != packed(rt.alloc(), 0, 1, &rt));
+        assert!(&rt; with != packed(rt.alloc(), 40, 2, &rt));
+        assert!(&rt; has_seventh(rt.alloc(), 40, 1, &rt) && !has_seventh(rt.alloc(), 40, 2, &rt));
     }
 
     // What a person sees where changes of the order are tried.

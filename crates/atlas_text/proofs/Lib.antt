@@ -1,2 +1,4 @@
 pub mod Reading
 pub mod PageLemmas
+pub mod StepLines
+pub mod Faults

@@ -1,4 +1,7 @@
 //! A text's glyphs through a cache.
+ghost use Rattle.std.specs.Prelude.{IfErr};
+ghost use Rattle.atlas_text.specs.Steps.{IsRefusal};
+
 use crate::error::TextError;
 use crate::steps::Step;
 use atlas_cache::{CacheOptions, Changes, TextureCache};
@@ -26,7 +29,9 @@ fn draw(
     changes: &mut Changes<u32>,
     key: u32,
     size: Size,
-) -> Result<(), TextError> {
+) -> Result<(), TextError>
+    ensures fault { IfErr result IsRefusal }
+{
     if cache.get(&key).is_none() {
         changes.clear();
         let _place = cache.insert(key, size, changes)?;
@@ -35,7 +40,9 @@ fn draw(
 }
 
 /// A cache after all steps.
-pub fn play(alloc: Global, steps: &[Step]) -> Result<TextureCache<u32>, TextError> {
+pub fn play(alloc: Global, steps: &[Step]) -> Result<TextureCache<u32>, TextError>
+    ensures fault { IfErr result IsRefusal }
+{
     let mut cache = TextureCache::new(alloc, OPTIONS)?;
     let mut changes = Vec::new(alloc);
     for step in steps {

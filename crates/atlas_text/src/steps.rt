@@ -1,12 +1,12 @@
 //! What the lines of a text's trace say.
 ghost use Rattle.std.specs.Prelude.{◌≡◌, ℕ, List, IfErr, IfOk, IfSome, IsSome};
 ghost use Rattle.atlas_text.specs.declared.steps.Step.{Step};
-ghost use Rattle.atlas_text.specs.Steps.{SayAll, SaysStep};
+ghost use Rattle.atlas_text.specs.Steps.{IsTraceFault, SayAll, SaysStep};
 
 use crate::error::TextError;
 use atlas_words::words::{first_line, first_word, size_arguments, unsigned};
 use guillotiere::Size;
-use std::alloc::{AllocError, Global};
+use std::alloc::Global;
 
 /// What a line says.
 #[derive(Clone, Copy, Debug, PartialEq)]
@@ -34,6 +34,7 @@ pub fn read_step(line: &[u8]) -> Option<Step>
 /// What the lines of a text say, in order. `BadLine` with the number of the first one that says nothing.
 pub fn read_steps(alloc: Global, text: &[u8]) -> Result<Vec<Step>, TextError>
     ensures found { IfOk result (λ steps. SayAll steps.items text.now) }
+    ensures fault { IfErr result (λ e. IsTraceFault text.now e) }
 {
     let mut steps = Vec::new(alloc);
     let mut rest = text;
@@ -42,9 +43,7 @@ pub fn read_steps(alloc: Global, text: &[u8]) -> Result<Vec<Step>, TextError>
         let Some(step) = read_step(line) else {
             return Err(TextError::BadLine(steps.len() as u64 + 1));
         };
-        if steps.push(step).is_err() {
-            return Err(TextError::Memory(AllocError));
-        }
+        steps.push(step)?;
         rest = after;
     }
     Ok(steps)

@@ -1,7 +1,7 @@
 //! A cache's calls, each in a function without a contract: a long contract takes its time to prove wherever it is used,
 //! and a test, which looks at the answer, has no use for it.
 use atlas_cache::entries::DefaultHasher;
-use atlas_cache::{CacheError, Changes, Place, TextureCache};
+use atlas_cache::{CacheError, Changes, Inserted, Place, TextureCache};
 use guillotiere::Size;
 use std::alloc::Allocator;
 
@@ -10,7 +10,7 @@ pub fn insert<A: Allocator + Copy>(
     key: u32,
     size: Size,
     changes: &mut Changes<u32, A>,
-) -> Result<Option<Place>, CacheError> {
+) -> Result<Inserted, CacheError> {
     cache.insert(key, size, changes)
 }
 

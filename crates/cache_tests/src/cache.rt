@@ -1,6 +1,6 @@
 //! The cache: small traces worked by hand.
 use crate::asking::{begin_frame, get, insert, peek, remove};
-use atlas_cache::{CacheChange, CacheOptions, Place, TextureCache};
+use atlas_cache::{CacheChange, CacheOptions, Inserted, Place, TextureCache};
 use guillotiere::{DEFAULT_OPTIONS, Rectangle, Size, point2, size2};
 use std::alloc::Global;
 use std::test::Fail;
@@ -19,6 +19,7 @@ fn options(largest: Size, pages: u32, padding: i32) -> CacheOptions {
 // The place of an entry of 8 by 8 pixels at the left and above, with padding 1.
 fn first_place() -> Place {
     Place {
+        number: 0,
         page: 0,
         rectangle: Rectangle {
             min: point2(0, 0),
@@ -37,10 +38,19 @@ fn whole_page() -> Place {
         max: point2(16, 16),
     };
     Place {
+        number: 0,
         page: 0,
         rectangle: whole,
         inner: whole,
     }
+}
+
+// Pages of 15 by 15 pixels, and sides rounded up to multiples of 8.
+fn coarse() -> CacheOptions {
+    let mut coarse = options(size2(15, 15), 1, 0);
+    coarse.page = size2(15, 15);
+    coarse.atlas.alignment = size2(8, 8);
+    coarse
 }
 
 fn small(alloc: Global) -> Result<TextureCache<u32>, Fail> {
@@ -58,7 +68,8 @@ fn one_page(alloc: Global) -> Result<TextureCache<u32>, Fail> {
 fn a_key_has_a_place(rt: HostRuntime) -> Result<(), Fail> {
     let mut cache = small(rt.alloc())?;
     let mut changes = Vec::new(rt.alloc());
-    assert!(rt; insert(&mut cache, 7, size2(8, 8), &mut changes)? == Some(first_place()));
+    let new = insert(&mut cache, 7, size2(8, 8), &mut changes)?;
+    assert!(rt; new == Inserted::Placed(first_place()));
     assert!(rt; get(&mut cache, 7) == Some(first_place()));
     assert!(rt; peek(&cache, 8) == None);
     assert!(rt; cache.len() == 1);
@@ -87,9 +98,61 @@ fn a_page_is_added_and_grows(rt: HostRuntime) -> Result<(), Fail> {
 fn what_this_frame_used_stays(rt: HostRuntime) -> Result<(), Fail> {
     let mut cache = one_page(rt.alloc())?;
     let mut changes = Vec::new(rt.alloc());
-    assert!(rt; insert(&mut cache, 1, size2(16, 16), &mut changes)? == Some(whole_page()));
-    assert!(rt; insert(&mut cache, 2, size2(16, 16), &mut changes)? == None);
+    let first = insert(&mut cache, 1, size2(16, 16), &mut changes)?;
+    assert!(rt; first == Inserted::Placed(whole_page()));
+    let second = insert(&mut cache, 2, size2(1, 1), &mut changes)?;
+    assert!(rt; second == Inserted::FrameFull);
     assert!(rt; peek(&cache, 1) == Some(whole_page()));
+    Ok(())
+}
+
+// A size is empty where a side is below 1; with a padding of 1 a page of 32 by 32 pixels has room for 30 by 30.
+#[test]
+fn what_never_fits_is_told(rt: HostRuntime) -> Result<(), Fail> {
+    let mut cache = small(rt.alloc())?;
+    let mut changes = Vec::new(rt.alloc());
+    assert!(rt; insert(&mut cache, 1, size2(31, 1), &mut changes)? == Inserted::NeverFits);
+    assert!(rt; insert(&mut cache, 1, size2(1, 31), &mut changes)? == Inserted::NeverFits);
+    assert!(rt; insert(&mut cache, 1, size2(0, 31), &mut changes)? == Inserted::EmptySize);
+    assert!(rt; insert(&mut cache, 1, size2(1, -1), &mut changes)? == Inserted::EmptySize);
+    assert!(rt; changes.is_empty() && cache.is_empty() && cache.pages() == 0);
+    Ok(())
+}
+
+// With an alignment of 8 a width of 9 is rounded up to 16, which a page of 15 by 15 has no room for.
+#[test]
+fn rounding_counts(rt: HostRuntime) -> Result<(), Fail> {
+    let mut cache = TextureCache::new(rt.alloc(), coarse())?;
+    let mut changes = Vec::new(rt.alloc());
+    assert!(rt; insert(&mut cache, 1, size2(9, 1), &mut changes)? == Inserted::NeverFits);
+    let fits = insert(&mut cache, 1, size2(8, 1), &mut changes)?;
+    assert!(rt; fits.place().is_some());
+    Ok(())
+}
+
+#[test]
+fn a_held_key_is_told(rt: HostRuntime) -> Result<(), Fail> {
+    let mut cache = small(rt.alloc())?;
+    let mut changes = Vec::new(rt.alloc());
+    let _first = insert(&mut cache, 7, size2(8, 8), &mut changes)?;
+    let again = insert(&mut cache, 7, size2(8, 8), &mut changes)?;
+    assert!(rt; again == Inserted::Held(first_place()));
+    assert!(rt; again.place() == Some(first_place()));
+    assert!(rt; cache.statistics().hits == 0);
+    Ok(())
+}
+
+// Where a frame uses all the room, a new one has it.
+#[test]
+fn a_full_frame_is_begun_anew(rt: HostRuntime) -> Result<(), Fail> {
+    let mut cache = one_page(rt.alloc())?;
+    let mut changes = Vec::new(rt.alloc());
+    let _first = insert(&mut cache, 1, size2(16, 16), &mut changes)?;
+    let full = insert(&mut cache, 2, size2(8, 8), &mut changes)?;
+    assert!(rt; full == Inserted::FrameFull && full.place().is_none());
+    begin_frame(&mut cache);
+    let placed = insert(&mut cache, 2, size2(8, 8), &mut changes)?;
+    assert!(rt; placed.place().is_some());
     Ok(())
 }
 
@@ -99,7 +162,8 @@ fn the_oldest_goes(rt: HostRuntime) -> Result<(), Fail> {
     let mut changes = Vec::new(rt.alloc());
     let _first = insert(&mut cache, 1, size2(16, 16), &mut changes)?;
     begin_frame(&mut cache);
-    assert!(rt; insert(&mut cache, 2, size2(16, 16), &mut changes)? == Some(whole_page()));
+    let second = insert(&mut cache, 2, size2(16, 16), &mut changes)?;
+    assert!(rt; second == Inserted::Placed(whole_page()));
     let added = CacheChange::PageAdded {
         page: 0,
         size: size2(16, 16),
@@ -112,13 +176,29 @@ fn the_oldest_goes(rt: HostRuntime) -> Result<(), Fail> {
     Ok(())
 }
 
+// A place tells the entry's number, which is given again once the entry is gone, before a new one is.
+#[test]
+fn numbers_come_again(rt: HostRuntime) -> Result<(), Fail> {
+    let mut cache = small(rt.alloc())?;
+    let mut changes = Vec::new(rt.alloc());
+    for key in 5..8 {
+        let _new = insert(&mut cache, key, size2(4, 4), &mut changes)?;
+    }
+    assert!(rt; peek(&cache, 6).is_some_and(|place| place.number == 1));
+    assert!(rt; remove(&mut cache, 6).is_some_and(|place| place.number == 1));
+    let next = insert(&mut cache, 9, size2(5, 5), &mut changes)?;
+    assert!(rt; next.place().is_some_and(|place| place.number == 1) && cache.numbers() == 3);
+    Ok(())
+}
+
 #[test]
 fn a_key_goes(rt: HostRuntime) -> Result<(), Fail> {
     let mut cache = one_page(rt.alloc())?;
     let mut changes = Vec::new(rt.alloc());
     let _first = insert(&mut cache, 1, size2(16, 16), &mut changes)?;
     assert!(rt; remove(&mut cache, 1) == Some(whole_page()));
-    assert!(rt; insert(&mut cache, 2, size2(16, 16), &mut changes)? == Some(whole_page()));
+    let second = insert(&mut cache, 2, size2(16, 16), &mut changes)?;
+    assert!(rt; second == Inserted::Placed(whole_page()));
     assert!(rt; get(&mut cache, 1).is_none());
     Ok(())
 }

@@ -2,7 +2,7 @@
 ghost use Rattle.std.specs.Prelude.{◌≡◌};
 
 use crate::asking::{begin_frame, clear, get, insert, peek, trim};
-use atlas_cache::{CacheChange, CacheError, CacheOptions, Counts, Place, TextureCache};
+use atlas_cache::{CacheChange, CacheError, CacheOptions, Counts, Inserted, Place, TextureCache};
 use guillotiere::{DEFAULT_OPTIONS, Rectangle, point2, size2};
 use std::alloc::Global;
 use std::test::Fail;
@@ -34,13 +34,14 @@ fn three(alloc: Global) -> Result<TextureCache<u32>, Fail> {
     Ok(cache)
 }
 
-// The whole of a page.
+// The whole of a page, where each page has one entry, of the same number.
 fn whole(page: u32) -> Place {
     let whole = Rectangle {
         min: point2(0, 0),
         max: point2(16, 16),
     };
     Place {
+        number: page,
         page,
         rectangle: whole,
         inner: whole,
@@ -108,6 +109,7 @@ fn all_keys_go(rt: HostRuntime) -> Result<(), Fail> {
     assert!(rt; peek(&cache, 1).is_none());
     assert!(rt; cache.pages() == 3);
     assert!(rt; cache.live_area(2) == Some(0));
+    assert!(rt; cache.numbers() == 0);
     Ok(())
 }
 
@@ -186,6 +188,7 @@ fn a_new_frame_has_room(rt: HostRuntime) -> Result<(), Fail> {
     let mut changes = Vec::new(rt.alloc());
     let _last = insert(&mut cache, 4, size2(16, 16), &mut changes)?;
     begin_frame(&mut cache);
-    assert!(rt; insert(&mut cache, 5, size2(16, 16), &mut changes)? == Some(whole(0)));
+    let next = insert(&mut cache, 5, size2(16, 16), &mut changes)?;
+    assert!(rt; next == Inserted::Placed(whole(0)));
     Ok(())
 }

@@ -23,6 +23,7 @@ fn entry(key: u32, frame: u64) -> Entry<u32>
             min: point2(0, 0),
             max: point2(10, 18),
         },
+        number: 77,
         frame,
     }
 }
@@ -65,6 +66,11 @@ fn nth(entries: &Entries<u32>, place: usize) -> Option<(u32, u64)> {
 fn oldest(entries: &Entries<u32>) -> Option<(u32, u64)> {
     let held = entries.entry(entries.oldest()?);
     Some((held.key, held.frame))
+}
+
+// The number that the entry of a key has.
+fn number_of(entries: &Entries<u32>, key: u32) -> Option<u32> {
+    Some(entries.entry(entries.find(&key)?).number)
 }
 
 fn shown(entries: &Entries<u32>) -> [Option<(u32, u64)>; 4] {
@@ -139,6 +145,19 @@ fn a_removed_entry_is_gone_and_its_number_comes_back(rt: HostRuntime) -> Result<
     assert_eq!(rt; entries.find(&71), None);
     assert_eq!(rt; add(&mut entries, 73, 2)?, 1);
     assert_eq!(rt; entries.find(&73), Some(1));
+    assert_eq!(rt; number_of(&entries, 73), Some(1));
+    Ok(())
+}
+
+// A new number is given out only where all others are in use.
+#[test]
+fn numbers_are_dense(rt: HostRuntime) -> Result<(), Fail> {
+    let mut entries = three(rt.alloc())?;
+    remove(&mut entries, 70);
+    assert_eq!(rt; add(&mut entries, 73, 2)?, 0);
+    assert_eq!(rt; entries.made(), 3);
+    assert_eq!(rt; add(&mut entries, 74, 2)?, 3);
+    assert_eq!(rt; entries.made(), 4);
     Ok(())
 }
 
@@ -158,6 +177,7 @@ fn cleared_entries_begin_again(rt: HostRuntime) -> Result<(), Fail> {
     entries.clear();
     assert!(rt; entries.is_empty() && entries.find(&70).is_none());
     assert_eq!(rt; shown(&entries), [None, None, None, None]);
+    assert_eq!(rt; entries.made(), 0);
     assert_eq!(rt; add(&mut entries, 72, 3)?, 0);
     Ok(())
 }

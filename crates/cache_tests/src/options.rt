@@ -1,6 +1,6 @@
 //! Options of a cache, and what an entry asks for.
 use atlas_cache::{CacheOptions, OptionsError, Place};
-use guillotiere::{AllocatorOptions, DEFAULT_OPTIONS, Rectangle, point2, size2};
+use guillotiere::{AllocatorOptions, DEFAULT_OPTIONS, Rectangle, Size, point2, size2};
 use std::test::Fail;
 
 fn usual() -> CacheOptions {
@@ -43,7 +43,33 @@ fn each_bad_option_has_its_error(rt: HostRuntime) -> Result<(), Fail> {
     options = usual();
     options.atlas.alignment = size2(0, 1);
     assert_eq!(rt; options.check(), Err(OptionsError::Atlas));
+    options.page = size2(0, 64);
+    assert_eq!(rt; options.check(), Err(OptionsError::EmptyPage));
     Ok(())
+}
+
+// A page of 4 by 4 has no pixel inside a padding of 2; and with an alignment of 8 a single pixel takes 8 by 8.
+#[test]
+fn options_with_which_nothing_fits_are_refused(rt: HostRuntime) -> Result<(), Fail> {
+    let mut options = usual();
+    (options.page, options.largest_page) = (size2(4, 4), size2(4, 4));
+    options.padding = 2;
+    assert_eq!(rt; options.check(), Err(OptionsError::NothingFits));
+    options.padding = 1;
+    assert_eq!(rt; options.check(), Ok(()));
+    options.atlas.alignment = size2(1, 8);
+    assert_eq!(rt; options.check(), Err(OptionsError::NothingFits));
+    options.largest_page = size2(4, 8);
+    assert_eq!(rt; options.check(), Ok(()));
+    Ok(())
+}
+
+// What options ask for a size; None where they aren't right.
+fn asked_by(options: &CacheOptions, size: Size) -> Option<Size> {
+    match options.check() {
+        Ok(()) => options.asked(size),
+        Err(_) => None,
+    }
 }
 
 #[test]
@@ -51,16 +77,16 @@ fn padding_and_rounding_count(rt: HostRuntime) -> Result<(), Fail> {
     let usual = usual();
     let coarse = coarse();
     assert!(rt; usual.check().is_ok() && coarse.check().is_ok());
-    assert_eq!(rt; usual.asked(size2(10, 20)), Some(size2(16, 26)));
-    assert_eq!(rt; usual.asked(size2(122, 122)), Some(size2(128, 128)));
-    assert_eq!(rt; usual.asked(size2(123, 1)), None);
-    assert_eq!(rt; usual.asked(size2(1, 0)), None);
-    assert_eq!(rt; coarse.asked(size2(10, 122)), Some(size2(16, 128)));
+    assert_eq!(rt; asked_by(&usual, size2(10, 20)), Some(size2(16, 26)));
+    assert_eq!(rt; asked_by(&usual, size2(122, 122)), Some(size2(128, 128)));
+    assert_eq!(rt; asked_by(&usual, size2(123, 1)), None);
+    assert_eq!(rt; asked_by(&usual, size2(1, 0)), None);
+    assert_eq!(rt; asked_by(&coarse, size2(10, 122)), Some(size2(16, 128)));
     let mut odd = coarse;
     odd.largest_page = size2(128, 127);
     assert!(rt; odd.check().is_ok());
-    assert_eq!(rt; odd.asked(size2(10, 106)), Some(size2(16, 112)));
-    assert_eq!(rt; odd.asked(size2(10, 107)), None);
+    assert_eq!(rt; asked_by(&odd, size2(10, 106)), Some(size2(16, 112)));
+    assert_eq!(rt; asked_by(&odd, size2(10, 107)), None);
     Ok(())
 }
 
@@ -70,7 +96,8 @@ fn an_entry_lies_behind_its_padding(rt: HostRuntime) -> Result<(), Fail> {
         min: point2(16, 32),
         max: point2(48, 64),
     };
-    let place = Place::new(1, rectangle, size2(20, 10), 3);
+    let place = Place::new(7, 1, rectangle, size2(20, 10), 3);
+    assert_eq!(rt; place.number, 7);
     assert_eq!(rt; place.page, 1);
     assert_eq!(rt; place.rectangle, rectangle);
     assert_eq!(rt; place.inner.min, point2(19, 35));

@@ -25,6 +25,8 @@ pub struct Plain {
     /// The most recently used first.
     pub held: Vec<Held>,
     pub pages: Vec<Size>,
+    /// The most keys that there were at once, which is how many numbers they had.
+    pub numbers: usize,
     pub frame: u64,
 }
 
@@ -85,6 +87,7 @@ impl Plain {
             options,
             held: Vec::new(alloc),
             pages: Vec::new(alloc),
+            numbers: 0,
             frame: 0,
         }
     }
@@ -125,9 +128,10 @@ impl Plain {
         Some(gone.place)
     }
 
-    /// All keys go.
+    /// All keys go, and numbers begin again.
     pub fn clear(&mut self) {
         self.held.clear();
+        self.numbers = 0;
     }
 
     // Whether an entry wasn't used for so many frames.
@@ -249,6 +253,7 @@ impl Plain {
             frame: self.frame,
         };
         self.held.insert(0, new)?;
+        self.numbers = self.numbers.max(self.held.len());
         Ok(is_right)
     }
 
@@ -274,6 +279,15 @@ impl Plain {
         cache.pages() == number && cache.page_size(number).is_none()
     }
 
+    // Whether a number is below those that were given out, and no other key's.
+    fn has_own_number(&self, own: Held) -> bool {
+        let mut same = 0u32;
+        for held in &self.held {
+            same = same.wrapping_add(u32::from(held.place.number == own.place.number));
+        }
+        same == 1 && (own.place.number as usize) < self.numbers
+    }
+
     // Whether a cache tells these keys in this order of use.
     fn has_order<A: Allocator + Copy>(&self, cache: &TextureCache<u32, DefaultHasher, A>) -> bool {
         let mut next = cache.newest();
@@ -292,10 +306,13 @@ impl Plain {
         cache: &TextureCache<u32, DefaultHasher, A>,
     ) -> bool {
         for held in &self.held {
-            if peek(cache, held.key) != Some(held.place) {
+            if peek(cache, held.key) != Some(held.place) || !self.has_own_number(*held) {
                 return false;
             }
         }
-        cache.len() == self.held.len() && self.has_order(cache) && self.has_pages(cache)
+        cache.numbers() as usize == self.numbers
+            && cache.len() == self.held.len()
+            && self.has_order(cache)
+            && self.has_pages(cache)
     }
 }

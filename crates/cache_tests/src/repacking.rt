@@ -25,13 +25,14 @@ fn two(alloc: Global) -> Result<TextureCache<u32>, Fail> {
     Ok(cache)
 }
 
-// The whole of a page.
+// The whole of a page, where each page has one entry, of the same number.
 fn whole(page: u32) -> Place {
     let whole = Rectangle {
         min: point2(0, 0),
         max: point2(16, 16),
     };
     Place {
+        number: page,
         page,
         rectangle: whole,
         inner: whole,

@@ -2,7 +2,7 @@
 use crate::asking::{begin_frame, clear, get, insert, peek, remove, trim};
 use crate::plain::Plain;
 use atlas_cache::entries::DefaultHasher;
-use atlas_cache::{CacheError, CacheOptions, Changes, TextureCache};
+use atlas_cache::{CacheError, CacheOptions, Changes, Inserted, TextureCache};
 use guillotiere::{DEFAULT_OPTIONS, Size, size2};
 use std::alloc::{Allocator, Global};
 use std::hash::BuildHasherDefault;
@@ -79,22 +79,28 @@ impl<A: Allocator + Copy> Played<A> {
         if size != held {
             return Ok(answer == Err(CacheError::OtherSize) && self.changes.is_empty());
         }
-        let place = self.plain.touch(key)?;
-        Ok(answer == Ok(place) && self.changes.is_empty())
+        let Some(place) = self.plain.touch(key)? else {
+            return Ok(false);
+        };
+        Ok(answer == Ok(Inserted::Held(place)) && self.changes.is_empty())
     }
 
     // The same with a key that isn't. The model follows what was told also where memory was refused, the error then.
     fn insert_new(&mut self, key: u32, size: Size) -> Result<bool, CacheError> {
         let answer = insert(&mut self.cache, key, size, &mut self.changes);
+        if size.width < 1 || size.height < 1 {
+            return Ok(answer == Ok(Inserted::EmptySize) && self.changes.is_empty());
+        }
         if !self.plain.can_stand(size) {
-            return Ok(answer == Ok(None) && self.changes.is_empty());
+            return Ok(answer == Ok(Inserted::NeverFits) && self.changes.is_empty());
         }
         if !self.follow()? {
             return Ok(false);
         }
         match answer? {
-            Some(place) => self.plain.add(key, size, place),
-            None => Ok(self.plain.is_exhausted()),
+            Inserted::Placed(place) => self.plain.add(key, size, place),
+            Inserted::FrameFull => Ok(self.plain.is_exhausted()),
+            _ => Ok(false),
         }
     }
 
@@ -251,7 +257,7 @@ impl<A: Allocator + Copy> Played<A> {
                 size.height.saturating_sub(border),
             );
             let placed = insert(&mut self.cache, page, whole, &mut self.changes)?;
-            if !placed.is_some_and(|place| place.page == page) {
+            if !placed.place().is_some_and(|place| place.page == page) {
                 return Ok(false);
             }
         }

@@ -1,13 +1,15 @@
 -- What a call does with a cache that has keys of 64 bits.
-use Rattle.std.specs.Prelude.{◌≡◌, ◌≢◌, ◌<◌, ℕ, length, IfErr, IfSome, IsSome, Option, None, Result, Ok}
+use Rattle.std.specs.Prelude.{◌≡◌, ◌≢◌, ◌↔◌, ◌<◌, ◌⊎◌, ℕ, length, IfErr, IfSome, IsSome, Option, None, Some, Result, Ok}
 use Rattle.std.specs.Prelude.{nat_eq}
 use Rattle.guillotiere.specs.declared.Size.{Size}
 use Rattle.guillotiere.specs.Pixels.{size_of}
 use Rattle.atlas_cache.specs.declared.error.CacheError.{CacheError}
+use Rattle.atlas_cache.specs.declared.inserted.Inserted.{Inserted}
+use Rattle.atlas_cache.specs.declared.inserted.Inserted.TheVariants.{Placed, Held, FrameFull, NeverFits, EmptySize}
 use Rattle.atlas_cache.specs.declared.places.Place.{Place}
 use Rattle.atlas_cache.specs.Asking.{bordered, CanStand}
 use Rattle.atlas_cache.specs.Caches.{CacheState, entry_for, place_for, IsNoneInUse}
-use Rattle.atlas_cache.specs.Changes.{FindsKnown, Inserts, Removes, Uses}
+use Rattle.atlas_cache.specs.Changes.{FindsKnown, Inserts, IsNewAndEmpty, IsNewAndTooLarge, Removes, Uses}
 use Rattle.atlas_cache.specs.Clearing.{TellsChanges, Trims}
 use Rattle.atlas_cache.specs.Counting.{one_more}
 use Rattle.atlas_cache.specs.Refusals.{IsRefusedNew}
@@ -31,16 +33,19 @@ pub record IsRemoval (key : ℕ) (found : Option Place) (s t : CacheState ℕ) :
   pub none : found ≡ None → t ≡ s
 
 -- What `TextureCache::insert` does. The changes that it makes come behind those that weren't handed over.
-pub record IsInsert (key : ℕ) (size : Size) (result : Result (Option Place) CacheError) (f g : Followed) : Type 0 where
+pub record IsInsert (key : ℕ) (size : Size) (result : Result Inserted CacheError) (f g : Followed) : Type 0 where
   pub known : IfSome (entry_for nat_eq key f.cache.entries) (λ e.
       FindsKnown e size result f.cache g.cache × (g.changes ≡ f.changes))
-  pub outside : entry_for nat_eq key f.cache.entries ≡ None → (CanStand f.cache.options size → ⊥)
-      → (result ≡ Ok None) × (g.cache ≡ f.cache) × (g.changes ≡ f.changes)
+  pub empty : (result ≡ Ok EmptySize) ↔ IsNewAndEmpty nat_eq key size f.cache
+  pub never : (result ≡ Ok NeverFits) ↔ IsNewAndTooLarge nat_eq key size f.cache
+  pub nothing : (result ≡ Ok EmptySize) ⊎ (result ≡ Ok NeverFits) → (g.cache ≡ f.cache) × (g.changes ≡ f.changes)
+  pub placed : (place : Place) → result ≡ Ok (Placed place) → place_for nat_eq f.cache key ≡ None
+  pub held : (place : Place) → result ≡ Ok (Held place) → place_for nat_eq f.cache key ≡ Some place
   pub new : entry_for nat_eq key f.cache.entries ≡ None → CanStand f.cache.options size
       → Inserts (size_of (bordered f.cache.options size)) key size result f.changes g.changes f.cache g.cache
   pub told : Tells nat_eq key result f.changes g.changes f.cache g.cache
   pub errors : entry_for nat_eq key f.cache.entries ≡ None → IfErr result (IsRefusedNew (length g.cache.entries))
-  pub room : IsNoneInUse f.cache → CanStand f.cache.options size → result ≢ Ok None
+  pub room : IsNoneInUse f.cache → result ≢ Ok FrameFull
 
 -- What `TextureCache::trim` does. The evictions come behind the changes that weren't handed over.
 pub record IsTrim (frames : ℕ) (f g : Followed) : Type 0 where

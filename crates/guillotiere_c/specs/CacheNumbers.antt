@@ -1,8 +1,9 @@
 -- What statuses and structs of numbers of a cache mean.
 use Rattle.std.specs.Prelude.{ℕ, ◌==◌, if◌then◌else◌, Option, Some, None, Result, Ok, Err}
-use Rattle.guillotiere_c.specs.declared.plain.TheConstants.{DONE, NO_ROOM, SLOTS, MEMORY, OTHER_SIZE, NUMBERS}
+use Rattle.guillotiere_c.specs.declared.plain.TheConstants.{DONE, SLOTS, MEMORY, OTHER_SIZE, NUMBERS}
+use Rattle.guillotiere_c.specs.declared.plain.TheConstants.{HELD, FRAME_FULL, NEVER_FITS, EMPTY_SIZE}
 use Rattle.guillotiere_c.specs.declared.plain.TheConstants.{EMPTY_PAGE}
-use Rattle.guillotiere_c.specs.declared.plain.TheConstants.{LARGEST_PAGE, NO_PAGES, BAD_PADDING, BAD_ATLAS}
+use Rattle.guillotiere_c.specs.declared.plain.TheConstants.{LARGEST_PAGE, NO_PAGES, BAD_PADDING, BAD_ATLAS, NOTHING_FITS}
 use Rattle.guillotiere_c.specs.declared.plain.TheConstants.{NOT_HELD, PAGE_ADDED, PAGE_GROWN, EVICTED, MOVED}
 use Rattle.guillotiere_c.specs.declared.plain_cache.PlainCacheChange.{PlainCacheChange}
 use Rattle.guillotiere_c.specs.declared.plain_cache.PlainCacheOptions.{PlainCacheOptions}
@@ -16,11 +17,14 @@ use Rattle.atlas_cache.specs.declared.error.CacheError.{CacheError}
 use Rattle.atlas_cache.specs.declared.error.CacheError.TheVariants as error
 use Rattle.atlas_cache.specs.declared.error.OptionsError.{OptionsError}
 use Rattle.atlas_cache.specs.declared.error.OptionsError.TheVariants as fault
+use Rattle.atlas_cache.specs.declared.inserted.Inserted.{Inserted}
+use Rattle.atlas_cache.specs.declared.inserted.Inserted.TheVariants.{Placed, Held, FrameFull, NeverFits, EmptySize}
 use Rattle.atlas_cache.specs.declared.options.CacheOptions.{CacheOptions}
 use Rattle.atlas_cache.specs.declared.places.Place.{Place}
 
 abbrev pub place_in : PlainPlace → Place
-place_in p = record { page = p.page; rectangle = corners_in p.rectangle; inner = corners_in p.inner }
+place_in p =
+    record { number = p.number; page = p.page; rectangle = corners_in p.rectangle; inner = corners_in p.inner }
 
 abbrev pub counts_in : PlainCounts → Counts
 counts_in c = record { hits = c.hits; misses = c.misses; evictions = c.evictions }
@@ -50,7 +54,8 @@ options_fault status =
     else (if status == LARGEST_PAGE then Some fault.LargestPage
     else (if status == NO_PAGES then Some fault.NoPages
     else (if status == BAD_PADDING then Some fault.Padding
-    else (if status == BAD_ATLAS then Some fault.Atlas else None))))
+    else (if status == BAD_ATLAS then Some fault.Atlas
+    else (if status == NOTHING_FITS then Some fault.NothingFits else None)))))
 
 -- The error that a status tells of a cache.
 abbrev pub cache_error : ℕ → Option CacheError
@@ -61,14 +66,17 @@ cache_error status =
     else (if status == OTHER_SIZE then Some error.OtherSize else None)))
 
 -- The answer of an insert that wrote this, if it is one.
-abbrev pub insert_answer : (status : ℕ) → PlainPlace → Option (Result (Option Place) CacheError)
+abbrev pub insert_answer : (status : ℕ) → PlainPlace → Option (Result Inserted CacheError)
 insert_answer status written =
-    if status == DONE then Some (Ok (Some (place_in written)))
-    else (if status == NO_ROOM then Some (Ok None)
+    if status == DONE then Some (Ok (Placed (place_in written)))
+    else (if status == HELD then Some (Ok (Held (place_in written)))
+    else (if status == FRAME_FULL then Some (Ok FrameFull)
+    else (if status == NEVER_FITS then Some (Ok NeverFits)
+    else (if status == EMPTY_SIZE then Some (Ok EmptySize)
     else (if status == MEMORY then Some (Err error.Memory)
     else (if status == NUMBERS then Some (Err error.Numbers)
     else (if status == SLOTS then Some (Err error.Slots)
-    else (if status == OTHER_SIZE then Some (Err error.OtherSize) else None)))))
+    else (if status == OTHER_SIZE then Some (Err error.OtherSize) else None))))))))
 
 -- The place that a look-up of a key wrote, if its answer is one.
 abbrev pub found_answer : (status : ℕ) → PlainPlace → Option (Option Place)

@@ -1,5 +1,5 @@
 //! The exports of a cache: its life, its keys and its changes.
-ghost use Rattle.std.specs.Prelude.{◌≡◌, ◌≢◌, ◌≤◌, ◌∷◌, [], length, IfSome, IsNone, IsSome, IsSomeAnd, None};
+ghost use Rattle.std.specs.Prelude.{◌≡◌, ◌≢◌, ◌≤◌, ◌∷◌, [], length, IfSome, IsNone, IsSome, IsSomeAnd, None, Some};
 ghost use Rattle.std.specs.Prelude.{nat_eq};
 ghost use Rattle.atlas_cache.specs.Asking.{AreUsable, IsFaultIn};
 ghost use Rattle.atlas_cache.specs.Caches.{place_for};
@@ -12,18 +12,21 @@ ghost use Rattle.guillotiere_c.specs.Following.{GoesOver, HoldsCache, new_cache}
 
 use crate::cache_handle::CacheHandle;
 use crate::followed::FollowedCache;
-use crate::plain::{DONE, EMPTY, MEMORY, NO_CHANGE, NO_PAGE, NO_ROOM, NOT_HELD, SLOTS};
+use crate::plain::{
+    DONE, EMPTY, EMPTY_SIZE, FRAME_FULL, HELD, MEMORY, NEVER_FITS, NO_CHANGE, NO_PAGE, NOT_HELD,
+    SLOTS,
+};
 use crate::plain_cache::{
     PlainCacheChange, PlainCacheOptions, PlainPlace, cache_options_for, plain_cache_change,
     plain_place, status_of_cache_error, status_of_options_error,
 };
-use atlas_cache::Place;
+use atlas_cache::{CacheError, Inserted, Place};
 use guillotiere::size2;
 use std::alloc::Global;
 
-/// Makes a cache with these options, where the handle holds nothing. `DONE`; `EMPTY_PAGE`, `LARGEST_PAGE`, `NO_PAGES`,
-/// `BAD_PADDING` or `BAD_ATLAS` if that is wrong with the options; `MEMORY`; `EMPTY` if the handle holds a cache
-/// already.
+/// Makes a cache with these options, where the handle holds nothing. `DONE`; `EMPTY` if the handle holds a cache already;
+/// the first of `EMPTY_PAGE`, `LARGEST_PAGE`, `NO_PAGES`, `BAD_PADDING`, `BAD_ATLAS` and `NOTHING_FITS` that is wrong
+/// with the options; `MEMORY`.
 #[unsafe(no_mangle)]
 pub extern "C" fn guillotiere_cache_new(
     alloc: Global,
@@ -142,10 +145,32 @@ pub extern "C" fn guillotiere_cache_peek(
     write_found(found, place)
 }
 
-/// A place for a key, which is used in this frame, as `TextureCache::insert` finds it. `DONE`; `NO_ROOM` if the size is
-/// empty or doesn't fit the largest page, or if each entry is in use and no page has room; `OTHER_SIZE` if the key is
-/// held with another size; `NUMBERS`, `SLOTS`, `MEMORY`. What was done is told by `guillotiere_cache_next_change`, also
-/// after `NO_ROOM` and after an error.
+// Writes the place that an insertion gave.
+fn write_inserted(answer: Result<Inserted, CacheError>, place: &mut PlainPlace) -> u32
+    ensures answer { insert_answer result place.new ≡ Some answer }
+    ensures unwritten { result ≢ DONE → result ≢ HELD → place.new ≡ place.old }
+{
+    match answer {
+        Ok(Inserted::Placed(new)) => {
+            *place = plain_place(new);
+            DONE
+        }
+        Ok(Inserted::Held(held)) => {
+            *place = plain_place(held);
+            HELD
+        }
+        Ok(Inserted::FrameFull) => FRAME_FULL,
+        Ok(Inserted::NeverFits) => NEVER_FITS,
+        Ok(Inserted::EmptySize) => EMPTY_SIZE,
+        Err(error) => status_of_cache_error(error),
+    }
+}
+
+/// A place for a key, which is used in this frame, as `TextureCache::insert` finds it. `DONE` of a new key, whose pixels
+/// are to be written there; `HELD` of one that was held, and then the place is written too; `FRAME_FULL` if each entry is
+/// used in this frame and no page has room; `NEVER_FITS` if the size passes the largest page; `EMPTY_SIZE`; `OTHER_SIZE`
+/// if the key is held with another size; `NUMBERS`, `SLOTS`, `MEMORY`. What was done is told by
+/// `guillotiere_cache_next_change`, also after `FRAME_FULL` and after an error.
 #[unsafe(no_mangle)]
 pub extern "C" fn guillotiere_cache_insert(
     alloc: Global,
@@ -157,7 +182,7 @@ pub extern "C" fn guillotiere_cache_insert(
 ) -> u32
     ensures insert { IsSome cache.old.kept → IsSomeAnd (insert_answer result place.new) (λ answer.
         GoesOver cache.old.kept cache.new.kept (IsInsert key (record { width = width; height = height }) answer)) }
-    ensures unwritten { result ≢ DONE → place.new ≡ place.old }
+    ensures unwritten { result ≢ DONE → result ≢ HELD → place.new ≡ place.old }
     ensures empty { IsNone cache.old.kept → (result ≡ EMPTY) × (cache.new.kept ≡ None) }
 {
     if !cache.holds() {
@@ -166,14 +191,7 @@ pub extern "C" fn guillotiere_cache_insert(
     let mut held = cache.take(alloc);
     let answer = held.insert(key, size2(width, height));
     cache.put(held);
-    match answer {
-        Ok(Some(found)) => {
-            *place = plain_place(found);
-            DONE
-        }
-        Ok(None) => NO_ROOM,
-        Err(error) => status_of_cache_error(error),
-    }
+    write_inserted(answer, place)
 }
 
 /// A key goes, and the place that it had is written. No change tells it: the caller forgets its place, once the changes

@@ -31,6 +31,27 @@ pub extern "C" fn guillotiere_cache_len(
     DONE
 }
 
+/// How many numbers keys had so far, since the cache was made or cleared: the number of each place is below. `DONE`.
+#[unsafe(no_mangle)]
+pub extern "C" fn guillotiere_cache_numbers(
+    alloc: Global,
+    cache: &mut CacheHandle,
+    numbers: &mut u32,
+) -> u32
+    ensures numbers { IsSome cache.old.kept → HoldsCache cache.old.kept (λ f. numbers.new ≡ f.cache.numbers) }
+    ensures done { IsSome cache.old.kept → result ≡ DONE }
+    ensures same { cache.new.kept ≡ cache.old.kept }
+    ensures empty { IsNone cache.old.kept → (result ≡ EMPTY) × (numbers.new ≡ numbers.old) }
+{
+    if !cache.holds() {
+        return EMPTY;
+    }
+    let held = cache.take(alloc);
+    *numbers = held.numbers();
+    cache.put(held);
+    DONE
+}
+
 /// How many pages there are. `DONE`.
 #[unsafe(no_mangle)]
 pub extern "C" fn guillotiere_cache_page_count(

@@ -11,7 +11,8 @@ ghost use Rattle.guillotiere_c.specs.CacheCalls.{IsGet, IsInsert, IsRemoval, IsR
 ghost use Rattle.guillotiere_c.specs.Following.{new_cache};
 
 use atlas_cache::{
-    CacheChange, CacheError, CacheOptions, Changes, Counts, OptionsError, Place, TextureCache,
+    CacheChange, CacheError, CacheOptions, Changes, Counts, Inserted, OptionsError, Place,
+    TextureCache,
 };
 use guillotiere::Size;
 use std::alloc::Global;
@@ -116,7 +117,7 @@ impl FollowedCache {
     }
 
     /// As `TextureCache::insert`. Its changes come behind those that weren't handed over.
-    pub fn insert(&mut self, key: u64, size: Size) -> Result<Option<Place>, CacheError>
+    pub fn insert(&mut self, key: u64, size: Size) -> Result<Inserted, CacheError>
         ensures { IsInsert key size result self.old self.new }
     {
         drop_taken(&mut self.changes, &mut self.taken);
@@ -167,6 +168,13 @@ impl FollowedCache {
         ensures { result ≡ length self.now.cache.entries }
     {
         self.cache.len()
+    }
+
+    /// As `TextureCache::numbers`.
+    pub fn numbers(&self) -> u32
+        ensures { result ≡ self.now.cache.numbers }
+    {
+        self.cache.numbers()
     }
 
     /// How many pages there are.

@@ -86,6 +86,21 @@ pub const NO_CHANGE: u32 = 21;
 /// There is no such page.
 pub const NO_PAGE: u32 = 22;
 
+/// An inserted key was held already.
+pub const HELD: u32 = 23;
+
+/// This frame uses all that the pages of a cache have room for.
+pub const FRAME_FULL: u32 = 24;
+
+/// A size passes the largest page, with the padding and rounded up to the alignment.
+pub const NEVER_FITS: u32 = 25;
+
+/// A side of a size is below 1.
+pub const EMPTY_SIZE: u32 = 26;
+
+/// Not even a size of 1 by 1 fits the largest page.
+pub const NOTHING_FITS: u32 = 27;
+
 /// A kind of sheets: this size alone.
 pub const ONE_SIZE: u32 = 0;
 

@@ -7,8 +7,8 @@ ghost use Rattle.guillotiere_c.specs.declared.plain_cache.PlainPlace.{PlainPlace
 
 use crate::plain::{
     BAD_ATLAS, BAD_PADDING, DONE, EMPTY, EMPTY_PAGE, EVICTED, LARGEST_PAGE, MEMORY, MOVED,
-    NO_PAGES, NUMBERS, OTHER_SIZE, PAGE_ADDED, PAGE_GROWN, PlainOptions, PlainRectangle, PlainSize,
-    SLOTS, plain_rectangle, plain_size,
+    NO_PAGES, NOTHING_FITS, NUMBERS, OTHER_SIZE, PAGE_ADDED, PAGE_GROWN, PlainOptions,
+    PlainRectangle, PlainSize, SLOTS, plain_rectangle, plain_size,
 };
 use atlas_cache::{CacheChange, CacheError, CacheOptions, Counts, OptionsError, Place};
 use guillotiere::{AllocatorOptions, size2};
@@ -28,6 +28,7 @@ pub struct PlainCacheOptions {
 #[repr(C)]
 #[derive(Clone, Copy)]
 pub struct PlainPlace {
+    pub number: u32,
     pub page: u32,
     pub rectangle: PlainRectangle,
     pub inner: PlainRectangle,
@@ -64,6 +65,7 @@ const NO_CORNERS: PlainRectangle = PlainRectangle {
 
 // No place.
 const NOWHERE: PlainPlace = PlainPlace {
+    number: 0,
     page: 0,
     rectangle: NO_CORNERS,
     inner: NO_CORNERS,
@@ -87,6 +89,7 @@ pub fn plain_place(place: Place) -> PlainPlace
     ensures { place_in result ≡ place }
 {
     PlainPlace {
+        number: place.number,
         page: place.page,
         rectangle: plain_rectangle(place.rectangle),
         inner: plain_rectangle(place.inner),
@@ -184,5 +187,6 @@ pub fn status_of_options_error(error: OptionsError) -> u32
         OptionsError::NoPages => NO_PAGES,
         OptionsError::Padding => BAD_PADDING,
         OptionsError::Atlas => BAD_ATLAS,
+        OptionsError::NothingFits => NOTHING_FITS,
     }
 }

@@ -5,6 +5,7 @@ use crate::play::Session;
 use crate::takeover::Pair;
 use std::alloc::Global;
 use std::io::{Read, Write};
+use std::str;
 
 // What is played: the kind, how many of its sessions were played, and the session that is read.
 #[derive(Drop)]

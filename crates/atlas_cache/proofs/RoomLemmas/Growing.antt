@@ -1,18 +1,17 @@
 -- How far the pages of a cache can still grow, and what a step leaves of it.
-use Rattle.std.proofs.Common.{◌≡◌, ◌≢◌, ◌<◌, ◌≤◌, ◌+◌, ◌-◌, ◌*◌, ◌++◌, ◌∷◌, ◌⊎◌, [], ℕ, min, List, Some, length, cond}
-use Rattle.std.proofs.Common.{Bool, true, false, slice_get, slice_set, refl, sym, ap, subst, ◌∙◌, inl, inr, arith, length-append}
+use Rattle.std.proofs.Common.{◌≡◌, ◌≢◌, ◌<◌, ◌≤◌, ◌+◌, ◌-◌, ◌*◌, ◌⊎◌, ℕ, min, List, Some, length, cond}
+use Rattle.std.proofs.Common.{Bool, true, false, slice_get, slice_set, refl, sym, ap, subst, ◌∙◌, inl, inr, arith}
 use Rattle.std.specs.Prelude.{ℤ, pos, negsuc}
 use Rattle.std.proofs.lemmas.Bool.Decides.{nat_tests, eqb_tells}
-use Rattle.std.proofs.lemmas.List.{length-map, length-set}
-use Rattle.std.proofs.lemmas.List.Sums.{sum_by-append, sum_by-set}
+use Rattle.std.proofs.lemmas.List.{length-set}
+use Rattle.std.proofs.lemmas.List.Sums.{sum_by-set}
 use Rattle.std.proofs.lemmas.Option.{get_or_from_slice_get, slice_get_within}
 use Rattle.guillotiere.specs.declared.Size.{Size}
 use Rattle.guillotiere.specs.Boxes.{Fits, IsPositive, Sides}
 use Rattle.guillotiere.specs.Pixels.{natural, sides_of, size_of}
 use Rattle.guillotiere.specs.Stored.{AtlasValue, state_of}
 use Rattle.atlas_cache.specs.declared.options.CacheOptions.{CacheOptions}
-use Rattle.atlas_cache.specs.Asking.{AreUsable}
-use Rattle.atlas_cache.specs.Rooms.{both_sides, grown_sides, growth_left, grows_in_width, page_sizes, AreAllLargest, size_of_page, KeepsRooms, RoomsState}
+use Rattle.atlas_cache.specs.Rooms.{both_sides, grown_sides, growth_left, grows_in_width, page_sizes, AreAllLargest, KeepsRooms, RoomsState}
 use Rattle.atlas_cache.proofs.RoomLemmas.Paging.{page_at}
 
 -- A side above 0 is the natural number that it counts as.

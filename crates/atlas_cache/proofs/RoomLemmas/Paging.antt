@@ -28,6 +28,7 @@ pub page_grows : (o : CacheOptions) (a b : AtlasValue) (n : Sides) → IsSound (
 page_grows o a b n sound frame larger small was = record {
   sound = sound;
   options = frame.options ∙ was.options;
+  limit = frame.limit ∙ was.limit;
   least = subst (Fits (sides_of o.page)) (sym frame.size)
       (omega (arith, was.least.0, larger.0), omega (arith, was.least.1, larger.1));
   most = subst (λ k. Fits k (sides_of o.largest_page)) (sym frame.size) small;
@@ -40,13 +41,14 @@ still_page o a b sound frame was =
     page_grows o a b (state_of a).size sound frame (omega arith, omega arith) was.most was
 
 -- A new page is one of the cache.
-pub new_is_page : (o : CacheOptions) (s : AtlasValue) (limit : ℕ) → AreUsable o → IsSound (state_of s)
-    → state_of s ≡ started (sides_of o.page) (options_of o.atlas) limit → IsPageOf o s
-new_is_page o s limit usable sound new =
+pub new_is_page : (o : CacheOptions) (s : AtlasValue) → AreUsable o → IsSound (state_of s)
+    → state_of s ≡ started (sides_of o.page) (options_of o.atlas) 16777216 → IsPageOf o s
+new_is_page o s usable sound new =
     let size : (state_of s).size ≡ sides_of o.page = ap (λ (t : State). t.size) new in
     record {
       sound = sound;
       options = ap (λ (t : State). t.options) new;
+      limit = ap (λ (t : State). t.limit) new;
       least = subst (Fits (sides_of o.page)) (sym size) (omega arith, omega arith);
       most = subst (λ k. Fits k (sides_of o.largest_page)) (sym size) usable.largest;
     }
@@ -121,6 +123,9 @@ module _ (pages : List AtlasValue) (page : ℕ) (a b : AtlasValue) (is : a ≡ g
     few = rw (length-set pages page b) was.few;
     each = pages_keep o keeps was.each;
   }
+
+  pub options_there : (o : CacheOptions) → KeepsRooms (rooms_of o pages) → (state_of a).options ≡ options_of o.atlas
+  options_there o kept = (kept.each page a has_a).options
 
   pub rooms_stay : (o : CacheOptions) → IsSound (state_of b) → KeepsFrame (state_of a) (state_of b)
       → KeepsRooms (rooms_of o pages) → KeepsRooms (rooms_of o (slice_set pages page b))

@@ -4,21 +4,17 @@ use Rattle.std.proofs.Common.{slice_get, slice_set, refl, ap, subst, sym, inl, i
 use Rattle.std.specs.Prelude.{ℤ, pos, negsuc, ◌≤ℤ◌, ◌<ℤ◌, ◌+ℤ◌, find}
 use Rattle.std.proofs.lemmas.Bool.Decides.{eqb_tells}
 use Rattle.std.proofs.lemmas.Int.{ints}
-use Rattle.guillotiere.specs.declared.Rectangle.{Rectangle}
-use Rattle.guillotiere.specs.declared.Size.{Size}
 use Rattle.guillotiere.specs.Boxes.{Fits}
-use Rattle.guillotiere.specs.Callers.{IsGranted}
 use Rattle.guillotiere.specs.Choice.{Options, rounded}
 use Rattle.guillotiere.specs.Pages.{rectangle_on}
 use Rattle.guillotiere.specs.Pixels.{natural, options_of, rectangle_of, sides_of}
-use Rattle.guillotiere.specs.Replies.{IsExact}
-use Rattle.guillotiere.specs.States.{State, live_in}
+use Rattle.guillotiere.specs.States.{live_in}
 use Rattle.guillotiere.specs.Stored.{AtlasValue, state_of}
 use Rattle.guillotiere.specs.Trees.{Grant}
 use Rattle.guillotiere.proofs.ListLemmas.CallerLemmas.{slice_get-set_here, slice_get-set_other}
 use Rattle.guillotiere.proofs.StepLemmas.CallerGrants.{idle_has_room}
 use Rattle.atlas_cache.specs.Asking.{bordered}
-use Rattle.atlas_cache.specs.Rooms.{IsAtLeast, KeepsRooms, LargestHasRoom, RoomsState}
+use Rattle.atlas_cache.specs.Rooms.{KeepsRooms, LargestHasRoom, RoomsState}
 use Rattle.atlas_cache.proofs.RoomLemmas.Paging.{page_at}
 
 -- Nothing is granted where no id has a rectangle.

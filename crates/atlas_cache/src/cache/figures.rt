@@ -26,6 +26,14 @@ impl<K: Copy + Eq + Hash, S: BuildHasher, A: Allocator + Copy> TextureCache<K, S
         self.counts
     }
 
+    /// How many numbers entries had so far, since the cache was made or cleared: each number is below. There are at most as
+    /// many as there ever were entries at once.
+    pub fn numbers(&self) -> u32
+        ensures { result ≡ self.now.numbers }
+    {
+        self.entries.made()
+    }
+
     /// The area of all entries of a page together, with their padding and what alignment added, in pixels; None if
     /// there is no such page. Takes no memory, and one pass over the slots of the page.
     pub fn live_area(&self, page: u32) -> Option<u64>

@@ -36,13 +36,14 @@ fn settle<K: Copy + Eq + Hash, S: BuildHasher, A: Allocator + Copy>(
     entry: Entry<K>,
     changes: &mut Changes<K, A>,
 )
-    requires here { entry_at number entries.old ≡ Some entry }
+    requires here { entry_at number entries.old.entries ≡ Some entry }
     requires was { IsBorderedBy options.now.padding entry.size entry.rectangle }
     requires is { (f : Entry K) → renewed_by moves.now entry ≡ Some f
         → IsBorderedBy options.now.padding f.size f.rectangle }
     requires room { vec_len changes.old < vec_capacity changes.old }
-    ensures settled { (newer older : List (ℕ × Entry K)) → entries.old ≡ newer ++ (number, entry) ∷ older
-        → entries.new ≡ newer ++ cons_option (numbered_as number (renewed_by moves.now entry)) older }
+    ensures settled { (newer older : List (ℕ × Entry K)) → entries.old.entries ≡ newer ++ (number, entry) ∷ older
+        → entries.new.entries ≡ newer ++ cons_option (numbered_as number (renewed_by moves.now entry)) older }
+    ensures made { entries.new.made ≡ entries.old.made }
     ensures told { changes.new.items
         ≡ changes.old.items ++ told_as options.now.padding entry (renewed_by moves.now entry) ∷ [] }
     ensures longer { vec_len changes.new ≡ vec_len changes.old + 1 }
@@ -77,14 +78,15 @@ fn settle_all<K: Copy + Eq + Hash, S: BuildHasher, A: Allocator + Copy>(
     page: u32,
     changes: &mut Changes<K, A>,
 )
-    requires was { AreBordered options.now.padding (entries_of entries.old) }
+    requires was { AreBordered options.now.padding (entries_of entries.old.entries) }
     requires is { AreBordered options.now.padding
-        (filter_map (become page (renewed_by moves.now)) (entries_of entries.old)) }
-    requires room { vec_len changes.old + length entries.old ≤ vec_capacity changes.old }
-    ensures entries { entries_of entries.new
-        ≡ filter_map (become page (renewed_by moves.now)) (entries_of entries.old) }
+        (filter_map (become page (renewed_by moves.now)) (entries_of entries.old.entries)) }
+    requires room { vec_len changes.old + length entries.old.entries ≤ vec_capacity changes.old }
+    ensures entries { entries_of entries.new.entries
+        ≡ filter_map (become page (renewed_by moves.now)) (entries_of entries.old.entries) }
+    ensures made { entries.new.made ≡ entries.old.made }
     ensures told { changes.new.items ≡ changes.old.items
-        ++ filter_map (told_of options.now.padding page (renewed_by moves.now)) (entries_of entries.old) }
+        ++ filter_map (told_of options.now.padding page (renewed_by moves.now)) (entries_of entries.old.entries) }
 {
     let mut next = entries.newest();
     for _ in 0..entries.len() {

@@ -16,9 +16,9 @@ use std::hash::{BuildHasher, Hash};
 fn newest<K: Copy + Eq + Hash, S: BuildHasher, A: Allocator + Copy>(
     entries: &Entries<K, S, A>,
 ) -> Option<(u32, Entry<K>)>
-    ensures here { IfSome result (λ found. entry_at found.0 entries.now ≡ Some found.1) }
-    ensures first { IfSome result (λ found. first_entry (entries_of entries.now) ≡ Some found.1) }
-    ensures none { IfNone result (first_entry (entries_of entries.now) ≡ None) }
+    ensures here { IfSome result (λ found. entry_at found.0 entries.now.entries ≡ Some found.1) }
+    ensures first { IfSome result (λ found. first_entry (entries_of entries.now.entries) ≡ Some found.1) }
+    ensures none { IfNone result (first_entry (entries_of entries.now.entries) ≡ None) }
 {
     let Some(number) = entries.newest() else {
         return None;
@@ -31,12 +31,12 @@ fn older<K: Copy + Eq + Hash, S: BuildHasher, A: Allocator + Copy>(
     entries: &Entries<K, S, A>,
     number: u32,
 ) -> Option<(u32, Entry<K>)>
-    requires { IsNumber number entries.now }
-    ensures here { IfSome result (λ found. entry_at found.0 entries.now ≡ Some found.1) }
-    ensures next { IfSome result (λ found. (e : Entry K) → entry_at number entries.now ≡ Some e
-        → IsNext e (Some found.1) (entries_of entries.now)) }
-    ensures none { IfNone result ((e : Entry K) → entry_at number entries.now ≡ Some e
-        → IsNext e None (entries_of entries.now)) }
+    requires { IsNumber number entries.now.entries }
+    ensures here { IfSome result (λ found. entry_at found.0 entries.now.entries ≡ Some found.1) }
+    ensures next { IfSome result (λ found. (e : Entry K) → entry_at number entries.now.entries ≡ Some e
+        → IsNext e (Some found.1) (entries_of entries.now.entries)) }
+    ensures none { IfNone result ((e : Entry K) → entry_at number entries.now.entries ≡ Some e
+        → IsNext e None (entries_of entries.now.entries)) }
 {
     entries.prove_kept();
     let Some(next) = entries.older(number) else {

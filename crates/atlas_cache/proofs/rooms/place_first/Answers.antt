@@ -9,3 +9,6 @@ take-requires-clause-room g c = rw c.deref.ensures.value at c.in-Some.ensures.ro
 pub returns-clause-first : goal.returns-clause-first
 returns-clause-first g c =
     rw c.number.ensures (rw c.deref.ensures.value at c.in-Some.ensures.first)
+
+pub returns-clause-sides : goal.returns-clause-sides
+returns-clause-sides g c = c.in_ok-granted.ensures.sides c.args.options.now c.requires

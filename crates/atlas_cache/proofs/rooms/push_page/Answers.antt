@@ -11,4 +11,4 @@ returns-in_ok-push-in-Ok-clause-same g c =
 pub returns-in_ok-push-in-Ok-clause-kept : goal.returns-in_ok-push-in-Ok-clause-kept
 returns-in_ok-push-in-Ok-clause-kept g c = λ less was.
     rw c.in_ok-push-in-Ok.ensures.items (rooms_joined _ _ c.in-Ok.page
-    (new_is_page _ c.in-Ok.page _ c.requires c.in-Ok.ensures.sound c.in-Ok.ensures.state) less was)
+    (new_is_page _ c.in-Ok.page c.requires c.in-Ok.ensures.sound c.in-Ok.ensures.state) less was)

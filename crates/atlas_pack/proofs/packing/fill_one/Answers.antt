@@ -1,5 +1,22 @@
-use Rattle.std.proofs.Common.{true}
+use Rattle.std.proofs.Common.{ℕ, length, map, take, true, All, subst}
+use Rattle.atlas_model.specs.Pixels.{sides_of}
+use Rattle.atlas_sheet.specs.declared.ways.TheConstants.{WAYS}
+use Rattle.atlas_sheet.specs.Fillings.{IsNoBetter, ways_tried}
+use Rattle.atlas_sheet.specs.Settings.{spacing_of}
 use Rattle.atlas_pack.proofs.packing.fill_one.Goals as goal
+
+pub returns-in-Ok-clause-filled : goal.returns-in-Ok-clause-filled
+returns-in-Ok-clause-filled c =
+    let filled = c.in-Ok.filled in
+    let sizes = c.args.sizes.now in
+    record {
+      greatest = c.in-Ok.ensures.size;
+      order = filled.order.items;
+      shown = c.in-Ok.ensures.shown;
+      best = subst (λ (area : ℕ). All (IsNoBetter (sides_of filled.size) (spacing_of c.args.options.now) sizes area)
+          (take (ways_tried (length sizes)) WAYS)) c.in-Ok.ensures.area c.in-Ok.ensures.best;
+      plain = c.in-Ok.ensures.plain;
+    }
 
 pub returns-in-Err : goal.returns-in-Err
 returns-in-Err c = record { filled = tt; fault = c.fault_of.ensures true }

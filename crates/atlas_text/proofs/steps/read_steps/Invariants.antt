@@ -1,10 +1,9 @@
-use Rattle.std.proofs.Common.{List, ◌++◌, length}
-use Rattle.atlas_text.specs.declared.steps.Step.{Step}
-use Rattle.atlas_text.specs.Steps.{SayAll}
+use Rattle.std.proofs.Common.{length}
+use Rattle.atlas_text.specs.Steps.{BeginsWithSteps}
 use Rattle.atlas_text.proofs.steps.read_steps.Given as goal
 
 abbrev pub invariant-loop-rest : goal.invariant-loop-rest
-invariant-loop-rest l = (more : List Step) → SayAll more l.rest → SayAll (l.steps.items ++ more) l.text
+invariant-loop-rest l = BeginsWithSteps l.steps.items l.text l.rest
 
 abbrev pub decreases-loop-rest : goal.decreases-loop-rest
 decreases-loop-rest l = length l.rest

@@ -1,12 +1,12 @@
-use Rattle.std.proofs.Common.{ap, refl, Ok, arith}
+use Rattle.std.proofs.Common.{ap, refl, Ok, arith, ◌∙◌}
 use Rattle.atlas_cache.proofs.CacheLemmas.{is_bordered}
-use Rattle.atlas_cache.proofs.ListLemmas.{not-numbered}
+use Rattle.atlas_cache.proofs.ListLemmas.{length-listed, not-numbered}
 use Rattle.atlas_cache.proofs.cache.TextureCache.add.Goals as goal
 
 pub grant-requires-clause-absent : goal.grant-requires-clause-absent
 grant-requires-clause-absent g c =
     let absent = rw (← c.self.view_is) at c.requires.absent in
-    rw (not-numbered g.K.PartialEq.eq c.args.key c.self.inside.entries absent) refl
+    rw (not-numbered g.K.PartialEq.eq c.args.key c.self.inside.entries.entries absent) refl
 
 pub returns-in_default-clause-full : goal.returns-in_default-clause-full
 returns-in_default-clause-full g c = λ _.
@@ -34,12 +34,19 @@ invariant_of-self-2 g c =
 
 pub returns-clause-adds : goal.returns-clause-adds
 returns-clause-adds g c =
+    let it = c.self.inside in
+    let next = rw c.in-Some.is at c.in_ok-granted.ensures.next in
+    let made = rw c.in-Some.is at c.in_ok-granted.ensures.made in
     let placed = rw c.in-Some.is at c.in_ok-granted.ensures.placed in
     let first = rw c.in-Some.is at c.in_ok-granted.ensures.first in
     rw (← c.self.view_is) (record {
       entry = c.in-Some.entry;
       first = first;
       placed = placed;
+      sides = rw c.in-Some.is at c.in_ok-granted.ensures.sides;
+      next = next.next;
+      dense = λ same. length-listed it.entries.entries ∙ next.dense same;
+      numbers = made;
       shows = rw (c.place_of.ensures, c.options.ensures.options, c.in_ok-granted.ensures.options) refl;
       sizes = c.in_ok-granted.ensures.sizes;
       options = c.in_ok-granted.ensures.options;

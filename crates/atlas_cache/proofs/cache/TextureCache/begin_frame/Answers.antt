@@ -1,4 +1,6 @@
 use Rattle.std.proofs.Common.{arith}
+use Rattle.atlas_cache.specs.Caches.{entries_of}
+use Rattle.atlas_cache.proofs.InsertLemmas.{unused_all}
 use Rattle.atlas_cache.proofs.ListLemmas.{falls-later}
 use Rattle.atlas_cache.proofs.cache.TextureCache.begin_frame.Goals as goal
 
@@ -10,3 +12,9 @@ invariant_of-self g c =
       bordered = was.bordered;
       frames = falls-later c.self.inside.frame c.count-self-inside.result _ (omega arith) was.frames;
     }
+
+pub returns-clause-unused : goal.returns-clause-unused
+returns-clause-unused g c = λ early.
+    let less = rw (← c.self.view_is) at early in
+    unused_all c.self.inside.frame c.count-self-inside.result (entries_of c.self.inside.entries.entries)
+    (omega (arith, less, c.count-self-inside.ensures)) c.self.invariant.frames

@@ -11,7 +11,7 @@ overflow_sub-self-inside g c =
     let it = c.self.inside in
     let last = rw c.in-Some.is at c.oldest.ensures.last in
     let falls = rw last at c.self.invariant.frames in
-    let least = falls-last it.frame (entries_of (without_number c.in-Some.number it.entries)) c.in-Some.entry falls in
+    let least = falls-last it.frame (entries_of (without_number c.in-Some.number it.entries.entries)) c.in-Some.entry falls in
     omega arith
 
 pub returns-in_default-clause-stops : goal.returns-in_default-clause-stops
@@ -23,9 +23,9 @@ returns-then-self-entry-clause-stops g c = λ _.
     let it = c.self.inside in
     let last = rw c.in-Some.is at c.oldest.ensures.last in
     let falls = rw last at c.self.invariant.frames in
-    let least = falls-last it.frame (entries_of (without_number c.in-Some.number it.entries)) c.in-Some.entry falls in
+    let least = falls-last it.frame (entries_of (without_number c.in-Some.number it.entries.entries)) c.in-Some.entry falls in
     rw (← c.self.view_is, last)
-    (used-all it.frame it.frame c.args.frames (entries_of (without_number c.in-Some.number it.entries)) c.in-Some.entry falls
+    (used-all it.frame it.frame c.args.frames (entries_of (without_number c.in-Some.number it.entries.entries)) c.in-Some.entry falls
     (omega arith))
 
 pub take_out-requires-clause-here : goal.take_out-requires-clause-here
@@ -35,7 +35,7 @@ pub place_of-place-requires : goal.place_of-place-requires
 place_of-place-requires g c =
     let here = rw c.in-Some.is at c.oldest.ensures.here in
     rw (c.options.ensures.options, c.take_out.ensures.options)
-    (bordered-at _ _ c.self.inside.entries c.in-Some.entry c.self.invariant.bordered here)
+    (bordered-at _ _ c.self.inside.entries.entries c.in-Some.entry c.self.invariant.bordered here)
 
 pub invariant_of-self : goal.invariant_of-self
 invariant_of-self g c =
@@ -44,9 +44,9 @@ invariant_of-self g c =
     let n = c.in-Some.number in
     let e = c.in-Some.entry in
     let was = c.self.invariant in
-    let es = entries_of it.entries in
-    let rest = entries_of (without_number n it.entries) in
-    let p = parts n it.entries e here in
+    let es = entries_of it.entries.entries in
+    let rest = entries_of (without_number n it.entries.entries) in
+    let p = parts n it.entries.entries e here in
     record {
       held = c.take_out.ensures.held;
       bordered = rw (c.take_out.ensures.options, c.take_out.ensures.without)
@@ -61,12 +61,13 @@ returns-clause-drops g c = λ _.
     let e = c.in-Some.entry in
     let last = rw c.in-Some.is at c.oldest.ensures.last in
     let falls = rw last at c.self.invariant.frames in
-    let least = falls-last it.frame (entries_of (without_number c.in-Some.number it.entries)) e falls in
+    let least = falls-last it.frame (entries_of (without_number c.in-Some.number it.entries.entries)) e falls in
     rw (← c.self.view_is) (record {
       entry = e;
       last = rw c.take_out.ensures.without last;
       unused = omega arith;
       listed = rw (c.place_of-place.ensures, c.options.ensures.options, c.take_out.ensures.options) at c.push_reserved.ensures.items;
+      numbers = c.take_out.ensures.made;
       sizes = c.take_out.ensures.sizes;
       options = c.take_out.ensures.options;
       frame = refl;

@@ -5,7 +5,7 @@ use Rattle.atlas_cache.proofs.cache.TextureCache.drop_unused.Goals as goal
 
 pub each-init : goal.each-init
 each-init g c =
-    let own = own_keys g.K.PartialEq.eq c.self.inside.entries c.prove_kept.ensures.keys in
+    let own = own_keys g.K.PartialEq.eq c.self.inside.entries.entries c.prove_kept.ensures.keys in
     record {
       dropped = none-dropped g.K.PartialEq.eq c.args.frames c.args.changes.now.items c.args.self.now (rw (← c.self.view_is) own)
           (rw (← c.self.view_is) (let fits = c.self.ranges.1.1.1.0.1.1.1.1.0.1 in omega arith));

@@ -16,7 +16,7 @@ returns-then-entry-self-clause-stops g c = λ _.
     let last = rw c.in-Some.is at c.oldest.ensures.last in
     let falls = rw last at c.self.invariant.frames in
     rw (← c.self.view_is, last)
-    (falls-all it.frame it.frame (entries_of (without_number c.in-Some.number it.entries)) c.in-Some.entry falls (omega arith)
+    (falls-all it.frame it.frame (entries_of (without_number c.in-Some.number it.entries.entries)) c.in-Some.entry falls (omega arith)
     c.if-entry-self.true)
 
 pub take_out-requires-clause-here : goal.take_out-requires-clause-here
@@ -26,7 +26,7 @@ pub place_of-place-requires : goal.place_of-place-requires
 place_of-place-requires g c =
     let here = rw c.in-Some.is at c.oldest.ensures.here in
     rw (c.options.ensures.options, c.take_out.ensures.options)
-    (bordered-at _ _ c.self.inside.entries c.in-Some.entry c.self.invariant.bordered here)
+    (bordered-at _ _ c.self.inside.entries.entries c.in-Some.entry c.self.invariant.bordered here)
 
 pub invariant_of-self : goal.invariant_of-self
 invariant_of-self g c =
@@ -35,9 +35,9 @@ invariant_of-self g c =
     let n = c.in-Some.number in
     let e = c.in-Some.entry in
     let was = c.self.invariant in
-    let es = entries_of it.entries in
-    let rest = entries_of (without_number n it.entries) in
-    let p = parts n it.entries e here in
+    let es = entries_of it.entries.entries in
+    let rest = entries_of (without_number n it.entries.entries) in
+    let p = parts n it.entries.entries e here in
     record {
       held = c.take_out.ensures.held;
       bordered = rw (c.take_out.ensures.options, c.take_out.ensures.without)
@@ -52,7 +52,7 @@ returns-clause-does g c = λ _.
     let e = c.in-Some.entry in
     let last = rw c.in-Some.is at c.oldest.ensures.last in
     let falls = rw last at c.self.invariant.frames in
-    let least = falls-last it.frame (entries_of (without_number c.in-Some.number it.entries)) e falls in
+    let least = falls-last it.frame (entries_of (without_number c.in-Some.number it.entries.entries)) e falls in
     let full = rw (← c.self.view_is) at c.requires.full in
     rw (← c.self.view_is) (record {
       change = Evicted e.key c.place_of-place.result;
@@ -65,6 +65,7 @@ returns-clause-does g c = λ _.
         shows = rw (c.place_of-place.ensures, c.options.ensures.options, c.take_out.ensures.options) refl;
         unused = omega (arith, least, c.if-entry-self.false);
         leaves = c.take_out.ensures.leaves;
+        numbers = c.take_out.ensures.made;
         sizes = c.take_out.ensures.sizes;
         options = c.take_out.ensures.options;
         frame = refl;
@@ -77,4 +78,4 @@ returns-clause-less g c = λ _.
     let it = c.self.inside in
     let last = rw c.in-Some.is at c.oldest.ensures.last in
     rw (← c.self.view_is, c.take_out.ensures.options, c.take_out.ensures.sizes, c.take_out.ensures.without, last)
-    (omega (arith, length-last (entries_of (without_number c.in-Some.number it.entries)) c.in-Some.entry))
+    (omega (arith, length-last (entries_of (without_number c.in-Some.number it.entries.entries)) c.in-Some.entry))

@@ -12,7 +12,7 @@ use Rattle.atlas_cache.proofs.cache.TextureCache.get.Goals as goal
 pub place_of-requires : goal.place_of-requires
 place_of-requires g c =
     let found = rw c.in-Some.is at c.look_up.ensures.found in
-    rw c.options.ensures.options (bordered-at _ _ c.self.inside.entries c.in-Some.entry c.self.invariant.bordered found.at)
+    rw c.options.ensures.options (bordered-at _ _ c.self.inside.entries.entries c.in-Some.entry c.self.invariant.bordered found.at)
 
 pub invariant_of-self-2 : goal.invariant_of-self-2
 invariant_of-self-2 g c =
@@ -21,10 +21,10 @@ invariant_of-self-2 g c =
     let n = c.in-Some.number in
     let e = c.in-Some.entry in
     let was = c.self.invariant in
-    let p = parts n it.entries e found.at in
-    let k = used it.rooms.pages it.rooms.options.padding it.frame e (entries_of it.entries)
-    (entries_of (without_number n it.entries)) p was.held was.bordered was.frames in
-    rw (c.touch.ensures, touched-is n it.frame it.entries e found.at)
+    let p = parts n it.entries.entries e found.at in
+    let k = used it.rooms.pages it.rooms.options.padding it.frame e (entries_of it.entries.entries)
+    (entries_of (without_number n it.entries.entries)) p was.held was.bordered was.frames in
+    rw (c.touch.ensures.entries, touched-is n it.frame it.entries.entries e found.at)
     (record { held = k.held; bordered = k.bordered; frames = k.frames })
 
 pub returns-clause-uses : goal.returns-clause-uses
@@ -33,14 +33,15 @@ returns-clause-uses g c =
     let it = c.self.inside in
     let n = c.in-Some.number in
     let e = c.in-Some.entry in
-    let p = parts n it.entries e found.at in
+    let p = parts n it.entries.entries e found.at in
     let front : Entry g.row.K.Denot = record e { frame = it.frame } in
-    rw (← c.self.view_is, found.here, c.touch.ensures, touched-is n it.frame it.entries e found.at) (record {
+    rw (← c.self.view_is, found.here, c.touch.ensures.entries, touched-is n it.frame it.entries.entries e found.at) (record {
       newer = p.newer;
       older = p.older;
       was = p.was;
       is = ap (λ r. front ∷ r) p.rests;
       pages = refl;
+      numbers = c.touch.ensures.made;
       options = refl;
       frame = refl;
     })
@@ -52,24 +53,26 @@ returns-clause-told g c =
     let it = c.self.inside in
     let n = c.in-Some.number in
     let e = c.in-Some.entry in
-    let p = parts n it.entries e found.at in
+    let p = parts n it.entries.entries e found.at in
     let front : Entry g.row.K.Denot = record e { frame = it.frame } in
     let s : CacheState g.row.K.Denot = record {
       options = it.rooms.options;
       pages = it.rooms.pages;
-      entries = entries_of it.entries;
+      entries = entries_of it.entries.entries;
+      numbers = it.entries.made;
       frame = it.frame;
       counts = it.counts;
     } in
     let t : CacheState g.row.K.Denot =
-    record s { entries = entries_of c.touch.new.self; counts = record it.counts { hits = c.count-self-inside-2.result } } in
+    record s { entries = entries_of c.touch.new.self.entries; numbers = c.touch.new.self.made; counts = record it.counts { hits = c.count-self-inside-2.result } } in
     let uses : Uses e s t = record {
       newer = p.newer;
       older = p.older;
       was = p.was;
-      is = rw (c.touch.ensures, touched-is n it.frame it.entries e found.at) (ap (λ r. front ∷ r) p.rests);
+      is = rw (c.touch.ensures.entries, touched-is n it.frame it.entries.entries e found.at) (ap (λ r. front ∷ r) p.rests);
       pages = refl;
+      numbers = c.touch.ensures.made;
       options = refl;
       frame = refl;
     } in
-    rw (← c.self.view_is) (uses_same eq g.met.K.Eq.laws e s t (own_keys eq it.entries c.prove_kept.ensures.keys) uses)
+    rw (← c.self.view_is) (uses_same eq g.met.K.Eq.laws e s t (own_keys eq it.entries.entries c.prove_kept.ensures.keys) uses)

@@ -4,6 +4,7 @@ use Rattle.atlas_cache.specs.Changes.{Uses}
 use Rattle.atlas_cache.specs.Entries.{without_number}
 use Rattle.atlas_cache.specs.declared.entries.Entry.{Entry}
 use Rattle.atlas_cache.proofs.CacheLemmas.{bordered-at, touched-is, used}
+use Rattle.atlas_cache.proofs.InsertLemmas.{inserts_stay, not_empty, not_held, not_never}
 use Rattle.atlas_cache.proofs.KeyLemmas.{found_named, own_keys}
 use Rattle.atlas_cache.proofs.ListLemmas.{append-none, parts}
 use Rattle.atlas_cache.proofs.PictureLemmas.{inserts_tell, same_shown, uses_tell}
@@ -12,7 +13,7 @@ use Rattle.atlas_cache.proofs.cache.TextureCache.insert.Goals as goal
 pub place_of-requires : goal.place_of-requires
 place_of-requires g c =
     let found = rw c.in-Some.is at c.look_up.ensures.found in
-    rw c.options.ensures.options (bordered-at _ _ c.self.inside.entries c.in-Some.entry c.self.invariant.bordered found.at)
+    rw c.options.ensures.options (bordered-at _ _ c.self.inside.entries.entries c.in-Some.entry c.self.invariant.bordered found.at)
 
 pub invariant_of-self : goal.invariant_of-self
 invariant_of-self g c =
@@ -21,10 +22,10 @@ invariant_of-self g c =
     let n = c.in-Some.known in
     let e = c.in-Some.entry in
     let was = c.self.invariant in
-    let p = parts n it.entries e found.at in
-    let k = used it.rooms.pages it.rooms.options.padding it.frame e (entries_of it.entries)
-    (entries_of (without_number n it.entries)) p was.held was.bordered was.frames in
-    rw (c.touch.ensures, touched-is n it.frame it.entries e found.at)
+    let p = parts n it.entries.entries e found.at in
+    let k = used it.rooms.pages it.rooms.options.padding it.frame e (entries_of it.entries.entries)
+    (entries_of (without_number n it.entries.entries)) p was.held was.bordered was.frames in
+    rw (c.touch.ensures.entries, touched-is n it.frame it.entries.entries e found.at)
     (record { held = k.held; bordered = k.bordered; frames = k.frames })
 
 pub returns-in-Some-clause-known : goal.returns-in-Some-clause-known
@@ -33,10 +34,10 @@ returns-in-Some-clause-known g c =
     let it = c.self.inside in
     let n = c.in-Some.known in
     let e = c.in-Some.entry in
-    let p = parts n it.entries e found.at in
+    let p = parts n it.entries.entries e found.at in
     let front : Entry g.row.K.Denot = record e { frame = it.frame } in
     let sized : e.size ≡ c.args.size = first_of (search rules, grind arith) in
-    rw (← c.self.view_is, found.here, c.touch.ensures, touched-is n it.frame it.entries e found.at) (
+    rw (← c.self.view_is, found.here, c.touch.ensures.entries, touched-is n it.frame it.entries.entries e found.at) (
       record {
         same = λ _. (
           rw (c.place_of.ensures, c.options.ensures.options) refl,
@@ -46,6 +47,7 @@ returns-in-Some-clause-known g c =
             was = p.was;
             is = ap (λ r. front ∷ r) p.rests;
             pages = refl;
+            numbers = c.touch.ensures.made;
             options = refl;
             frame = refl;
           },
@@ -56,10 +58,31 @@ returns-in-Some-clause-known g c =
       refl,
     )
 
-pub returns-clause-outside : goal.returns-clause-outside
-returns-clause-outside g c = λ absent cannot. absurd (cannot (
-    let stands = c.in-Some-asked.ensures.0 in
-    rw (← c.self.view_is) (rw c.options-2.ensures.options at stands)))
+pub returns-clause-empty : goal.returns-clause-empty
+returns-clause-empty g c =
+    let stands = c.in-Some-asked.ensures.0 in (
+      λ is. absurd (not_empty c.in-Some-asked.asked c.args.key c.args.size c.insert_new.result c.args.changes.now.items
+          c.insert_new.new.changes.items c.args.self.now c.insert_new.new.self c.insert_new.ensures.inserts is),
+      λ new. absurd (new.empty stands.positive),
+    )
+
+pub returns-clause-never : goal.returns-clause-never
+returns-clause-never g c =
+    let stands = c.in-Some-asked.ensures.0 in (
+      λ is. absurd (not_never c.in-Some-asked.asked c.args.key c.args.size c.insert_new.result c.args.changes.now.items
+          c.insert_new.new.changes.items c.args.self.now c.insert_new.new.self c.insert_new.ensures.inserts is),
+      λ new. absurd (new.large (rw (← c.self.view_is) (rw c.options-2.ensures.options at stands))),
+    )
+
+pub returns-clause-held : goal.returns-clause-held
+returns-clause-held g c = λ place is.
+    absurd (not_held c.in-Some-asked.asked c.args.key c.args.size c.insert_new.result c.args.changes.now.items
+    c.insert_new.new.changes.items c.args.self.now c.insert_new.new.self c.insert_new.ensures.inserts place is)
+
+pub returns-clause-stays : goal.returns-clause-stays
+returns-clause-stays g c =
+    inserts_stay c.in-Some-asked.asked c.args.key c.args.size c.insert_new.result c.args.changes.now.items
+    c.insert_new.new.changes.items c.args.self.now c.insert_new.new.self c.insert_new.ensures.inserts
 
 pub returns-then-ne-clause-told : goal.returns-then-ne-clause-told
 returns-then-ne-clause-told g c = record {
@@ -83,27 +106,29 @@ returns-in-Some-clause-told g c =
     let it = c.self.inside in
     let n = c.in-Some.known in
     let e = c.in-Some.entry in
-    let p = parts n it.entries e found.at in
+    let p = parts n it.entries.entries e found.at in
     let front : Entry g.row.K.Denot = record e { frame = it.frame } in
     let s : CacheState g.row.K.Denot = record {
       options = it.rooms.options;
       pages = it.rooms.pages;
-      entries = entries_of it.entries;
+      entries = entries_of it.entries.entries;
+      numbers = it.entries.made;
       frame = it.frame;
       counts = it.counts;
     } in
-    let t : CacheState g.row.K.Denot = record s { entries = entries_of c.touch.new.self } in
+    let t : CacheState g.row.K.Denot = record s { entries = entries_of c.touch.new.self.entries; numbers = c.touch.new.self.made } in
     let uses : Uses e s t = record {
       newer = p.newer;
       older = p.older;
       was = p.was;
-      is = rw (c.touch.ensures, touched-is n it.frame it.entries e found.at) (ap (λ r. front ∷ r) p.rests);
+      is = rw (c.touch.ensures.entries, touched-is n it.frame it.entries.entries e found.at) (ap (λ r. front ∷ r) p.rests);
       pages = refl;
+      numbers = c.touch.ensures.made;
       options = refl;
       frame = refl;
     } in
-    let own = own_keys eq it.entries c.prove_kept.ensures.keys in
-    let named = laws.symm e.key c.args.key ∙ found_named eq c.args.key e (entries_of it.entries) found.here in
+    let own = own_keys eq it.entries.entries c.prove_kept.ensures.keys in
+    let named = laws.symm e.key c.args.key ∙ found_named eq c.args.key e (entries_of it.entries.entries) found.here in
     rw (← c.self.view_is, c.place_of.ensures, c.options.ensures.options) (record {
       made = [];
       listed = sym (append-none c.args.changes.now.items);
@@ -112,7 +137,7 @@ returns-in-Some-clause-told g c =
 
 pub returns-clause-told : goal.returns-clause-told
 returns-clause-told g c =
-    let own = own_keys g.K.PartialEq.eq c.self.inside.entries c.prove_kept.ensures.keys in
+    let own = own_keys g.K.PartialEq.eq c.self.inside.entries.entries c.prove_kept.ensures.keys in
     inserts_tell g.K.PartialEq.eq g.met.K.Eq.laws c.in-Some-asked.asked c.args.key c.args.size c.insert_new.result
     c.args.changes.now.items c.insert_new.new.changes.items c.args.self.now c.insert_new.new.self (rw (← c.self.view_is) own)
     c.insert_new.ensures.inserts

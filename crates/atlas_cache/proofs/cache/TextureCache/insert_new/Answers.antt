@@ -39,7 +39,8 @@ returns-then-not-branch-clause-room g c = λ none _.
     (record {
       options = c.self.inside.rooms.options;
       pages = c.self.inside.rooms.pages;
-      entries = entries_of c.self.inside.entries;
+      entries = entries_of c.self.inside.entries.entries;
+      numbers = c.self.inside.entries.made;
       frame = c.self.inside.frame;
       counts = c.self.inside.counts;
     }) was.reached.leads none same done (c.self.view_is ∙ stays.0) was.options c.requires.stands c.requires.asked

@@ -6,5 +6,5 @@ pub returns : goal.returns
 returns g c =
     rw (← c.self.view_is) (
       λ t. let none = c.is_empty.ensures.0 t in rw none refl,
-      λ e. c.is_empty.ensures.1 (none-listed c.self.inside.entries e),
+      λ e. c.is_empty.ensures.1 (none-listed c.self.inside.entries.entries e),
     )

@@ -5,7 +5,7 @@ use Rattle.atlas_cache.proofs.cache.TextureCache.older.Goals as goal
 pub place_of-requires : goal.place_of-requires
 place_of-requires g c =
     let here = rw c.in-Some-older.is at c.older.ensures.here in
-    rw c.options.ensures.options (bordered-at _ _ c.self.inside.entries c.in-Some-older.entry c.self.invariant.bordered here)
+    rw c.options.ensures.options (bordered-at _ _ c.self.inside.entries.entries c.in-Some-older.entry c.self.invariant.bordered here)
 
 pub returns-clause-next : goal.returns-clause-next
 returns-clause-next g c =

@@ -16,7 +16,7 @@ pub place_of-requires : goal.place_of-requires
 place_of-requires g c =
     let found = rw c.in-Some.is at c.look_up.ensures.found in
     rw (c.options.ensures.options, c.take_out.ensures.options)
-    (bordered-at _ _ c.self.inside.entries c.in-Some.gone c.self.invariant.bordered found.at)
+    (bordered-at _ _ c.self.inside.entries.entries c.in-Some.gone c.self.invariant.bordered found.at)
 
 pub invariant_of-self : goal.invariant_of-self
 invariant_of-self g c =
@@ -25,9 +25,9 @@ invariant_of-self g c =
     let n = c.in-Some.number in
     let e = c.in-Some.gone in
     let was = c.self.invariant in
-    let es = entries_of it.entries in
-    let rest = entries_of (without_number n it.entries) in
-    let p = parts n it.entries e found.at in
+    let es = entries_of it.entries.entries in
+    let rest = entries_of (without_number n it.entries.entries) in
+    let p = parts n it.entries.entries e found.at in
     record {
       held = c.take_out.ensures.held;
       bordered = rw (c.take_out.ensures.options, c.take_out.ensures.without)
@@ -40,13 +40,14 @@ pub returns-clause-removes : goal.returns-clause-removes
 returns-clause-removes g c =
     let found = rw c.in-Some.is at c.look_up.ensures.found in
     let it = c.self.inside in
-    let p = parts c.in-Some.number it.entries c.in-Some.gone found.at in
+    let p = parts c.in-Some.number it.entries.entries c.in-Some.gone found.at in
     rw (← c.self.view_is, found.here, c.take_out.ensures.without) (record {
       newer = p.newer;
       older = p.older;
       was = p.was;
       is = p.rests;
       leaves = c.take_out.ensures.leaves;
+      numbers = c.take_out.ensures.made;
       sizes = c.take_out.ensures.sizes;
       options = c.take_out.ensures.options;
       frame = refl;
@@ -60,18 +61,20 @@ returns-clause-told g c =
     let laws = g.met.K.Eq.laws in
     let it = c.self.inside in
     let e = c.in-Some.gone in
-    let p = parts c.in-Some.number it.entries e found.at in
+    let p = parts c.in-Some.number it.entries.entries e found.at in
     let s : CacheState g.row.K.Denot = record {
       options = it.rooms.options;
       pages = it.rooms.pages;
-      entries = entries_of it.entries;
+      entries = entries_of it.entries.entries;
+      numbers = it.entries.made;
       frame = it.frame;
       counts = it.counts;
     } in
     let t : CacheState g.row.K.Denot = record s {
       options = c.take_out.new.rooms.options;
       pages = c.take_out.new.rooms.pages;
-      entries = entries_of c.take_out.new.entries;
+      entries = entries_of c.take_out.new.entries.entries;
+      numbers = c.take_out.new.entries.made;
     } in
     let removes : Removes e s t = rw c.take_out.ensures.without (record {
       newer = p.newer;
@@ -79,11 +82,12 @@ returns-clause-told g c =
       was = p.was;
       is = p.rests;
       leaves = c.take_out.ensures.leaves;
+      numbers = c.take_out.ensures.made;
       sizes = c.take_out.ensures.sizes;
       options = c.take_out.ensures.options;
       frame = refl;
       counts = refl;
     }) in
-    let own = own_keys eq it.entries c.prove_kept.ensures.keys in
-    let named = laws.symm e.key c.args.key.now ∙ found_named eq c.args.key.now e (entries_of it.entries) found.here in
+    let own = own_keys eq it.entries.entries c.prove_kept.ensures.keys in
+    let named = laws.symm e.key c.args.key.now ∙ found_named eq c.args.key.now e (entries_of it.entries.entries) found.here in
     rw (← c.self.view_is) (removes_tell eq laws c.args.key.now e s t own named removes)

@@ -12,14 +12,14 @@ pub settle_all-requires-clause-is : goal.settle_all-requires-clause-is
 settle_all-requires-clause-is g c =
     rw (c.options-options.ensures.options, c.repack.ensures.options, c.deref.ensures.value)
     (repacked_bordered c.self.inside.rooms.pages c.repack.new.self.pages c.args.page c.in_ok-list.list c.in_ok-list.ensures.repacks
-    c.self.inside.rooms.options.padding (entries_of c.self.inside.entries) c.self.invariant.held.live c.self.invariant.bordered)
+    c.self.inside.rooms.options.padding (entries_of c.self.inside.entries.entries) c.self.invariant.held.live c.self.invariant.bordered)
 
 pub overflow_sub-gone : goal.overflow_sub-gone
 overflow_sub-gone g c = omega (
   arith,
   c.len-2.ensures,
   c.len-before.ensures,
-  shorter c.self.inside.entries c.settle_all.new.entries (become c.args.page (renewed_by c.deref.result.now)) c.settle_all.ensures.entries,
+  shorter c.self.inside.entries.entries c.settle_all.new.entries.entries (become c.args.page (renewed_by c.deref.result.now)) c.settle_all.ensures.entries,
 )
 
 pub invariant_of-self-2 : goal.invariant_of-self-2
@@ -28,12 +28,12 @@ invariant_of-self-2 g c =
     let does = c.in_ok-list.ensures.repacks in
     record {
       held = rw (c.settle_all.ensures.entries, c.deref.ensures.value)
-          (repacked_held it.rooms.pages c.repack.new.self.pages c.args.page c.in_ok-list.list does (entries_of it.entries) c.self.invariant.held);
+          (repacked_held it.rooms.pages c.repack.new.self.pages c.args.page c.in_ok-list.list does (entries_of it.entries.entries) c.self.invariant.held);
       bordered = rw (c.settle_all.ensures.entries, c.deref.ensures.value, c.repack.ensures.options)
           (repacked_bordered it.rooms.pages c.repack.new.self.pages c.args.page c.in_ok-list.list does it.rooms.options.padding
-          (entries_of it.entries) c.self.invariant.held.live c.self.invariant.bordered);
+          (entries_of it.entries.entries) c.self.invariant.held.live c.self.invariant.bordered);
       frames = rw (c.settle_all.ensures.entries, c.deref.ensures.value)
-          (repacked_falls it.rooms.pages c.repack.new.self.pages c.args.page c.in_ok-list.list does it.frame (entries_of it.entries)
+          (repacked_falls it.rooms.pages c.repack.new.self.pages c.args.page c.in_ok-list.list does it.frame (entries_of it.entries.entries)
           c.self.invariant.frames);
     }
 
@@ -43,14 +43,15 @@ returns-clause-repacks g c = λ _.
     let cs = c.in_ok-list.list.changes.items in
     let does = c.in_ok-list.ensures.repacks in
     let evictions : c.saturating_add-self-inside.result
-    ≡ min (it.counts.evictions + (length (entries_of it.entries) - length (entries_of c.settle_all.new.entries))) 18446744073709551615 =
-    omega (arith, c.saturating_add-self-inside.ensures, c.len-2.ensures, c.len-before.ensures, length-listed it.entries, length-listed c.settle_all.new.entries) in
+    ≡ min (it.counts.evictions + (length (entries_of it.entries.entries) - length (entries_of c.settle_all.new.entries.entries))) 18446744073709551615 =
+    omega (arith, c.saturating_add-self-inside.ensures, c.len-2.ensures, c.len-before.ensures, length-listed it.entries.entries, length-listed c.settle_all.new.entries.entries) in
     rw (← c.self.view_is) (record {
       renewed = renewed_by cs;
       same = renewed_same cs;
       entries = rw c.deref.ensures.value at c.settle_all.ensures.entries;
       listed = rw (c.deref.ensures.value, c.options-options.ensures.options, c.repack.ensures.options, c.reserve.ensures.items)
           at c.settle_all.ensures.told;
+      numbers = c.settle_all.ensures.made;
       others = does.others;
       sizes = c.repack.ensures.sizes;
       options = c.repack.ensures.options;
@@ -69,6 +70,6 @@ returns-in_err-list-clause-told g c =
 
 pub returns-clause-told : goal.returns-clause-told
 returns-clause-told g c =
-    let own = own_keys g.K.PartialEq.eq c.self.inside.entries c.prove_kept.ensures.keys in
+    let own = own_keys g.K.PartialEq.eq c.self.inside.entries.entries c.prove_kept.ensures.keys in
     repacks_tell g.K.PartialEq.eq g.met.K.Eq.laws c.args.page c.args.changes.now.items c.settle_all.new.changes.items c.args.self.now _
     (rw (← c.self.view_is) own) (returns-clause-repacks g c refl)

@@ -17,12 +17,12 @@ returns-in-Some-clause-settled g c = λ newer older was.
     let d = c.in-Some.change in
     let named : find (λ (x : Change). x.old.id == c.args.entry.id) c.args.moves.now ≡ Some d = sym c.change_for.ensures ∙ c.in-Some.is in
     rw named
-    (c.move_to.ensures ∙ ap (moved c.args.number d.new.id d.new.rectangle) was
+    (c.move_to.ensures.entries ∙ ap (moved c.args.number d.new.id d.new.rectangle) was
     ∙ moved-at c.args.number d.new.id d.new.rectangle c.args.entry newer older (rw was at c.prove_kept.ensures.numbers))
 
 pub returns-in-None-clause-settled : goal.returns-in-None-clause-settled
 returns-in-None-clause-settled g c = λ newer older was.
     let named : find (λ (x : Change). x.old.id == c.args.entry.id) c.args.moves.now ≡ None = sym c.change_for.ensures ∙ c.in-None.is in
     rw named
-    (c.remove.ensures ∙ ap (without_number c.args.number) was
+    (c.remove.ensures.entries ∙ ap (without_number c.args.number) was
     ∙ without-at c.args.number c.args.entry newer older (rw was at c.prove_kept.ensures.numbers))

@@ -8,9 +8,10 @@ use Rattle.atlas_cache.proofs.cache.repacking.settle_all.Goals as goal
 
 pub loop-init : goal.loop-init
 loop-init g c = record {
-  walked = none-walked c.args.options.now.padding c.args.page c.args.moves.now c.args.entries.now c.newest-next.result
+  walked = none-walked c.args.options.now.padding c.args.page c.args.moves.now c.args.entries.now.entries c.newest-next.result
       c.args.changes.now.items (vec_capacity c.args.changes.now - vec_len c.args.changes.now) c.newest-next.ensures.first
       (omega (arith, c.requires.room));
+  made = refl;
 }
 
 pub returns-in_default-clause-entries : goal.returns-in_default-clause-entries
@@ -69,9 +70,11 @@ loop-preserved g c =
             walked = walked-here padding page cs _ _ _ _ _ _ _ _ _ _ _ _ a first
                 (omega (arith, a.room, w.settle.ensures.longer, w.settle.ensures.room)) w.if-entry-page.true
                 (w.settle.ensures.settled (filter_map (settled padding page cs) a.done) a.rest a.is) w.settle.ensures.told;
+            made = w.settle.ensures.made ∙ c.loop.invariant.made;
           })
       | else-entry-page w ↦
           rw (w.entries-is, w.changes-is) (record {
             walked = walked-past padding page cs _ _ _ _ _ _ _ _ _ _ _ _ a first (omega (arith, a.room)) w.if-entry-page.false refl refl;
+            made = c.loop.invariant.made;
           })
     ]

@@ -3,9 +3,9 @@ use Rattle.atlas_cache.proofs.WalkLemmas.{first-none, first-some}
 use Rattle.atlas_cache.proofs.cache.walking.newest.Goals as goal
 
 pub returns-in_default-clause-none : goal.returns-in_default-clause-none
-returns-in_default-clause-none g c = first-none c.args.entries.now (sym c.in_default.ensures.first)
+returns-in_default-clause-none g c = first-none c.args.entries.now.entries (sym c.in_default.ensures.first)
 
 pub returns-clause-first : goal.returns-clause-first
 returns-clause-first g c =
     let first = rw c.in-Some.is at c.newest.ensures.first in
-    first-some c.in-Some.number c.entry.result c.args.entries.now (sym first) c.entry.ensures
+    first-some c.in-Some.number c.entry.result c.args.entries.now.entries (sym first) c.entry.ensures

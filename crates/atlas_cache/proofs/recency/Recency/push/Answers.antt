@@ -46,7 +46,7 @@ returns-clause-new g c =
     let i = c.in_ok-number.number in
     let w : IsJoined r.links.items mid.items r.ends new last r.unused c.take_number.new.unused i = subst (λ l. IsJoined r.links.items l r.ends new last r.unused c.take_number.new.unused i) c.deref_mut.ensures.value (record { ring = λ xs h. subst (λ l. IsRing l r.ends xs) (sym c.deref_mut.ensures.value) (c.in_ok-number.ensures.ring r.ends xs h); rest = λ xs h. subst (λ l. HasSpare l r.ends c.take_number.new.unused (i ∷ xs)) (sym c.deref_mut.ensures.value) (c.in_ok-number.ensures.rest r.ends xs h); made = ap length c.deref_mut.ensures.value ∙ c.in_ok-number.ensures.made; short = rw c.deref_mut.ensures.value c.in_ok-number.ensures.short; pushed = c.push_front.ensures.ring; others = c.push_front.ensures.others; size = c.push_front.ensures.size }) in
     let e = with_items_is mid new (w.size ∙ sym mid.ok.0) in
-    subst (IsFreshNumber i) c.self.view_is (joined-new r.links.items mid.items new r.ends last r.unused c.take_number.new.unused r.count i c.self.invariant w c.in_ok-number.ensures.next)
+    subst (IsFreshNumber i) c.self.view_is (joined-new r.links.items mid.items new r.ends last r.unused c.take_number.new.unused r.count i c.self.invariant w c.in_ok-number.ensures.next c.in_ok-number.ensures.dense)
 
 pub returns-clause-joined : goal.returns-clause-joined
 returns-clause-joined g c =

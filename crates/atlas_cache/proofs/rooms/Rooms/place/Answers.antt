@@ -22,3 +22,6 @@ returns-clause-none g c = λ is.
 pub returns-clause-refused : goal.returns-clause-refused
 returns-clause-refused g c =
     on_err_weaker c.place_first.result (λ is. ap (rooms_of c.self.inside.options) is ∙ c.self.view_is) c.place_first.ensures.refused
+
+pub returns-clause-sides : goal.returns-clause-sides
+returns-clause-sides g c = rw (← c.self.view_is) c.place_first.ensures.sides

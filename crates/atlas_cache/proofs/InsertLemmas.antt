@@ -1,0 +1,68 @@
+-- What an insert of a new key answers, and what it leaves as it is.
+use Rattle.std.proofs.Common.{ℕ, ◌≡◌, ◌<◌, arith, List, [], ◌∷◌, Result, Ok, Err, sym, ap, subst, ◌∙◌}
+use Rattle.std.specs.List.{AllByRecursion}
+use Rattle.guillotiere.specs.declared.Size.{Size}
+use Rattle.atlas_cache.specs.declared.changes.CacheChange.{CacheChange}
+use Rattle.atlas_cache.specs.declared.changes.CacheChange.TheVariants.{PageAdded, PageGrown, Evicted, Moved}
+use Rattle.atlas_cache.specs.declared.entries.Entry.{Entry}
+use Rattle.atlas_cache.specs.declared.error.CacheError.{CacheError}
+use Rattle.atlas_cache.specs.declared.inserted.Inserted.{Inserted}
+use Rattle.atlas_cache.specs.declared.inserted.Inserted.TheVariants.{Placed, Held, FrameFull, NeverFits, EmptySize}
+use Rattle.atlas_cache.specs.declared.places.Place.{Place}
+use Rattle.atlas_cache.specs.Caches.{CacheState, FramesFall}
+use Rattle.atlas_cache.specs.Changes.{Does, Inserts, Leads}
+use Rattle.atlas_cache.proofs.LoopLemmas.{does_options}
+
+module _ {K : Type 0} where
+  module _ (asked : Size) (key : K) (size : Size) (result : Result Inserted CacheError) (before after : List (CacheChange K))
+      (s t : CacheState K) (ins : Inserts asked key size result before after s t) where
+    as_if : (r : Result Inserted CacheError) → result ≡ r → Inserts asked key size r before after s t
+    as_if r is = subst (λ (x : Result Inserted CacheError). Inserts asked key size x before after s t) is ins
+
+    pub not_held : (place : Place) → result ≡ Ok (Held place) → ⊥
+    not_held place is = (as_if (Ok (Held place)) is).ends
+
+    pub not_never : result ≡ Ok NeverFits → ⊥
+    not_never is = (as_if (Ok NeverFits) is).ends
+
+    pub not_empty : result ≡ Ok EmptySize → ⊥
+    not_empty is = (as_if (Ok EmptySize) is).ends
+
+  does_frame : (c : CacheChange K) (s t : CacheState K) → Does c s t → t.frame ≡ s.frame
+  does_frame (PageAdded page size) s t does = does.keeps.frame
+  does_frame (PageGrown page size) s t does = does.keeps.frame
+  does_frame (Evicted key place) s t does = does.frame
+  does_frame (Moved key from to) s t does = absurd does
+
+  led_stays : (asked : Size) (cs : List (CacheChange K)) (s t : CacheState K) → Leads asked cs s t
+      → (t.options ≡ s.options) × (t.frame ≡ s.frame)
+  led_stays asked [] s t same =
+      (ap (λ (u : CacheState K). u.options) (sym same), ap (λ (u : CacheState K). u.frame) (sym same))
+  led_stays asked (c ∷ cs) s t leads =
+      let rest = led_stays asked cs leads.0 t leads.3 in
+      (rest.0 ∙ does_options c s leads.0 leads.2, rest.1 ∙ does_frame c s leads.0 leads.2)
+
+  pub inserts_stay : (asked : Size) (key : K) (size : Size) (result : Result Inserted CacheError)
+      (before after : List (CacheChange K)) (s t : CacheState K) → Inserts asked key size result before after s t
+      → (t.options ≡ s.options) × (t.frame ≡ s.frame)
+  inserts_stay asked key size (Ok (Placed place)) before after s t ins =
+      let led = led_stays asked ins.made s ins.done ins.leads in
+      (ins.ends.options ∙ led.0, ins.ends.frame ∙ led.1)
+  inserts_stay asked key size (Ok (Held place)) before after s t ins = absurd ins.ends
+  inserts_stay asked key size (Ok FrameFull) before after s t ins =
+      let led = led_stays asked ins.made s ins.done ins.leads in (
+        ap (λ (u : CacheState K). u.options) (sym ins.ends.0) ∙ led.0,
+        ap (λ (u : CacheState K). u.frame) (sym ins.ends.0) ∙ led.1,
+      )
+  inserts_stay asked key size (Ok NeverFits) before after s t ins = absurd ins.ends
+  inserts_stay asked key size (Ok EmptySize) before after s t ins = absurd ins.ends
+  inserts_stay asked key size (Err error) before after s t ins =
+      let led = led_stays asked ins.made s ins.done ins.leads in
+      (ins.ends.keeps.options ∙ led.0, ins.ends.keeps.frame ∙ led.1)
+
+  -- Whatever was used in no later frame than this one wasn't used in a later one.
+  pub unused_all : (frame later : ℕ) (es : List (Entry K)) → frame < later → FramesFall frame es
+      → AllByRecursion (λ e. e.frame < later) es
+  unused_all frame later [] less falls = tt
+  unused_all frame later (e ∷ es) less falls =
+      let first : e.frame < later = omega (arith, less, falls.0) in (first, unused_all e.frame later es first falls.1)

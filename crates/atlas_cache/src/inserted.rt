@@ -1,0 +1,33 @@
+//! What an insertion answers.
+ghost use Rattle.std.specs.Prelude.{◌≡◌};
+ghost use Rattle.atlas_cache.specs.Telling.{given_by};
+
+use crate::places::Place;
+
+/// What an insertion answers.
+#[derive(Clone, Copy, Debug, PartialEq, Eq)]
+pub enum Inserted {
+    /// The key is new, and this is its place: its pixels are to be written there.
+    Placed(Place),
+    /// The key was held, and this is its place still, with the pixels that were written there.
+    Held(Place),
+    /// Every page is there and at its largest, each entry was used in this frame, and no page has room: draw what this
+    /// frame has, begin a new one, and insert again.
+    FrameFull,
+    /// The size passes the largest page, with the padding on all sides and rounded up to the alignment.
+    NeverFits,
+    /// A side of the size is below 1.
+    EmptySize,
+}
+
+impl Inserted {
+    /// The place that was given, whether the key is new or was held; None if none was.
+    pub fn place(self) -> Option<Place>
+        ensures { result ≡ given_by self }
+    {
+        match self {
+            Inserted::Placed(place) | Inserted::Held(place) => Some(place),
+            Inserted::FrameFull | Inserted::NeverFits | Inserted::EmptySize => None,
+        }
+    }
+}

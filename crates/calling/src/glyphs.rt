@@ -1,0 +1,46 @@
+//! Glyphs under keys in a cache: what is written once, and a frame that is drawn in several goes.
+ghost use Rattle.std.specs.Prelude.{◌≡◌, ◌≢◌, ◌<◌, None, Ok, Some, true, false, nat_eq};
+ghost use Rattle.atlas_cache.specs.Caches.{place_for};
+ghost use Rattle.atlas_cache.specs.declared.inserted.Inserted.TheVariants.{FrameFull};
+
+use atlas_cache::entries::DefaultHasher;
+use atlas_cache::{CacheError, Changes, Inserted, Place, TextureCache};
+use guillotiere::Size;
+use std::alloc::Allocator;
+
+/// A glyph's place and whether its pixels are to be written there, which is so of a new glyph alone; None if it has no
+/// place.
+pub fn place_of<A: Allocator + Copy>(
+    cache: &mut TextureCache<u64, DefaultHasher, A>,
+    key: u64,
+    size: Size,
+    changes: &mut Changes<u64, A>,
+) -> Result<Option<(Place, bool)>, CacheError>
+    ensures new { (place : Place) → result ≡ Ok (Some (place, true)) → place_for nat_eq cache.old key ≡ None }
+    ensures held { (place : Place) → result ≡ Ok (Some (place, false)) → place_for nat_eq cache.old key ≡ Some place }
+{
+    match cache.insert(key, size, changes)? {
+        Inserted::Placed(place) => Ok(Some((place, true))),
+        Inserted::Held(place) => Ok(Some((place, false))),
+        _ => Ok(None),
+    }
+}
+
+/// A glyph's place, also where this frame has used all the room: then the caller draws what it has, and a new frame
+/// begins, which has room for whatever a page has room for.
+pub fn place_in_turn<A: Allocator + Copy>(
+    cache: &mut TextureCache<u64, DefaultHasher, A>,
+    key: u64,
+    size: Size,
+    changes: &mut Changes<u64, A>,
+) -> Result<Inserted, CacheError>
+    requires { cache.old.frame < 18446744073709551615 }
+    ensures { result ≢ Ok FrameFull }
+{
+    let answer = cache.insert(key, size, changes)?;
+    if answer != Inserted::FrameFull {
+        return Ok(answer);
+    }
+    cache.begin_frame();
+    cache.insert(key, size, changes)
+}
