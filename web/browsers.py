@@ -1,0 +1,97 @@
+"""Runs pages in the browsers of this machine, headless, and takes what they post back. It needs no driver: a page posts its answer
+to the server that it came from."""
+import http.server
+import os
+import shutil
+import subprocess
+import tempfile
+import threading
+
+KINDS = {'.js': 'text/javascript', '.html': 'text/html; charset=utf-8', '.wasm': 'application/wasm', '.css': 'text/css'}
+CHROMIUM = ['--headless=new', '--no-sandbox', '--disable-gpu', '--disable-dev-shm-usage', '--no-first-run', '--disable-extensions',
+            '--disable-background-networking', '--disable-component-update']
+PREFERENCES = ['datareporting.policy.dataSubmissionEnabled', 'browser.shell.checkDefaultBrowser', 'app.normandy.enabled',
+               'toolkit.telemetry.enabled', 'browser.aboutwelcome.enabled']
+
+
+class Failure(Exception):
+    """What a test found."""
+
+
+def browsers():
+    """The browsers that are there, by name; of one that isn't there, None."""
+    firefox = shutil.which('firefox-esr') or shutil.which('firefox')
+    return {'chromium': shutil.which('chromium') or shutil.which('chromium-browser'), 'firefox': firefox}
+
+
+def command(name, path, profile, address):
+    if name == 'chromium':
+        return [path] + CHROMIUM + ['--user-data-dir=' + profile, address]
+    with open(os.path.join(profile, 'user.js'), 'w') as file:
+        file.writelines('user_pref("%s", false);\n' % each for each in PREFERENCES)
+    return [path, '--headless', '--no-remote', '--profile', profile, address]
+
+
+class Server:
+    """Serves a folder and some pages that are only in memory, on this machine alone, and keeps what is posted."""
+
+    def __init__(self, folder, pages):
+        self.folder, self.pages, self.answer, self.has_answer = os.path.realpath(folder), pages, None, threading.Event()
+        server = self
+
+        class Handler(http.server.BaseHTTPRequestHandler):
+            def do_GET(self):
+                content = server.content(self.path.split('?')[0])
+                self.send_response(404 if content is None else 200)
+                self.send_header('Content-Type', KINDS.get(os.path.splitext(self.path.split('?')[0])[1], 'text/plain; charset=utf-8'))
+                self.send_header('Content-Length', str(len(content or b'')))
+                self.end_headers()
+                self.wfile.write(content or b'')
+
+            def do_POST(self):
+                server.answer = self.rfile.read(int(self.headers['Content-Length'])).decode()
+                self.send_response(204)
+                self.end_headers()
+                server.has_answer.set()
+
+            def log_message(self, *_):
+                pass
+
+        self.http = http.server.ThreadingHTTPServer(('127.0.0.1', 0), Handler)
+        threading.Thread(target=self.http.serve_forever, daemon=True).start()
+
+    def content(self, path):
+        if path in self.pages:
+            return self.pages[path].encode()
+        place = os.path.realpath(self.folder + path)
+        if not place.startswith(self.folder + os.sep) or not os.path.isfile(place):
+            return None
+        with open(place, 'rb') as file:
+            return file.read()
+
+    def address(self, path):
+        return 'http://127.0.0.1:%d%s' % (self.http.server_port, path)
+
+
+def answer(name, path, folder, page, pages=(), seconds=300):
+    """What a page posts, as text, that a browser opened; `pages` are served from memory, and all else from the folder."""
+    server = Server(folder, dict(pages))
+    with tempfile.TemporaryDirectory(ignore_cleanup_errors=True) as profile:
+        log = os.path.join(profile, 'log')
+        with open(log, 'w') as file:
+            running = subprocess.Popen(command(name, path, profile, server.address(page)), stdout=file, stderr=file,
+                                       env=dict(os.environ, HOME=profile))
+        try:
+            if not server.has_answer.wait(seconds):
+                with open(log) as file:
+                    raise Failure('%s posted no answer in %d seconds\n%s' % (name, seconds, file.read()[-1000:]))
+        finally:
+            running.terminate()
+            try:
+                running.wait(10)
+            except subprocess.TimeoutExpired:
+                running.kill()
+                running.wait()
+            server.http.shutdown()
+            server.http.server_close()
+    return server.answer

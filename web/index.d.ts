@@ -1,0 +1,388 @@
+/**
+ * The atlas allocators of guillotiere: an atlas that frees, rearranges and grows, a simple one that only grants, a cache of
+ * rectangles under keys in the pages of a texture array, and sheets of sprites that are known beforehand.
+ *
+ * Lengths and coordinates are in pixels, areas in unit squares; y grows downwards. A length is a whole number from -2147483648
+ * to 2147483647. Whatever else is given, of whatever type, is answered by a {@link WollemigoError} with a `code`, and then
+ * nothing changed.
+ *
+ * An object has memory outside of JavaScript's own. `dispose` gives it back, and so does the end of a `using` block; of what is
+ * forgotten it is given back some time after JavaScript's collector found it.
+ */
+
+declare global {
+  interface SymbolConstructor {
+    readonly dispose: unique symbol;
+  }
+}
+
+/**
+ * Fetches and starts the WebAssembly module; all else waits for it. It may be called any number of times: once the module runs,
+ * the others do nothing. After a trap it starts a new one; objects that were made before stay out of use.
+ *
+ * @param source where the module is: `wollemigo.wasm` beside this script where nothing is given. Node reads it from the disk.
+ * @throws {WollemigoError} `LOAD_FAILED`, with what was wrong as its `cause`.
+ */
+export function load(
+  source?: string | URL | Response | PromiseLike<Response> | ArrayBuffer | ArrayBufferView | WebAssembly.Module,
+): Promise<void>;
+
+/** Why a call did nothing. */
+export type ErrorCode =
+  /** A number isn't whole, is too small or too large, or is no number at all. */
+  | 'BAD_NUMBER'
+  /** A key is none of those that {@link Key} allows. */
+  | 'BAD_KEY'
+  /** An option has a name that is not known, or isn't of its type; or a list can't be read. */
+  | 'BAD_OPTION'
+  /** `load` hasn't ended yet. */
+  | 'NOT_LOADED'
+  | 'LOAD_FAILED'
+  /** The object was disposed of. */
+  | 'DISPOSED'
+  /** The WebAssembly module has trapped, in this call or an earlier one; it is used no more. */
+  | 'TRAPPED'
+  /** An empty size of an atlas, options that aren't valid, a growth that shrinks a side, a bad limit. */
+  | 'BAD_CALL'
+  /** An id isn't live, or stands twice in a list of ids. */
+  | 'NOT_LIVE'
+  /** More slots would be used than the limit allows. */
+  | 'SLOTS'
+  /** Memory was refused. */
+  | 'MEMORY'
+  /** A side of the sheet, or the least that is allowed, is below 1. */
+  | 'EMPTY_SHEET'
+  /** The greatest side of a sheet is below the least. */
+  | 'EMPTY_RANGE'
+  /** A side of the alignment is below 1. */
+  | 'EMPTY_ALIGNMENT'
+  /** A sprite has a side below 1; `sprite` is its number. */
+  | 'EMPTY_SPRITE'
+  /** A sprite passes 2147483647 pixels with the padding at both its sides; `sprite` is its number. */
+  | 'GREAT_SPRITE'
+  /** A key is held with another size. */
+  | 'OTHER_SIZE'
+  /** A cache holds 4294967295 keys, and can hold no more. */
+  | 'NUMBERS'
+  /** A side of a new page is below 1. */
+  | 'EMPTY_PAGE'
+  /** A side of the largest page is less than that of a new one. */
+  | 'LARGEST_PAGE'
+  /** No pages are allowed. */
+  | 'NO_PAGES'
+  /** The padding is below 0. */
+  | 'BAD_PADDING'
+  /** The options of the pages' atlases aren't valid. */
+  | 'BAD_ATLAS'
+  /** There is no such page. */
+  | 'NO_PAGE'
+  /** A size passes the largest page of a cache, with the padding and rounded up to the alignment. */
+  | 'NEVER_FITS'
+  /** A side of what is to be put in a cache is below 1. */
+  | 'EMPTY_SIZE'
+  /** With the padding and rounded up, not even 1 by 1 fits the largest page of a cache. */
+  | 'NOTHING_FITS';
+
+/** What every call throws that could not do what it was asked to. */
+export class WollemigoError extends Error {
+  constructor(code: ErrorCode, message: string, more?: { cause?: unknown; sprite?: number });
+  readonly name: 'WollemigoError';
+  readonly code: ErrorCode;
+  /** Of `EMPTY_SPRITE` and `GREAT_SPRITE`: the number of the sprite, counted from 0. */
+  readonly sprite?: number;
+}
+
+export interface Size {
+  width: number;
+  height: number;
+}
+
+/** `x` and `y` are those of its left upper corner. */
+export interface Rectangle extends Size {
+  x: number;
+  y: number;
+}
+
+/** A live box. An id is a whole number below 4294967296; one that was freed may be issued again, for another box. */
+export interface Allocation extends Rectangle {
+  id: number;
+}
+
+/** A box that was placed anew: under its former id, and under the id that it has now. Its sides stay. */
+export interface Change {
+  before: Allocation;
+  after: Allocation;
+}
+
+/** What a rearranging moved, and what found no room and is live no more. */
+export interface ChangeList {
+  changes: Change[];
+  failures: Allocation[];
+}
+
+/** What is left out has the value that is named here. */
+export interface AtlasOptions {
+  /** Sides of requests are rounded up to multiples of these, which are above 0. 1 and 1. */
+  alignment?: Size;
+  /** A size is small if both its sides are below this. 32. */
+  smallSizeThreshold?: number;
+  /** A size is large if a side is at least this, which is at least the small threshold. 256. */
+  largeSizeThreshold?: number;
+}
+
+/** How many slots are used, the most that were used at once since the last start, and how many may be used. */
+export interface Slots {
+  used: number;
+  kept: number;
+  limit: number;
+}
+
+/** The areas of all live and of all free boxes. From 2^53 on they are rounded, as JavaScript's numbers are. */
+export interface Areas {
+  allocated: number;
+  free: number;
+}
+
+/** The greatest limit on the slots of an atlas, and that of an atlas without a limit of its own: 16777216. */
+export const MOST_SLOTS: 16777216;
+
+/** An atlas hands out boxes and takes them back: what is free joins at once. */
+export class Atlas {
+  /**
+   * @param slotLimit how many slots may be used at once, from 1 to {@link MOST_SLOTS}. Each live and each free box takes one,
+   * and so does each container of the tree of cuts.
+   * @throws {WollemigoError} `BAD_CALL`, `MEMORY`
+   */
+  constructor(width: number, height: number, options?: AtlasOptions, slotLimit?: number);
+
+  /** A box of this size, rounded up by the options, which overlaps no other live box; null where the size is empty or fits no
+   * free box. Throws `SLOTS`, `MEMORY`. */
+  allocate(width: number, height: number): Allocation | null;
+  /** Frees the box of a live id. Throws `NOT_LIVE`. */
+  deallocate(id: number): void;
+  /** Frees the boxes of these ids, all or none. Throws `NOT_LIVE` if one isn't live or stands twice; `MEMORY`. */
+  deallocateAll(ids: Iterable<number>): void;
+  /** The rectangle of an id; null where it isn't live. */
+  get(id: number): Rectangle | null;
+  /** Whether a request of this size has room: then `allocate` grants it, slots and memory aside. */
+  canFit(width: number, height: number): boolean;
+  /** Takes memory for so many slots beside those that are used: 4 for a request, 3 for a growth. Throws `SLOTS`, `MEMORY`. */
+  reserve(additional: number): void;
+
+  /** Makes the atlas larger; every live id keeps its rectangle. Throws `BAD_CALL` if a side shrinks; `SLOTS`, `MEMORY`. */
+  grow(width: number, height: number): void;
+  /** Whether the atlas may be grown to this size: no side shrinks. */
+  canGrowTo(width: number, height: number): boolean;
+  /** `resizeAndRearrange` at the present size. */
+  rearrange(): ChangeList;
+  /** Places what is live anew in an empty atlas of this size, the largest first; options and limit stay. All former ids are
+   * void. Throws `BAD_CALL`, `SLOTS`, `MEMORY`. */
+  resizeAndRearrange(width: number, height: number): ChangeList;
+  /** Starts again: no id is live. */
+  clear(): void;
+  /** Starts again at this size, and with these options; the limit stays. Throws `BAD_CALL`. */
+  reset(width: number, height: number, options?: AtlasOptions): void;
+
+  readonly size: Size;
+  readonly options: Required<AtlasOptions>;
+  readonly slots: Slots;
+  /** In one pass over the slots. */
+  readonly areas: Areas;
+  /** Whether no id is live. */
+  readonly isEmpty: boolean;
+  /** The live boxes, by rising slot, which is the low 24 bits of the id. Throws `MEMORY`. */
+  allocated(): Allocation[];
+  /** The free boxes, in an order that is left open. Throws `MEMORY`. */
+  free(): Rectangle[];
+
+  /** A copy that shares nothing with this atlas. Throws `MEMORY`. */
+  clone(): Atlas;
+  /** Gives the memory back. Every later call throws `DISPOSED`, but for this one, which does nothing then. */
+  dispose(): void;
+  [Symbol.dispose](): void;
+}
+
+/** A simple atlas hands out boxes and takes none back. */
+export class SimpleAtlas {
+  /** Throws `BAD_CALL`, `MEMORY`. */
+  constructor(width: number, height: number, options?: AtlasOptions);
+  /** One with an atlas's size, options and free boxes, so that it never grants what is live there. Throws `MEMORY`. */
+  static from(atlas: Atlas): SimpleAtlas;
+
+  /** A box of this size, rounded up by the options; null where the size is empty or fits no free box. Throws `MEMORY`. */
+  allocate(width: number, height: number): Rectangle | null;
+  /** Throws `BAD_CALL` if a side shrinks; `MEMORY`. */
+  grow(width: number, height: number): void;
+  canGrowTo(width: number, height: number): boolean;
+  /** Starts again, with one free box. */
+  clear(): void;
+  /** Starts again at this size, and with these options. Throws `BAD_CALL`. */
+  reset(width: number, height: number, options?: AtlasOptions): void;
+  /** Takes over an atlas's size, options and free boxes. Throws `MEMORY`. */
+  initFrom(atlas: Atlas): void;
+
+  readonly size: Size;
+  readonly options: Required<AtlasOptions>;
+  /** Of entries, one of which each free box takes: how many are used, and how many there are. The limit is 4294967295. */
+  readonly slots: Slots;
+  /** Whether one free box has the size of the whole. */
+  readonly isEmpty: boolean;
+
+  dispose(): void;
+  [Symbol.dispose](): void;
+}
+
+/**
+ * A string of any length; a whole number from 0 to 9007199254740991; or a bigint from 0 to 9223372036854775807, which is the same
+ * key as the number of that value. The library's own keys have 64 bits. A number is its own key. A string that is held has a
+ * key of the upper half, that no other has: a table in JavaScript keeps which, until the string is held no more. So no two
+ * keys of this type are ever taken for one another.
+ */
+export type Key = string | number | bigint;
+
+/** What is left out has the value that is named here. */
+export interface CacheOptions {
+  /** The size of a new page, which isn't empty. */
+  page: Size;
+  /** Pages grow up to this; neither side is less than that of `page`. As `page`, so that none grows: the layers of a texture
+   * array have one size. */
+  largestPage?: Size;
+  /** The most pages, at least 1. 1. */
+  pages?: number;
+  /** How wide the border is on all four sides of an entry, at least 0. 0. */
+  padding?: number;
+  /** Of the atlas of each page. */
+  atlas?: AtlasOptions;
+}
+
+/**
+ * Where a key lies: its number, which stays until the key is gone, and which no other key has meanwhile; its page, counted from 0;
+ * `rectangle`, with the padding, which no other entry overlaps; and `inner` in it, which has the sides that were asked for.
+ *
+ * The border of a new entry shows what lay there before. A linear filter reads it, so write all of `rectangle`: the pixels in
+ * `inner`, and cleared ones around it. With a padding of 1 draw at most half a pixel beyond `inner`.
+ */
+export interface Place {
+  number: number;
+  page: number;
+  rectangle: Rectangle;
+  inner: Rectangle;
+}
+
+/** `isNew` where the key was not held: then its pixels are to be written. */
+export interface Entry extends Place {
+  isNew: boolean;
+}
+
+/** What a cache did. */
+export type CacheChange =
+  /** There is a new page, the last one: make a texture of this size for it. */
+  | { kind: 'pageAdded'; page: number; width: number; height: number }
+  /** A page has this size now, and nothing on it moved: make its texture larger. */
+  | { kind: 'pageGrown'; page: number; width: number; height: number }
+  /** A key is gone; its place was `from`. */
+  | { kind: 'evicted'; key: Key; from: Place }
+  /** A key moved, by a repacking: copy `from.rectangle` to `to.rectangle`, out of a copy of the page as it was before. */
+  | { kind: 'moved'; key: Key; from: Place; to: Place };
+
+/** How often `get` found its key and how often it didn't, and how many keys were evicted. */
+export interface Statistics {
+  hits: number;
+  misses: number;
+  evictions: number;
+}
+
+/** A cache of rectangles under keys, in the pages of a texture array. */
+export class TextureCache {
+  /** Throws `EMPTY_PAGE`, `LARGEST_PAGE`, `NO_PAGES`, `BAD_PADDING`, `BAD_ATLAS`, `NOTHING_FITS`, `MEMORY`. */
+  constructor(options: CacheOptions);
+
+  /** A new frame: what was used before may be evicted from now on. */
+  beginFrame(): void;
+  /** The place of a key, which is used in this frame from now on; null where it isn't held. Counts a hit or a miss. */
+  get(key: Key): Place | null;
+  /** The place of a key; null where it isn't held. It counts as no use, and as no hit or miss. */
+  peek(key: Key): Place | null;
+  /**
+   * A place for a key, which is used in this frame. A key that is held keeps its place. For a new key a page may grow, one may
+   * be added, and keys that this frame didn't use may go; what was done is handed over by `changes`: follow it before the place
+   * is used, also where the call throws. Null where this frame uses all that the pages have room for: draw what is batched,
+   * call `beginFrame`, and insert again.
+   *
+   * Throws `OTHER_SIZE`, `NEVER_FITS`, `EMPTY_SIZE`, and then nothing changed; `NUMBERS`, `SLOTS`, `MEMORY`.
+   */
+  insert(key: Key, width: number, height: number): Entry | null;
+  /** A key goes. Gives the place that it had; null where it wasn't held. No change tells it. */
+  remove(key: Key): Place | null;
+  /** Whether a key is held; it counts as no use, and as no hit or miss. */
+  has(key: Key): boolean;
+  /** What was done and not handed over yet, each change once, in the order in which they were made:
+   * `for (const change of cache.changes())`. One that isn't reached waits for the next time. */
+  changes(): IterableIterator<CacheChange>;
+  /** All keys go. The pages stay. No change tells it. */
+  clear(): void;
+  /** The keys that weren't used for at least so many frames go, each told by a change. Throws `MEMORY`. */
+  trim(frames: number | bigint): void;
+  /** Places the keys of a page anew, so that what is free comes together; each is told by a change. Throws `NO_PAGE`, `SLOTS`,
+   * `MEMORY`. */
+  repack(page: number): void;
+
+  /** How many keys are held. */
+  readonly length: number;
+  readonly pageCount: number;
+  /** How many numbers keys had so far, since the cache was made or cleared: the number of each place is below. Those of keys that
+   * are gone are given again first, so what is kept of each key fits an array. */
+  readonly numbers: number;
+  /** Throws `NO_PAGE`. */
+  pageSize(page: number): Size;
+  /** Counted since the cache was made. */
+  readonly statistics: Statistics;
+
+  dispose(): void;
+  [Symbol.dispose](): void;
+}
+
+/** Which sheets are allowed. */
+export type Sheets =
+  /** Of this size alone. */
+  | { kind: 'size'; width: number; height: number }
+  /** Squares with a side from `least` (1 where it is left out) to `greatest`. */
+  | { kind: 'squares'; least?: number; greatest: number }
+  /** Each side a power of two, at most `greatest`; the sides may differ. */
+  | { kind: 'powers'; greatest: number }
+  /** This width, and a height from 1 to `greatest`. */
+  | { kind: 'heights'; width: number; greatest: number };
+
+/** What is left out has the value that is named here. */
+export interface SheetOptions {
+  /** Squares with a side from 1 to 4096. */
+  sheets?: Sheets;
+  /** Pixels between two sprites, and between a sprite and the border: at most 65535. 0. */
+  padding?: number;
+  /** Each place, with the padding at its left and above, begins on multiples of these sides. 1 and 1. */
+  alignment?: Size;
+  /** Whether a sprite may lie turned by 90 degrees. false. */
+  turn?: boolean;
+  /** How many more orders of the sprites are tried: 20000 for a second or so. 0. */
+  effort?: number;
+  /** For these orders: a whole number below 2^53, or a bigint below 2^64. The same input has the same sheet everywhere. 0. */
+  seed?: number | bigint;
+}
+
+/** Where a sprite lies, without the padding. One that is turned lies in a place that is as wide as the sprite is high. */
+export interface Placed extends Rectangle {
+  turned: boolean;
+}
+
+/** A sheet, and where each sprite lies, in the order of the sprites. */
+export interface Sheet extends Size {
+  places: Placed[];
+}
+
+/**
+ * Packs all sprites into the smallest sheet of those allowed that is found; null if not even the greatest took all of them.
+ *
+ * Throws `BAD_CALL` if the padding is above 65535; `EMPTY_SHEET`, `EMPTY_RANGE`, `EMPTY_ALIGNMENT`, `EMPTY_SPRITE`,
+ * `GREAT_SPRITE`, `MEMORY`.
+ */
+export function pack(sprites: Iterable<Size>, options?: SheetOptions): Sheet | null;

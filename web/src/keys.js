@@ -1,0 +1,54 @@
+/** Keys of JavaScript as the numbers of 64 bits that the library knows. */
+import { WollemigoError } from './errors.js';
+
+const UPPER = 1n << 63n;
+
+/** Of the strings that a cache holds. Each has a number of the upper half, which no other string ever had. */
+export class Keys {
+  #numbers = new Map();
+  #names = new Map();
+  #last = 0;
+
+  /** The number of a key. Of a string that isn't held it is one that nothing has. */
+  number(key) {
+    if (typeof key === 'string') return this.#numbers.get(key) ?? UPPER;
+    if (typeof key === 'number' && Number.isSafeInteger(key) && key >= 0) return BigInt(key);
+    if (typeof key === 'bigint' && key >= 0n && key < UPPER) return key;
+    throw new WollemigoError('BAD_KEY', 'a key is a string, a whole number from 0 to 9007199254740991, or a bigint below 2^63');
+  }
+
+  /** The number that a key has, or will have once it is kept. */
+  next(key) {
+    const number = this.number(key);
+    return number === UPPER ? UPPER + BigInt(this.#last + 1) : number;
+  }
+
+  /** A key that was given its next number is held. */
+  keep(key, number) {
+    if (typeof key !== 'string' || this.#numbers.has(key)) return;
+    this.#last += 1;
+    this.#numbers.set(key, number);
+    this.#names.set(this.#last, key);
+  }
+
+  /** A key is held no more. */
+  forget(key) {
+    if (typeof key !== 'string') return;
+    const number = this.#numbers.get(key);
+    if (number === undefined) return;
+    this.#numbers.delete(key);
+    this.#names.delete(Number(number - UPPER));
+  }
+
+  clear() {
+    this.#numbers.clear();
+    this.#names.clear();
+  }
+
+  /** The key that has a number, by its lower and its upper 32 bits. */
+  key(lower, upper) {
+    if (upper < 0) return this.#names.get((upper & 0x7fffffff) * 4294967296 + (lower >>> 0));
+    if (upper < 0x200000) return upper * 4294967296 + (lower >>> 0);
+    return (BigInt(upper) << 32n) + BigInt(lower >>> 0);
+  }
+}

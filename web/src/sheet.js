@@ -1,0 +1,59 @@
+import { DONE, NO_ROOM, STATUSES, WollemigoError, failure } from './errors.js';
+import * as reading from './reading.js';
+import { running } from './runtime.js';
+import * as values from './values.js';
+
+const { bool, count, length, list, options, size, wide } = values;
+
+const KINDS = {
+  size: { number: 0, readers: { width: [length], height: [length] } },
+  squares: { number: 1, readers: { least: [length, 1], greatest: [length] } },
+  powers: { number: 2, readers: { greatest: [length] } },
+  heights: { number: 3, readers: { width: [length], greatest: [length] } },
+};
+
+/** The number of a kind of sheets, its width, its height, and its least and greatest side. */
+function sheets(given, name) {
+  const kind = given?.kind;
+  if (typeof kind !== 'string' || !Object.hasOwn(KINDS, kind)) {
+    throw new WollemigoError('BAD_OPTION', `${name}.kind is none of ${Object.keys(KINDS).join(', ')}`);
+  }
+  const { number, readers } = KINDS[kind];
+  const { width = 0, height = 0, least = 0, greatest = 0 } = options(given, name, { kind: [() => kind], ...readers });
+  return [number, width, height, least, greatest];
+}
+
+const OPTIONS = {
+  sheets: [sheets, [KINDS.squares.number, 0, 0, 1, 4096]],
+  padding: [count, 0],
+  alignment: [size, { width: 1, height: 1 }],
+  turn: [bool, false],
+  effort: [count, 0],
+  seed: [wide, 0n],
+};
+
+function placed(words, at) {
+  return { ...reading.rectangle(words, at), turned: words[at + 4] !== 0 };
+}
+
+/** A sprite may be any object that has these two. */
+function sprite(value, name) {
+  return [length(value?.width, `${name}.width`), length(value?.height, `${name}.height`)];
+}
+
+export function pack(sprites, given) {
+  const sides = list(sprites, 'sprites', sprite);
+  const { sheets: allowed, padding, alignment, turn, effort, seed } = options(given, 'options', OPTIONS);
+  const runtime = running();
+  const [many, at] = [sides.length, runtime.room(28 * sides.length)];
+  const [places, sheet, bad] = [at + 8 * many, runtime.at + 64, runtime.at + 72];
+  const halves = [Number(BigInt.asUintN(32, seed)), Number(seed >> 32n)];
+  runtime.write(at, sides.flat());
+  runtime.write(runtime.at, [...allowed, padding, alignment.width, alignment.height, turn ? 1 : 0, effort, ...halves]);
+  const status = runtime.calls.pack(at, many, runtime.at, places, many, sheet, bad);
+  const words = runtime.words();
+  if (status === DONE) return { ...reading.size(words, sheet >>> 2), places: reading.list(words, places >>> 2, many, 5, placed) };
+  if (status === NO_ROOM) return null;
+  const code = STATUSES[status];
+  throw failure(code, code.endsWith('_SPRITE') ? { sprite: words[bad >>> 2] >>> 0 } : undefined);
+}

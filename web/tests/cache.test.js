@@ -1,0 +1,150 @@
+// A cache: places, changes, and keys of all kinds, beside a list of what a caller knows.
+import assert from 'node:assert/strict';
+import { test } from 'node:test';
+
+import * as wollemigo from '../node.js';
+import { refused } from './support.js';
+
+const { TextureCache } = wollemigo;
+await wollemigo.load();
+const SIDE = { width: 16, height: 16 };
+
+function box(x, y, width, height) {
+  return { x, y, width, height };
+}
+
+function whole(number, page, y = 0) {
+  return { number, page, rectangle: box(0, y, 16, 16), inner: box(0, y, 16, 16) };
+}
+
+test('pages come, grow, and keys give way', () => {
+  const cache = new TextureCache({ page: SIDE, largestPage: { width: 16, height: 32 }, pages: 2 });
+  assert.deepEqual(cache.insert('a', 16, 16), { ...whole(0, 0), isNew: true });
+  assert.deepEqual([...cache.changes()], [{ kind: 'pageAdded', page: 0, ...SIDE }]);
+  const second = whole(1, 0, 16);
+  assert.deepEqual(cache.insert('b', 16, 16), { ...second, isNew: true });
+  assert.deepEqual([...cache.changes()], [{ kind: 'pageGrown', page: 0, width: 16, height: 32 }]);
+  cache.insert('c', 16, 16);
+  cache.insert('d', 16, 16);
+  assert.equal(cache.insert('e', 1, 1), null);
+  assert.deepEqual([...cache.changes()].map((change) => change.kind), ['pageAdded', 'pageGrown']);
+  cache.beginFrame();
+  assert.deepEqual(cache.get('a'), whole(0, 0));
+  assert.deepEqual(cache.insert('a', 16, 16), { ...whole(0, 0), isNew: false });
+  assert.deepEqual(cache.insert('e', 16, 16), { ...second, isNew: true });
+  assert.equal(cache.numbers, 4);
+  assert.deepEqual([...cache.changes()], [{ kind: 'evicted', key: 'b', from: second }]);
+  assert.deepEqual([cache.has('b'), cache.length, cache.pageCount, cache.pageSize(1)], [false, 4, 2, { width: 16, height: 32 }]);
+  assert.deepEqual(cache.statistics, { hits: 1, misses: 0, evictions: 1 });
+  refused(() => cache.pageSize(2), 'NO_PAGE', 'pageSize');
+  refused(() => cache.repack(2), 'NO_PAGE', 'repack');
+  const cases = [['a', 15, 16, 'OTHER_SIZE'], ['f', 17, 16, 'NEVER_FITS'], ['f', 16, 33, 'NEVER_FITS'], ['f', 0, 5, 'EMPTY_SIZE'],
+    ['a', 16, -1, 'OTHER_SIZE']];
+  for (const [key, width, height, code] of cases) refused(() => cache.insert(key, width, height), code, `${key} ${width} ${height}`);
+  assert.deepEqual([cache.length, cache.has('f'), [...cache.changes()]], [4, false, []]);
+});
+
+test('bad options', () => {
+  const cases = [
+    [{ page: { width: 0, height: 1 } }, 'EMPTY_PAGE'], [{ page: SIDE, largestPage: { width: 15, height: 16 } }, 'LARGEST_PAGE'],
+    [{ page: SIDE, pages: 0 }, 'NO_PAGES'], [{ page: SIDE, padding: -1 }, 'BAD_PADDING'],
+    [{ page: SIDE, atlas: { smallSizeThreshold: 500 } }, 'BAD_ATLAS'], [{ page: SIDE, padding: 8 }, 'NOTHING_FITS'],
+  ];
+  for (const [options, code] of cases) refused(() => new TextureCache(options), code, code);
+});
+
+test('a page grows only where the largest page says so', () => {
+  const cache = new TextureCache({ page: SIDE });
+  cache.insert(1, 16, 16);
+  assert.equal(cache.insert(2, 1, 1), null);
+  assert.deepEqual([...cache.changes()], [{ kind: 'pageAdded', page: 0, ...SIDE }]);
+});
+
+test('keys that are the same, and keys that are not', () => {
+  const cache = new TextureCache({ page: { width: 256, height: 256 } });
+  const keys = ['', '0', 'é', 'e\u0301', '\ud800', '__proto__', 'x'.repeat(100000), 0, 1, 2 ** 53 - 1, 2n ** 53n, 2n ** 63n - 1n, 4294967296];
+  for (const [i, key] of keys.entries()) assert.ok(cache.insert(key, 1 + i, 1).isNew);
+  assert.equal(cache.length, keys.length);
+  for (const [i, key] of keys.entries()) assert.equal(cache.peek(key).inner.width, 1 + i);
+  for (const [one, other] of [[0, 0n], [-0, 0], [1, 1n], [2 ** 53 - 1, 2n ** 53n - 1n], [4294967296, 4294967296n]]) {
+    assert.deepEqual(cache.peek(one), cache.peek(other));
+  }
+  cache.trim(0);
+  const told = [...cache.changes()].filter((change) => change.kind === 'evicted').map((change) => change.key);
+  assert.deepEqual(told, keys);
+  assert.equal(cache.length, 0);
+});
+
+test('a string that was let go is a new key', () => {
+  const cache = new TextureCache({ page: SIDE });
+  const ways = [() => cache.remove('a'), () => cache.clear(), () => cache.trim(0), () => { cache.beginFrame(); cache.insert('b', 16, 16); cache.remove('b'); }];
+  for (const letGo of ways) {
+    assert.ok(cache.insert('a', 16, 16).isNew);
+    letGo();
+    assert.ok(!cache.has('a') && cache.get('a') === null && cache.remove('a') === null);
+  }
+  assert.deepEqual([...cache.changes()].map(({ kind, key }) => key ?? kind), ['pageAdded', 'a', 'a']);
+});
+
+test('changes are handed over once, in order, and wait where a loop ends early', () => {
+  const cache = new TextureCache({ page: SIDE });
+  for (const key of ['a', 'b', 'c']) {
+    cache.insert(key, 16, 16);
+    cache.beginFrame();
+  }
+  for (const change of cache.changes()) {
+    assert.equal(change.kind, 'pageAdded');
+    break;
+  }
+  const rest = cache.changes();
+  assert.equal(rest.next().value.key, 'a');
+  cache.insert('d', 16, 16);
+  assert.deepEqual([...rest].map((change) => change.key), ['b', 'c']);
+  assert.deepEqual([...cache.changes()], []);
+});
+
+test('moved keys are told with both places', () => {
+  const cache = new TextureCache({ page: { width: 64, height: 64 }, padding: 1 });
+  for (const [key, side] of [['a', 5], [7, 20], ['c', 9]]) cache.insert(key, side, side);
+  cache.remove(7);
+  const before = { a: cache.peek('a'), c: cache.peek('c') };
+  for (const each of cache.changes()) assert.equal(each.kind, 'pageAdded');
+  cache.repack(0);
+  const moved = [...cache.changes()];
+  assert.deepEqual(moved.map(({ kind, key }) => [kind, key]), [['moved', 'c'], ['moved', 'a']]);
+  for (const { key, from, to } of moved) {
+    assert.deepEqual(from, before[key]);
+    assert.deepEqual(to, cache.peek(key));
+  }
+});
+
+test('a caller who follows the changes knows the place of each key', () => {
+  const cache = new TextureCache({ page: { width: 64, height: 64 }, largestPage: { width: 128, height: 64 }, pages: 3, padding: 1 });
+  const known = new Map();
+  let state = 1;
+  const below = (bound) => { state = (Math.imul(state, 1103515245) + 12345) >>> 0; return (state >>> 8) % bound; };
+  const follow = () => {
+    for (const change of cache.changes()) {
+      if (change.kind === 'evicted' || change.kind === 'moved') assert.deepEqual(known.get(change.key), change.from);
+      if (change.kind === 'evicted') known.delete(change.key);
+      if (change.kind === 'moved') known.set(change.key, change.to);
+    }
+  };
+  for (let i = 0; i < 20000; i++) {
+    const number = below(120);
+    const key = number % 2 === 0 ? number : `key ${number}`;
+    if (below(40) === 0) cache.beginFrame();
+    if (below(300) === 0 && cache.pageCount > 0) cache.repack(below(cache.pageCount));
+    if (below(30) === 0) {
+      cache.remove(key);
+      follow();
+      known.delete(key);
+    }
+    const entry = cache.get(key) === null ? cache.insert(key, 4 + number % 30, 4 + number % 17) : null;
+    follow();
+    if (entry !== null) known.set(key, { number: entry.number, page: entry.page, rectangle: entry.rectangle, inner: entry.inner });
+    assert.equal(known.size, cache.length);
+  }
+  for (const [key, place] of known) assert.deepEqual(cache.peek(key), place);
+  assert.ok(cache.statistics.evictions > 500);
+});

@@ -1,0 +1,157 @@
+// Calls and their answers, in tables; those of C that they take after are in bindings/tests.
+import assert from 'node:assert/strict';
+import { test } from 'node:test';
+
+import * as wollemigo from '../node.js';
+import { refused, simpleState, stateOf } from './support.js';
+
+const { Atlas, MOST_SLOTS, SimpleAtlas, TextureCache, pack } = wollemigo;
+await wollemigo.load();
+
+function box(x, y, width, height) {
+  return { x, y, width, height };
+}
+
+test('an atlas: its whole life', () => {
+  const atlas = new Atlas(100, 100);
+  const granted = atlas.allocate(20, 60);
+  assert.deepEqual(granted, { id: 3, ...box(0, 0, 20, 60) });
+  assert.deepEqual(atlas.get(3), box(0, 0, 20, 60));
+  assert.equal(atlas.get(4), null);
+  assert.deepEqual(atlas.areas, { allocated: 1200, free: 8800 });
+  assert.equal(atlas.slots.limit, MOST_SLOTS);
+  assert.ok(atlas.canFit(80, 100) && !atlas.canFit(81, 100) && !atlas.canFit(0, 1));
+  const copy = atlas.clone();
+  atlas.deallocate(3);
+  assert.ok(atlas.isEmpty && !copy.isEmpty && copy instanceof Atlas);
+  refused(() => atlas.deallocate(3), 'NOT_LIVE', 'twice');
+  assert.deepEqual(copy.allocated(), [granted]);
+  copy.grow(150, 100);
+  refused(() => copy.grow(149, 200), 'BAD_CALL', 'a side shrinks');
+  assert.ok(copy.canGrowTo(150, 100) && !copy.canGrowTo(149, 200));
+  assert.deepEqual(copy.size, { width: 150, height: 100 });
+  copy.clear();
+  assert.deepEqual(copy.free(), [box(0, 0, 150, 100)]);
+  copy.reset(64, 32, { alignment: { width: 8, height: 1 }, largeSizeThreshold: 40 });
+  assert.deepEqual(copy.options, { alignment: { width: 8, height: 1 }, smallSizeThreshold: 32, largeSizeThreshold: 40 });
+  assert.deepEqual(copy.allocate(3, 3), { id: copy.allocated()[0].id, ...box(0, 0, 8, 3) });
+});
+
+test('what is placed anew, and what finds no room', () => {
+  const atlas = new Atlas(64, 64);
+  const [large, small] = [atlas.allocate(40, 40), atlas.allocate(10, 10)];
+  const { changes, failures } = atlas.resizeAndRearrange(32, 32);
+  assert.deepEqual(changes.map((change) => change.before), [small]);
+  assert.deepEqual(failures, [large]);
+  assert.deepEqual(changes.map((change) => change.after), atlas.allocated());
+  assert.deepEqual(changes[0].after, { id: changes[0].after.id, ...box(0, 0, 10, 10) });
+  const moved = atlas.rearrange();
+  assert.equal(moved.changes.length, 1);
+  assert.deepEqual(moved.failures, []);
+  for (const [width, height] of [[0, 5], [5, 0], [-1, 5]]) refused(() => atlas.resizeAndRearrange(width, height), 'BAD_CALL', 'empty');
+});
+
+test('freeing all or none', () => {
+  const atlas = new Atlas(64, 64);
+  const ids = [1, 2, 3, 4].map((side) => atlas.allocate(side, side).id);
+  const before = stateOf(atlas);
+  for (const list of [[ids[0], ids[0]], [ids[1], 999], [...ids, ids[3]]]) refused(() => atlas.deallocateAll(list), 'NOT_LIVE', 'list');
+  assert.deepEqual(stateOf(atlas), before);
+  atlas.deallocateAll([]);
+  atlas.deallocateAll(new Uint32Array(ids.slice(0, 2)));
+  atlas.deallocateAll(new Set(ids.slice(2)));
+  assert.ok(atlas.isEmpty);
+});
+
+test('more boxes than one page of memory lists', () => {
+  const atlas = new Atlas(512, 512);
+  const granted = [];
+  for (let box = atlas.allocate(4, 4); box !== null; box = atlas.allocate(4, 4)) granted.push(box);
+  assert.equal(granted.length, 16384);
+  assert.deepEqual(atlas.allocated(), granted.sort((a, b) => a.id % 16777216 - b.id % 16777216));
+  atlas.deallocateAll(granted.map(({ id }) => id));
+  assert.deepEqual(atlas.free(), [box(0, 0, 512, 512)]);
+});
+
+test('bad calls of an atlas, and the limit on its slots', () => {
+  for (const [width, height, limit] of [[0, 1], [1, 0], [-5, 5], [5, 5, 0], [5, 5, MOST_SLOTS + 1]]) {
+    refused(() => new Atlas(width, height, undefined, limit), 'BAD_CALL', `${width} ${height} ${limit}`);
+  }
+  const atlas = new Atlas(64, 64, {}, 1);
+  const before = stateOf(atlas);
+  refused(() => atlas.allocate(5, 5), 'SLOTS', 'allocate');
+  refused(() => atlas.reserve(1), 'SLOTS', 'reserve');
+  assert.deepEqual(stateOf(atlas), before);
+  const { id, ...whole } = atlas.allocate(64, 64);
+  assert.deepEqual(whole, box(0, 0, 64, 64));
+  refused(() => atlas.grow(65, 65), 'SLOTS', 'grow');
+  assert.deepEqual(atlas.allocated(), [{ id, ...whole }]);
+  assert.deepEqual(new Atlas(2147483647, 2147483647).free(), [box(0, 0, 2147483647, 2147483647)]);
+});
+
+test('a simple atlas', () => {
+  const simple = new SimpleAtlas(100, 300);
+  for (const y of [0, 100, 200]) assert.deepEqual(simple.allocate(100, 100), box(0, y, 100, 100));
+  assert.equal(simple.allocate(1, 1), null);
+  simple.grow(100, 301);
+  assert.deepEqual(simple.allocate(100, 1), box(0, 300, 100, 1));
+  simple.clear();
+  assert.ok(simple.isEmpty);
+  const before = simpleState(simple);
+  refused(() => simple.grow(99, 500), 'BAD_CALL', 'a side shrinks');
+  refused(() => simple.reset(0, 5), 'BAD_CALL', 'empty');
+  refused(() => new SimpleAtlas(0, 5), 'BAD_CALL', 'empty');
+  assert.deepEqual(simpleState(simple), before);
+  assert.ok(simple.canGrowTo(100, 301) && !simple.canGrowTo(99, 500));
+  const atlas = new Atlas(20, 10, { alignment: { width: 2, height: 2 } });
+  atlas.allocate(20, 4);
+  const rest = SimpleAtlas.from(atlas);
+  assert.deepEqual(rest.options, atlas.options);
+  assert.deepEqual(rest.allocate(19, 5), box(0, 4, 20, 6));
+  assert.equal(rest.allocate(1, 1), null);
+  assert.equal(atlas.areas.free, 120);
+  simple.initFrom(atlas);
+  assert.deepEqual(simple.size, { width: 20, height: 10 });
+});
+
+test('sheets that were worked by hand', () => {
+  const sprite = { width: 3, height: 5 };
+  const cases = [
+    [[sprite], { padding: 1 }, [7, 7], [1, 1, 3, 5, false]],
+    [[sprite], { padding: 1, sheets: { kind: 'powers', greatest: 64 } }, [8, 8], [1, 1, 3, 5, false]],
+    [[sprite], { padding: 1, sheets: { kind: 'heights', width: 20, greatest: 64 } }, [20, 7], [1, 1, 3, 5, false]],
+    [[{ width: 10, height: 10 }], { padding: 2, sheets: { kind: 'size', width: 14, height: 14 } }, [14, 14], [2, 2, 10, 10, false]],
+    [[{ width: 4, height: 8 }], { turn: true, effort: 100, sheets: { kind: 'size', width: 8, height: 4 } }, [8, 4], [0, 0, 8, 4, true]],
+  ];
+  for (const [sprites, options, [width, height], [x, y, w, h, turned]] of cases) {
+    assert.deepEqual(pack(sprites, options), { width, height, places: [{ ...box(x, y, w, h), turned }] });
+  }
+  assert.equal(pack([{ width: 10, height: 10 }], { padding: 2, sheets: { kind: 'size', width: 13, height: 14 } }), null);
+  assert.equal(pack([{ width: 4, height: 8 }], { sheets: { kind: 'size', width: 8, height: 4 }, effort: 100 }), null);
+  assert.deepEqual(pack([]), { width: 1, height: 1, places: [] });
+});
+
+test('bad sheets', () => {
+  const sprites = [{ width: 1, height: 1 }, { width: 2, height: 0 }];
+  assert.equal(refused(() => pack(sprites), 'EMPTY_SPRITE', 'empty').sprite, 1);
+  assert.equal(refused(() => pack([{ width: 2147483647, height: 1 }], { padding: 1 }), 'GREAT_SPRITE', 'great').sprite, 0);
+  const cases = [
+    [{ sheets: { kind: 'size', width: 0, height: 1 } }, 'EMPTY_SHEET'], [{ sheets: { kind: 'squares', least: 0, greatest: 9 } }, 'EMPTY_SHEET'],
+    [{ sheets: { kind: 'squares', least: 10, greatest: 9 } }, 'EMPTY_RANGE'], [{ alignment: { width: 0, height: 1 } }, 'EMPTY_ALIGNMENT'],
+    [{ padding: 65536 }, 'BAD_CALL'],
+  ];
+  for (const [options, code] of cases) refused(() => pack(sprites.slice(0, 1), options), code, code);
+});
+
+test('the seed and the effort of a sheet', () => {
+  const sprites = Array.from({ length: 40 }, (_, i) => ({ width: 3 + i * 7 % 23, height: 2 + i * 5 % 19 }));
+  const one = pack(sprites, { effort: 200, seed: 5 });
+  assert.deepEqual(pack(sprites, { effort: 200, seed: 5n }), one);
+  assert.ok(pack(sprites, { effort: 200, seed: 2n ** 64n - 1n }).width <= pack(sprites).width);
+});
+
+test('errors are errors', () => {
+  const error = refused(() => new Atlas(0, 0), 'BAD_CALL', 'empty');
+  assert.ok(error instanceof Error && String(error).startsWith('WollemigoError: '));
+  assert.ok(!('sprite' in error) && error.cause === undefined);
+});

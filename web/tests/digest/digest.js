@@ -1,0 +1,75 @@
+/** The random calls of bindings/tests/digest.c by the package: their sum is the one that the program tells. */
+import { Atlases } from './atlas.js';
+import { Cache } from './cache.js';
+import { Simple } from './simple.js';
+import { Draw, SEVENS, Sum, answered, numberOf } from './sum.js';
+
+const SPRITES = 24;
+
+function sheets(kind, side, least) {
+  return [{ kind: 'size', width: side, height: side }, { kind: 'squares', least, greatest: 256 }, { kind: 'powers', greatest: 256 },
+    { kind: 'heights', width: side, greatest: 256 }][kind];
+}
+
+/** C tells first that it knows no such kind of sheets or no such padding, and then that there is too little room. */
+function packed(api, sprites, kind, options, room) {
+  if (kind > 3 || options.padding > 65535) return { value: null, status: numberOf('BAD_CALL') };
+  if (room < sprites.length) return { value: null, status: numberOf('SHORT') };
+  return answered(() => api.pack(sprites, options));
+}
+
+function pack(api, draw, sum) {
+  const many = draw.below(SPRITES + 1);
+  const sprites = Array.from({ length: SPRITES }, () => (
+    { width: draw.oneIn(10) ? draw.side(40) : 1 + draw.below(40), height: 1 + draw.below(40) }));
+  const kind = draw.below(draw.oneIn(10) ? 6 : 4);
+  const side = 40 + draw.below(200);
+  const least = draw.oneIn(10) ? draw.side(300) : 1;
+  const padding = draw.oneIn(10) ? draw.below(70000) : draw.below(3);
+  const alignment = { width: draw.oneIn(10) ? draw.side(9) : 1, height: 1 };
+  const [turn, effort] = [draw.below(2) === 1, draw.below(20)];
+  const options = { sheets: sheets(kind, side, least), padding, alignment, turn, effort, seed: draw.state };
+  const room = draw.oneIn(10) ? Math.floor(many / 2) : SPRITES;
+  const { value, status, sprite } = packed(api, sprites.slice(0, many), kind, options, room);
+  sum.add(status === 0 && value === null ? numberOf('NO_ROOM') : status);
+  sum.size(value ?? SEVENS.size);
+  sum.wide(sprite ?? 7);
+  for (let i = 0; i < SPRITES; i++) {
+    const place = value?.places[i] ?? null;
+    sum.box(place);
+    sum.add(place === null ? 7 : place.turned);
+  }
+}
+
+/** All kinds of calls, and how often each comes. */
+function kinds(api, draw, sum, hasNames) {
+  const atlases = new Atlases(api, draw, sum);
+  const simple = new Simple(api, draw, sum, atlases);
+  const cache = new Cache(api, draw, sum, hasNames);
+  return [
+    [3600, () => atlases.allocate()], [2500, () => atlases.deallocate()], [60, () => atlases.deallocateAll()],
+    [300, () => atlases.lookUp()], [300, () => atlases.ask()], [150, () => atlases.describe()], [20, () => atlases.listAll()],
+    [60, () => atlases.grow()], [50, () => atlases.reserve()], [6, () => atlases.startAgain()], [12, () => atlases.rearrange()],
+    [40, () => atlases.make()], [10, () => atlases.copy()], [4, () => atlases.free()], [800, () => simple.take()],
+    [10, () => simple.make()], [20, () => simple.startAgain()], [40, () => simple.grow()], [100, () => simple.describe()],
+    [900, () => cache.insert()], [700, () => cache.ask()], [80, () => cache.letGo()], [100, () => cache.nextFrame()],
+    [80, () => cache.describe()], [6, () => cache.make()], [8, () => pack(api, draw, sum)],
+  ];
+}
+
+/** The lines that the program prints: the sum after every 10,000 calls and after the last. */
+export function digest(api, calls, { seed = 1, hasNames = false } = {}) {
+  const draw = new Draw(seed);
+  const sum = new Sum();
+  const all = kinds(api, draw, sum, hasNames);
+  const weight = all.reduce((total, [each]) => total + each, 0);
+  let lines = '';
+  for (let done = 1; done <= calls; done++) {
+    let pick = draw.below(weight);
+    let at = 0;
+    for (; pick >= all[at][0]; at++) pick -= all[at][0];
+    all[at][1]();
+    if (done % 10000 === 0 || done === calls) lines += `${done} ${sum.text()}\n`;
+  }
+  return lines;
+}

@@ -1,0 +1,57 @@
+// Each call of the package once, as TypeScript sees it. It is compiled, and not run.
+import {
+  Allocation, Atlas, CacheChange, ErrorCode, Key, MOST_SLOTS, Sheet, SimpleAtlas, TextureCache, WollemigoError, load, pack,
+} from '../index.js';
+
+function follow(change: CacheChange): Key | number {
+  switch (change.kind) {
+    case 'pageAdded': return change.page + change.width;
+    case 'pageGrown': return change.height;
+    case 'evicted': return change.key;
+    case 'moved': return change.from.inner.x - change.to.rectangle.x;
+  }
+}
+
+function useAtlas(): void {
+  const atlas = new Atlas(5, 5, { alignment: { width: 1, height: 1 }, smallSizeThreshold: 32 }, MOST_SLOTS);
+  const granted: Allocation | null = atlas.allocate(1, 1);
+  if (granted !== null) atlas.deallocate(granted.id);
+  atlas.deallocateAll(new Set([1, 2]));
+  const { changes, failures } = atlas.resizeAndRearrange(5, 5);
+  const sum: number = changes[0].after.id + failures.length + atlas.rearrange().changes.length + atlas.options.largeSizeThreshold;
+  const more: boolean = atlas.canFit(1, 1) || atlas.canGrowTo(1, 1) || atlas.isEmpty || sum > atlas.areas.free + atlas.slots.used;
+  if (more) [atlas.reserve(1), atlas.grow(5, 5), atlas.clear(), atlas.reset(5, 5), atlas.get(1), atlas.allocated(), atlas.free()];
+  const simple = SimpleAtlas.from(atlas.clone());
+  simple.initFrom(atlas);
+  simple.allocate(atlas.size.width, 1)?.height;
+  atlas.dispose();
+  simple[Symbol.dispose]();
+}
+
+function useCache(): void {
+  const cache = new TextureCache({ page: { width: 5, height: 5 }, pages: 2, atlas: {} });
+  cache.beginFrame();
+  for (const key of ['a', 1, 2n]) {
+    if (cache.get(key) === null && cache.insert(key, 1, 1)?.isNew) cache.peek(key)?.inner.x;
+  }
+  for (const change of cache.changes()) follow(change);
+  [cache.remove('a'), cache.has('b'), cache.clear(), cache.trim(5n), cache.repack(0), cache.length, cache.numbers, cache.pageCount, cache.pageSize(0).width];
+  const { hits, misses, evictions } = cache.statistics;
+  cache.dispose();
+  hits + misses + evictions;
+}
+
+export async function use(): Promise<ErrorCode | Sheet | null> {
+  await load(new URL('https://example.org/'));
+  await load(fetch('wollemigo.wasm'));
+  try {
+    useAtlas();
+    useCache();
+    return pack([{ width: 1, height: 1 }], { sheets: { kind: 'heights', width: 5, greatest: 9 }, turn: true, seed: 5n });
+  } catch (error) {
+    return error instanceof WollemigoError ? error.code : null;
+  }
+}
+
+// @ts-expect-error a length is a number
+export const wrong = (): void => { new Atlas('5', 5); };

@@ -1,0 +1,45 @@
+// The types: they name what is there, and TypeScript takes a program by them, where it is there.
+import assert from 'node:assert/strict';
+import { spawnSync } from 'node:child_process';
+import { readFileSync } from 'node:fs';
+import { test } from 'node:test';
+import { fileURLToPath } from 'node:url';
+
+import * as browser from '../index.js';
+import * as node from '../node.js';
+
+const types = readFileSync(new URL('../index.d.ts', import.meta.url), 'utf8');
+const sources = ['errors', 'values', 'runtime', 'sheet', 'keys', 'atlas', 'cache', 'simple']
+  .map((name) => readFileSync(new URL(`../src/${name}.js`, import.meta.url), 'utf8')).join('\n');
+
+test('what is exported is what the types name', () => {
+  const named = [...types.matchAll(/^export (?:class|const|function) (\w+)/gm)].map((found) => found[1]);
+  for (const api of [browser, node]) assert.deepEqual(Object.keys(api).sort(), named.sort());
+});
+
+test('what a class has is what the types name', () => {
+  for (const name of ['Atlas', 'SimpleAtlas', 'TextureCache']) {
+    const body = types.slice(types.indexOf(`export class ${name} {`)).split('\n}\n')[0];
+    const named = new Set([...body.matchAll(/^ {2}(?:static |readonly )?(\w+)[(:]/gm)].map((found) => found[1]));
+    const made = [node[name], node[name].prototype, Object.getPrototypeOf(node[name].prototype)].flatMap(Object.getOwnPropertyNames);
+    const there = new Set(made.filter((each) => !['length', 'name', 'prototype'].includes(each)));
+    if (name === 'TextureCache') there.add('length');
+    assert.deepEqual([...there].sort(), [...named].sort());
+  }
+});
+
+test('each code that the types name is thrown, and no other', () => {
+  const union = types.slice(types.indexOf('export type ErrorCode ='), types.indexOf('/** What every call throws'));
+  const named = new Set([...union.matchAll(/^ {2}\| '(\w+)'/gm)].map((found) => found[1]));
+  const thrown = new Set([...sources.matchAll(/'([A-Z][A-Z_]{4,})'/g)].map((found) => found[1]));
+  for (const name of ['SHORT', 'NO_ROOM', 'NOT_HELD', 'NO_CHANGE', 'HELD', 'FRAME_FULL']) thrown.delete(name);
+  assert.deepEqual([...thrown].filter((name) => !named.has(name)), []);
+});
+
+const program = fileURLToPath(new URL('program.ts', import.meta.url));
+const tsc = spawnSync('tsc', ['--version']);
+test('a program by the types', { skip: tsc.error !== undefined && 'there is no tsc' }, () => {
+  const words = ['--noEmit', '--strict', '--target', 'es2022', '--module', 'es2022', '--lib', 'es2022,dom', program];
+  const done = spawnSync('tsc', words, { encoding: 'utf8' });
+  assert.equal(done.status, 0, done.stdout);
+});
