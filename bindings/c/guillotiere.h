@@ -18,8 +18,9 @@
  *
  * Statuses. A call answers a status. It is total: sizes, options, ids and limits may be any numbers, and what is wrong
  * is answered. After each status but GUILLOTIERE_DONE all handles hold what they held, and nothing was written, but for
- * the number of a bad sprite (guillotiere_pack), and but for two calls of a cache: guillotiere_cache_insert may have made
- * changes, which it tells, and guillotiere_cache_get counts a miss.
+ * the number of a bad sprite (guillotiere_pack), and but for two calls of a cache: guillotiere_cache_insert answers
+ * GUILLOTIERE_HELD of a key that was held, which is used then and whose place is written, and may have made changes after
+ * another status, which it tells; and guillotiere_cache_get counts a miss.
  *
  * What the caller owes, which nothing tests:
  * - A handle has been written by calls of this library alone, or is all zero. It isn't copied by `=` or memcpy: a copy is
@@ -45,7 +46,7 @@ enum {
     GUILLOTIERE_DONE = 0,     /* done; what is granted, found or listed was written */
     GUILLOTIERE_NO_ROOM = 1,  /* the request has no room */
     GUILLOTIERE_BAD_CALL = 2, /* an empty size, options that aren't valid, a growth that shrinks a side, a bad limit */
-    GUILLOTIERE_NOT_LIVE = 3, /* an id isn't live, or stands twice in a list of ids */
+    GUILLOTIERE_NOT_LIVE = 3, /* an id isn't live, or is in a list of ids twice */
     GUILLOTIERE_SLOTS = 4,    /* more slots would be used than the limit allows */
     GUILLOTIERE_MEMORY = 5,   /* memory was refused */
     GUILLOTIERE_SHORT = 6,    /* an array is too short */
@@ -64,8 +65,48 @@ enum {
     GUILLOTIERE_BAD_ATLAS = 19,       /* the options of the pages' atlases aren't valid */
     GUILLOTIERE_NOT_HELD = 20,        /* a key isn't held */
     GUILLOTIERE_NO_CHANGE = 21,       /* each change was handed over */
-    GUILLOTIERE_NO_PAGE = 22          /* there is no such page */
+    GUILLOTIERE_NO_PAGE = 22,         /* there is no such page */
+    GUILLOTIERE_HELD = 23,            /* a key that is inserted was held already; its place was written */
+    GUILLOTIERE_FRAME_FULL = 24,      /* this frame uses all that the pages of a cache have room for */
+    GUILLOTIERE_NEVER_FITS = 25,      /* a size passes the largest page, with the padding and rounded up to the alignment */
+    GUILLOTIERE_EMPTY_SIZE = 26,      /* a side of a size is below 1 */
+    GUILLOTIERE_NOTHING_FITS = 27     /* with the padding and rounded up, not even 1 by 1 fits the largest page */
 };
+
+/* What a status means, in a few words of English; "no status" of another number. */
+static inline const char *guillotiere_status_text(uint32_t status) {
+    switch (status) {
+    case GUILLOTIERE_DONE: return "done";
+    case GUILLOTIERE_NO_ROOM: return "the request has no room";
+    case GUILLOTIERE_BAD_CALL: return "the condition of the call does not hold";
+    case GUILLOTIERE_NOT_LIVE: return "an id is not live, or stands twice";
+    case GUILLOTIERE_SLOTS: return "too few slots";
+    case GUILLOTIERE_MEMORY: return "no memory";
+    case GUILLOTIERE_SHORT: return "an array is too short";
+    case GUILLOTIERE_EMPTY: return "a handle holds nothing, or something where one is to be filled";
+    case GUILLOTIERE_EMPTY_SHEET: return "a side of the sheet is below 1";
+    case GUILLOTIERE_EMPTY_RANGE: return "the greatest side of a sheet is below the least";
+    case GUILLOTIERE_EMPTY_ALIGNMENT: return "a side of the alignment is below 1";
+    case GUILLOTIERE_EMPTY_SPRITE: return "a sprite has a side below 1";
+    case GUILLOTIERE_GREAT_SPRITE: return "a sprite is too large";
+    case GUILLOTIERE_OTHER_SIZE: return "the key is held with another size";
+    case GUILLOTIERE_NUMBERS: return "no number left for a key";
+    case GUILLOTIERE_EMPTY_PAGE: return "a side of a new page is below 1";
+    case GUILLOTIERE_LARGEST_PAGE: return "the largest page is smaller than a new one";
+    case GUILLOTIERE_NO_PAGES: return "no pages are allowed";
+    case GUILLOTIERE_BAD_PADDING: return "the padding is below 0";
+    case GUILLOTIERE_BAD_ATLAS: return "the options of the atlas are not valid";
+    case GUILLOTIERE_NOT_HELD: return "the key is not held";
+    case GUILLOTIERE_NO_CHANGE: return "each change was handed over";
+    case GUILLOTIERE_NO_PAGE: return "there is no such page";
+    case GUILLOTIERE_HELD: return "the key was held already";
+    case GUILLOTIERE_FRAME_FULL: return "this frame uses all the room";
+    case GUILLOTIERE_NEVER_FITS: return "the size passes the largest page";
+    case GUILLOTIERE_EMPTY_SIZE: return "a side of the size is below 1";
+    case GUILLOTIERE_NOTHING_FITS: return "nothing fits the largest page with its padding";
+    default: return "no status";
+    }
+}
 
 /* Kinds of sheets. */
 enum {
@@ -80,7 +121,8 @@ enum {
     GUILLOTIERE_PAGE_ADDED = 0, /* there is a new page, the last one: make a texture of `size` for `page` */
     GUILLOTIERE_PAGE_GROWN = 1, /* `page` has this `size` now, and nothing on it moved: make its texture larger */
     GUILLOTIERE_EVICTED = 2,    /* `key` is gone, and its place was `from` */
-    GUILLOTIERE_MOVED = 3       /* `key` moved, by a repacking: copy what it shows from `from` to `to` */
+    GUILLOTIERE_MOVED = 3       /* `key` moved, by a repacking: copy `from.rectangle` to `to.rectangle`, border and all, out
+                                   of a copy of the page as it was before the call */
 };
 
 /* The greatest limit on the slots of an atlas, and that of an atlas without a limit of its own. */
@@ -184,18 +226,25 @@ typedef struct guillotiere_placed {
     uint32_t turned;
 } guillotiere_placed;
 
-/* How a cache is made. Lengths are in pixels. */
+/* How a cache is made. Lengths are in pixels. The layers of a texture array have one size: for those `page` is to be equal
+ * to `largest_page`. Pages that grow are for a texture each. */
 typedef struct guillotiere_cache_options {
     guillotiere_size page;         /* the size of a new page, which isn't empty */
     guillotiere_size largest_page; /* pages grow up to this; neither side is less than that of `page` */
     uint32_t pages;                /* the most pages, at least 1 */
-    int32_t padding;               /* what stays free on all four sides of an entry, at least 0 */
+    int32_t padding;               /* how wide the border is on all four sides of an entry, at least 0 */
     guillotiere_options atlas;     /* of the atlas of each page */
 } guillotiere_cache_options;
 
-/* Where a key lies: its page, counted from 0, its rectangle there with the padding, and the same without it, which has
- * the sides that were asked for. */
+/* Where a key lies: its number, which stays until the key is gone, and which no other key has meanwhile; its page, counted
+ * from 0; `rectangle`, which no other entry overlaps; and `inner` in it, which has the
+ * sides that were asked for and lies behind the padding from the left and from above. At the right and below `rectangle` has
+ * the padding as well, and more where an alignment rounds up.
+ *
+ * The border of a new entry shows what lay there before. A linear filter reads it, so write all of `rectangle`: the pixels
+ * in `inner`, and cleared ones around it. With a padding of 1 draw at most half a pixel beyond `inner`. */
 typedef struct guillotiere_place {
+    uint32_t number;
     uint32_t page;
     guillotiere_rectangle rectangle;
     guillotiere_rectangle inner;
@@ -247,10 +296,10 @@ void guillotiere_atlas_free(guillotiere_atlas *atlas);
 uint32_t guillotiere_atlas_allocate(guillotiere_atlas *atlas, int32_t width, int32_t height,
                                     guillotiere_allocation *granted);
 
-/* Frees the box of a live id: it joins the free space beside it. Takes no memory. DONE; NOT_LIVE; EMPTY. */
+/* Frees the box of a live id: it joins the free space next to it. Takes no memory. DONE; NOT_LIVE; EMPTY. */
 uint32_t guillotiere_atlas_deallocate(guillotiere_atlas *atlas, uint32_t id);
 
-/* Frees the boxes of a list of ids, all or none. DONE; NOT_LIVE if one isn't live or stands twice; MEMORY, as the list is
+/* Frees the boxes of a list of ids, all or none. DONE; NOT_LIVE if one isn't live or is listed twice; MEMORY, as the list is
  * copied first; EMPTY. */
 uint32_t guillotiere_atlas_deallocate_all(guillotiere_atlas *atlas, const uint32_t *ids, size_t ids_len);
 
@@ -261,7 +310,7 @@ uint32_t guillotiere_atlas_get(guillotiere_atlas *atlas, uint32_t id, guillotier
  * it answers NO_ROOM. Takes one search and no memory. False of a handle that holds nothing. */
 bool guillotiere_atlas_can_fit(guillotiere_atlas *atlas, int32_t width, int32_t height);
 
-/* Takes memory for so many slots beside those that are used; nothing else changes. While there is memory for 4 more slots no
+/* Takes memory for so many more slots than are used; nothing else changes. While there is memory for 4 more slots no
  * request is answered MEMORY, and for 3 no growth; a request uses at most 4, a growth at most 3, a freeing none. The memory
  * stays until the atlas is rearranged or freed, and a copy has none of it.
  * DONE; SLOTS if more slots would be used than the limit allows; MEMORY; EMPTY. */
@@ -289,7 +338,7 @@ uint32_t guillotiere_atlas_rearrange(guillotiere_atlas *atlas, guillotiere_chang
                                      guillotiere_change_count *count);
 
 /* Places what is live anew in an empty atlas of this size, the largest first; options and limit stay. All former ids are
- * void. `changes` gets what was placed, `failures` what found no room and is live no more, `count` how many of each. Both
+ * void. `changes` gets what was placed, `failures` what found no room and is no longer live, `count` how many of each. Both
  * arrays have room for as many as there are used slots (guillotiere_atlas_slots), else the answer is SHORT.
  * DONE; BAD_CALL if a side isn't above 0; SHORT; SLOTS; MEMORY; EMPTY. */
 uint32_t guillotiere_atlas_resize_and_rearrange(guillotiere_atlas *atlas, int32_t width, int32_t height,
@@ -375,8 +424,8 @@ bool guillotiere_simple_is_empty(guillotiere_simple *simple);
 
 /* Makes a cache that holds nothing and has no page yet, where the handle holds nothing. Keys are any numbers of 64 bits;
  * they are hashed with a fixed seed.
- * DONE; EMPTY_PAGE, LARGEST_PAGE, NO_PAGES, BAD_PADDING or BAD_ATLAS if that is wrong with the options; MEMORY; EMPTY if
- * the handle holds a cache already. */
+ * DONE; EMPTY if the handle holds a cache already; the first of EMPTY_PAGE, LARGEST_PAGE, NO_PAGES, BAD_PADDING, BAD_ATLAS
+ * and NOTHING_FITS that is wrong with the options; MEMORY. */
 uint32_t guillotiere_cache_new(const guillotiere_cache_options *options, guillotiere_cache *cache);
 
 /* Lets a cache go, with all its memory; the handle holds nothing then. */
@@ -391,13 +440,17 @@ uint32_t guillotiere_cache_get(guillotiere_cache *cache, uint64_t key, guillotie
 /* The place of a key; it counts as no use, and as no hit or miss. DONE; NOT_HELD; EMPTY. */
 uint32_t guillotiere_cache_peek(guillotiere_cache *cache, uint64_t key, guillotiere_place *place);
 
-/* A place for a key, which is used in this frame. A key that is held keeps its place. A new key comes on the first page
- * with room for its size with the padding. Where none has room a page grows; where none can grow one is added; and where
- * all are there, the least recently used key goes that this frame didn't use; and so on. What was done is handed over by
- * guillotiere_cache_next_change, also after NO_ROOM and after an error: follow it before the place is used.
- * DONE; NO_ROOM if the size is empty or too large for the largest page, and then nothing changed, or if this frame uses
- * all keys and no page has room; OTHER_SIZE if the key is held with another size, and then nothing changed; NUMBERS if
- * 4294967295 keys are left; SLOTS if those of a page don't suffice; MEMORY; EMPTY. */
+/* A place for a key, which is used in this frame. A key that is held keeps its place, and is the most recently used; that
+ * counts as no hit. A new key comes on the first page with room for its size with the padding. Where none has room a page
+ * grows; where none can grow one is added; and where all are there, the least recently used key goes that this frame
+ * didn't use; and so on. What was done is handed over by guillotiere_cache_next_change, also after FRAME_FULL and after an
+ * error: follow it before the place is used.
+ * DONE: the key is new, and its place was written: its pixels are to be written to the texture. HELD: it was held, and its
+ * place was written, where its pixels are. FRAME_FULL: every page is there and at its largest, this frame uses all keys and
+ * no page has room: draw what is batched, call guillotiere_cache_begin_frame and insert again; as long as a frame has used
+ * nothing this isn't answered. NEVER_FITS if the size, with the padding on all sides and rounded up to the alignment, passes
+ * the largest page, EMPTY_SIZE if a side is below 1, OTHER_SIZE if the key is held with another size, also with one of
+ * those: then nothing changed. NUMBERS if 4294967295 keys are left; SLOTS if those of a page don't suffice; MEMORY; EMPTY. */
 uint32_t guillotiere_cache_insert(guillotiere_cache *cache, uint64_t key, int32_t width, int32_t height,
                                   guillotiere_place *place);
 
@@ -426,6 +479,11 @@ uint32_t guillotiere_cache_repack(guillotiere_cache *cache, uint32_t page);
 
 /* How many keys are held. DONE; EMPTY. */
 uint32_t guillotiere_cache_len(guillotiere_cache *cache, size_t *len);
+
+/* How many numbers keys had so far, since the cache was made or cleared: the number of each place is below. The numbers of
+ * keys that are gone are given again before new ones are, so there are at most as many as there ever were keys at once, and
+ * what a caller keeps of each key fits an array. DONE; EMPTY. */
+uint32_t guillotiere_cache_numbers(guillotiere_cache *cache, uint32_t *numbers);
 
 /* How many pages there are. DONE; EMPTY. */
 uint32_t guillotiere_cache_page_count(guillotiere_cache *cache, uint32_t *pages);

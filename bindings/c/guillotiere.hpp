@@ -2,7 +2,7 @@
 //
 // An atlas, a simple allocator or a cache is owned by an object that is moved and not copied, and lets it go at its end. An object
 // that was moved from holds nothing: each call of it answers status::empty. Nothing here throws but what a std::vector
-// throws where memory is wanting; it compiles without exceptions.
+// throws when memory runs out; it compiles without exceptions.
 //
 // Meaning, units and statuses are those of guillotiere.h, with what a caller owes there: one call at a time, and no two
 // threads at once.
@@ -43,7 +43,15 @@ enum class status : std::uint32_t {
     not_held = GUILLOTIERE_NOT_HELD,
     no_change = GUILLOTIERE_NO_CHANGE,
     no_page = GUILLOTIERE_NO_PAGE,
+    held = GUILLOTIERE_HELD,
+    frame_full = GUILLOTIERE_FRAME_FULL,
+    never_fits = GUILLOTIERE_NEVER_FITS,
+    empty_size = GUILLOTIERE_EMPTY_SIZE,
+    nothing_fits = GUILLOTIERE_NOTHING_FITS,
 };
+
+// What a status means, in a few words of English.
+inline const char *text(status of) { return guillotiere_status_text(static_cast<std::uint32_t>(of)); }
 
 // Kinds of sheets.
 enum class sheets : std::uint32_t {
@@ -74,7 +82,25 @@ using cache_change = guillotiere_cache_change;
 using place = guillotiere_place;
 using counts = guillotiere_counts;
 
+// The kind of a change.
+inline change_kind kind_of(const cache_change &of) { return static_cast<change_kind>(of.kind); }
+
 inline constexpr options default_options = GUILLOTIERE_DEFAULT_OPTIONS;
+
+// What an insertion into a cache answers.
+enum class insertion : std::uint32_t {
+    fresh = GUILLOTIERE_DONE,            // the key is new: its pixels are to be written to its place
+    held = GUILLOTIERE_HELD,             // the key was held, and its pixels are in its place
+    frame_full = GUILLOTIERE_FRAME_FULL, // draw what is batched, begin a frame, and insert again
+    never_fits = GUILLOTIERE_NEVER_FITS, // the size passes the largest page
+    empty_size = GUILLOTIERE_EMPTY_SIZE, // a side of the size is below 1
+};
+
+// The answer of an insertion, and the place of a key that is new or was held.
+struct inserted {
+    insertion answer;
+    std::optional<place> at;
+};
 
 // Which sheets are allowed, and how sprites lie in them: squares with a side up to 4096, unless it is said otherwise.
 struct sheet_options : guillotiere_sheet_options {
@@ -88,37 +114,38 @@ struct sheet_options : guillotiere_sheet_options {
         made.height = only.height;
         return made;
     }
-    // Squares with a side from `least` to `greatest`.
-    static constexpr sheet_options of_squares(std::int32_t least, std::int32_t greatest) {
+    // Squares with a side from `from` to `to`.
+    static constexpr sheet_options of_squares(std::int32_t from, std::int32_t to) {
         sheet_options made;
         made.allowed = static_cast<std::uint32_t>(sheets::squares);
-        made.least = least;
-        made.greatest = greatest;
+        made.least = from;
+        made.greatest = to;
         return made;
     }
-    // Each side a power of two, at most `greatest`.
-    static constexpr sheet_options of_powers(std::int32_t greatest) {
+    // Each side a power of two, at most `to`.
+    static constexpr sheet_options of_powers(std::int32_t to) {
         sheet_options made;
         made.allowed = static_cast<std::uint32_t>(sheets::powers);
-        made.greatest = greatest;
+        made.greatest = to;
         return made;
     }
-    // This width, and a height from 1 to `greatest`.
-    static constexpr sheet_options of_heights(std::int32_t width, std::int32_t greatest) {
+    // The width `across`, and a height from 1 to `to`.
+    static constexpr sheet_options of_heights(std::int32_t across, std::int32_t to) {
         sheet_options made;
         made.allowed = static_cast<std::uint32_t>(sheets::heights);
-        made.width = width;
-        made.greatest = greatest;
+        made.width = across;
+        made.greatest = to;
         return made;
     }
 };
 
 inline constexpr std::uint32_t most_slots = GUILLOTIERE_MOST_SLOTS;
 
-// A value, or the status that says why there is none, which is never status::done.
+// A value, or the status that says why there is none, which is never status::done; without either, status::empty.
 template <class T>
 class [[nodiscard]] result {
 public:
+    result() : error_(status::empty) {}
     result(T value) : value_(std::move(value)), error_(status::done) {}
     result(status error) : error_(error) {}
 
@@ -197,7 +224,7 @@ public:
 
     // Whether a request has room: then `allocate` grants it, slots and memory aside.
     bool can_fit(size requested) const { return guillotiere_atlas_can_fit(&handle_, requested.width, requested.height); }
-    // Takes memory for so many slots beside those that are used: 4 for a request, 3 for a growth.
+    // Takes memory for so many more slots than are used: 4 for a request, 3 for a growth.
     [[nodiscard]] status reserve(std::uint32_t additional) {
         return static_cast<status>(guillotiere_atlas_reserve(&handle_, additional));
     }
@@ -393,13 +420,18 @@ public:
     std::optional<place> peek(std::uint64_t key) const {
         return found([this, key](place &at) { return guillotiere_cache_peek(&handle_, key, &at); });
     }
-    // A place for a key, or nothing where there is no room. Follow the changes before it is used, and also after an error.
-    result<std::optional<place>> insert(std::uint64_t key, size of) {
+    // A place for a key. Follow the changes before it is used, and also after another answer and after an error.
+    result<inserted> insert(std::uint64_t key, size of) {
         place at;
         const auto answer = guillotiere_cache_insert(&handle_, key, of.width, of.height, &at);
-        if (answer == GUILLOTIERE_DONE) return std::optional<place>(at);
-        if (answer == GUILLOTIERE_NO_ROOM) return std::optional<place>();
-        return static_cast<status>(answer);
+        switch (answer) {
+        case GUILLOTIERE_DONE:
+        case GUILLOTIERE_HELD: return inserted{static_cast<insertion>(answer), at};
+        case GUILLOTIERE_FRAME_FULL:
+        case GUILLOTIERE_NEVER_FITS:
+        case GUILLOTIERE_EMPTY_SIZE: return inserted{static_cast<insertion>(answer), std::nullopt};
+        default: return static_cast<status>(answer);
+        }
     }
     // The place that a key had, which goes.
     std::optional<place> remove(std::uint64_t key) {
@@ -422,6 +454,12 @@ public:
     std::size_t len() const {
         std::size_t found = 0;
         guillotiere_cache_len(&handle_, &found);
+        return found;
+    }
+    // The number of each place is below.
+    std::uint32_t numbers() const {
+        std::uint32_t found = 0;
+        guillotiere_cache_numbers(&handle_, &found);
         return found;
     }
     std::uint32_t page_count() const {

@@ -18,7 +18,7 @@ static guillotiere_place inserted(guillotiere_cache *cache, uint64_t key, int32_
 }
 
 static bool same_place(const guillotiere_place *a, const guillotiere_place *b) {
-    return a->page == b->page && are_same(&a->rectangle, &b->rectangle) && are_same(&a->inner, &b->inner);
+    return a->number == b->number && a->page == b->page && are_same(&a->rectangle, &b->rectangle) && are_same(&a->inner, &b->inner);
 }
 
 static void told_page(guillotiere_cache *cache, uint32_t kind, uint32_t page, int32_t width, int32_t height) {
@@ -65,6 +65,15 @@ static void bad_options(void) {
     options = two_pages;
     options.atlas.alignment_width = 0;
     CHECK(made_with(options) == GUILLOTIERE_BAD_ATLAS);
+    options = two_pages;
+    options.padding = 8;
+    CHECK(made_with(options) == GUILLOTIERE_NOTHING_FITS);
+    options.padding = 7;
+    CHECK(made_with(options) == GUILLOTIERE_DONE);
+    options.atlas.alignment_height = 33;
+    CHECK(made_with(options) == GUILLOTIERE_NOTHING_FITS);
+    options.pages = 0;
+    CHECK(made_with(options) == GUILLOTIERE_NO_PAGES);
 }
 
 static void empty_handles(void) {
@@ -86,6 +95,7 @@ static void empty_handles(void) {
     CHECK(guillotiere_cache_repack(&cache, 0) == GUILLOTIERE_EMPTY);
     CHECK(guillotiere_cache_len(&cache, &len) == GUILLOTIERE_EMPTY && len == 77);
     CHECK(guillotiere_cache_page_count(&cache, &pages) == GUILLOTIERE_EMPTY && pages == 77);
+    CHECK(guillotiere_cache_numbers(&cache, &pages) == GUILLOTIERE_EMPTY && pages == 77);
     CHECK(guillotiere_cache_page_size(&cache, 0, &size) == GUILLOTIERE_EMPTY);
     CHECK(guillotiere_cache_statistics(&cache, &counts) == GUILLOTIERE_EMPTY);
     guillotiere_cache_free(&cache);
@@ -121,7 +131,8 @@ static void a_key_moves(void) {
     told_nothing(&cache);
     CHECK(guillotiere_cache_repack(&cache, 0) == GUILLOTIERE_DONE);
     CHECK(guillotiere_cache_next_change(&cache, &change) == GUILLOTIERE_DONE && change.kind == GUILLOTIERE_MOVED);
-    CHECK(change.key == 8 && same_place(&change.from, &low) && same_place(&change.to, &place));
+    CHECK(change.key == 8 && same_place(&change.from, &low) && are_same(&change.to.rectangle, &place.rectangle));
+    CHECK(change.to.number == low.number && change.to.number != place.number);
     CHECK(guillotiere_cache_peek(&cache, 8, &place) == GUILLOTIERE_DONE && same_place(&place, &change.to));
     told_nothing(&cache);
     guillotiere_cache_free(&cache);
@@ -131,7 +142,7 @@ static void a_key_moves(void) {
 static void a_life(void) {
     guillotiere_cache cache = GUILLOTIERE_NONE;
     make(&two_pages, &cache);
-    guillotiere_place none = {7, {7, 7, 7, 7}, {7, 7, 7, 7}}, place = none;
+    guillotiere_place none = {7, 7, {7, 7, 7, 7}, {7, 7, 7, 7}}, place = none;
     guillotiere_counts counts;
     CHECK(guillotiere_cache_begin_frame(&cache) == GUILLOTIERE_DONE);
     const guillotiere_place seven = inserted(&cache, 7, 16, 16);
@@ -146,9 +157,12 @@ static void a_life(void) {
     check_figures(&cache, 3, 2);
 
     /* This frame uses all of them, and so nothing gives way. */
-    CHECK(guillotiere_cache_insert(&cache, 10, 1, 1, &place) == GUILLOTIERE_NO_ROOM && same_place(&place, &none));
-    CHECK(guillotiere_cache_insert(&cache, 10, 17, 1, &place) == GUILLOTIERE_NO_ROOM);
+    CHECK(guillotiere_cache_insert(&cache, 10, 1, 1, &place) == GUILLOTIERE_FRAME_FULL && same_place(&place, &none));
+    CHECK(guillotiere_cache_insert(&cache, 10, 17, 1, &place) == GUILLOTIERE_NEVER_FITS && same_place(&place, &none));
+    CHECK(guillotiere_cache_insert(&cache, 10, 17, 0, &place) == GUILLOTIERE_EMPTY_SIZE && same_place(&place, &none));
     CHECK(guillotiere_cache_insert(&cache, 7, 16, 15, &place) == GUILLOTIERE_OTHER_SIZE && same_place(&place, &none));
+    CHECK(guillotiere_cache_insert(&cache, 7, 16, 0, &place) == GUILLOTIERE_OTHER_SIZE && same_place(&place, &none));
+    CHECK(guillotiere_cache_insert(&cache, 7, 16, 16, &place) == GUILLOTIERE_HELD && same_place(&place, &seven));
     told_nothing(&cache);
 
     /* 7 is used in the next frame, so 8 was used longest ago. */
@@ -227,6 +241,19 @@ static void follow(guillotiere_cache *cache, picture *known) {
     }
 }
 
+/* Each key that is held has a number of its own, below as many as there were keys at once. */
+static void check_numbers(guillotiere_cache *cache, const picture *known) {
+    bool taken[KEYS] = {false};
+    uint32_t numbers = 0;
+    CHECK(guillotiere_cache_numbers(cache, &numbers) == GUILLOTIERE_DONE && numbers <= KEYS);
+    for (uint64_t key = 0; key < KEYS; key++) {
+        if (!known->held[key]) continue;
+        const uint32_t number = known->places[key].number;
+        CHECK(number < numbers && !taken[number]);
+        taken[number] = true;
+    }
+}
+
 static void check_known(guillotiere_cache *cache, const picture *known) {
     for (uint64_t key = 0; key < KEYS; key++) {
         guillotiere_place place;
@@ -260,20 +287,31 @@ static void random_session(void) {
         const int32_t width = 9 + (int32_t)key % 30, height = 40 - (int32_t)key % 31;
         if (what > 3) status = guillotiere_cache_insert(&cache, key, width, height, &place);
         follow(&cache, &known);
-        CHECK(status == GUILLOTIERE_DONE || (what > 3 && status == GUILLOTIERE_NO_ROOM));
-        if (what > 3 && status == GUILLOTIERE_DONE) {
-            CHECK(!known.held[key] || same_place(&place, &known.places[key]));
+        const bool is_held = what > 3 && known.held[key];
+        const bool is_full = what > 3 && !is_held && status == GUILLOTIERE_FRAME_FULL;
+        CHECK(status == (is_held ? GUILLOTIERE_HELD : GUILLOTIERE_DONE) || is_full);
+        if (what > 3 && !is_full) {
+            CHECK(!is_held || same_place(&place, &known.places[key]));
             known.held[key] = true;
             known.places[key] = place;
         }
         if (i % 50 == 0) check_known(&cache, &known);
+        check_numbers(&cache, &known);
     }
     check_known(&cache, &known);
     CHECK(known.pages == MOST_PAGES);
     guillotiere_cache_free(&cache);
 }
 
+/* Each status has a text. */
+static void texts(void) {
+    const char *const none = guillotiere_status_text(GUILLOTIERE_NOTHING_FITS + 1);
+    for (uint32_t status = GUILLOTIERE_DONE; status <= GUILLOTIERE_NOTHING_FITS; status++)
+        CHECK(strcmp(guillotiere_status_text(status), none) != 0);
+}
+
 int main(void) {
+    texts();
     bad_options();
     empty_handles();
     a_life();

@@ -3,6 +3,7 @@
 
 #include <guillotiere.hpp>
 
+#include <string>
 #include <type_traits>
 
 using namespace guillotiere;
@@ -115,7 +116,7 @@ static void sheets_of_sprites() {
 
 static std::uint64_t evicted(cache &of) {
     const auto change = of.next_change();
-    CHECK(change && change->kind == static_cast<std::uint32_t>(change_kind::evicted));
+    CHECK(change && kind_of(*change) == change_kind::evicted);
     return change->key;
 }
 
@@ -124,23 +125,33 @@ static void caches() {
     auto made = cache::make(with);
     CHECK(made && made->begin_frame() == status::done);
     const auto first = made->insert(7, {16, 32});
-    CHECK(first && *first && (*first)->inner.max_y == 32);
+    CHECK(first && first->answer == insertion::fresh && first->at->inner.max_y == 32);
+    const auto again = made->insert(7, {16, 32});
+    CHECK(again && again->answer == insertion::held && again->at->inner.max_y == 32);
     CHECK(made->page_count() == 1 && made->page_size(0)->height == 32 && !made->page_size(1));
     const auto added = made->next_change(), grown = made->next_change();
-    CHECK(added && added->kind == static_cast<std::uint32_t>(change_kind::page_added) && added->size.height == 16);
-    CHECK(grown && grown->kind == static_cast<std::uint32_t>(change_kind::page_grown) && grown->size.height == 32);
-    CHECK(!made->next_change() && !*made->insert(8, {1, 1}));
+    CHECK(added && kind_of(*added) == change_kind::page_added && added->size.height == 16);
+    CHECK(grown && kind_of(*grown) == change_kind::page_grown && grown->size.height == 32);
+    CHECK(!made->next_change() && !made->insert(8, {1, 1})->at);
+    CHECK(made->insert(8, {1, 1})->answer == insertion::frame_full);
+    CHECK(made->insert(8, {17, 1})->answer == insertion::never_fits);
+    CHECK(made->insert(8, {17, 0})->answer == insertion::empty_size);
     CHECK(made->insert(7, {1, 1}).error() == status::other_size);
-    CHECK(made->begin_frame() == status::done && made->insert(8, {1, 1}) && evicted(*made) == 7);
+    CHECK(made->begin_frame() == status::done && made->insert(8, {1, 1})->at && evicted(*made) == 7);
     CHECK(made->get(8) && !made->get(7) && made->peek(8)->page == 0 && made->len() == 1);
+    CHECK(made->peek(8)->number == 0 && made->numbers() == 1);
     CHECK(made->statistics().hits == 1 && made->statistics().misses == 1 && made->statistics().evictions == 1);
     cache taken = std::move(*made);
     CHECK(made->insert(8, {1, 1}).error() == status::empty && !made->get(8) && made->len() == 0);
     CHECK(taken.remove(8) && !taken.remove(8) && taken.insert(9, {2, 2}) && taken.trim(0) == status::done);
     CHECK(taken.repack(0) == status::done && taken.repack(9) == status::no_page);
     CHECK(evicted(taken) == 9 && taken.clear() == status::done && taken.len() == 0);
+    result<inserted> none;
+    CHECK(!none && none.error() == status::empty);
     with.pages = 0;
     CHECK(cache::make(with).error() == status::no_pages);
+    CHECK(std::string(text(cache::make(with).error())) == "no pages are allowed");
+    CHECK(std::string(text(status::done)) == "done" && std::string(guillotiere_status_text(99)) == "no status");
 }
 
 int main() {

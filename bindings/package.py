@@ -1,0 +1,57 @@
+"""What an installation of the library has beside the library itself: the headers, the file of pkg-config, and the CMake
+package. bindings/build and rust/install write the same.
+"""
+import os
+import shutil
+
+HERE = os.path.dirname(os.path.abspath(__file__))
+VERSION = '0.7.0'
+# Programs that were linked with one version run with another of the same 0.x.
+ABI = '0.7'
+SONAME = 'libguillotiere.so.' + ABI
+
+PKG_CONFIG = """prefix=%(prefix)s
+libdir=${prefix}/lib
+includedir=${prefix}/include
+
+Name: guillotiere
+Description: An atlas allocator whose source is proved
+Version: %(version)s
+Libs: -L${libdir} -lguillotiere
+%(private)sCflags: -I${includedir}
+"""
+
+
+def place(prefix, *names):
+    """A folder of the installation, made where it is absent."""
+    folder = os.path.join(prefix, *names)
+    os.makedirs(folder, exist_ok=True)
+    return folder
+
+
+def fill(template, folder, values):
+    with open(os.path.join(HERE, 'c', template)) as file:
+        text = file.read()
+    for name, value in values.items():
+        text = text.replace('@%s@' % name, value)
+    with open(os.path.join(folder, template[:-len('.in')]), 'w') as file:
+        file.write(text)
+
+
+def install(prefix, needs=(), shared='', imports='', pointer=8):
+    """Installs all but the library.
+
+    needs     the words with which a program that links the static library links what that takes: '-lpthread'
+    shared    where the shared library is below the prefix, if there is one
+    imports   the same of its import library, under Windows
+    pointer   the bytes of a pointer of the platform
+    """
+    for header in ('guillotiere.h', 'guillotiere.hpp'):
+        shutil.copy(os.path.join(HERE, 'c', header), place(prefix, 'include'))
+    private = 'Libs.private: %s\n' % ' '.join(needs) if needs else ''
+    with open(os.path.join(place(prefix, 'lib', 'pkgconfig'), 'guillotiere.pc'), 'w') as file:
+        file.write(PKG_CONFIG % {'prefix': prefix, 'version': VERSION, 'private': private})
+    values = {'VERSION': VERSION, 'ABI': ABI, 'NEEDS': ';'.join(needs), 'SHARED': shared, 'IMPORT': imports,
+              'SONAME': SONAME if '.so' in shared else '', 'POINTER': str(pointer)}
+    for template in ('guillotiere-config.cmake.in', 'guillotiere-config-version.cmake.in'):
+        fill(template, place(prefix, 'lib', 'cmake', 'guillotiere'), values)
