@@ -1,22 +1,23 @@
-"""The library behind the Rust crate's names: bench/driver.rs over bindings/rust, beside the bare program, for bench/run."""
+"""The library behind the Rust crate's names: bench/driver.rs over rust/guillotiere, beside the bare program, for bench/run."""
 import os
 import shutil
-import statistics
 
-from measure import LIBRARY_COMMANDS, ROOT, absent, build_library, call, compared, rate, say, shown, timed
+from beside import print_table
+from measure import ROOT, absent, call, say
 
 REGISTRY = '/usr/share/cargo/registry'
-ROUNDS = 5
-
-HEAD = "| workload | linked, calls a second | bare | ratio of times | in single rounds | the crate's | ratio |"
-
 PACKAGE = """[package]
 name = "%s"
 version = "0.0.0"
 edition = "2021"
 
 [dependencies]
-guillotiere = { path = "%s" }
+guillotiere = { package = "wollemigo", path = "%s" }
+
+[profile.release]
+panic = "abort"
+lto = "fat"
+codegen-units = 1
 """
 
 # bench/driver.rs names the crate's allocator.rs, and of euclid three types and a function.
@@ -25,8 +26,8 @@ EUCLID = 'pub use guillotiere::{size2, Point as Point2D, Rectangle as Box2D, Siz
 
 
 def missing():
-    """What the driver over bindings/rust needs and isn't here, in words, or ''."""
-    here = absent(LIBRARY_COMMANDS + ('cargo',))
+    """What the driver over rust/guillotiere needs and isn't here, in words, or ''."""
+    here = absent(('cargo',))
     has_euclid = os.path.isdir(REGISTRY) and any(name.startswith('euclid-') for name in os.listdir(REGISTRY))
     return here or ('' if has_euclid else 'there is no euclid in %s (librust-euclid-dev)' % REGISTRY)
 
@@ -38,51 +39,28 @@ def write(path, text):
 
 
 def build(folder):
-    """Builds bench/driver.rs over bindings/rust as a user would: by cargo, in release."""
-    prefix, here = os.path.join(folder, 'prefix'), os.path.join(folder, 'linked')
-    build_library(prefix)
-    say('building the driver over bindings/rust')
-    crate = os.path.join(ROOT, 'bindings', 'rust')
-    write(os.path.join(here, 'Cargo.toml'), PACKAGE % ('driver', crate) + 'euclid = { path = "euclid" }\n\n[workspace]\n')
-    write(os.path.join(here, 'euclid', 'Cargo.toml'), PACKAGE % ('euclid', crate))
+    """Builds bench/driver.rs over rust/guillotiere by cargo, in release, with what is inlined across crates."""
+    here = os.path.join(folder, 'linked')
+    say('building the driver over rust/guillotiere')
+    crate = os.path.join(ROOT, 'rust', 'guillotiere')
+    write(os.path.join(here, 'Cargo.toml'), PACKAGE % ('driver', crate) + '\n[dependencies.euclid]\npath = "euclid"\n\n[workspace]\n')
+    write(os.path.join(here, 'euclid', 'Cargo.toml'), (PACKAGE % ('euclid', crate)).split('\n[profile')[0])
     write(os.path.join(here, 'euclid', 'src', 'lib.rs'), EUCLID)
     write(os.path.join(here, 'src', 'allocator.rs'), ALLOCATOR)
     shutil.copy(os.path.join(ROOT, 'bench', 'driver.rs'), os.path.join(here, 'src', 'main.rs'))
     shutil.copy(os.path.join(ROOT, 'bench', 'cache.rs'), os.path.join(here, 'src', 'cache.rs'))
     call(['cargo', '--offline', '--config', 'source.crates-io.replace-with="debian"',
           '--config', 'source.debian.directory="%s"' % REGISTRY, 'build', '--release'], 'cargo build of bench/driver.rs',
-         cwd=here, env=dict(os.environ, GUILLOTIERE_LIB=os.path.join(prefix, 'lib'), CARGO_TARGET_DIR='target'))
+         cwd=here, env=dict(os.environ, CARGO_TARGET_DIR='target'))
     return os.path.join(here, 'target', 'release', 'driver')
 
 
-def row(name, workload, programs):
-    """A line of the table: each program's time of a call. Programs are linked, bare and, where it is asked, the crate's."""
-    our_lines, their_lines, base = workload
-    say(name + ': comparing answers with the bare program')
-    compared(programs[1], programs[0], our_lines, base)
-    times = [[] for _ in programs]
-    for turn in range(ROUNDS):
-        say('%s, linked: round %d of %d' % (name, turn + 1, ROUNDS))
-        for place, program in enumerate(programs):
-            times[place].append(timed(program, our_lines if place < 2 else their_lines, base)[0])
-    medians = [statistics.median(some) for some in times]
-    rounds = sorted(a / b for a, b in zip(*times[:2]))
-    cells = [name, rate(medians[0]), rate(medians[1]), shown(medians[0] / medians[1]),
-             '%s to %s' % (shown(rounds[0]), shown(rounds[-1]))]
-    cells += [rate(medians[2]), shown(medians[0] / medians[2])] if medians[2:] else ['', '']
-    return '| ' + ' | '.join(cells) + ' |'
-
-
 def report(names, workloads, long, folder, bare, crate):
-    """Prints the table of these workloads, or what is missing. The crate's cells are empty without it, and where it takes
-    minutes."""
+    """Prints the table of these workloads, or what is missing."""
     lacking = missing()
     if lacking:
         print('\nLinked: passed over, %s.' % lacking)
         return
     programs = [build(folder), bare]
-    print('\nLinked: bench/driver.rs over bindings/rust.' + ('' if crate else " The crate's files weren't given."))
-    print('\n%s\n%s|' % (HEAD, '|---' * (HEAD.count('|') - 1)), flush=True)
-    for name in names:
-        theirs = [crate] if crate and name not in long else []
-        print(row(name, workloads[name], programs + theirs), flush=True)
+    print('\nLinked: bench/driver.rs over rust/guillotiere.' + ('' if crate else " The crate's files weren't given."))
+    print_table(names, workloads, long, programs, ('linked', 'bare'), crate)

@@ -1,4 +1,4 @@
-"""Programs and the times that they take, for bench/run, bench/linked.py and bench/stb."""
+"""Programs and the times that they take, for the scripts of bench/."""
 import os
 import platform
 import resource
@@ -31,6 +31,14 @@ def absent(commands=(), files=()):
     wanting = ['command ' + name for name in commands if shutil.which(name) is None]
     wanting += ['file ' + path for path in files if not os.path.isfile(path)]
     return 'there is no ' + ', no '.join(wanting) if wanting else ''
+
+
+def build_proved():
+    """Proves and builds atlas_bench, by a run over no lines."""
+    say('proving and building atlas_bench')
+    crate = os.path.join(ROOT, 'crates', 'atlas_bench')
+    call(['rt', 'run'], 'rt run in ' + crate, cwd=crate, stdin=subprocess.DEVNULL)
+    return os.path.join(crate, 'out', 'atlas_bench')
 
 
 def build_library(prefix):

@@ -35,6 +35,16 @@ class Crate:
                 found[dep] = Crate.all[dep]
         return found
 
+    def sources(self):
+        """The files that its check reads, without those of the crates below it."""
+        return [path for part in ("src", "specs", "proofs") for path in (self.folder / part).rglob("*") if path.is_file()]
+
+    def program(self):
+        """The program that `rt ci` or `rt run` has proved and built; None where it is older than its sources, or isn't there."""
+        built = self.folder / "out" / self.name
+        newest = max(path.stat().st_mtime for crate in [self, *self.below().values()] for path in crate.sources())
+        return str(built) if built.is_file() and built.stat().st_mtime > newest else None
+
     def rlib(self):
         return self.folder / "out" / "rlib" / f"{self.name}.rlib"
 
@@ -65,8 +75,7 @@ def build_below(crates):
         needed.update(crate.below())
     for name in sorted(needed, key=lambda it: len(needed[it].below())):
         library = needed[name]
-        sources = [path for part in ("src", "specs", "proofs") for path in (library.folder / part).rglob("*") if path.is_file()]
-        is_new = library.rlib().is_dir() and library.rlib().stat().st_mtime > max(path.stat().st_mtime for path in sources)
+        is_new = library.rlib().is_dir() and library.rlib().stat().st_mtime > max(it.stat().st_mtime for it in library.sources())
         if is_new and not stale & {*library.below()}:
             continue
         print(f"proving {name}", flush=True)

@@ -1,0 +1,139 @@
+"""The edits of crates/NAME/must-fail-together, and the functions of a crate as the check prints their paths."""
+import pathlib
+import re
+
+FUNCTION = re.compile(r'\s*(?:pub(?:\(crate\))? )?(?:const )?(?:unsafe )?(?:extern "C" )?fn (\w+)|(?:pub )?(?:const|struct) (\w+)')
+
+
+class BadEdit(Exception):
+    """An edit that can't be applied, or that the prover can't read."""
+
+
+class Edit:
+    """An edit: its pairs of texts, by file, and the functions that it turns."""
+
+    def __init__(self, path):
+        self.path, self.crate, self.name = path, path.parent.parent, path.name
+        self.pairs, self.by, file, old = [], [], "", None
+        for line in path.read_text(encoding="utf-8").splitlines():
+            word, _, text = line.partition(": ") if ": " in line else (line.rstrip(":"), "", "")
+            if word == "file":
+                file = text.strip()
+            elif word == "by":
+                self.by.append(text.strip())
+            elif word == "old":
+                old = text
+            elif word == "new" and file and old:
+                self.pairs.append((file, old, text))
+                old = None
+        # A pair may change what an earlier pair made, and then no line of the source has its text.
+        found = [self.place(file, old) for file, old, _ in self.pairs if not old.startswith("use ")]
+        self.places = list(dict.fromkeys(it for it in found if it))
+        # What it changes outside of functions may show in any of them.
+        self.is_apart = any(old.startswith("use ") for _, old, _ in self.pairs) or any(not path for _, _, path in self.places)
+
+    def place(self, file, text):
+        """The file and the function round the line where this text stands, with its path as the check prints it."""
+        lines = (self.crate / file).read_text(encoding="utf-8").splitlines()
+        first = text.splitlines()[0] if text else text
+        at = next((number for number, line in enumerate(lines) if first in line), -1)
+        found = ((number, FUNCTION.match(lines[number])) for number in range(at, -1, -1))
+        number, match = next((it for it in found if it[1]), (-1, None))
+        if not match:
+            return None
+        is_function = bool(match[1])
+        return file, match[1] or match[2], path_of(file, lines, number, match[1]) if is_function else ""
+
+    def apply(self, texts):
+        """Applies the edit to texts by file, read on demand; says why where it can't be."""
+        mine = dict(texts)
+        for file, old, new in self.pairs:
+            text = mine.get(file) or (self.crate / file).read_text(encoding="utf-8")
+            if text.count(old) != 1:
+                raise BadEdit(f"a text of it stands in {file} {text.count(old)} times, and not once")
+            mine[file] = text.replace(old, new)
+        if not self.pairs:
+            raise BadEdit("it has no 'old:' and 'new:' pair")
+        texts.update(mine)
+
+    def checked(self):
+        """What to ask the check for: the functions that refuse it."""
+        return self.by or [path for _, _, path in self.places if path]
+
+
+def head_of(lines, number):
+    """The head of the `impl` or the trait that the function at this line stands in; '' for a function of a module."""
+    above = number if lines[number].startswith(" ") else -1
+    while above >= 0 and not re.match(r"(unsafe )?impl\b|trait\b|pub trait\b", lines[above]):
+        above -= 1
+    return " ".join(line.strip() for line in lines[above : number + 1]).split("{")[0] if above >= 0 else ""
+
+
+def path_of(file, lines, number, function):
+    """A function's path as the check prints it: below its type, or below its module."""
+    head = head_of(lines, number)
+    if head:
+        return f"{type_of(head)}::{function}"
+    parts = pathlib.PurePosixPath(file).with_suffix("").parts[1:]
+    return "::".join([*(it for it in parts if it not in ("lib", "main")), function])
+
+
+def functions_of(crate):
+    """The paths of a crate's functions, with their modules: those of modules, and those of types; not those of traits."""
+    files = {path: path.read_text(encoding="utf-8").splitlines() for path in sorted((crate.folder / "src").rglob("*.rt"))}
+    modules, found = {}, []
+    for path, lines in files.items():
+        module = [it for it in path.relative_to(crate.folder / "src").with_suffix("").parts if it not in ("lib", "main")]
+        modules.update((match[1], module) for match in map(re.compile(r"(?:pub(?:\(crate\))? )?(?:struct|enum) (\w+)").match, lines) if match)
+    for path, lines in files.items():
+        for number, line in enumerate(lines):
+            match = FUNCTION.match(line)
+            if match and match[1]:
+                name = path_of(str(path.relative_to(crate.folder)), lines, number, match[1])
+                of_type = name.split("::")[0] if line.startswith(" ") else None
+                found += ["::".join([*modules.get(of_type, []), name])] if not of_type or of_type in modules else []
+    return found
+
+
+def split_at_top(text):
+    """The parts of a list between commas that stand in no bracket, without their bounds."""
+    parts, depth = [""], 0
+    for at, sign in enumerate(text):
+        depth += (sign in "<(") - (sign in ")" or sign == ">" and text[at - 1] != "-")
+        if sign == "," and depth == 0:
+            parts.append("")
+        else:
+            parts[-1] += sign
+    return [it.split(":")[0].removeprefix("const ").strip() for it in (it.strip() for it in parts) if it]
+
+
+def parted(head):
+    """The type's name of an `impl`, and what is added to it: the trait's name with its argument, or the type's arguments where they aren't
+    the parameters."""
+    head, depth, given = head[head.index("impl") + 4 :].strip(), 0, []
+    if head.startswith("<"):
+        for at, sign in enumerate(head):
+            depth += (sign == "<") - (sign == ">" and head[at - 1] != "-")
+            if depth == 0:
+                given, head = split_at_top(head[1:at]), head[at + 1 :].strip()
+                break
+    first, _, second = head.partition(" for ")
+    of_type = re.sub(r"<.*", "", second or first).strip("& ").split("::")[-1].split(" ")[0]
+    if not second:
+        taken = split_at_top(first.partition("<")[2].rpartition(">")[0])
+        return of_type, "" if set(taken) <= set(given) else "".join(f"+{it}" for it in taken)
+    name, _, given = first.partition("<")
+    inner = re.match(r"\w+(::\w+)*", given)
+    argument = "".join(it[0].upper() + it[1:] for it in inner[0].split("::")) if inner else ""
+    return of_type, name.split("::")[-1].strip() + argument
+
+
+def type_of(head):
+    """The name under which the methods of an `impl` stand: the type's, and behind it the trait's with its arguments."""
+    if "trait " in head.split("impl")[0]:
+        return re.search(r"trait (\w+)", head)[1]
+    return "".join(parted(head))
+
+
+def edits_of(crate):
+    return [Edit(path) for path in sorted((crate.folder / "must-fail-together").glob("*.edit"))]
