@@ -105,7 +105,7 @@ public:
             happened_.trimmed += int(before - cache_.len());
             follow();
         }
-        if (frame_ % 10 == 0) repack_if_short();
+        if (frame_ % 10 == 0) repack_if_fragmented();
     }
 
     const happened &so_far() const { return happened_; }
@@ -188,7 +188,7 @@ private:
     // Does to the textures what the cache did to its pages. `before` is a copy of a page that is repacked.
     void follow(SDL_Texture *before = nullptr) {
         while (const auto change = cache_.next_change()) {
-            switch (guillotiere::kind_of(*change)) {
+            switch (change->kind) {
             case guillotiere::change_kind::page_added:
                 pages_.push_back(empty_texture(renderer_, change->size.width, change->size.height));
                 happened_.added++;
@@ -222,12 +222,16 @@ private:
         return all;
     }
 
-    // If glyphs made way since the last time, the room on the pages is brought together, one page a time.
-    void repack_if_short() {
-        const auto evictions = cache_.statistics().evictions;
+    // Where glyphs made way though a quarter of a page is free, that room lies in small pieces: the page with the most of it is
+    // packed anew.
+    void repack_if_fragmented() {
+        const auto evictions = std::exchange(evictions_, cache_.statistics().evictions);
         if (evictions == evictions_) return;
-        evictions_ = evictions;
-        repack(next_++ % cache_.page_count());
+        std::uint32_t most = 0;
+        for (std::uint32_t page = 1; page < cache_.page_count(); page++)
+            if (cache_.areas(page)->free > cache_.areas(most)->free) most = page;
+        const auto areas = *cache_.areas(most);
+        if (areas.free >= areas.allocated / 3) repack(most);
     }
 
     // No quad may wait here: it would show what its glyph moved away from.
@@ -247,7 +251,6 @@ private:
     std::vector<kept> kept_;
     std::vector<quad> batch_;
     std::uint64_t evictions_ = 0;
-    std::uint32_t next_ = 0;
     int frame_ = 0;
     happened happened_{};
 };
