@@ -311,7 +311,9 @@ export type CacheChange =
   /** A key is gone; its place was `from`. */
   | { kind: 'evicted'; key: Key; from: Place }
   /** A key moved, by a repacking: copy `from.rectangle` to `to.rectangle`, out of a copy of the page as it was before. */
-  | { kind: 'moved'; key: Key; from: Place; to: Place };
+  | { kind: 'moved'; key: Key; from: Place; to: Place }
+  /** The last page, which had nothing on it, is gone: drop its texture. */
+  | { kind: 'pageRemoved'; page: number };
 
 /** How often `get` found its key and how often it didn't, and how many keys were evicted. */
 export interface Statistics {
@@ -351,6 +353,8 @@ export class TextureCache {
   clear(): void;
   /** The keys that weren't used for at least so many frames go, each told by a change. Throws `MEMORY`. */
   trim(frames: number | bigint): void;
+  /** The pages behind the last one with a key go, each told as removed, the last one first; after `clear` all pages. Throws `MEMORY`. */
+  shrink(): void;
   /** Places the keys of a page anew, so that what is free comes together; each is told by a change. Throws `NO_PAGE`, `SLOTS`,
    * `MEMORY`. */
   repack(page: number): void;

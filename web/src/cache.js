@@ -16,6 +16,7 @@ const OPTIONS = {
 function change(words, at, keys) {
   const [kind, page] = [words[at], words[at + 1] >>> 0];
   if (kind < 2) return { kind: kind === 0 ? 'pageAdded' : 'pageGrown', page, ...reading.size(words, at + 2) };
+  if (kind === 4) return { kind: 'pageRemoved', page };
   const [key, from] = [keys.key(words[at + 4], words[at + 5]), reading.place(words, at + 6)];
   return kind === 2 ? { kind: 'evicted', key, from } : { kind: 'moved', key, from, to: reading.place(words, at + 16) };
 }
@@ -120,6 +121,12 @@ export class TextureCache extends Owner {
     const number = wide(frames, 'frames');
     const runtime = runtimeOf(this);
     require(runtime.calls.cache_trim(handle(this), number));
+    this.#follow(runtime);
+  }
+
+  shrink() {
+    const runtime = runtimeOf(this);
+    require(runtime.calls.cache_shrink(handle(this)));
     this.#follow(runtime);
   }
 

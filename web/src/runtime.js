@@ -8,7 +8,7 @@ const NAMES = [
     'slots', 'areas', 'live', 'free_boxes', 'members'].map((name) => `atlas_${name}`),
   ...['new', 'with_options', 'free', 'allocate', 'grow', 'can_grow_to', 'clear', 'reset', 'init_from_allocator', 'size', 'options',
     'slots', 'is_empty'].map((name) => `simple_${name}`),
-  ...['new', 'free', 'begin_frame', 'get_halves', 'peek', 'insert', 'remove', 'next_change', 'clear', 'trim', 'repack', 'len',
+  ...['new', 'free', 'begin_frame', 'get_halves', 'peek', 'insert', 'remove', 'next_change', 'clear', 'trim', 'shrink', 'repack', 'len',
     'page_count', 'page_size', 'numbers', 'statistics', 'areas', 'options_of', 'newest', 'oldest', 'older', 'reserve',
   ].map((name) => `cache_${name}`),
   'pack',

@@ -44,6 +44,20 @@ test('pages come, grow, and keys give way', () => {
   assert.deepEqual([cache.length, cache.has('f'), [...cache.changes()]], [4, false, []]);
 });
 
+test('pages at the end that hold nothing go', () => {
+  const cache = new TextureCache({ page: SIDE, pages: 3 });
+  for (const key of ['a', 'b', 'c']) cache.insert(key, 16, 16);
+  cache.remove('a');
+  cache.remove('c');
+  cache.shrink();
+  assert.deepEqual([...cache.changes()].slice(3), [{ kind: 'pageRemoved', page: 2 }]);
+  assert.deepEqual([cache.pageCount, cache.peek('b')], [2, whole(1, 1)]);
+  cache.clear();
+  cache.shrink();
+  assert.deepEqual([...cache.changes()].map(({ kind, page }) => [kind, page]), [['pageRemoved', 1], ['pageRemoved', 0]]);
+  assert.equal(cache.pageCount, 0);
+});
+
 test('bad options', () => {
   const cases = [
     [{ page: { width: 0, height: 1 } }, 'EMPTY_PAGE'], [{ page: SIDE, largestPage: { width: 15, height: 16 } }, 'LARGEST_PAGE'],

@@ -9,6 +9,7 @@ function follow(change: CacheChange): Key | number {
     case 'pageGrown': return change.height;
     case 'evicted': return change.key;
     case 'moved': return change.from.inner.x - change.to.rectangle.x;
+    case 'pageRemoved': return change.page;
   }
 }
 
@@ -39,7 +40,7 @@ function useCache(): void {
     if (cache.get(key) === null && cache.insert(key, 1, 1)?.isNew) cache.peek(key)?.inner.x;
   }
   for (const change of cache.changes()) follow(change);
-  [cache.remove('a'), cache.has('b'), cache.clear(), cache.trim(5n), cache.repack(0), cache.length, cache.numbers, cache.pageCount, cache.pageSize(0).width];
+  [cache.remove('a'), cache.has('b'), cache.clear(), cache.trim(5n), cache.shrink(), cache.repack(0), cache.length, cache.numbers, cache.pageCount, cache.pageSize(0).width];
   for (let next = cache.newest(); next !== null; next = cache.older(next.key)) next.place.inner.x;
   [cache.oldest()?.key, cache.reserve(5), cache.areas(0).free, cache.options.atlas.largeSizeThreshold, cache.options.padding];
   const { hits, misses, evictions } = cache.statistics;
