@@ -14,6 +14,8 @@ PROOFS = ("Invariants.antt", "Answers.antt", "Proof.antt")
 NAMES = re.compile(r"has no field|is not a field of|is not in scope(?! here)|has no `|expected a declaration|`goal\.[^`]*`: module `[^`]*`$|is no name that rattle asks for")
 # What it says of an answer that states another value than the goal. In a file of invariants it is as bad as a name: what follows is open.
 TYPES = re.compile(r"types (first )?differ")
+# A goal that stays open; or a search for it that was given up because the goal is too large, of which nothing else is said.
+OPEN = re.compile(r"note: (what antt said of a `search` in the proof that rattle made: )?src/\S+:\d+:\d+:")
 # What a line says that follows from another one.
 FOLLOWS = re.compile(r"was not admitted|is not admitted")
 # What is said of a goal for which values were found, and checked, that meet all that is known there and not the goal.
@@ -175,11 +177,11 @@ class Told:
             first -= 1
         place = r"(note: )?\./proofs/" + (re.escape(function) + r"/[^/]*\.antt:" if function else "")
         of_proof = [it for it in said if re.match(place, it)]
-        goals = [it for it in said[first:at] if re.match(r"note: src/\S+:\d+:\d+:", it)]
+        goals = [it for it in said[first:at] if OPEN.match(it)]
         self.names = [it for it in of_proof if NAMES.search(it) or TYPES.search(it) and "/Answers.antt:" not in it]
         self.refused = next((it for it in of_proof if " error: " in it and not FOLLOWS.search(it)), "")
         self.false = next((it for it in goals if FALSE in it), "")
-        told = [it for it in [*of_proof, *goals] if not FOLLOWS.search(it) and (" error: " in it or it.startswith("note: src/"))]
+        told = [it for it in [*of_proof, *goals] if not FOLLOWS.search(it) and (" error: " in it or OPEN.match(it))]
         self.first = next((it for it in told if not TYPES.search(it)), told[0] if told else "")
 
     def verdict(self):
