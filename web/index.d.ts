@@ -137,7 +137,7 @@ export interface Slots {
   limit: number;
 }
 
-/** The areas of all live and of all free boxes. From 2^53 on they are rounded, as JavaScript's numbers are. */
+/** The areas of all live and of all free boxes of an atlas or of a page. From 2^53 on they are rounded, as JavaScript's numbers are. */
 export interface Areas {
   allocated: number;
   free: number;
@@ -269,6 +269,12 @@ export interface Place {
   inner: Rectangle;
 }
 
+/** A key of a cache, and its place. */
+export interface KeyedPlace {
+  key: Key;
+  place: Place;
+}
+
 /** `isNew` where the key was not held: then its pixels are to be written. */
 export interface Entry extends Place {
   isNew: boolean;
@@ -327,6 +333,16 @@ export class TextureCache {
    * `MEMORY`. */
   repack(page: number): void;
 
+  /** Takes memory for so many more keys. Throws `MEMORY`. */
+  reserve(additional: number): void;
+
+  /** The most recently used key; null where none is held. It counts as no use. */
+  newest(): KeyedPlace | null;
+  /** The least recently used key; null where none is held. It counts as no use. */
+  oldest(): KeyedPlace | null;
+  /** The key that was used next before this one; null where this one is the least recently used, or isn't held. It counts as no
+   * use. From `newest` on, this gives each key once. */
+  older(key: Key): KeyedPlace | null;
   /** How many keys are held. */
   readonly length: number;
   readonly pageCount: number;
@@ -335,6 +351,10 @@ export class TextureCache {
   readonly numbers: number;
   /** Throws `NO_PAGE`. */
   pageSize(page: number): Size;
+  /** The areas of a page that its keys take, with their padding and what the alignment added, and that are free. Throws `NO_PAGE`. */
+  areas(page: number): Areas;
+  /** Those with which it was made, and what was left out. */
+  readonly options: Required<CacheOptions> & { atlas: Required<AtlasOptions> };
   /** Counted since the cache was made. */
   readonly statistics: Statistics;
 

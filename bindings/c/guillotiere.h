@@ -28,7 +28,8 @@
  * - No pointer is null, not even that of an array of length 0, and each is that of a value of its type, or of as many as
  *   the length says.
  * - What is passed by pointers without `const` overlaps nothing else that is passed.
- * - A handle is used by one call at a time. It may be handed to another thread, by a lock, a start or a join.
+ * - A handle is used by one call at a time, also where it is passed by `const`, which says that it holds afterwards what it
+ *   held. It may be handed to another thread, by a lock, a start or a join.
  * - malloc, realloc and free are those of one allocator; no call is made from a signal handler. */
 #ifndef GUILLOTIERE_H
 #define GUILLOTIERE_H
@@ -125,6 +126,14 @@ enum {
                                    of a copy of the page as it was before the call */
 };
 
+/* The version of this header: its three numbers, and a million times the first one, a thousand times the second one and the
+ * third one together. */
+#define GUILLOTIERE_VERSION_MAJOR 0
+#define GUILLOTIERE_VERSION_MINOR 7
+#define GUILLOTIERE_VERSION_PATCH 0
+#define GUILLOTIERE_VERSION \
+    (GUILLOTIERE_VERSION_MAJOR * 1000000 + GUILLOTIERE_VERSION_MINOR * 1000 + GUILLOTIERE_VERSION_PATCH)
+
 /* The greatest limit on the slots of an atlas, and that of an atlas without a limit of its own. */
 #define GUILLOTIERE_MOST_SLOTS 16777216
 
@@ -191,7 +200,7 @@ typedef struct guillotiere_slots {
     uint32_t limit;
 } guillotiere_slots;
 
-/* The areas of all live and of all free boxes: together that of the atlas. */
+/* The areas of all live and of all free boxes of an atlas or of a page, which are together its own. */
 typedef struct guillotiere_areas {
     uint64_t allocated;
     uint64_t free;
@@ -268,6 +277,10 @@ typedef struct guillotiere_counts {
     uint64_t evictions;
 } guillotiere_counts;
 
+/* The version of the library that was linked, in the form of GUILLOTIERE_VERSION. Programs that were built with one version
+ * run with another one that has the same first two numbers. */
+uint32_t guillotiere_version(void);
+
 /* --- An atlas: its life ------------------------------------------------------------------------------------------- */
 
 /* Makes an atlas with the default options, where the handle holds nothing.
@@ -284,7 +297,7 @@ uint32_t guillotiere_atlas_with_slot_limit(int32_t width, int32_t height, const 
 
 /* Makes a copy that shares nothing with the atlas, where `copy` holds nothing: it answers later calls as the atlas does,
  * want of memory aside. DONE; MEMORY; EMPTY if `atlas` holds nothing or `copy` something. */
-uint32_t guillotiere_atlas_clone(guillotiere_atlas *atlas, guillotiere_atlas *copy);
+uint32_t guillotiere_atlas_clone(const guillotiere_atlas *atlas, guillotiere_atlas *copy);
 
 /* Lets an atlas go, with all its memory; the handle holds nothing then. Of a handle that holds nothing: does nothing. */
 void guillotiere_atlas_free(guillotiere_atlas *atlas);
@@ -304,11 +317,11 @@ uint32_t guillotiere_atlas_deallocate(guillotiere_atlas *atlas, uint32_t id);
 uint32_t guillotiere_atlas_deallocate_all(guillotiere_atlas *atlas, const uint32_t *ids, size_t ids_len);
 
 /* The rectangle of a live id. DONE: it is in `found`. NOT_LIVE; EMPTY. */
-uint32_t guillotiere_atlas_get(guillotiere_atlas *atlas, uint32_t id, guillotiere_rectangle *found);
+uint32_t guillotiere_atlas_get(const guillotiere_atlas *atlas, uint32_t id, guillotiere_rectangle *found);
 
 /* Whether a request of this size has room, in pixels: then guillotiere_atlas_allocate grants it, slots and memory aside; else
  * it answers NO_ROOM. Takes one search and no memory. False of a handle that holds nothing. */
-bool guillotiere_atlas_can_fit(guillotiere_atlas *atlas, int32_t width, int32_t height);
+bool guillotiere_atlas_can_fit(const guillotiere_atlas *atlas, int32_t width, int32_t height);
 
 /* Takes memory for so many more slots than are used; nothing else changes. While there is memory for 4 more slots no
  * request is answered MEMORY, and for 3 no growth; a request uses at most 4, a growth at most 3, a freeing none. The memory
@@ -322,7 +335,7 @@ uint32_t guillotiere_atlas_reserve(guillotiere_atlas *atlas, uint32_t additional
 uint32_t guillotiere_atlas_grow(guillotiere_atlas *atlas, int32_t width, int32_t height);
 
 /* Whether the atlas may be grown to this size, in pixels: no side shrinks. False of a handle that holds nothing. */
-bool guillotiere_atlas_can_grow_to(guillotiere_atlas *atlas, int32_t width, int32_t height);
+bool guillotiere_atlas_can_grow_to(const guillotiere_atlas *atlas, int32_t width, int32_t height);
 
 /* Starts again at the present size, options and limit: one free box, no id live. Takes no memory. DONE; EMPTY. */
 uint32_t guillotiere_atlas_clear(guillotiere_atlas *atlas);
@@ -349,27 +362,27 @@ uint32_t guillotiere_atlas_resize_and_rearrange(guillotiere_atlas *atlas, int32_
 /* --- An atlas: what it holds -------------------------------------------------------------------------------------- */
 
 /* The size of the atlas. DONE; EMPTY. */
-uint32_t guillotiere_atlas_size(guillotiere_atlas *atlas, guillotiere_size *size);
+uint32_t guillotiere_atlas_size(const guillotiere_atlas *atlas, guillotiere_size *size);
 
 /* The options of the atlas. DONE; EMPTY. */
-uint32_t guillotiere_atlas_options(guillotiere_atlas *atlas, guillotiere_options *options);
+uint32_t guillotiere_atlas_options(const guillotiere_atlas *atlas, guillotiere_options *options);
 
 /* Whether no id is live; also true of a handle that holds nothing. */
-bool guillotiere_atlas_is_empty(guillotiere_atlas *atlas);
+bool guillotiere_atlas_is_empty(const guillotiere_atlas *atlas);
 
 /* The counts of slots. DONE; EMPTY. */
-uint32_t guillotiere_atlas_slots(guillotiere_atlas *atlas, guillotiere_slots *slots);
+uint32_t guillotiere_atlas_slots(const guillotiere_atlas *atlas, guillotiere_slots *slots);
 
 /* The areas of all live and of all free boxes, in one pass over the slots. DONE; EMPTY. */
-uint32_t guillotiere_atlas_areas(guillotiere_atlas *atlas, guillotiere_areas *areas);
+uint32_t guillotiere_atlas_areas(const guillotiere_atlas *atlas, guillotiere_areas *areas);
 
 /* Writes the live boxes, by rising slot, which is the low 24 bits of the id: as many as there is room for, and into
  * `count` how many there are. What `found` has after them stays. DONE; MEMORY; EMPTY. */
-uint32_t guillotiere_atlas_live(guillotiere_atlas *atlas, guillotiere_allocation *found, size_t found_len,
+uint32_t guillotiere_atlas_live(const guillotiere_atlas *atlas, guillotiere_allocation *found, size_t found_len,
                                 size_t *count);
 
 /* The same of the free boxes, in an order that is left open. */
-uint32_t guillotiere_atlas_free_boxes(guillotiere_atlas *atlas, guillotiere_rectangle *found, size_t found_len,
+uint32_t guillotiere_atlas_free_boxes(const guillotiere_atlas *atlas, guillotiere_rectangle *found, size_t found_len,
                                       size_t *count);
 
 /* --- A simple allocator ------------------------------------------------------------------------------------------- */
@@ -394,7 +407,7 @@ uint32_t guillotiere_simple_allocate(guillotiere_simple *simple, int32_t width, 
 uint32_t guillotiere_simple_grow(guillotiere_simple *simple, int32_t width, int32_t height);
 
 /* Whether the allocator may be grown to this size, in pixels: no side shrinks. False of a handle that holds nothing. */
-bool guillotiere_simple_can_grow_to(guillotiere_simple *simple, int32_t width, int32_t height);
+bool guillotiere_simple_can_grow_to(const guillotiere_simple *simple, int32_t width, int32_t height);
 
 /* Starts again with one free box of the allocator's size. Takes no memory. DONE; EMPTY. */
 uint32_t guillotiere_simple_clear(guillotiere_simple *simple);
@@ -406,19 +419,19 @@ uint32_t guillotiere_simple_reset(guillotiere_simple *simple, int32_t width, int
 
 /* Takes over an atlas's size, options and free boxes, so that it never grants what is live there. The atlas stays as it
  * is. DONE; MEMORY; EMPTY if one of the handles holds nothing. */
-uint32_t guillotiere_simple_init_from_allocator(guillotiere_simple *simple, guillotiere_atlas *atlas);
+uint32_t guillotiere_simple_init_from_allocator(guillotiere_simple *simple, const guillotiere_atlas *atlas);
 
 /* The size of the allocator. DONE; EMPTY. */
-uint32_t guillotiere_simple_size(guillotiere_simple *simple, guillotiere_size *size);
+uint32_t guillotiere_simple_size(const guillotiere_simple *simple, guillotiere_size *size);
 
 /* The options of the allocator. DONE; EMPTY. */
-uint32_t guillotiere_simple_options(guillotiere_simple *simple, guillotiere_options *options);
+uint32_t guillotiere_simple_options(const guillotiere_simple *simple, guillotiere_options *options);
 
 /* The counts of entries, one of which each free box takes. DONE; EMPTY. */
-uint32_t guillotiere_simple_slots(guillotiere_simple *simple, guillotiere_slots *slots);
+uint32_t guillotiere_simple_slots(const guillotiere_simple *simple, guillotiere_slots *slots);
 
 /* Whether one free box has the allocator's size; also true of a handle that holds nothing. */
-bool guillotiere_simple_is_empty(guillotiere_simple *simple);
+bool guillotiere_simple_is_empty(const guillotiere_simple *simple);
 
 /* --- A cache of rectangles under keys, in the pages of a texture array ------------------------------------------------ */
 
@@ -438,7 +451,7 @@ uint32_t guillotiere_cache_begin_frame(guillotiere_cache *cache);
 uint32_t guillotiere_cache_get(guillotiere_cache *cache, uint64_t key, guillotiere_place *place);
 
 /* The place of a key; it counts as no use, and as no hit or miss. DONE; NOT_HELD; EMPTY. */
-uint32_t guillotiere_cache_peek(guillotiere_cache *cache, uint64_t key, guillotiere_place *place);
+uint32_t guillotiere_cache_peek(const guillotiere_cache *cache, uint64_t key, guillotiere_place *place);
 
 /* A place for a key, which is used in this frame. A key that is held keeps its place, and is the most recently used; that
  * counts as no hit. A new key comes on the first page with room for its size with the padding. Where none has room a page
@@ -477,22 +490,43 @@ uint32_t guillotiere_cache_trim(guillotiere_cache *cache, uint64_t frames);
  * DONE; NO_PAGE, SLOTS or MEMORY, and then all is as it was; EMPTY. */
 uint32_t guillotiere_cache_repack(guillotiere_cache *cache, uint32_t page);
 
+/* Takes memory for so many more keys; nothing else changes. DONE; MEMORY; EMPTY. */
+uint32_t guillotiere_cache_reserve(guillotiere_cache *cache, size_t additional);
+
+/* The most recently used key, and its place; it counts as no use. DONE; NOT_HELD if no key is held; EMPTY. */
+uint32_t guillotiere_cache_newest(const guillotiere_cache *cache, uint64_t *key, guillotiere_place *place);
+
+/* The least recently used key, and its place; it counts as no use. DONE; NOT_HELD if no key is held; EMPTY. */
+uint32_t guillotiere_cache_oldest(const guillotiere_cache *cache, uint64_t *key, guillotiere_place *place);
+
+/* The key that was used next before this one, and its place; it counts as no use. From the newest key on, this gives each
+ * key once. DONE: it is in `older`. NOT_HELD if `key` is the least recently used, or isn't held; EMPTY. */
+uint32_t guillotiere_cache_older(const guillotiere_cache *cache, uint64_t key, uint64_t *older, guillotiere_place *place);
+
 /* How many keys are held. DONE; EMPTY. */
-uint32_t guillotiere_cache_len(guillotiere_cache *cache, size_t *len);
+uint32_t guillotiere_cache_len(const guillotiere_cache *cache, size_t *len);
 
 /* How many numbers keys had so far, since the cache was made or cleared: the number of each place is below. The numbers of
  * keys that are gone are given again before new ones are, so there are at most as many as there ever were keys at once, and
  * what a caller keeps of each key fits an array. DONE; EMPTY. */
-uint32_t guillotiere_cache_numbers(guillotiere_cache *cache, uint32_t *numbers);
+uint32_t guillotiere_cache_numbers(const guillotiere_cache *cache, uint32_t *numbers);
 
 /* How many pages there are. DONE; EMPTY. */
-uint32_t guillotiere_cache_page_count(guillotiere_cache *cache, uint32_t *pages);
+uint32_t guillotiere_cache_page_count(const guillotiere_cache *cache, uint32_t *pages);
 
 /* The size of a page, counted from 0. DONE; NO_PAGE; EMPTY. */
-uint32_t guillotiere_cache_page_size(guillotiere_cache *cache, uint32_t page, guillotiere_size *size);
+uint32_t guillotiere_cache_page_size(const guillotiere_cache *cache, uint32_t page, guillotiere_size *size);
+
+/* The areas of a page, counted from 0: that of its keys, with their padding and what the alignment added, and that which is
+ * free; together that of the page. Takes one pass over the slots of the page. A page with much that is free, from which keys
+ * are evicted all the same, is worth a repacking. DONE; NO_PAGE; EMPTY. */
+uint32_t guillotiere_cache_areas(const guillotiere_cache *cache, uint32_t page, guillotiere_areas *areas);
+
+/* The options with which the cache was made. DONE; EMPTY. */
+uint32_t guillotiere_cache_options_of(const guillotiere_cache *cache, guillotiere_cache_options *options);
 
 /* The counts since the cache was made. DONE; EMPTY. */
-uint32_t guillotiere_cache_statistics(guillotiere_cache *cache, guillotiere_counts *counts);
+uint32_t guillotiere_cache_statistics(const guillotiere_cache *cache, guillotiere_counts *counts);
 
 /* --- A sheet of sprites that are known beforehand ------------------------------------------------------------------- */
 

@@ -74,16 +74,33 @@ using rectangle = guillotiere_rectangle;
 using allocation = guillotiere_allocation;
 using change = guillotiere_change;
 using options = guillotiere_options;
-using slot_count = guillotiere_slots;
+using slots = guillotiere_slots;
 using areas = guillotiere_areas;
 using placed = guillotiere_placed;
 using cache_options = guillotiere_cache_options;
-using cache_change = guillotiere_cache_change;
 using place = guillotiere_place;
 using counts = guillotiere_counts;
 
-// The kind of a change.
-inline change_kind kind_of(const cache_change &of) { return static_cast<change_kind>(of.kind); }
+// The version of this header, and that of the library that was linked: a million times the first number, a thousand times the
+// second one, and the third one.
+inline constexpr std::uint32_t header_version = GUILLOTIERE_VERSION;
+inline std::uint32_t version() { return guillotiere_version(); }
+
+// What a cache did. Its kind says which fields have a meaning; the others have none.
+struct cache_change {
+    change_kind kind;
+    std::uint32_t page;
+    guillotiere::size size;
+    std::uint64_t key;
+    place from;
+    place to;
+};
+
+// A key of a cache, and its place.
+struct keyed_place {
+    std::uint64_t key;
+    place at;
+};
 
 inline constexpr options default_options = GUILLOTIERE_DEFAULT_OPTIONS;
 
@@ -102,14 +119,25 @@ struct inserted {
     std::optional<place> at;
 };
 
-// Which sheets are allowed, and how sprites lie in them: squares with a side up to 4096, unless it is said otherwise.
-struct sheet_options : guillotiere_sheet_options {
-    constexpr sheet_options() : guillotiere_sheet_options(GUILLOTIERE_DEFAULT_SHEET_OPTIONS) {}
+// Which sheets are allowed, and how sprites lie in them: squares with a side up to 4096, unless it is said otherwise. Of `width`,
+// `height`, `least` and `greatest` those are read that the kind of sheets names.
+struct sheet_options {
+    sheets allowed = sheets::squares;
+    std::int32_t width = 0;
+    std::int32_t height = 0;
+    std::int32_t least = 1;
+    std::int32_t greatest = 4096;
+    std::uint32_t padding = 0;
+    std::int32_t alignment_width = 1;
+    std::int32_t alignment_height = 1;
+    bool turn = false;
+    std::uint32_t effort = 0;
+    std::uint64_t seed = 0;
 
     // This size alone.
     static constexpr sheet_options of_size(size only) {
         sheet_options made;
-        made.allowed = static_cast<std::uint32_t>(sheets::one_size);
+        made.allowed = sheets::one_size;
         made.width = only.width;
         made.height = only.height;
         return made;
@@ -117,7 +145,6 @@ struct sheet_options : guillotiere_sheet_options {
     // Squares with a side from `from` to `to`.
     static constexpr sheet_options of_squares(std::int32_t from, std::int32_t to) {
         sheet_options made;
-        made.allowed = static_cast<std::uint32_t>(sheets::squares);
         made.least = from;
         made.greatest = to;
         return made;
@@ -125,14 +152,14 @@ struct sheet_options : guillotiere_sheet_options {
     // Each side a power of two, at most `to`.
     static constexpr sheet_options of_powers(std::int32_t to) {
         sheet_options made;
-        made.allowed = static_cast<std::uint32_t>(sheets::powers);
+        made.allowed = sheets::powers;
         made.greatest = to;
         return made;
     }
     // The width `across`, and a height from 1 to `to`.
     static constexpr sheet_options of_heights(std::int32_t across, std::int32_t to) {
         sheet_options made;
-        made.allowed = static_cast<std::uint32_t>(sheets::heights);
+        made.allowed = sheets::heights;
         made.width = across;
         made.greatest = to;
         return made;
@@ -175,7 +202,7 @@ class simple_atlas;
 // An atlas: hands out boxes, takes them back and joins free space at once.
 class atlas {
 public:
-    static result<atlas> make(size of, const options &with = default_options, std::uint32_t limit = most_slots) {
+    static result<atlas> make(guillotiere::size of, const guillotiere::options &with = default_options, std::uint32_t limit = most_slots) {
         atlas made;
         const auto answer = guillotiere_atlas_with_slot_limit(of.width, of.height, &with, limit, &made.handle_);
         return made.held(answer);
@@ -198,7 +225,7 @@ public:
     }
 
     // A box, or nothing where the request has no room.
-    result<std::optional<allocation>> allocate(size requested) {
+    result<std::optional<allocation>> allocate(guillotiere::size requested) {
         allocation granted;
         const auto answer = guillotiere_atlas_allocate(&handle_, requested.width, requested.height, &granted);
         if (answer == GUILLOTIERE_DONE) return std::optional<allocation>(granted);
@@ -223,17 +250,17 @@ public:
     }
 
     // Whether a request has room: then `allocate` grants it, slots and memory aside.
-    bool can_fit(size requested) const { return guillotiere_atlas_can_fit(&handle_, requested.width, requested.height); }
+    bool can_fit(guillotiere::size requested) const { return guillotiere_atlas_can_fit(&handle_, requested.width, requested.height); }
     // Takes memory for so many more slots than are used: 4 for a request, 3 for a growth.
     [[nodiscard]] status reserve(std::uint32_t additional) {
         return static_cast<status>(guillotiere_atlas_reserve(&handle_, additional));
     }
 
-    [[nodiscard]] status grow(size to) { return static_cast<status>(guillotiere_atlas_grow(&handle_, to.width, to.height)); }
+    [[nodiscard]] status grow(guillotiere::size to) { return static_cast<status>(guillotiere_atlas_grow(&handle_, to.width, to.height)); }
     // Whether no side shrinks.
-    bool can_grow_to(size to) const { return guillotiere_atlas_can_grow_to(&handle_, to.width, to.height); }
+    bool can_grow_to(guillotiere::size to) const { return guillotiere_atlas_can_grow_to(&handle_, to.width, to.height); }
     [[nodiscard]] status clear() { return static_cast<status>(guillotiere_atlas_clear(&handle_)); }
-    [[nodiscard]] status reset(size of, const options &with = default_options) {
+    [[nodiscard]] status reset(guillotiere::size of, const guillotiere::options &with = default_options) {
         return static_cast<status>(guillotiere_atlas_reset(&handle_, of.width, of.height, &with));
     }
 
@@ -241,33 +268,33 @@ public:
     result<change_list> rearrange() {
         return listed([this](auto &...places) { return guillotiere_atlas_rearrange(&handle_, places...); });
     }
-    result<change_list> resize_and_rearrange(size to) {
+    result<change_list> resize_and_rearrange(guillotiere::size to) {
         return listed([this, to](auto &...places) {
             return guillotiere_atlas_resize_and_rearrange(&handle_, to.width, to.height, places...);
         });
     }
 
     // Of an atlas that was moved from: 0 by 0.
-    size extent() const {
-        size found{};
+    guillotiere::size size() const {
+        guillotiere::size found{};
         guillotiere_atlas_size(&handle_, &found);
         return found;
     }
     // Of an atlas that was moved from: all zero.
-    options settings() const {
-        options found{};
+    guillotiere::options options() const {
+        guillotiere::options found{};
         guillotiere_atlas_options(&handle_, &found);
         return found;
     }
     bool is_empty() const { return guillotiere_atlas_is_empty(&handle_); }
-    slot_count slots() const {
-        slot_count found{};
+    guillotiere::slots slots() const {
+        guillotiere::slots found{};
         guillotiere_atlas_slots(&handle_, &found);
         return found;
     }
     // The areas of all live and of all free boxes.
-    areas covered() const {
-        areas found{};
+    guillotiere::areas areas() const {
+        guillotiere::areas found{};
         guillotiere_atlas_areas(&handle_, &found);
         return found;
     }
@@ -322,13 +349,13 @@ private:
         return list;
     }
 
-    mutable guillotiere_atlas handle_;
+    guillotiere_atlas handle_;
 };
 
 // A simple allocator: hands out boxes and takes none back.
 class simple_atlas {
 public:
-    static result<simple_atlas> make(size of, const options &with = default_options) {
+    static result<simple_atlas> make(guillotiere::size of, const guillotiere::options &with = default_options) {
         simple_atlas made;
         const auto answer = guillotiere_simple_with_options(of.width, of.height, &with, &made.handle_);
         if (answer != GUILLOTIERE_DONE) return static_cast<status>(answer);
@@ -345,7 +372,7 @@ public:
     ~simple_atlas() { guillotiere_simple_free(&handle_); }
 
     // A box, or nothing where the request has no room.
-    result<std::optional<rectangle>> allocate(size requested) {
+    result<std::optional<rectangle>> allocate(guillotiere::size requested) {
         rectangle granted;
         const auto answer = guillotiere_simple_allocate(&handle_, requested.width, requested.height, &granted);
         if (answer == GUILLOTIERE_DONE) return std::optional<rectangle>(granted);
@@ -353,11 +380,11 @@ public:
         return static_cast<status>(answer);
     }
 
-    [[nodiscard]] status grow(size to) { return static_cast<status>(guillotiere_simple_grow(&handle_, to.width, to.height)); }
+    [[nodiscard]] status grow(guillotiere::size to) { return static_cast<status>(guillotiere_simple_grow(&handle_, to.width, to.height)); }
     // Whether no side shrinks.
-    bool can_grow_to(size to) const { return guillotiere_simple_can_grow_to(&handle_, to.width, to.height); }
+    bool can_grow_to(guillotiere::size to) const { return guillotiere_simple_can_grow_to(&handle_, to.width, to.height); }
     [[nodiscard]] status clear() { return static_cast<status>(guillotiere_simple_clear(&handle_)); }
-    [[nodiscard]] status reset(size of, const options &with = default_options) {
+    [[nodiscard]] status reset(guillotiere::size of, const guillotiere::options &with = default_options) {
         return static_cast<status>(guillotiere_simple_reset(&handle_, of.width, of.height, &with));
     }
     // Takes over an atlas's size, options and free boxes; the atlas stays as it is.
@@ -365,20 +392,20 @@ public:
         return static_cast<status>(guillotiere_simple_init_from_allocator(&handle_, &source.handle_));
     }
 
-    size extent() const {
-        size found{};
+    guillotiere::size size() const {
+        guillotiere::size found{};
         guillotiere_simple_size(&handle_, &found);
         return found;
     }
     // Of an allocator that was moved from: all zero.
-    options settings() const {
-        options found{};
+    guillotiere::options options() const {
+        guillotiere::options found{};
         guillotiere_simple_options(&handle_, &found);
         return found;
     }
     // The entries, one of which each free box takes.
-    slot_count slots() const {
-        slot_count found{};
+    guillotiere::slots slots() const {
+        guillotiere::slots found{};
         guillotiere_simple_slots(&handle_, &found);
         return found;
     }
@@ -387,7 +414,7 @@ public:
 private:
     simple_atlas() : handle_{} {}
 
-    mutable guillotiere_simple handle_;
+    guillotiere_simple handle_;
 };
 
 // A cache of rectangles under keys, in the pages of a texture array.
@@ -421,7 +448,7 @@ public:
         return found([this, key](place &at) { return guillotiere_cache_peek(&handle_, key, &at); });
     }
     // A place for a key. Follow the changes before it is used, and also after another answer and after an error.
-    result<inserted> insert(std::uint64_t key, size of) {
+    result<inserted> insert(std::uint64_t key, guillotiere::size of) {
         place at;
         const auto answer = guillotiere_cache_insert(&handle_, key, of.width, of.height, &at);
         switch (answer) {
@@ -439,9 +466,9 @@ public:
     }
     // The first change that wasn't handed over yet.
     std::optional<cache_change> next_change() {
-        cache_change next;
+        guillotiere_cache_change next;
         if (guillotiere_cache_next_change(&handle_, &next) != GUILLOTIERE_DONE) return std::nullopt;
-        return next;
+        return cache_change{static_cast<change_kind>(next.kind), next.page, next.size, next.key, next.from, next.to};
     }
     // All keys go, and no change tells it.
     [[nodiscard]] status clear() { return static_cast<status>(guillotiere_cache_clear(&handle_)); }
@@ -449,6 +476,22 @@ public:
     [[nodiscard]] status trim(std::uint64_t frames) { return static_cast<status>(guillotiere_cache_trim(&handle_, frames)); }
     // A page's keys are placed anew. Copy all pixels from the page as it was before the call.
     [[nodiscard]] status repack(std::uint32_t page) { return static_cast<status>(guillotiere_cache_repack(&handle_, page)); }
+
+    // Takes memory for so many more keys.
+    [[nodiscard]] status reserve(std::size_t additional) {
+        return static_cast<status>(guillotiere_cache_reserve(&handle_, additional));
+    }
+
+    // The most recently used key, the least recently used one, and the one that was used next before a key. None of these is a use.
+    std::optional<keyed_place> newest() const {
+        return walked([this](keyed_place &next) { return guillotiere_cache_newest(&handle_, &next.key, &next.at); });
+    }
+    std::optional<keyed_place> oldest() const {
+        return walked([this](keyed_place &next) { return guillotiere_cache_oldest(&handle_, &next.key, &next.at); });
+    }
+    std::optional<keyed_place> older(std::uint64_t key) const {
+        return walked([this, key](keyed_place &next) { return guillotiere_cache_older(&handle_, key, &next.key, &next.at); });
+    }
 
     // Of a cache that was moved from: 0; and so the counts.
     std::size_t len() const {
@@ -467,9 +510,21 @@ public:
         guillotiere_cache_page_count(&handle_, &found);
         return found;
     }
-    std::optional<size> page_size(std::uint32_t page) const {
-        size found;
+    std::optional<guillotiere::size> page_size(std::uint32_t page) const {
+        guillotiere::size found;
         if (guillotiere_cache_page_size(&handle_, page, &found) != GUILLOTIERE_DONE) return std::nullopt;
+        return found;
+    }
+    // The areas of a page that its keys take, and that are free.
+    std::optional<guillotiere::areas> areas(std::uint32_t page) const {
+        guillotiere::areas found;
+        if (guillotiere_cache_areas(&handle_, page, &found) != GUILLOTIERE_DONE) return std::nullopt;
+        return found;
+    }
+    // Of a cache that was moved from: all zero.
+    cache_options options() const {
+        cache_options found{};
+        guillotiere_cache_options_of(&handle_, &found);
         return found;
     }
     counts statistics() const {
@@ -488,7 +543,14 @@ private:
         return at;
     }
 
-    mutable guillotiere_cache handle_;
+    template <class Call>
+    static std::optional<keyed_place> walked(Call call) {
+        keyed_place next;
+        if (call(next) != GUILLOTIERE_DONE) return std::nullopt;
+        return next;
+    }
+
+    guillotiere_cache handle_;
 };
 
 // A sheet that takes all sprites: its size, and where each of them lies, in their order.
@@ -504,7 +566,10 @@ inline result<std::optional<sheet>> pack(const size *sprites, std::size_t count,
     const size none{};
     std::size_t number = 0;
     sheet made{{}, std::vector<placed>(count + 1)};
-    const auto answer = guillotiere_pack(count == 0 ? &none : sprites, count, &with, made.places.data(), count, &made.size,
+    const guillotiere_sheet_options asked{static_cast<std::uint32_t>(with.allowed), with.width, with.height, with.least,
+                                          with.greatest, with.padding, with.alignment_width, with.alignment_height,
+                                          with.turn ? 1u : 0u, with.effort, with.seed};
+    const auto answer = guillotiere_pack(count == 0 ? &none : sprites, count, &asked, made.places.data(), count, &made.size,
                                          &number);
     if (answer == GUILLOTIERE_DONE) {
         made.places.resize(count);

@@ -82,8 +82,11 @@ static void empty_handles(void) {
     guillotiere_cache_change change;
     guillotiere_size size;
     guillotiere_counts counts;
+    guillotiere_areas areas;
+    guillotiere_cache_options options;
     size_t len = 77;
     uint32_t pages = 77;
+    uint64_t key = 77;
     CHECK(guillotiere_cache_begin_frame(&cache) == GUILLOTIERE_EMPTY);
     CHECK(guillotiere_cache_get(&cache, 1, &place) == GUILLOTIERE_EMPTY);
     CHECK(guillotiere_cache_peek(&cache, 1, &place) == GUILLOTIERE_EMPTY);
@@ -98,6 +101,12 @@ static void empty_handles(void) {
     CHECK(guillotiere_cache_numbers(&cache, &pages) == GUILLOTIERE_EMPTY && pages == 77);
     CHECK(guillotiere_cache_page_size(&cache, 0, &size) == GUILLOTIERE_EMPTY);
     CHECK(guillotiere_cache_statistics(&cache, &counts) == GUILLOTIERE_EMPTY);
+    CHECK(guillotiere_cache_areas(&cache, 0, &areas) == GUILLOTIERE_EMPTY);
+    CHECK(guillotiere_cache_options_of(&cache, &options) == GUILLOTIERE_EMPTY);
+    CHECK(guillotiere_cache_newest(&cache, &key, &place) == GUILLOTIERE_EMPTY && key == 77);
+    CHECK(guillotiere_cache_oldest(&cache, &key, &place) == GUILLOTIERE_EMPTY && key == 77);
+    CHECK(guillotiere_cache_older(&cache, 1, &key, &place) == GUILLOTIERE_EMPTY && key == 77);
+    CHECK(guillotiere_cache_reserve(&cache, 1) == GUILLOTIERE_EMPTY);
     guillotiere_cache_free(&cache);
     make(&two_pages, &cache);
     CHECK(guillotiere_cache_new(&two_pages, &cache) == GUILLOTIERE_EMPTY && cache.at != NULL);
@@ -191,6 +200,48 @@ static void a_life(void) {
     CHECK(guillotiere_cache_clear(&cache) == GUILLOTIERE_DONE);
     check_figures(&cache, 0, 2);
     told_nothing(&cache);
+    guillotiere_cache_free(&cache);
+}
+
+static void told_areas(const guillotiere_cache *cache, uint32_t page, uint64_t allocated, uint64_t free) {
+    guillotiere_areas areas = {7, 7};
+    CHECK(guillotiere_cache_areas(cache, page, &areas) == GUILLOTIERE_DONE);
+    CHECK(areas.allocated == allocated && areas.free == free);
+}
+
+/* What a cache knows of itself: the keys in the order of their use, the areas of its pages, and its options. */
+static void what_it_knows(void) {
+    guillotiere_cache_options with = two_pages, told;
+    guillotiere_cache cache = GUILLOTIERE_NONE;
+    with.padding = 1;
+    with.atlas.small_size_threshold = 5;
+    make(&with, &cache);
+    guillotiere_areas areas = {7, 7};
+    guillotiere_place place = {7, 7, {7, 7, 7, 7}, {7, 7, 7, 7}};
+    uint64_t key = 77;
+    CHECK(guillotiere_cache_options_of(&cache, &told) == GUILLOTIERE_DONE && memcmp(&told, &with, sizeof told) == 0);
+    CHECK(guillotiere_cache_newest(&cache, &key, &place) == GUILLOTIERE_NOT_HELD);
+    CHECK(guillotiere_cache_oldest(&cache, &key, &place) == GUILLOTIERE_NOT_HELD);
+    CHECK(guillotiere_cache_older(&cache, 1, &key, &place) == GUILLOTIERE_NOT_HELD && key == 77 && place.number == 7);
+    CHECK(guillotiere_cache_areas(&cache, 0, &areas) == GUILLOTIERE_NO_PAGE && areas.free == 7);
+    CHECK(guillotiere_cache_reserve(&cache, 100) == GUILLOTIERE_DONE);
+    CHECK(guillotiere_cache_reserve(&cache, SIZE_MAX) == GUILLOTIERE_MEMORY);
+
+    /* With their borders they take 6 by 6, 16 by 8 and 4 by 4 pixels; the first page grows to 16 by 32, which is enough. */
+    const guillotiere_place one = inserted(&cache, 1, 4, 4), two = inserted(&cache, 2, 14, 6);
+    const guillotiere_place three = inserted(&cache, 3, 2, 2);
+    guillotiere_size size;
+    CHECK(guillotiere_cache_page_size(&cache, 0, &size) == GUILLOTIERE_DONE);
+    told_areas(&cache, 0, 36 + 128 + 16, (uint64_t)(size.width * size.height - 36 - 128 - 16));
+    CHECK(guillotiere_cache_get(&cache, 1, &place) == GUILLOTIERE_DONE);
+    CHECK(guillotiere_cache_newest(&cache, &key, &place) == GUILLOTIERE_DONE && key == 1 && same_place(&place, &one));
+    CHECK(guillotiere_cache_older(&cache, 1, &key, &place) == GUILLOTIERE_DONE && key == 3 && same_place(&place, &three));
+    CHECK(guillotiere_cache_older(&cache, 3, &key, &place) == GUILLOTIERE_DONE && key == 2 && same_place(&place, &two));
+    CHECK(guillotiere_cache_older(&cache, 2, &key, &place) == GUILLOTIERE_NOT_HELD && key == 2);
+    CHECK(guillotiere_cache_oldest(&cache, &key, &place) == GUILLOTIERE_DONE && key == 2 && same_place(&place, &two));
+    CHECK(guillotiere_cache_remove(&cache, 2, &place) == GUILLOTIERE_DONE);
+    told_areas(&cache, 0, 36 + 16, (uint64_t)(size.width * size.height - 36 - 16));
+    CHECK(guillotiere_cache_oldest(&cache, &key, &place) == GUILLOTIERE_DONE && key == 3);
     guillotiere_cache_free(&cache);
 }
 
@@ -310,12 +361,20 @@ static void texts(void) {
         CHECK(strcmp(guillotiere_status_text(status), none) != 0);
 }
 
+/* The header is that of the library. */
+static void versions(void) {
+    CHECK(guillotiere_version() == GUILLOTIERE_VERSION);
+    CHECK(GUILLOTIERE_VERSION == 7000 && GUILLOTIERE_VERSION_MINOR == 7);
+}
+
 int main(void) {
     texts();
+    versions();
     bad_options();
     empty_handles();
     a_life();
     a_key_moves();
+    what_it_knows();
     waiting_changes();
     random_session();
     return 0;

@@ -367,6 +367,31 @@ static void let_go(void) {
 
 static void next_frame(void) { add(guillotiere_cache_begin_frame(&cache)); }
 
+static void know_cache(void) {
+    guillotiere_cache_options with = {{7, 7}, {7, 7}, 7, 7, {7, 7, 7, 7}};
+    guillotiere_areas areas = {7, 7};
+    guillotiere_place place = nowhere;
+    uint64_t key = 7;
+    add(guillotiere_version());
+    add(guillotiere_cache_reserve(&cache, below(100)));
+    add(guillotiere_cache_areas(&cache, below(4), &areas));
+    add_wide(areas.allocated);
+    add_wide(areas.free);
+    add(guillotiere_cache_options_of(&cache, &with));
+    add_size(&with.page);
+    add_size(&with.largest_page);
+    add(with.pages);
+    add((uint32_t)with.padding);
+    add_options(&with.atlas);
+    if (one_in(2)) add(guillotiere_cache_newest(&cache, &key, &place));
+    else add(guillotiere_cache_oldest(&cache, &key, &place));
+    add_wide(key);
+    add_place(&place);
+    add(guillotiere_cache_older(&cache, one_in(2) ? key : some_key(), &key, &place));
+    add_wide(key);
+    add_place(&place);
+}
+
 static void describe_cache(void) {
     size_t len = 7;
     uint32_t pages = 7, numbers = 7;
@@ -426,7 +451,7 @@ static const struct {
     {12, rearrange},      {40, make_atlas},       {10, copy_atlas},     {4, free_atlas},      {800, take},
     {10, make_simple},    {20, start_simple_again}, {40, grow_simple},  {100, describe_simple}, {900, insert},
     {700, ask_cache},     {80, let_go},           {100, next_frame},    {80, describe_cache}, {6, make_cache},
-    {8, pack},
+    {8, pack},           {30, know_cache},
 };
 
 static void any_call(void) {

@@ -203,6 +203,9 @@ static void use_cache(guillotiere_cache *cache) {
         CHECK(keys_of(cache) == held);
         CHECK(guillotiere_cache_peek(cache, key, &place) == (status == GUILLOTIERE_DONE ? status : GUILLOTIERE_NOT_HELD));
     }
+    status = guillotiere_cache_reserve(cache, 1000);
+    CHECK(status == GUILLOTIERE_DONE || status == GUILLOTIERE_MEMORY);
+    CHECK(keys_of(cache) == held);
     status = guillotiere_cache_repack(cache, 0);
     CHECK(status == GUILLOTIERE_DONE || status == GUILLOTIERE_MEMORY || (status == GUILLOTIERE_NO_PAGE && held == 0));
     while (guillotiere_cache_next_change(cache, &change) == GUILLOTIERE_DONE) held -= change.kind == GUILLOTIERE_EVICTED;

@@ -31,9 +31,9 @@ static void makes() {
     CHECK(atlas::make({5, 5}, default_options, 0).error() == status::bad_call);
     CHECK(simple_atlas::make({-1, 5}).error() == status::bad_call);
     auto whole = made({100, 50});
-    CHECK(whole.extent().width == 100 && whole.extent().height == 50 && whole.is_empty());
-    CHECK(whole.slots().limit == most_slots && whole.covered().free == 5000);
-    CHECK(whole.settings().alignment_width == 1 && whole.settings().large_size_threshold == 256);
+    CHECK(whole.size().width == 100 && whole.size().height == 50 && whole.is_empty());
+    CHECK(whole.slots().limit == most_slots && whole.areas().free == 5000);
+    CHECK(whole.options().alignment_width == 1 && whole.options().large_size_threshold == 256);
 }
 
 static void moves() {
@@ -42,8 +42,8 @@ static void moves() {
     atlas other = std::move(one);
     CHECK(one.allocate({1, 1}).error() == status::empty && one.deallocate(box.id) == status::empty);
     CHECK(!one.can_fit({1, 1}) && !one.can_grow_to({64, 64}) && one.reserve(0) == status::empty);
-    CHECK(one.settings().alignment_width == 0);
-    CHECK(one.is_empty() && one.extent().width == 0 && !one.get(box.id) && one.live().error() == status::empty);
+    CHECK(one.options().alignment_width == 0);
+    CHECK(one.is_empty() && one.size().width == 0 && !one.get(box.id) && one.live().error() == status::empty);
     CHECK(other.get(box.id) && other.get(box.id)->max_y == 20);
     one = std::move(other);
     CHECK(one.get(box.id));
@@ -85,14 +85,15 @@ static void simple_calls() {
     auto taken = simple.allocate({20, 20});
     CHECK(taken && *taken && are_apart(&**taken, &box.rectangle));
     CHECK(*simple.allocate({64, 64}) == std::nullopt);
-    CHECK(simple.settings().small_size_threshold == 32 && simple.slots().used <= simple.slots().kept);
+    CHECK(simple.options().small_size_threshold == 32 && simple.slots().used <= simple.slots().kept);
     CHECK(!simple.can_grow_to({80, 63}) && simple.can_grow_to({80, 64}));
     CHECK(simple.grow({1, 1}) == status::bad_call && simple.grow({80, 64}) == status::done);
-    CHECK(simple.extent().width == 80 && simple.clear() == status::done && simple.is_empty());
-    CHECK(simple.reset({0, 1}) == status::bad_call && simple.reset({5, 6}) == status::done && simple.extent().height == 6);
+    CHECK(simple.size().width == 80 && simple.clear() == status::done && simple.is_empty());
+    CHECK(simple.reset({0, 1}) == status::bad_call && simple.reset({5, 6}) == status::done && simple.size().height == 6);
 }
 
 static void sheets_of_sprites() {
+    CHECK(version() == header_version && header_version == GUILLOTIERE_VERSION);
     const std::vector<size> sprites = {{3, 5}, {3, 5}, {3, 5}};
     auto with = sheet_options::of_heights(9, 100);
     auto made = pack(sprites, with);
@@ -116,7 +117,7 @@ static void sheets_of_sprites() {
 
 static std::uint64_t evicted(cache &of) {
     const auto change = of.next_change();
-    CHECK(change && kind_of(*change) == change_kind::evicted);
+    CHECK(change && change->kind == change_kind::evicted);
     return change->key;
 }
 
@@ -130,8 +131,8 @@ static void caches() {
     CHECK(again && again->answer == insertion::held && again->at->inner.max_y == 32);
     CHECK(made->page_count() == 1 && made->page_size(0)->height == 32 && !made->page_size(1));
     const auto added = made->next_change(), grown = made->next_change();
-    CHECK(added && kind_of(*added) == change_kind::page_added && added->size.height == 16);
-    CHECK(grown && kind_of(*grown) == change_kind::page_grown && grown->size.height == 32);
+    CHECK(added && added->kind == change_kind::page_added && added->size.height == 16);
+    CHECK(grown && grown->kind == change_kind::page_grown && grown->size.height == 32);
     CHECK(!made->next_change() && !made->insert(8, {1, 1})->at);
     CHECK(made->insert(8, {1, 1})->answer == insertion::frame_full);
     CHECK(made->insert(8, {17, 1})->answer == insertion::never_fits);
@@ -141,7 +142,11 @@ static void caches() {
     CHECK(made->get(8) && !made->get(7) && made->peek(8)->page == 0 && made->len() == 1);
     CHECK(made->peek(8)->number == 0 && made->numbers() == 1);
     CHECK(made->statistics().hits == 1 && made->statistics().misses == 1 && made->statistics().evictions == 1);
+    CHECK(made->newest()->key == 8 && made->oldest()->at.number == 0 && !made->older(8) && made->reserve(10) == status::done);
+    const cache &read = *made;
+    CHECK(read.areas(0)->allocated == 1 && read.areas(0)->free == 511 && !read.areas(1) && read.options().pages == 1);
     cache taken = std::move(*made);
+    CHECK(!made->newest() && made->options().pages == 0 && made->reserve(1) == status::empty);
     CHECK(made->insert(8, {1, 1}).error() == status::empty && !made->get(8) && made->len() == 0);
     CHECK(taken.remove(8) && !taken.remove(8) && taken.insert(9, {2, 2}) && taken.trim(0) == status::done);
     CHECK(taken.repack(0) == status::done && taken.repack(9) == status::no_page);

@@ -146,7 +146,7 @@ export class Atlas extends Owner {
   }
 
   get areas() {
-    return found(this, 'atlas_areas', (words, at) => ({ allocated: reading.wide(words, at), free: reading.wide(words, at + 2) }));
+    return found(this, 'atlas_areas', reading.areas);
   }
 
   get isEmpty() {

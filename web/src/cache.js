@@ -81,8 +81,9 @@ export class TextureCache extends Owner {
     return place;
   }
 
-  #place(runtime, status) {
-    if (status === DONE) return reading.place(runtime.words(), runtime.word);
+  /** The place that a look-up wrote behind so many words. */
+  #place(runtime, status, before = 0) {
+    if (status === DONE) return reading.place(runtime.words(), runtime.word + before);
     if (status === NOT_HELD) return null;
     throw failure(STATUSES[status]);
   }
@@ -129,6 +130,33 @@ export class TextureCache extends Owner {
     this.#follow(runtime);
   }
 
+  reserve(additional) {
+    const number = count(additional, 'additional');
+    require(runtimeOf(this).calls.cache_reserve(handle(this), number));
+  }
+
+  newest() {
+    const runtime = runtimeOf(this);
+    return this.#keyed(runtime, runtime.calls.cache_newest(handle(this), runtime.at, runtime.at + 8));
+  }
+
+  oldest() {
+    const runtime = runtimeOf(this);
+    return this.#keyed(runtime, runtime.calls.cache_oldest(handle(this), runtime.at, runtime.at + 8));
+  }
+
+  older(key) {
+    const number = this.#keys.number(key);
+    const runtime = runtimeOf(this);
+    return this.#keyed(runtime, runtime.calls.cache_older(handle(this), number, runtime.at, runtime.at + 8));
+  }
+
+  #keyed(runtime, status) {
+    const place = this.#place(runtime, status, 2);
+    const [words, at] = [runtime.words(), runtime.word];
+    return place === null ? null : { key: this.#keys.key(words[at], words[at + 1]), place };
+  }
+
   get length() {
     return this.#found('cache_len', (words, at) => words[at] >>> 0);
   }
@@ -146,6 +174,19 @@ export class TextureCache extends Owner {
     const runtime = runtimeOf(this);
     require(runtime.calls.cache_page_size(handle(this), number, runtime.at));
     return reading.size(runtime.words(), runtime.word);
+  }
+
+  areas(page) {
+    const number = count(page, 'page');
+    const runtime = runtimeOf(this);
+    require(runtime.calls.cache_areas(handle(this), number, runtime.at));
+    return reading.areas(runtime.words(), runtime.word);
+  }
+
+  get options() {
+    return this.#found('cache_options_of', (words, at) => (
+      { page: reading.size(words, at), largestPage: reading.size(words, at + 2), pages: words[at + 4] >>> 0, padding: words[at + 5],
+        atlas: reading.options(words, at + 6) }));
   }
 
   get statistics() {

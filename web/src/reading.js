@@ -37,6 +37,10 @@ export function place(words, at) {
   return { number: words[at] >>> 0, page: words[at + 1] >>> 0, rectangle: rectangle(words, at + 2), inner: rectangle(words, at + 6) };
 }
 
+export function areas(words, at) {
+  return { allocated: wide(words, at), free: wide(words, at + 2) };
+}
+
 /** So many values, each of `step` words. */
 export function list(words, at, many, step, reader) {
   const read = new Array(many);

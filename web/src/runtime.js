@@ -9,7 +9,8 @@ const NAMES = [
   ...['new', 'with_options', 'free', 'allocate', 'grow', 'can_grow_to', 'clear', 'reset', 'init_from_allocator', 'size', 'options',
     'slots', 'is_empty'].map((name) => `simple_${name}`),
   ...['new', 'free', 'begin_frame', 'get', 'peek', 'insert', 'remove', 'next_change', 'clear', 'trim', 'repack', 'len',
-    'page_count', 'page_size', 'numbers', 'statistics'].map((name) => `cache_${name}`),
+    'page_count', 'page_size', 'numbers', 'statistics', 'areas', 'options_of', 'newest', 'oldest', 'older', 'reserve',
+  ].map((name) => `cache_${name}`),
   'pack',
 ];
 

@@ -103,6 +103,26 @@ test('changes are handed over once, in order, and wait where a loop ends early',
   assert.deepEqual([...cache.changes()], []);
 });
 
+test('what a cache knows of itself', () => {
+  const options = { page: { width: 32, height: 16 }, largestPage: { width: 32, height: 32 }, pages: 2, padding: 1 };
+  const cache = new TextureCache(options);
+  const atlas = { alignment: { width: 1, height: 1 }, smallSizeThreshold: 32, largeSizeThreshold: 256 };
+  assert.deepEqual(cache.options, { ...options, atlas });
+  assert.deepEqual([cache.newest(), cache.oldest(), cache.older('a')], [null, null, null]);
+  refused(() => cache.areas(0), 'NO_PAGE', 'areas');
+  cache.reserve(10);
+  for (const [key, side] of [['a', 4], [7, 6], ['c', 2]]) cache.insert(key, side, side);
+  assert.deepEqual(cache.areas(0), { allocated: 36 + 64 + 16, free: 512 - 36 - 64 - 16 });
+  cache.get('a');
+  const keys = [];
+  for (let next = cache.newest(); next !== null; next = cache.older(next.key)) {
+    assert.deepEqual(next.place, cache.peek(next.key));
+    keys.push(next.key);
+  }
+  assert.deepEqual(keys, ['a', 'c', 7]);
+  assert.deepEqual(cache.oldest(), { key: 7, place: cache.peek(7) });
+});
+
 test('moved keys are told with both places', () => {
   const cache = new TextureCache({ page: { width: 64, height: 64 }, padding: 1 });
   for (const [key, side] of [['a', 5], [7, 20], ['c', 9]]) cache.insert(key, side, side);

@@ -22,7 +22,7 @@ const USES = {
   SimpleAtlas: { allocate: [1, 1], grow: [200, 200], canGrowTo: [200, 200], clear: [], reset: [5, 5], initFrom: [new Atlas(5, 5)] },
   TextureCache: {
     beginFrame: [], get: ['a'], peek: ['a'], insert: ['a', 1, 1], remove: ['a'], has: ['a'], changes: [], clear: [], trim: [1], repack: [0],
-    pageSize: [0],
+    pageSize: [0], areas: [0], newest: [], oldest: [], older: ['a'], reserve: [1],
   },
 };
 const MAKERS = {

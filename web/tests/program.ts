@@ -36,6 +36,8 @@ function useCache(): void {
   }
   for (const change of cache.changes()) follow(change);
   [cache.remove('a'), cache.has('b'), cache.clear(), cache.trim(5n), cache.repack(0), cache.length, cache.numbers, cache.pageCount, cache.pageSize(0).width];
+  for (let next = cache.newest(); next !== null; next = cache.older(next.key)) next.place.inner.x;
+  [cache.oldest()?.key, cache.reserve(5), cache.areas(0).free, cache.options.atlas.largeSizeThreshold, cache.options.padding];
   const { hits, misses, evictions } = cache.statistics;
   cache.dispose();
   hits + misses + evictions;

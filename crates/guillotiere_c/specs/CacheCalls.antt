@@ -15,6 +15,7 @@ use Rattle.atlas_cache.specs.Counting.{one_more}
 use Rattle.atlas_cache.specs.Refusals.{IsRefusedNew}
 use Rattle.atlas_cache.specs.Relocating.{Repacks}
 use Rattle.atlas_cache.specs.Telling.{Tells}
+use Rattle.atlas_cache.specs.Walking.{ShowsOlder}
 use Rattle.guillotiere_c.specs.Following.{Followed}
 
 -- What `TextureCache::get` does: the key is used in this frame, and counted as a hit; or it isn't held, and counted as
@@ -46,6 +47,11 @@ pub record IsInsert (key : ℕ) (size : Size) (result : Result Inserted CacheErr
   pub told : Tells nat_eq key result f.changes g.changes f.cache g.cache
   pub errors : entry_for nat_eq key f.cache.entries ≡ None → IfErr result (IsRefusedNew (length g.cache.entries))
   pub room : IsNoneInUse f.cache → result ≢ Ok FrameFull
+
+-- What `TextureCache::older` finds of a key: the key that was used next before it, if it is held.
+pub record IsOlder (key : ℕ) (found : Option (ℕ × Place)) (s : CacheState ℕ) : Type 0 where
+  pub next : IfSome (entry_for nat_eq key s.entries) (λ e. ShowsOlder e found s)
+  pub none : entry_for nat_eq key s.entries ≡ None → found ≡ None
 
 -- What `TextureCache::trim` does. The evictions come behind the changes that weren't handed over.
 pub record IsTrim (frames : ℕ) (f g : Followed) : Type 0 where

@@ -82,3 +82,8 @@ insert_answer status written =
 abbrev pub found_answer : (status : ℕ) → PlainPlace → Option (Option Place)
 found_answer status written =
     if status == DONE then Some (Some (place_in written)) else (if status == NOT_HELD then Some None else None)
+
+-- The key and the place that a walk along the order of use wrote, if its answer is one.
+abbrev pub keyed_answer : (status key : ℕ) → PlainPlace → Option (Option (ℕ × Place))
+keyed_answer status key written =
+    if status == DONE then Some (Some (key, place_in written)) else (if status == NOT_HELD then Some None else None)

@@ -1,13 +1,14 @@
 //! The exports that tell of a cache: how many keys and pages it has, and how it was used.
-ghost use Rattle.std.specs.Prelude.{◌≡◌, ◌≢◌, Some, IsNone, IsSome, length, slice_get};
+ghost use Rattle.std.specs.Prelude.{◌≡◌, ◌≢◌, ◌⊎◌, Some, None, IsNone, IsSome, length, slice_get};
+ghost use Rattle.atlas_cache.specs.Repacking.{free_by_page, live_by_page};
 ghost use Rattle.atlas_cache.specs.Rooms.{page_sizes};
-ghost use Rattle.guillotiere_c.specs.CacheNumbers.{counts_in};
+ghost use Rattle.guillotiere_c.specs.CacheNumbers.{cache_options_in, counts_in};
 ghost use Rattle.guillotiere_c.specs.Following.{HoldsCache};
 ghost use Rattle.guillotiere_c.specs.Numbers.{size_in};
 
 use crate::cache_handle::CacheHandle;
-use crate::plain::{DONE, EMPTY, NO_PAGE, PlainSize, plain_size};
-use crate::plain_cache::{PlainCounts, plain_counts};
+use crate::plain::{DONE, EMPTY, NO_PAGE, PlainAreas, PlainSize, plain_size};
+use crate::plain_cache::{PlainCacheOptions, PlainCounts, plain_cache_options, plain_counts};
 use std::alloc::Global;
 
 /// How many keys are held. `DONE`.
@@ -103,6 +104,66 @@ pub extern "C" fn guillotiere_cache_page_size(
         }
         None => NO_PAGE,
     }
+}
+
+/// The areas of a page, in pixels: of its entries, with their padding and what alignment added, and of what is free.
+/// Pages are counted from 0. `DONE`; `NO_PAGE`.
+#[unsafe(no_mangle)]
+pub extern "C" fn guillotiere_cache_areas(
+    alloc: Global,
+    cache: &mut CacheHandle,
+    page: u32,
+    areas: &mut PlainAreas,
+) -> u32
+    ensures allocated { result ≡ DONE → HoldsCache cache.old.kept
+        (λ f. slice_get (live_by_page f.cache.pages) page ≡ Some areas.new.allocated) }
+    ensures free { result ≡ DONE → HoldsCache cache.old.kept
+        (λ f. slice_get (free_by_page f.cache.pages) page ≡ Some areas.new.free) }
+    ensures none { result ≡ NO_PAGE → HoldsCache cache.old.kept
+        (λ f. (slice_get (live_by_page f.cache.pages) page ≡ None)
+        ⊎ (slice_get (free_by_page f.cache.pages) page ≡ None)) }
+    ensures unless { IsSome cache.old.kept → result ≢ DONE → result ≡ NO_PAGE }
+    ensures same { cache.new.kept ≡ cache.old.kept }
+    ensures unwritten { result ≢ DONE → areas.new ≡ areas.old }
+    ensures empty { IsNone cache.old.kept → result ≡ EMPTY }
+{
+    if !cache.holds() {
+        return EMPTY;
+    }
+    let held = cache.take(alloc);
+    let live = held.live_area(page);
+    let free = held.free_area(page);
+    cache.put(held);
+    let Some(allocated) = live else {
+        return NO_PAGE;
+    };
+    let Some(free) = free else {
+        return NO_PAGE;
+    };
+    *areas = PlainAreas { allocated, free };
+    DONE
+}
+
+/// The options with which the cache was made. `DONE`.
+#[unsafe(no_mangle)]
+pub extern "C" fn guillotiere_cache_options_of(
+    alloc: Global,
+    cache: &mut CacheHandle,
+    options: &mut PlainCacheOptions,
+) -> u32
+    ensures options { IsSome cache.old.kept → HoldsCache cache.old.kept
+        (λ f. cache_options_in options.new ≡ f.cache.options) }
+    ensures done { IsSome cache.old.kept → result ≡ DONE }
+    ensures same { cache.new.kept ≡ cache.old.kept }
+    ensures empty { IsNone cache.old.kept → (result ≡ EMPTY) × (options.new ≡ options.old) }
+{
+    if !cache.holds() {
+        return EMPTY;
+    }
+    let held = cache.take(alloc);
+    *options = plain_cache_options(held.options());
+    cache.put(held);
+    DONE
 }
 
 /// How often `guillotiere_cache_get` found its key and how often it didn't, and how many keys were evicted. `DONE`.

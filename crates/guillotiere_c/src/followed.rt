@@ -1,13 +1,15 @@
 //! A cache with the list of its changes, from which its caller takes one after another.
 ghost use Rattle.std.specs.Prelude.{◌≡◌, ◌↔◌, ◌≤◌, ◌∷◌, [], drop, IfErr, IfOk, IfSome, IsOk, IsOkUnless, None, OnErr};
-ghost use Rattle.std.specs.Prelude.{Ok, OnOk, false, length, nat_eq, slice_get, true, vec_len};
+ghost use Rattle.std.specs.Prelude.{Ok, OnOk, false, length, nat_eq, option_map, slice_get, true, vec_len};
 ghost use Rattle.atlas_cache.specs.declared.error.CacheError.TheVariants.{Memory};
 ghost use Rattle.atlas_cache.specs.Asking.{AreUsable, IsFaultIn};
 ghost use Rattle.atlas_cache.specs.Caches.{place_for};
 ghost use Rattle.atlas_cache.specs.Clearing.{Clears};
 ghost use Rattle.atlas_cache.specs.Counting.{one_more};
+ghost use Rattle.atlas_cache.specs.Repacking.{free_by_page, live_by_page};
 ghost use Rattle.atlas_cache.specs.Rooms.{page_sizes, IsRefusal};
-ghost use Rattle.guillotiere_c.specs.CacheCalls.{IsGet, IsInsert, IsRemoval, IsRepacking, IsTrim};
+ghost use Rattle.atlas_cache.specs.Walking.{first_entry, keyed, last_entry};
+ghost use Rattle.guillotiere_c.specs.CacheCalls.{IsGet, IsInsert, IsOlder, IsRemoval, IsRepacking, IsTrim};
 ghost use Rattle.guillotiere_c.specs.Following.{new_cache};
 
 use atlas_cache::{
@@ -189,6 +191,56 @@ impl FollowedCache {
         ensures { result ≡ slice_get (page_sizes self.now.cache.pages) page }
     {
         self.cache.page_size(page)
+    }
+
+    /// As `TextureCache::options`.
+    pub fn options(&self) -> CacheOptions
+        ensures { result ≡ self.now.cache.options }
+    {
+        self.cache.options()
+    }
+
+    /// As `TextureCache::live_area`.
+    pub fn live_area(&self, page: u32) -> Option<u64>
+        ensures { result ≡ slice_get (live_by_page self.now.cache.pages) page }
+    {
+        self.cache.live_area(page)
+    }
+
+    /// As `TextureCache::free_area`.
+    pub fn free_area(&self, page: u32) -> Option<u64>
+        ensures { result ≡ slice_get (free_by_page self.now.cache.pages) page }
+    {
+        self.cache.free_area(page)
+    }
+
+    /// As `TextureCache::newest`.
+    pub fn newest(&self) -> Option<(u64, Place)>
+        ensures { result ≡ option_map (keyed self.now.cache.options.padding) (first_entry self.now.cache.entries) }
+    {
+        self.cache.newest()
+    }
+
+    /// As `TextureCache::oldest`.
+    pub fn oldest(&self) -> Option<(u64, Place)>
+        ensures { result ≡ option_map (keyed self.now.cache.options.padding) (last_entry self.now.cache.entries) }
+    {
+        self.cache.oldest()
+    }
+
+    /// As `TextureCache::older`.
+    pub fn older(&self, key: u64) -> Option<(u64, Place)>
+        ensures { IsOlder key result self.now.cache }
+    {
+        self.cache.older(&key)
+    }
+
+    /// As `TextureCache::reserve`.
+    pub fn reserve(&mut self, additional: usize) -> Result<(), CacheError>
+        ensures same { self.new ≡ self.old }
+        ensures unless { IsOkUnless result Memory }
+    {
+        self.cache.reserve(additional)
     }
 
     /// As `TextureCache::statistics`.

@@ -8,7 +8,7 @@ ghost use Rattle.guillotiere_c.specs.declared.plain_cache.PlainPlace.{PlainPlace
 use crate::plain::{
     BAD_ATLAS, BAD_PADDING, DONE, EMPTY, EMPTY_PAGE, EVICTED, LARGEST_PAGE, MEMORY, MOVED,
     NO_PAGES, NOTHING_FITS, NUMBERS, OTHER_SIZE, PAGE_ADDED, PAGE_GROWN, PlainOptions,
-    PlainRectangle, PlainSize, SLOTS, plain_rectangle, plain_size,
+    PlainRectangle, PlainSize, SLOTS, plain_options, plain_rectangle, plain_size,
 };
 use atlas_cache::{CacheChange, CacheError, CacheOptions, Counts, OptionsError, Place};
 use guillotiere::{AllocatorOptions, size2};
@@ -157,6 +157,19 @@ pub fn cache_options_for(options: &PlainCacheOptions) -> CacheOptions
             small_size_threshold: options.atlas.small_size_threshold,
             large_size_threshold: options.atlas.large_size_threshold,
         },
+    }
+}
+
+/// The same for C.
+pub fn plain_cache_options(options: CacheOptions) -> PlainCacheOptions
+    ensures { cache_options_in result ≡ options }
+{
+    PlainCacheOptions {
+        page: plain_size(options.page),
+        largest_page: plain_size(options.largest_page),
+        pages: options.pages,
+        padding: options.padding,
+        atlas: plain_options(options.atlas),
     }
 }
 

@@ -26,7 +26,7 @@ use Rattle.guillotiere_recording.specs.Events.{EventValue, given_names}
 use Rattle.guillotiere_recording.specs.Events.EventValue.{Allocate, Deallocate, Grow, Rearrange, ResizeAndRearrange}
 use Rattle.guillotiere_recording.specs.Logs.{RecordingValue, with_event}
 use Rattle.guillotiere_recording.specs.Sessions.{Named, IsLiveName, IsNamed, GrantsUnder, FreesUnder, Leads, LeadOn, fresh_session}
-use Rattle.guillotiere_recording.specs.Names.{entries_of, name_among}
+use Rattle.guillotiere_recording.specs.Names.{entries_of, name_among, AreLiveIds}
 use Rattle.guillotiere_recording.specs.Recordings.{SessionValue, session_of, first_names, LeadsTo, IsRecordedSession}
 use Rattle.guillotiere_recording.proofs.Entries.{live_is_counted, counted_is_live, entry_of, name_of, entries_pushed, name_pushed, names_pushed, All-removed, names_removed, entries_removed}
 use Rattle.guillotiere_recording.proofs.Naming.{live_at_most_once, grant_counts, growth_counts, freed_is_gone, others_stay}
@@ -371,3 +371,18 @@ led_by_grant v w a ns size g answer value more said h step exact =
     (subst (λ x. GrantsUnder (session_of v) size x (record { state = state_of a; name = name_among ns })) (sym said)
     (subst (λ ms. GrantsUnder (session_of v) size (under v.given g) (record { state = state_of a; name = name_among ms })) (sym more)
     (grants_under v a size g h step exact)))
+
+-- Another atlas in the same state.
+pub same_state : (v : SessionValue) (a : AtlasValue) → state_of a ≡ state_of v.atlas → IsRecordedSession v
+    → IsRecordedSession (record v { atlas = a })
+same_state v a same h =
+    record {
+      faithful = record {
+        leads = subst (λ (s : State). LeadsTo v.recording (record { state = s; name = name_among v.names })) (sym same) h.faithful.leads;
+        given = h.faithful.given;
+      };
+      ids = subst (λ (s : State). AreLiveIds s v.names) (sym same) h.ids;
+      rising = h.rising;
+      below = h.below;
+      most = h.most;
+    }

@@ -10,3 +10,5 @@ pub mod Recordings
 pub mod Replays
 pub mod Standing
 pub mod Kept
+pub mod Resuming
+pub mod Halting

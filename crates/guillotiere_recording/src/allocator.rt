@@ -21,6 +21,8 @@ ghost use Rattle.guillotiere_recording.specs.Events.{list_value_of};
 ghost use Rattle.guillotiere_recording.specs.Sessions.{IsLiveName, Leads};
 ghost use Rattle.guillotiere_recording.specs.Logs.{with_event};
 
+mod queries;
+
 use crate::error::RecordingError;
 use crate::event::Event;
 use crate::log::Log;

@@ -47,8 +47,8 @@ pub fn map_names<A: Allocator + Copy>(
     Ok(names)
 }
 
-// Whether two change lists have the same changes and failures.
-fn are_equal<A: Allocator + Copy>(one: &ChangeList<A>, other: &ChangeList<A>) -> bool
+/// Whether two change lists have the same changes and failures.
+pub fn are_equal<A: Allocator + Copy>(one: &ChangeList<A>, other: &ChangeList<A>) -> bool
     ensures { IsTrue result ↔ (list_value_of one.now ≡ list_value_of other.now) }
 {
     one == other

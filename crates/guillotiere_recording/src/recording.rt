@@ -6,6 +6,7 @@ ghost use Rattle.guillotiere.specs.Pixels.{sides_of, options_of};
 ghost use Rattle.guillotiere_recording.specs.Events.{event_of};
 ghost use Rattle.guillotiere_recording.specs.Logs.{recording_of, with_event};
 
+use crate::allocator::RecordingAllocator;
 use crate::error::RecordingError;
 use crate::event::Event;
 use crate::log::Log;
@@ -30,7 +31,9 @@ impl<A: Allocator + Copy> Model for Recording<A> {
 }
 
 impl<A: Allocator + Copy> Recording<A> {
+    ghost use Rattle.guillotiere_recording.specs.Recordings.{IsFaithful};
     ghost use Rattle.guillotiere_recording.specs.Replays.{IsRecorded, IsReplayed, IsFaultOf, MayFail};
+    ghost use Rattle.guillotiere_recording.specs.Resuming.{IsResumeFault};
 
     // The recording of a log.
     pub(crate) fn from_log(log: Log<A>) -> Recording<A>
@@ -58,6 +61,19 @@ impl<A: Allocator + Copy> Recording<A> {
         ensures recorded { IsRecorded self.now → IfErr result (MayFail self.now) }
     {
         self.log.replay()
+    }
+
+    /// A recording allocator that carried out the events as its own calls, and so goes on from where they end: its recording
+    /// is this one, and the boxes of its names are those of the events. The first fault ends it: `BadEvent` where an event
+    /// can't be carried out, as its new name isn't the next one (0, 1, 2, .. in the order of the grants), the name that it
+    /// frees isn't live, a side shrinks or a size is empty; `Differs` where the answer is another than the event says;
+    /// `Slots` as the atlas's; `Memory` if a request for memory is refused. Events are counted from 0.
+    pub fn resume(&self) -> Result<RecordingAllocator<A>, ReplayFault>
+        ensures resumed { IfOk result (λ session. session.recording ≡ self.now) }
+        ensures faithful { IfOk result IsFaithful }
+        ensures fault { IfErr result (IsResumeFault self.now) }
+    {
+        self.log.resume()
     }
 
     /// Removes the event with this number, counted from 0; later ones move up by one. Asks a number below that of the

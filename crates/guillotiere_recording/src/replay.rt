@@ -166,8 +166,8 @@ impl<A: Allocator + Copy> Log<A> {
     }
 }
 
-// The fault of a replay whose event with this number isn't carried out.
-fn fault_at(fault: EventFault, at: usize) -> ReplayFault
+/// The fault of a replay whose event with this number isn't carried out.
+pub fn fault_at(fault: EventFault, at: usize) -> ReplayFault
     ensures { result ≡ fault_of fault at }
 {
     match fault {

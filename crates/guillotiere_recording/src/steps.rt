@@ -134,8 +134,8 @@ fn grant_again<A: Allocator + Copy>(
     }
 }
 
-// Whether two rectangles have the same corners.
-fn are_same(one: &Rectangle, other: &Rectangle) -> bool
+/// Whether two rectangles have the same corners.
+pub fn are_same(one: &Rectangle, other: &Rectangle) -> bool
     ensures { IsTrue result ↔ (one.now ≡ other.now) }
 {
     one == other

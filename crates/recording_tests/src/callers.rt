@@ -1,5 +1,6 @@
 //! First callers of replays: each is proved from the contracts alone.
 ghost use Rattle.std.specs.Prelude.{◌≡◌, ℕ, IfSome, IfOk, IfErr, Err, true, count_by};
+ghost use Rattle.guillotiere_recording.specs.Recordings.{IsFaithful};
 ghost use Rattle.guillotiere_recording.specs.Replays.{IsRecorded, MayFail, is_granted_event};
 
 use guillotiere_recording::{Recording, RecordingAllocator, ReplayFault};
@@ -41,4 +42,12 @@ pub fn granted_in(session: RecordingAllocator) -> Result<u64, ReplayFault>
     ensures { (at : ℕ) → result ≡ Err (ReplayFault.BadEvent at) → ⊥ }
 {
     grants(&session.finish())
+}
+
+/// Takes a session up again where its recording ends: its live names are those of the recording's events.
+pub fn gone_on(recording: &Recording) -> Result<RecordingAllocator, ReplayFault>
+    ensures same { IfOk result (λ session. session.recording ≡ recording.now) }
+    ensures live { IfOk result IsFaithful }
+{
+    recording.resume()
 }

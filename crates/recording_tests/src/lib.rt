@@ -5,6 +5,8 @@ pub mod callers;
 #[cfg(test)]
 mod replay;
 #[cfg(test)]
+mod resuming;
+#[cfg(test)]
 mod sessions;
 #[cfg(test)]
 mod texts;

@@ -11,9 +11,9 @@ use std::process::Abort;
 use std::test::Fail;
 use test_memory::Refusing;
 
-type Corners = (i32, i32, i32, i32);
+pub type Corners = (i32, i32, i32, i32);
 
-fn allocation((name, (left, top, right, bottom)): (u32, Corners)) -> Allocation {
+pub fn allocation((name, (left, top, right, bottom)): (u32, Corners)) -> Allocation {
     Allocation {
         id: AllocId::deserialize(name),
         rectangle: Rectangle {
@@ -35,7 +35,7 @@ fn begun<A: Allocator + Copy>(
     RecordingAllocator::new(alloc, whole)
 }
 
-fn request<A: Allocator + Copy>(
+pub fn request<A: Allocator + Copy>(
     session: &mut RecordingAllocator<A>,
     (width, height): (i32, i32),
 ) -> Result<Option<Allocation>, RecordingError> {
@@ -63,7 +63,7 @@ fn filled<A: Allocator + Copy>(alloc: A) -> Result<RecordingAllocator<A>, Record
 }
 
 // The same; then no room for a fourth, the middle one freed, and the others placed anew.
-fn column<A: Allocator + Copy>(alloc: A) -> Result<Recording<A>, RecordingError> {
+pub fn column<A: Allocator + Copy>(alloc: A) -> Result<Recording<A>, RecordingError> {
     let mut session = filled(alloc)?;
     request(&mut session, (1, 1))?;
     free(&mut session, 1)?;
@@ -92,7 +92,7 @@ fn ends<A: Allocator + Copy>(
 }
 
 // Removes an event that is there.
-fn remove<A: Allocator + Copy>(rt: &impl Abort, recording: &mut Recording<A>, at: usize) {
+pub fn remove<A: Allocator + Copy>(rt: &impl Abort, recording: &mut Recording<A>, at: usize) {
     assert!(rt; at < recording.events().len());
     recording.remove_event(at);
 }
@@ -101,7 +101,7 @@ fn are_equal<A: Allocator + Copy>(one: &Recording<A>, other: &Recording<A>) -> b
     one.events() == other.events()
 }
 
-const MOVED: &[(u32, Corners)] = &[(0, (0, 100, 100, 200)), (2, (0, 0, 100, 100))];
+pub const MOVED: &[(u32, Corners)] = &[(0, (0, 100, 100, 200)), (2, (0, 0, 100, 100))];
 
 #[test]
 fn a_session_is_replayed(rt: HostRuntime) -> Result<(), Fail> {
@@ -195,7 +195,7 @@ fn fault_of(
     Ok(fault)
 }
 
-fn box_of_seven(corners: Corners) -> Event<Global> {
+pub fn box_of_seven(corners: Corners) -> Event<Global> {
     Event::Allocate(size2(4, 4), Some(allocation((7, corners))))
 }
 

@@ -431,6 +431,18 @@ impl<K: Copy + Eq + Hash, S: BuildHasher> TextureCache<K, S> {
         self.cache.free_area(page)
     }
 
+    /// The options with which the cache was made.
+    pub fn options(&self) -> CacheOptions {
+        let options = self.cache.options();
+        CacheOptions {
+            page: convert::size(options.page),
+            largest_page: convert::size(options.largest_page),
+            pages: options.pages,
+            padding: options.padding,
+            atlas: convert::options(&options.atlas),
+        }
+    }
+
     /// The counts since the cache was made.
     pub fn statistics(&self) -> Counts {
         let counts = self.cache.statistics();

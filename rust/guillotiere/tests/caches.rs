@@ -139,6 +139,15 @@ fn numbers_are_dense() {
 }
 
 #[test]
+fn the_options_that_it_was_made_with() {
+    let mut options = one_page();
+    options.padding = 1;
+    options.atlas.small_size_threshold = 5;
+    let cache = TextureCache::<u64>::new(&options).unwrap();
+    assert_eq!(cache.options(), options);
+}
+
+#[test]
 fn options_that_are_wrong() {
     let error = |options| TextureCache::<u64>::new(&options).err();
     assert_eq!(

@@ -98,6 +98,37 @@ export class Cache {
     this.sum.add(this.call((cache) => cache.beginFrame()).status);
   }
 
+  /** A key with its place, or null. */
+  keyed(found) {
+    const key = found === null ? 7 : this.hasNames ? Number(found.key.slice('key '.length)) : found.key;
+    this.sum.wide(key);
+    this.sum.place(found?.place ?? null);
+  }
+
+  know() {
+    this.sum.add(7000);
+    const additional = this.draw.below(100);
+    this.sum.add(this.call((cache) => cache.reserve(additional)).status);
+    const page = this.draw.below(4);
+    const areas = this.call((cache) => cache.areas(page));
+    this.sum.add(areas.status);
+    for (const area of Object.values(areas.value ?? SEVENS.areas)) this.sum.wide(area);
+    const options = this.call((cache) => cache.options);
+    this.sum.add(options.status);
+    const told = options.value ?? { page: SEVENS.size, largestPage: SEVENS.size, pages: 7, padding: 7, atlas: SEVENS.options };
+    this.sum.size(told.page);
+    this.sum.size(told.largestPage);
+    this.sum.add(told.pages);
+    this.sum.add(told.padding);
+    this.sum.options(told.atlas);
+    const end = this.draw.oneIn(2) ? 'newest' : 'oldest';
+    const first = this.place('NOT_HELD', (cache) => cache[end]());
+    this.keyed(first);
+    const key = this.draw.oneIn(2) ? first?.key ?? this.key(7) : this.key(this.someKey());
+    const next = this.place('NOT_HELD', (cache) => cache.older(key));
+    this.keyed(next ?? first);
+  }
+
   describe() {
     const length = this.call((cache) => cache.length);
     this.sum.add(length.status);

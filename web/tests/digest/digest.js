@@ -54,6 +54,7 @@ function kinds(api, draw, sum, hasNames) {
     [10, () => simple.make()], [20, () => simple.startAgain()], [40, () => simple.grow()], [100, () => simple.describe()],
     [900, () => cache.insert()], [700, () => cache.ask()], [80, () => cache.letGo()], [100, () => cache.nextFrame()],
     [80, () => cache.describe()], [6, () => cache.make()], [8, () => pack(api, draw, sum)],
+    [30, () => cache.know()],
   ];
 }
 

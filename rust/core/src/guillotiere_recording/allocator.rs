@@ -1,6 +1,8 @@
 // Erased from crates/guillotiere_recording/src/allocator.rt by rust/erase: don't edit.
 //! The recording allocator: an atlas that hands out names in place of ids, and records its calls.
 
+mod queries;
+
 use crate::guillotiere::{
     AllocId, Allocation, AllocatorOptions, AtlasAllocator, ChangeList, Rectangle, Size,
     DEFAULT_OPTIONS,

@@ -38,9 +38,9 @@ pub fn map_names<A: Allocator + Copy>(
     Ok(names)
 }
 
-// Whether two change lists have the same changes and failures.
+/// Whether two change lists have the same changes and failures.
 #[inline]
-fn are_equal<A: Allocator + Copy>(one: &ChangeList<A>, other: &ChangeList<A>) -> bool {
+pub fn are_equal<A: Allocator + Copy>(one: &ChangeList<A>, other: &ChangeList<A>) -> bool {
     one == other
 }
 

@@ -11,6 +11,7 @@ mod moves;
 mod names;
 mod recording;
 mod replay;
+mod resuming;
 mod steps;
 mod walks;
 

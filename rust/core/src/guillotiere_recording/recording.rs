@@ -2,6 +2,7 @@
 //! Recordings, and recorders, which make one of events that they are given.
 
 use crate::guillotiere::{AllocatorOptions, Size};
+use crate::guillotiere_recording::allocator::RecordingAllocator;
 use crate::guillotiere_recording::error::RecordingError;
 use crate::guillotiere_recording::event::Event;
 use crate::guillotiere_recording::log::Log;
@@ -38,6 +39,16 @@ impl<A: Allocator + Copy> Recording<A> {
     #[inline]
     pub fn replay(&self) -> Result<ReplayStats<A>, ReplayFault> {
         self.log.replay()
+    }
+
+    /// A recording allocator that carried out the events as its own calls, and so goes on from where they end: its recording
+    /// is this one, and the boxes of its names are those of the events. The first fault ends it: `BadEvent` where an event
+    /// can't be carried out, as its new name isn't the next one (0, 1, 2, .. in the order of the grants), the name that it
+    /// frees isn't live, a side shrinks or a size is empty; `Differs` where the answer is another than the event says;
+    /// `Slots` as the atlas's; `Memory` if a request for memory is refused. Events are counted from 0.
+    #[inline]
+    pub fn resume(&self) -> Result<RecordingAllocator<A>, ReplayFault> {
+        self.log.resume()
     }
 
     /// Removes the event with this number, counted from 0; later ones move up by one. Asks a number below that of the

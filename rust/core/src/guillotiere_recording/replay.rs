@@ -153,9 +153,9 @@ impl<A: Allocator + Copy> Log<A> {
     }
 }
 
-// The fault of a replay whose event with this number isn't carried out.
+/// The fault of a replay whose event with this number isn't carried out.
 #[inline]
-fn fault_at(fault: EventFault, at: usize) -> ReplayFault {
+pub fn fault_at(fault: EventFault, at: usize) -> ReplayFault {
     match fault {
         EventFault::Memory => ReplayFault::Memory,
         EventFault::Slots => ReplayFault::Slots,

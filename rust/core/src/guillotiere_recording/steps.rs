@@ -111,9 +111,9 @@ fn grant_again<A: Allocator + Copy>(
     }
 }
 
-// Whether two rectangles have the same corners.
+/// Whether two rectangles have the same corners.
 #[inline]
-fn are_same(one: &Rectangle, other: &Rectangle) -> bool {
+pub fn are_same(one: &Rectangle, other: &Rectangle) -> bool {
     one == other
 }
 

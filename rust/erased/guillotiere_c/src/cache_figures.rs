@@ -2,8 +2,8 @@
 //! The exports that tell of a cache: how many keys and pages it has, and how it was used.
 
 use crate::cache_handle::CacheHandle;
-use crate::plain::{plain_size, PlainSize, DONE, EMPTY, NO_PAGE};
-use crate::plain_cache::{plain_counts, PlainCounts};
+use crate::plain::{plain_size, PlainAreas, PlainSize, DONE, EMPTY, NO_PAGE};
+use crate::plain_cache::{plain_cache_options, plain_counts, PlainCacheOptions, PlainCounts};
 use wollemigo_support::alloc::Global;
 
 /// How many keys are held. `DONE`.
@@ -66,6 +66,54 @@ pub extern "C" fn guillotiere_cache_page_size(
         }
         None => NO_PAGE,
     }
+}
+
+/// The areas of a page, in pixels: of its entries, with their padding and what alignment added, and of what is free.
+/// Pages are counted from 0. `DONE`; `NO_PAGE`.
+#[no_mangle]
+pub extern "C" fn guillotiere_cache_areas(
+    cache: &mut CacheHandle,
+    page: u32,
+    areas: &mut PlainAreas,
+) -> u32 {
+    let alloc = Global;
+    if !cache.holds() {
+        return EMPTY;
+    }
+    let held = cache.take(alloc);
+    let live = held.live_area(page);
+    let free = held.free_area(page);
+    cache.put(held);
+    let allocated = match live {
+        Some(allocated) => allocated,
+        _ => {
+            return NO_PAGE;
+        }
+    };
+    let free = match free {
+        Some(free) => free,
+        _ => {
+            return NO_PAGE;
+        }
+    };
+    *areas = PlainAreas { allocated, free };
+    DONE
+}
+
+/// The options with which the cache was made. `DONE`.
+#[no_mangle]
+pub extern "C" fn guillotiere_cache_options_of(
+    cache: &mut CacheHandle,
+    options: &mut PlainCacheOptions,
+) -> u32 {
+    let alloc = Global;
+    if !cache.holds() {
+        return EMPTY;
+    }
+    let held = cache.take(alloc);
+    *options = plain_cache_options(held.options());
+    cache.put(held);
+    DONE
 }
 
 /// How often `guillotiere_cache_get` found its key and how often it didn't, and how many keys were evicted. `DONE`.

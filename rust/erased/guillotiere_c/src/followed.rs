@@ -118,6 +118,41 @@ impl FollowedCache {
         self.cache.page_size(page)
     }
 
+    /// As `TextureCache::options`.
+    pub fn options(&self) -> CacheOptions {
+        self.cache.options()
+    }
+
+    /// As `TextureCache::live_area`.
+    pub fn live_area(&self, page: u32) -> Option<u64> {
+        self.cache.live_area(page)
+    }
+
+    /// As `TextureCache::free_area`.
+    pub fn free_area(&self, page: u32) -> Option<u64> {
+        self.cache.free_area(page)
+    }
+
+    /// As `TextureCache::newest`.
+    pub fn newest(&self) -> Option<(u64, Place)> {
+        self.cache.newest()
+    }
+
+    /// As `TextureCache::oldest`.
+    pub fn oldest(&self) -> Option<(u64, Place)> {
+        self.cache.oldest()
+    }
+
+    /// As `TextureCache::older`.
+    pub fn older(&self, key: u64) -> Option<(u64, Place)> {
+        self.cache.older(&key)
+    }
+
+    /// As `TextureCache::reserve`.
+    pub fn reserve(&mut self, additional: usize) -> Result<(), CacheError> {
+        self.cache.reserve(additional)
+    }
+
     /// As `TextureCache::statistics`.
     pub fn statistics(&self) -> Counts {
         self.cache.statistics()

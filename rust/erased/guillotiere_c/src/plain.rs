@@ -117,6 +117,13 @@ pub const MOVED: u32 = 3;
 /// The greatest limit on the slots of an atlas, which is also that of an atlas without a limit of its own.
 pub const MOST_SLOTS: u32 = 16_777_216;
 
+/// The three numbers of the version.
+pub const VERSION_MAJOR: u32 = 0;
+
+pub const VERSION_MINOR: u32 = 7;
+
+pub const VERSION_PATCH: u32 = 0;
+
 /// As `Size`.
 #[repr(C)]
 #[derive(Clone, Copy)]

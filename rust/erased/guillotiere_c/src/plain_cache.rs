@@ -2,9 +2,9 @@
 //! What crosses to C of caches: options, places, changes and counts. All lengths are in pixels.
 
 use crate::plain::{
-    plain_rectangle, plain_size, PlainOptions, PlainRectangle, PlainSize, BAD_ATLAS, BAD_PADDING,
-    DONE, EMPTY, EMPTY_PAGE, EVICTED, LARGEST_PAGE, MEMORY, MOVED, NOTHING_FITS, NO_PAGES, NUMBERS,
-    OTHER_SIZE, PAGE_ADDED, PAGE_GROWN, SLOTS,
+    plain_options, plain_rectangle, plain_size, PlainOptions, PlainRectangle, PlainSize, BAD_ATLAS,
+    BAD_PADDING, DONE, EMPTY, EMPTY_PAGE, EVICTED, LARGEST_PAGE, MEMORY, MOVED, NOTHING_FITS,
+    NO_PAGES, NUMBERS, OTHER_SIZE, PAGE_ADDED, PAGE_GROWN, SLOTS,
 };
 use wollemigo_core::atlas_cache::{
     CacheChange, CacheError, CacheOptions, Counts, OptionsError, Place,
@@ -147,6 +147,17 @@ pub fn cache_options_for(options: &PlainCacheOptions) -> CacheOptions {
             small_size_threshold: options.atlas.small_size_threshold,
             large_size_threshold: options.atlas.large_size_threshold,
         },
+    }
+}
+
+/// The same for C.
+pub fn plain_cache_options(options: CacheOptions) -> PlainCacheOptions {
+    PlainCacheOptions {
+        page: plain_size(options.page),
+        largest_page: plain_size(options.largest_page),
+        pages: options.pages,
+        padding: options.padding,
+        atlas: plain_options(options.atlas),
     }
 }
 

@@ -32,3 +32,8 @@ pub fn remove_first(recording: &mut Recording) {
 pub fn granted_in(session: RecordingAllocator) -> Result<u64, ReplayFault> {
     grants(&session.finish())
 }
+
+/// Takes a session up again where its recording ends: its live names are those of the recording's events.
+pub fn gone_on(recording: &Recording) -> Result<RecordingAllocator, ReplayFault> {
+    recording.resume()
+}

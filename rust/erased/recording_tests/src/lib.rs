@@ -7,6 +7,8 @@ pub mod callers;
 #[cfg(test)]
 mod replay;
 #[cfg(test)]
+mod resuming;
+#[cfg(test)]
 mod sessions;
 #[cfg(test)]
 mod texts;

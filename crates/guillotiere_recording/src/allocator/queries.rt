@@ -1,0 +1,72 @@
+//! What a recording allocator is asked without recording it: options, room, slots; and memory in reserve.
+ghost use Rattle.std.specs.Prelude.{◌≡◌, ◌≢◌, ◌+◌, ◌<◌, ◌↔◌, IsTrue, Err, OnErr, OnOk};
+ghost use Rattle.guillotiere.specs.Boxes.{Fits};
+ghost use Rattle.guillotiere.specs.Choice.{AreValid, HasRoom};
+ghost use Rattle.guillotiere.specs.Pixels.{allocator_options_of, options_of, sides_of};
+ghost use Rattle.guillotiere.specs.Reserves.{HasReserve};
+ghost use Rattle.guillotiere.specs.States.{free_in, used_in};
+ghost use Rattle.guillotiere.specs.Stored.{state_of};
+
+use crate::allocator::RecordingAllocator;
+use crate::error::RecordingError;
+use guillotiere::{AllocId, AllocatorOptions, Size, SlotCount};
+use std::alloc::Allocator;
+
+impl<A: Allocator + Copy> RecordingAllocator<A> {
+    /// The options of the atlas.
+    pub fn options(&self) -> AllocatorOptions
+        ensures options { result ≡ allocator_options_of (state_of self.now.atlas).options }
+        ensures valid { AreValid (options_of result) }
+    {
+        self.atlas.options()
+    }
+
+    /// Whether `grow` may be called with this size, in pixels: neither side is less than the atlas's.
+    pub fn can_grow_to(&self, new_size: Size) -> bool
+        ensures { IsTrue result ↔ Fits (state_of self.now.atlas).size (sides_of new_size) }
+    {
+        self.atlas.can_grow_to(new_size)
+    }
+
+    /// Whether a request of this size, in pixels, has room, as the atlas's `can_fit` says. Takes one search, and no memory.
+    pub fn can_fit(&self, requested_size: Size) -> bool
+        ensures { IsTrue result ↔ HasRoom (free_in (state_of self.now.atlas)) (state_of self.now.atlas).options
+            (sides_of requested_size) }
+    {
+        self.atlas.can_fit(requested_size)
+    }
+
+    /// How many slots are used, the most that were used at once since the last start, and how many may be used.
+    pub fn slots(&self) -> SlotCount
+        ensures used { result.used ≡ used_in (state_of self.now.atlas) }
+        ensures kept { result.kept ≡ (state_of self.now.atlas).kept }
+        ensures limit { result.limit ≡ (state_of self.now.atlas).limit }
+    {
+        self.atlas.slots()
+    }
+
+    /// Takes memory for so many slots of the atlas beside those that are used, as the atlas's `reserve` does. It is no call
+    /// that is recorded: names and events stay. `Slots` if more slots would be used than the limit allows; `Memory` if
+    /// memory for them is refused; then nothing changes at all.
+    pub fn reserve(&mut self, additional: u32) -> Result<(), RecordingError>
+        ensures ready { OnOk result (HasReserve additional self.new.atlas) }
+        ensures state { state_of self.new.atlas ≡ state_of self.old.atlas }
+        ensures recording { self.new.recording ≡ self.old.recording }
+        ensures given { self.new.given ≡ self.old.given }
+        ensures names { self.new.names ≡ self.old.names }
+        ensures slots { (result ≡ Err RecordingError.Slots)
+            ↔ ((state_of self.old.atlas).limit < used_in (state_of self.old.atlas) + additional) }
+        ensures had { HasReserve additional self.old.atlas → result ≢ Err RecordingError.Memory }
+        ensures refused { OnErr result (self.new ≡ self.old) }
+    {
+        Ok(self.atlas.reserve(additional)?)
+    }
+
+    // Whether this is the name of the next grant.
+    pub(crate) fn gives(&self, name: AllocId) -> bool
+        ensures same { IsTrue result ↔ (name ≡ self.now.given) }
+        ensures below { IsTrue result → self.now.given < 4294967296 }
+    {
+        name.serialize() as u64 == self.given
+    }
+}

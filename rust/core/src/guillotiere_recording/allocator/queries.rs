@@ -1,0 +1,47 @@
+// Erased from crates/guillotiere_recording/src/allocator/queries.rt by rust/erase: don't edit.
+//! What a recording allocator is asked without recording it: options, room, slots; and memory in reserve.
+
+use crate::guillotiere::{AllocId, AllocatorOptions, Size, SlotCount};
+use crate::guillotiere_recording::allocator::RecordingAllocator;
+use crate::guillotiere_recording::error::RecordingError;
+use wollemigo_support::alloc::Allocator;
+
+impl<A: Allocator + Copy> RecordingAllocator<A> {
+    /// The options of the atlas.
+    #[inline]
+    pub fn options(&self) -> AllocatorOptions {
+        self.atlas.options()
+    }
+
+    /// Whether `grow` may be called with this size, in pixels: neither side is less than the atlas's.
+    #[inline]
+    pub fn can_grow_to(&self, new_size: Size) -> bool {
+        self.atlas.can_grow_to(new_size)
+    }
+
+    /// Whether a request of this size, in pixels, has room, as the atlas's `can_fit` says. Takes one search, and no memory.
+    #[inline]
+    pub fn can_fit(&self, requested_size: Size) -> bool {
+        self.atlas.can_fit(requested_size)
+    }
+
+    /// How many slots are used, the most that were used at once since the last start, and how many may be used.
+    #[inline]
+    pub fn slots(&self) -> SlotCount {
+        self.atlas.slots()
+    }
+
+    /// Takes memory for so many slots of the atlas beside those that are used, as the atlas's `reserve` does. It is no call
+    /// that is recorded: names and events stay. `Slots` if more slots would be used than the limit allows; `Memory` if
+    /// memory for them is refused; then nothing changes at all.
+    #[inline]
+    pub fn reserve(&mut self, additional: u32) -> Result<(), RecordingError> {
+        Ok(self.atlas.reserve(additional)?)
+    }
+
+    // Whether this is the name of the next grant.
+    #[inline]
+    pub(crate) fn gives(&self, name: AllocId) -> bool {
+        name.serialize() as u64 == self.given
+    }
+}

@@ -1,0 +1,18 @@
+"""The crates of others that guillotiere-sheet needs, in Debian's folder."""
+import os
+import re
+
+from cargo_here import REGISTRY, from_debian
+
+CRATES = ['clap', 'image', 'notify', 'png', 'serde_derive', 'serde_json', 'walkdir']
+
+
+def missing():
+    """Those that the folder lacks."""
+    there = os.listdir(REGISTRY) if os.path.isdir(REGISTRY) else []
+    return [name for name in CRATES if not any(re.fullmatch(name + r'-\d.*', each) for each in there)]
+
+
+def words():
+    """The words by which cargo takes them from there, where all are there."""
+    return [] if missing() else from_debian()

@@ -1,0 +1,192 @@
+#!/usr/bin/env python3
+"""Gives guillotiere-sheet bad words, bad files and too little room: each has its one line and its status, and no file is left.
+
+    rust/sheet/seen/faults.py PROGRAM
+
+The last line is 'N passed, M failed'."""
+import os
+import re
+import resource
+import signal
+import struct
+import subprocess
+import sys
+import tempfile
+import time
+import zlib
+
+PROGRAM = os.path.abspath(sys.argv[1]) if len(sys.argv) == 2 else sys.exit(__doc__)
+
+
+class Count:
+    """Of the tests."""
+    passed = failed = 0
+
+
+def chunk(name, data):
+    return struct.pack('>I', len(data)) + name + data + struct.pack('>I', zlib.crc32(name + data))
+
+
+def png(wide, high, value=7):
+    head = chunk(b'IHDR', struct.pack('>IIBBBBB', wide, high, 8, 0, 0, 0, 0))
+    return (b'\x89PNG\r\n\x1a\n' + head + chunk(b'IDAT', zlib.compress((b'\0' + bytes([value]) * wide) * high)) + chunk(b'IEND', b''))
+
+
+def put(folder, files):
+    for name, data in files.items():
+        path = os.path.join(os.fsencode(folder), name if isinstance(name, bytes) else name.encode())
+        os.makedirs(os.path.dirname(path), exist_ok=True)
+        with open(path, 'wb') as file:
+            file.write(data)
+
+
+GOOD = {'a.png': png(8, 8), 'b.png': png(9, 4)}
+WHOLE = png(8, 8)
+CASES = [
+    # What, files, words (F is the folder, O the sheet), status, lines.
+    ('no words', GOOD, [], 2, [r'.*required.*']),
+    ('one word', GOOD, ['F'], 2, [r'.*<OUT>.*']),
+    ('three words', GOOD, ['F', 'O', 'x'], 2, [r".*'x'.*"]),
+    ('unknown', GOOD, ['F', 'O', '--forms', 'css'], 2, [r".*'--forms'.*"]),
+    ('form', GOOD, ['F', 'O', '--form', 'unity'], 2, [r".*'unity'.*"]),
+    ('padding', GOOD, ['F', 'O', '--padding', '65536'], 2, [r'.*65536.*']),
+    ('extrude', GOOD, ['F', 'O', '--extrude', 'x'], 2, [r".*'x'.*"]),
+    ('scale', GOOD, ['F', 'O', '--scale', '2'], 2, [r'.*above 0 and up to 1.*']),
+    ('scales', GOOD, ['F', 'O', '--scale', '0.5,0.50'], 2, [r'the scale 0\.5 is asked for twice']),
+    ('pages', GOOD, ['F', 'O', '--pages', '0'], 2, [r".*'0'.*"]),
+    ('size', GOOD, ['F', 'O', '--size', '64'], 2, [r'.*--size.*']),
+    ('side', GOOD, ['F', 'O', '--size', '64', '0'], 2, [r'a side of --size, --width or --align is below 1']),
+    ('great side', GOOD, ['F', 'O', '--size', '64', '70000'], 2, [r'a side of a sheet is above 65536']),
+    ('kinds', GOOD, ['F', 'O', '--square', '--power-of-two'], 2, [r'.*cannot be used with.*']),
+    ('greatest', GOOD, ['F', 'O', '--greatest', '0'], 2, [r'--least is below 1, or --greatest below it']),
+    ('page', GOOD, ['F', 'O', '--page'], 2, [r'--page goes with --form css alone']),
+    ('turn', GOOD, ['F', 'O', '--turn', '--form', 'godot'], 2, [r"--turn doesn't go with --form godot: .*"]),
+    ('name', GOOD, ['F', 'O/'], 2, [r'OUT is the name of the sheet, without its ending']),
+    ('inside', GOOD, ['F', 'F/sheet'], 2, [r'.*it lies in the folder of pictures.*']),
+    ('no folder', GOOD, ['F/none', 'O'], 1, [r'.*none: .*']),
+    ('a file', GOOD, ['F/a.png', 'O'], 1, [r".*a\.png: it isn't a folder"]),
+    ('nowhere', GOOD, ['F', 'O/none/sheet'], 1, [r'.*none: there is no such folder to write to']),
+    ('empty', {'x.txt': b''}, ['F', 'O'], 1, [r'.*no PNG, JPEG or WebP lies in it']),
+    ('bad files', {**GOOD, 'c.png': b'no', 'd.jpg': b'\xff\xd8\xff\xe0', 'e.png': WHOLE[:-30], 'f.webp': b'RIFF....WEBP'}, ['F', 'O'], 1,
+     [r'.*c\.png: not a PNG, JPEG or WebP', r'.*d\.jpg: .*', r'.*e\.png: .*', r'.*f\.webp: .*']),
+    ('checksum', {'a.png': WHOLE[:40] + bytes([WHOLE[40] ^ 1]) + WHOLE[41:]}, ['F', 'O'], 1, [r'.*a\.png: .*']),
+    ('no sides', {'a.png': b'\x89PNG\r\n\x1a\n' + chunk(b'IHDR', bytes(8) + b'\x08\0\0\0\0')}, ['F', 'O'], 1, [r'.*a\.png: .*']),
+    ('great', {'a.png': b'\x89PNG\r\n\x1a\n' + chunk(b'IHDR', b'\x7f\xff\xff\xff' * 2 + b'\x08\6\0\0\0') + WHOLE[33:]}, ['F', 'O'], 1,
+     [r'.*a\.png: .*']),
+    ('not UTF-8', {**GOOD, b'\xff.png': WHOLE}, ['F', 'O'], 1, [r".*its name isn't UTF-8"]),
+    ('control', {**GOOD, 'x\ny.png': WHOLE}, ['F', 'O'], 1, [r'.*x\\ny\.png.*its name has a control character']),
+    ('same name', {'a.png': WHOLE, 'a.jpg': WHOLE}, ['F', 'O', '--drop-extension'], 1, [r'.*a\.jpg and .*a\.png have the same name.*']),
+    ('colon', {'a:b.png': WHOLE}, ['F', 'O', '--form', 'libgdx'], 2, [r'"a:b\.png": a name in an \.atlas has no colon.*']),
+    ('classes', {'a b.png': WHOLE, 'a-b.png': WHOLE}, ['F', 'O', '--form', 'css'], 2, [r'.*have the same class in CSS, .*']),
+    ('too large', {**GOOD, 'c.png': png(100, 3), 'd.png': png(3, 64)}, ['F', 'O', '--size', '64', '64'], 3,
+     [r"c\.png: 100x3 with padding 1 doesn't fit a sheet of 64x64", r"d\.png: 3x64 .*"]),
+    ('no room', {'%d.png' % n: png(30, 30, n) for n in range(9)}, ['F', 'O', '--size', '64', '64', '--pages', '2'], 3,
+     [r'2 sheets take not all pictures, 64x64 at most: \d\.png found no place; .*']),
+    ('a folder', GOOD, ['F', 'O'], 1, [r'.*sheet\.json: it is a folder']),
+]
+
+
+def written(folder):
+    return sorted(name for _, folders, names in os.walk(folder) for name in folders + names)
+
+
+def run(words, **more):
+    return subprocess.run([PROGRAM] + words, stdout=subprocess.PIPE, stderr=subprocess.PIPE, text=True, **more)
+
+
+def check(what, good, told=''):
+    if good:
+        Count.passed += 1
+    else:
+        Count.failed += 1
+        print('%s: failed: %s' % (what, told))
+
+
+def case(what, files, words, status, lines):
+    with tempfile.TemporaryDirectory() as room:
+        folder, out = os.path.join(room, 'in'), os.path.join(room, 'out')
+        put(folder, files)
+        os.mkdir(out)
+        before = []
+        if what == 'a folder':
+            os.mkdir(os.path.join(out, 'sheet.json'))
+            before = ['sheet.json']
+        places = {'F': folder, 'O': os.path.join(out, 'sheet'), 'O/': out + '/'}
+        done = run([places.get(word) or re.sub(r'^([FO])/', lambda m: {'F': folder, 'O': out}[m.group(1)] + '/', word) for word in words])
+        told = done.stderr.splitlines()
+        good = (done.returncode == status and len(told) == len(lines) and done.stdout == ''
+                and all(re.fullmatch('guillotiere-sheet: ' + line, each) for line, each in zip(lines, told))
+                and written(out) == before and len(written(folder)) == len(files))
+        check(what, good, (done.returncode, told, done.stdout, written(out)))
+
+
+def left_out():
+    with tempfile.TemporaryDirectory() as room:
+        put(room + '/in', {'%d.png' % n: png(30, 30, n) for n in range(5)})
+        done = run([room + '/in', room + '/sheet', '--size', '64', '64', '--leave-out'])
+        is_named = re.fullmatch(r'guillotiere-sheet: left out of sheet: \d\.png\n', done.stderr)
+        check('left out', done.returncode == 4 and is_named and written(room + '/in') == ['%d.png' % n for n in range(5)]
+              and os.path.exists(room + '/sheet.json'), (done.returncode, done.stderr))
+
+
+def no_space():
+    """A file that may not grow: an earlier sheet stays as it was."""
+    with tempfile.TemporaryDirectory() as room:
+        put(room + '/in', GOOD)
+        os.mkdir(room + '/out')
+        run([room + '/in', room + '/out/sheet'])
+        before = {name: open(room + '/out/' + name, 'rb').read() for name in os.listdir(room + '/out')}
+        put(room + '/in', {'c%d.png' % n: png(5, 5, n) for n in range(60)})
+
+        def limit():
+            signal.signal(signal.SIGXFSZ, signal.SIG_IGN)
+            resource.setrlimit(resource.RLIMIT_FSIZE, (1200, 1200))
+        done = run([room + '/in', room + '/out/sheet'], preexec_fn=limit)
+        after = {name: open(room + '/out/' + name, 'rb').read() for name in os.listdir(room + '/out')}
+        check('no space', done.returncode == 1 and len(done.stderr.splitlines()) == 1 and before == after and len(before) == 2,
+              (done.returncode, done.stderr, sorted(after)))
+
+
+def wait_for(has_come, seconds=30):
+    end = time.time() + seconds
+    while time.time() < end:
+        if has_come():
+            return True
+        time.sleep(0.05)
+    return False
+
+
+def watched():
+    """The sheet follows its folder; while a file is bad the last sheet stays."""
+    with tempfile.TemporaryDirectory() as room:
+        put(room + '/in', GOOD)
+        json = room + '/sheet.json'
+        errors = open(room + '/errors', 'w+')
+        running = subprocess.Popen([PROGRAM, room + '/in', room + '/sheet', '--watch'], stdout=subprocess.DEVNULL, stderr=errors)
+        try:
+            def text():
+                return open(json).read() if os.path.exists(json) else ''
+            check('watch: first', wait_for(lambda: '"b.png"' in text()))
+            put(room + '/in', {'new/c.png': png(5, 6)})
+            check('watch: a new one', wait_for(lambda: '"new/c.png"' in text()))
+            put(room + '/in', {'new/d.png': b'bad'})
+            check('watch: a bad one', wait_for(lambda: 'd.png: not a PNG' in open(room + '/errors').read()) and '"new/c.png"' in text())
+            os.remove(room + '/in/new/d.png')
+            os.remove(room + '/in/a.png')
+            check('watch: one less', wait_for(lambda: '"a.png"' not in text()) and running.poll() is None)
+            lines = open(room + '/errors').read().splitlines()
+            time.sleep(1)
+            check('watch: rests', open(room + '/errors').read().splitlines() == lines)
+        finally:
+            running.terminate()
+            running.wait()
+            errors.close()
+
+
+for each in CASES:
+    case(*each)
+left_out()
+no_space()
+watched()
+print('%d passed, %d failed' % (Count.passed, Count.failed))
+sys.exit(1 if Count.failed else 0)

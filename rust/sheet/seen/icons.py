@@ -1,0 +1,76 @@
+"""Folders of pictures for the tests."""
+import os
+import random
+import struct
+import zlib
+
+from PIL import Image, ImageDraw
+
+NAMES = ['a b.png', 'ärger/größe.png', 'quo"te.png', 'back\\slash.png', "it's/100%.png", '#1 & <2>.png', '日本/矢.png', '-dash.png']
+
+
+def one(random_, number):
+    """An icon with a transparent border, of a side from 8 to 64."""
+    wide, high = random_.randint(8, 64), random_.randint(8, 64)
+    picture = Image.new('RGBA', (wide, high), (number % 256, 9, 200, 0))
+    draw = ImageDraw.Draw(picture)
+    left, top = random_.randint(0, wide // 3), random_.randint(0, high // 3)
+    for _ in range(3):
+        colour = tuple(random_.randint(0, 255) for _ in range(4))
+        draw.ellipse((left, top, random_.randint(left, wide - 1), random_.randint(top, high - 1)), fill=colour)
+    draw.point((left, top), fill=(number % 256, number // 256, 77, 255))
+    return picture
+
+
+def save(folder, name, picture, **more):
+    path = os.path.join(folder, *name.split('/'))
+    os.makedirs(os.path.dirname(path), exist_ok=True)
+    picture.save(path, **more)
+
+
+def fill(folder, count=200, seed=1):
+    """Icons, some twice; eight have names that a form must quote. Some have no alpha, or a palette, or are grey."""
+    random_ = random.Random(seed)
+    for number in range(count):
+        picture = one(random_, number)
+        name = NAMES[number] if number < len(NAMES) else 'icons/%s%03d.png' % ('abc'[number % 3], number)
+        if number % 10 == 9:
+            picture = picture.convert(['L', 'LA', 'RGB', '1', 'P'][number // 10 % 5])
+        save(folder, name, picture)
+        if number % 20 == 5:
+            save(folder, 'again/' + name, picture)
+
+
+def originals(folder):
+    """The pictures by name, as Pillow reads them."""
+    found = {}
+    for inside, _, names in os.walk(folder):
+        for name in names:
+            path = os.path.join(inside, name)
+            with Image.open(path) as picture:
+                found[os.path.relpath(path, folder)] = picture.convert('RGBA')
+    return found
+
+
+def chunk(name, data):
+    return struct.pack('>I', len(data)) + name + data + struct.pack('>I', zlib.crc32(name + data))
+
+
+def png(wide, high, depth, kind, rows, more=()):
+    """A PNG made by hand: `rows` are the bytes of its lines; `more` are chunks before the pixels."""
+    head = chunk(b'IHDR', struct.pack('>IIBBBBB', wide, high, depth, kind, 0, 0, 0))
+    lines = b''.join(b'\0' + row for row in rows)
+    return (b'\x89PNG\r\n\x1a\n' + head + b''.join(chunk(*each) for each in more)
+            + chunk(b'IDAT', zlib.compress(lines)) + chunk(b'IEND', b''))
+
+
+def chunks(path):
+    """The chunks of a PNG by name."""
+    with open(path, 'rb') as file:
+        data = file.read()[8:]
+    found = {}
+    while data:
+        length, = struct.unpack('>I', data[:4])
+        found[data[4:8]] = data[8:8 + length]
+        data = data[12 + length:]
+    return found

@@ -1,0 +1,345 @@
+#!/usr/bin/env python3
+"""Runs guillotiere-sheet over folders of icons, reads what it wrote as engines do, and compares each picture with its file.
+
+    rust/sheet/seen/seen.py PROGRAM
+
+The last line is 'N passed, M failed'. It needs Pillow; the test of CSS needs Chromium."""
+import html
+import json
+import os
+import re
+import shutil
+import subprocess
+import sys
+import tempfile
+import traceback
+import urllib.parse
+import zlib
+
+sys.dont_write_bytecode = True
+HERE = os.path.dirname(os.path.abspath(__file__))
+ROOT = os.path.dirname(os.path.dirname(os.path.dirname(HERE)))
+sys.path[:0] = [HERE, os.path.join(ROOT, 'web')]
+import browsers  # noqa: E402
+import icons  # noqa: E402
+import readers  # noqa: E402
+from PIL import Image, ImageChops  # noqa: E402
+
+PROGRAM = os.path.abspath(sys.argv[1]) if len(sys.argv) == 2 else sys.exit(__doc__)
+THEMES = ['/usr/share/icons/Tango', '/usr/share/icons/Adwaita/24x24', '/usr/share/icons/Adwaita/48x48']
+GAMMA = (b'gAMA', (45455).to_bytes(4, 'big'))
+PRIMARIES = (b'cHRM', b''.join(number.to_bytes(4, 'big') for number in (31270, 32900, 64000, 33000, 30000, 60000, 15000, 6000)))
+
+
+class Count:
+    """Of the tests."""
+    passed = failed = 0
+
+
+def test(what, check, *words):
+    try:
+        check(*words)
+        Count.passed += 1
+    except Exception:  # noqa: BLE001
+        Count.failed += 1
+        print('%s: failed\n%s' % (what, traceback.format_exc()))
+
+
+def run(*words, status=0, **more):
+    done = subprocess.run([PROGRAM] + list(words), stdout=subprocess.PIPE, stderr=subprocess.PIPE, text=True, **more)
+    assert done.returncode == status, (words, done.returncode, done.stdout, done.stderr)
+    return done
+
+
+def clean(picture):
+    """With no colour where nothing is seen."""
+    mask = picture.getchannel('A').point(lambda alpha: 255 if alpha else 0)
+    return Image.composite(picture, Image.new('RGBA', picture.size), mask)
+
+
+def difference(one, other):
+    """The greatest of two pictures of the same size."""
+    return max(most for _, most in ImageChops.difference(one, other).getextrema())
+
+
+def compare(found, originals, is_trimmed, most=0):
+    assert found.keys() == originals.keys(), sorted(found.keys() ^ originals.keys())[:5]
+    for name, original in originals.items():
+        assert found[name].size == original.size, (name, found[name].size, original.size)
+        pair = (clean(found[name]), clean(original)) if is_trimmed else (found[name], original)
+        assert difference(*pair) <= most, name
+
+
+WAYS = {'plain': [], 'full': ['--trim', '--extrude', '2', '--turn', '--effort', '50'],
+        'pages': ['--trim', '--size', '256', '256', '--pages', '9', '--turn', '--padding', '2'],
+        'powers': ['--power-of-two', '--padding', '0']}
+
+
+def form(name, way, folder, originals, room):
+    out = os.path.join(room, '%s %s' % (name, way))
+    words = [word for word in WAYS[way] if name != 'godot' or word != '--turn']
+    done = run(folder, out, '--form', name, *words)
+    lines = done.stderr.splitlines()
+    assert bool(lines) == ('--effort' in words)
+    assert all(re.fullmatch(r'guillotiere-sheet: so far \d+x\d+', line) for line in lines), lines
+    compare(readers.read(name, out), originals, '--trim' in words)
+    if way == 'pages':
+        assert len(done.stdout.splitlines()) > 1
+    if way == 'full' and name == 'json-hash':
+        with open(out + '.json') as file:
+            assert any(told['rotated'] for told in json.load(file)['frames'].values())
+
+
+def frames(out):
+    with open(out + '.json', encoding='utf-8') as file:
+        return json.load(file)['frames']
+
+
+def equal_once(folder, room):
+    """Equal pictures have one place, different ones lie apart by the padding."""
+    out = os.path.join(room, 'once')
+    run(folder, out, '--padding', '3')
+    places = {}
+    for name, told in frames(out).items():
+        box = told['frame']
+        places.setdefault((box['x'], box['y'], box['w'], box['h']), set()).add(name)
+    assert {'icons/b025.png', 'again/icons/b025.png'} in places.values(), sorted(map(sorted, places.values()))[:9]
+    assert sum(len(names) > 1 for names in places.values()) == 10
+    boxes = sorted(places)
+    for place, (x, y, wide, high) in enumerate(boxes):
+        assert x >= 3 and y >= 3
+        for left, top, wide_, high_ in boxes[place + 1:]:
+            assert x + wide + 3 <= left or left + wide_ + 3 <= x or y + high + 3 <= top or top + high_ + 3 <= y
+
+
+def extruded(folder, room):
+    """Around each sprite lie its outermost pixels; around them nothing that belongs to another one."""
+    out = os.path.join(room, 'extruded')
+    run(folder, out, '--extrude', '2')
+    sheet = readers.opened(out + '.json', 'extruded.png')
+    for told in frames(out).values():
+        x, y, wide, high = (told['frame'][key] for key in 'xywh')
+        for row in range(-2, high + 2):
+            for column in range(-2, wide + 2):
+                inside = (x + min(max(column, 0), wide - 1), y + min(max(row, 0), high - 1))
+                assert sheet.getpixel((x + column, y + row)) == sheet.getpixel(inside)
+
+
+def premultiplied(folder, originals, room):
+    out = os.path.join(room, 'premultiplied')
+    run(folder, out, '--premultiply', '--form', 'libgdx')
+    for name, picture in readers.read('libgdx', out).items():
+        given, got = (list(each.getdata()) for each in (originals[name], picture))
+        wanted = [tuple((2 * colour * pixel[3] + 255) // 510 for colour in pixel[:3]) + (pixel[3],) for pixel in given]
+        assert got == wanted, name
+    with open(out + '.atlas', encoding='utf-8') as file:
+        assert '\npma: true\n' in file.read()
+
+
+def scaled(folder, originals, room):
+    """Half as large: a pixel is the mean of four, weighted by alpha; sides that are odd are rounded up."""
+    out = os.path.join(room, 'scaled')
+    run(folder, out, '--scale', '1,0.5', '--trim')
+    compare(readers.read('json-hash', out), originals, True)
+    halves = readers.read('json-hash', out, '@0.5x')
+    checked = 0
+    for name, original in originals.items():
+        wide, high = original.size
+        assert halves[name].size == ((wide + 1) // 2, (high + 1) // 2)
+        if wide % 2 == 0 and high % 2 == 0:
+            checked += 1
+            for x in range(0, wide, 2):
+                for y in range(0, high, 2):
+                    four = [original.getpixel((x + i, y + j)) for i in (0, 1) for j in (0, 1)]
+                    alpha = sum(pixel[3] for pixel in four)
+                    got = halves[name].getpixel((x // 2, y // 2))
+                    assert got[3] == (2 * alpha + 4) // 8
+                    for place in range(3) if got[3] else []:
+                        assert got[place] == (2 * sum(p[place] * p[3] for p in four) + alpha) // (2 * alpha), name
+    assert checked > 20
+    with open(out + '@0.5x.json', encoding='utf-8') as file:
+        assert json.load(file)['meta']['scale'] == '0.5'
+
+
+def copied(folder, room):
+    """Some 200 pictures of a theme, in a folder of their own."""
+    copy = os.path.join(room, 'theme')
+    shutil.rmtree(copy, ignore_errors=True)
+    names = sorted(os.path.join(inside, name) for inside, _, names in os.walk(folder) for name in names if name.endswith('.png'))
+    for name in names[::max(1, len(names) // 200)]:
+        to = os.path.join(copy, os.path.relpath(name, folder))
+        os.makedirs(os.path.dirname(to), exist_ok=True)
+        shutil.copyfile(name, to)
+    return copy
+
+
+def as_srgb(value):
+    """What a number of a picture with a gAMA of 0.45455 is in sRGB, up to 255."""
+    light = (value / 255) ** (1 / 0.45455)
+    return 255 * (12.92 * light if light <= 0.0031308 else 1.055 * light ** (1 / 2.4) - 0.055)
+
+
+TABLE = [round(as_srgb(value)) for value in range(256)] * 3 + list(range(256))
+
+
+def theme(folder, room):
+    """A real theme, in each form, trimmed. Where some of its pictures have gAMA and others none, it is applied."""
+    copy = copied(folder, room)
+    originals = icons.originals(copy)
+    chunks = {name: icons.chunks(os.path.join(copy, name)) for name in originals}
+    assert {each.get(b'gAMA') for each in chunks.values()} <= {None, GAMMA[1]}
+    if any(b'gAMA' in each for each in chunks.values()) and not all(b'gAMA' in each for each in chunks.values()):
+        is_applied = {name: b'gAMA' in each and b'cHRM' in each for name, each in chunks.items()}
+        originals = {name: picture.point(TABLE) if is_applied[name] else picture for name, picture in originals.items()}
+    for name in readers.READERS:
+        out = os.path.join(room, 'theme ' + name)
+        run(copy, out, '--form', name, '--trim')
+        compare(readers.read(name, out), originals, True)
+
+
+def others(room):
+    """JPEG, WebP, 16 bits a sample, interlaced and transparent by a colour; files of other kinds and hidden ones are passed over."""
+    folder = os.path.join(room, 'others')
+    picture = Image.effect_mandelbrot((40, 30), (-2, -1, 1, 1), 50).convert('RGB')
+    icons.save(folder, 'a.jpg', picture, quality=95, subsampling=0)
+    with_alpha = picture.convert('RGBA')
+    with_alpha.putalpha(picture.convert('L'))
+    icons.save(folder, 'b.webp', with_alpha, lossless=True, exact=True)
+    icons.save(folder, 'c.JPEG', picture.convert('L'), quality=95)
+    with open(os.path.join(folder, 'd.png'), 'wb') as file:
+        file.write(icons.png(2, 1, 16, 6, [bytes([1, 255, 2, 0, 3, 7, 255, 255, 9, 9, 8, 8, 7, 7, 0, 1])]))
+    with open(os.path.join(folder, 'e.png'), 'wb') as file:
+        file.write(icons.png(2, 1, 8, 2, [bytes([1, 2, 3, 4, 5, 6])], [(b'tRNS', bytes([0, 4, 0, 5, 0, 6]))]))
+    for name in ('notes.txt', '.hidden.png', '.folder/broken.png'):
+        os.makedirs(os.path.dirname(os.path.join(folder, name)), exist_ok=True)
+        with open(os.path.join(folder, name), 'w') as file:
+            file.write('no picture')
+    out = os.path.join(room, 'others sheet')
+    run(folder, out)
+    found = readers.read('json-hash', out)
+    assert sorted(found) == ['a.jpg', 'b.webp', 'c.JPEG', 'd.png', 'e.png']
+    for name, most in (('a.jpg', 3), ('b.webp', 0), ('c.JPEG', 3)):
+        with Image.open(os.path.join(folder, name)) as original:
+            assert difference(found[name], original.convert('RGBA')) <= most, name
+    assert list(found['d.png'].getdata()) == [(1, 2, 3, 255), (9, 8, 7, 0)]
+    assert list(found['e.png'].getdata()) == [(1, 2, 3, 255), (4, 5, 6, 0)]
+    run(folder, out, '--drop-extension', '--form', 'libgdx')
+    assert sorted(readers.read('libgdx', out)) == ['a', 'b', 'c', 'd', 'e']
+
+
+def colours(room):
+    """Chunks that all have stay, with the numbers as they are; else gAMA beside cHRM is applied, and a line says so."""
+    folder = os.path.join(room, 'colours')
+    os.makedirs(folder)
+    row = bytes(value for step in range(256) for value in (step, 255 - step, step, 255))
+
+    def write(name, *more):
+        with open(os.path.join(folder, name), 'wb') as file:
+            file.write(icons.png(256, 1, 8, 6, [row], more))
+    out = os.path.join(room, 'colours sheet')
+    profile = (b'iCCP', b'name\0\0' + zlib.compress(b'no profile'))
+    for more in ([GAMMA], [GAMMA, PRIMARIES], [profile], [(b'sRGB', b'\2')]):
+        write('a.png', *more)
+        write('b.png', *more)
+        assert run(folder, out).stderr == ''
+        sheet = icons.chunks(out + '.png')
+        assert {name: sheet.get(name) for name in (b'gAMA', b'cHRM', b'iCCP', b'sRGB') if name in sheet} == dict(more)
+        assert readers.read('json-hash', out)['a.png'].tobytes() == row
+    write('b.png')
+    for more, is_applied in (([PRIMARIES, GAMMA], True), ([GAMMA], False), ([profile], False)):
+        write('a.png', *more)
+        told = run(folder, out).stderr
+        assert told.startswith('guillotiere-sheet: colours differ: a.png: ') and told.count('\n') == 1, told
+        assert told.endswith('gAMA is applied, the sheet is sRGB\n' if is_applied else "aren't applied, the numbers are taken as sRGB\n")
+        found = readers.read('json-hash', out)
+        sheet = icons.chunks(out + '.png')
+        assert not {b'gAMA', b'cHRM', b'iCCP'} & sheet.keys() and sheet[b'sRGB'] == b'\0'
+        assert found['b.png'].tobytes() == row
+        for value in range(256):
+            assert abs(found['a.png'].getpixel((value, 0))[0] - (as_srgb(value) if is_applied else value)) <= 0.5001
+
+
+def screenshot(chromium, page, size, room):
+    shot = os.path.join(room, 'shot.png')
+    with tempfile.TemporaryDirectory(ignore_cleanup_errors=True) as profile:
+        words = ['--user-data-dir=' + profile, '--screenshot=' + shot, '--window-size=%d,%d' % size, '--hide-scrollbars',
+                 '--force-device-scale-factor=1', '--force-color-profile=srgb', 'file://' + page]
+        subprocess.run([chromium] + browsers.CHROMIUM + words, stdout=subprocess.DEVNULL, stderr=subprocess.DEVNULL,
+                       env=dict(os.environ, HOME=profile), timeout=200, check=True)
+    with Image.open(shot) as picture:
+        return picture.convert('RGB')
+
+
+def css(chromium, folder, way, room, most=0):
+    """A screenshot of the page beside one of the pictures themselves in the same lines."""
+    out = os.path.join(room, 'css' + way)
+    run(folder, out, '--form', 'css', '--page', *WAYS[way])
+    with open(out + '.html', encoding='utf-8') as file:
+        text = file.read()
+    names = sorted(icons.originals(folder))
+    assert text.count('<i ') == len(names)
+    shown = page_of_pictures(folder, text)
+    with open(os.path.join(room, 'pictures.html'), 'w', encoding='utf-8') as file:
+        file.write(shown)
+    size = (800, 1400)
+    sheet, pictures = (screenshot(chromium, os.path.join(room, page), size, room) for page in ('css%s.html' % way, 'pictures.html'))
+    assert len(set(pictures.getdata())) > 100
+    assert difference(sheet, pictures) <= most, difference(sheet, pictures)
+
+
+def page_of_pictures(folder, text):
+    """The page with the pictures in the place of the elements that show sprites."""
+    def picture(match):
+        path = os.path.join(folder, html.unescape(match.group(1)))
+        return '<img style="margin: 3px" src="file://%s">' % urllib.parse.quote(path)
+    return re.sub(r'<i class="[^"]*" title="([^"]*)"></i>', picture, text)
+
+
+def all_tests(room):
+    folder = os.path.join(room, 'icons')
+    icons.fill(folder)
+    originals = icons.originals(folder)
+    for name in readers.READERS:
+        for way in WAYS:
+            test('%s, %s' % (name, way), form, name, way, folder, originals, room)
+    test('equal pictures', equal_once, folder, room)
+    test('extruded', extruded, folder, room)
+    test('premultiplied', premultiplied, folder, originals, room)
+    test('scaled', scaled, folder, originals, room)
+    test('other kinds', others, room)
+    test('colours', colours, room)
+    for place in THEMES:
+        if os.path.isdir(place):
+            test(place, theme, place, room)
+        else:
+            print('passed over %s: it is not there' % place)
+    chromium = browsers.browsers()['chromium']
+    if chromium is None:
+        print('passed over the classes of CSS: there is no chromium')
+        return
+    for way in ('plain', 'full', 'pages'):
+        test('css, ' + way, css, chromium, folder, way, room)
+    # Where gAMA is applied the browser rounds once, and the sheet as well. Browsers apply it beside cHRM alone.
+    for name, more in (('gAMA', [GAMMA]), ('gAMA and cHRM', [GAMMA, PRIMARIES])):
+        test('css, ' + name, css, chromium, mixed(folder, more, room), 'plain', room, 1)
+    if os.path.isdir(THEMES[0]):
+        test('css, ' + THEMES[0], css, chromium, copied(THEMES[0], room), 'full', room, 1)
+
+
+def mixed(folder, more, room):
+    """Forty icons, each second one with these chunks."""
+    to = os.path.join(room, 'mixed')
+    os.makedirs(to, exist_ok=True)
+    for place, name in enumerate(sorted(icons.originals(folder))[:40]):
+        with Image.open(os.path.join(folder, name)) as picture:
+            rgba = picture.convert('RGBA')
+        rows = [rgba.crop((0, y, rgba.width, y + 1)).tobytes() for y in range(rgba.height)]
+        with open(os.path.join(to, '%d.png' % place), 'wb') as file:
+            file.write(icons.png(rgba.width, rgba.height, 8, 6, rows, more if place % 2 else []))
+    return to
+
+
+with tempfile.TemporaryDirectory() as temporary:
+    all_tests(temporary)
+print('%d passed, %d failed' % (Count.passed, Count.failed))
+sys.exit(1 if Count.failed else 0)

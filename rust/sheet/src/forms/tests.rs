@@ -1,0 +1,96 @@
+//! One sheet with one turned, trimmed sprite, in each form.
+use super::{check_names, files, Form};
+use crate::picture::Part;
+use crate::sheet::{Frame, Page, Sheet};
+
+fn sheet() -> Sheet {
+    let frame = Frame {
+        name: "a \"b\".png".to_string(),
+        x: 1,
+        y: 2,
+        is_turned: true,
+        kept: Part {
+            left: 3,
+            top: 4,
+            width: 5,
+            height: 6,
+        },
+        whole: (10, 20),
+    };
+    Sheet {
+        stem: "s".to_string(),
+        scale: "0.5".parse().unwrap(),
+        is_premultiplied: true,
+        pages: vec![Page {
+            image: "s.png".to_string(),
+            width: 8,
+            height: 16,
+            frames: vec![frame],
+        }],
+    }
+}
+
+fn text(form: Form) -> String {
+    let mut files = files(form, &sheet(), false);
+    assert_eq!(files.len(), 1);
+    String::from_utf8(files.remove(0).1).unwrap()
+}
+
+#[test]
+fn json() {
+    let hash: serde_json::Value = serde_json::from_str(&text(Form::JsonHash)).unwrap();
+    let frame = serde_json::json!({
+        "frame": {"x": 1, "y": 2, "w": 5, "h": 6}, "rotated": true, "trimmed": true,
+        "spriteSourceSize": {"x": 3, "y": 4, "w": 5, "h": 6}, "sourceSize": {"w": 10, "h": 20}
+    });
+    assert_eq!(hash["frames"]["a \"b\".png"], frame);
+    assert_eq!(hash["meta"]["image"], "s.png");
+    assert_eq!(hash["meta"]["scale"], "0.5");
+    let array: serde_json::Value = serde_json::from_str(&text(Form::JsonArray)).unwrap();
+    assert_eq!(array["frames"][0]["filename"], "a \"b\".png");
+    let multi: serde_json::Value = serde_json::from_str(&text(Form::Phaser)).unwrap();
+    assert_eq!(
+        multi["textures"][0]["frames"][0]["sourceSize"],
+        frame["sourceSize"]
+    );
+    assert_eq!(multi["textures"][0]["scale"], 0.5);
+}
+
+#[test]
+fn libgdx() {
+    let lines = "\ns.png\nsize: 8,16\nformat: RGBA8888\nfilter: Linear,Linear\nrepeat: none\npma: true\na \"b\".png\n  rotate: true\n  \
+                 xy: 1, 2\n  size: 5, 6\n  orig: 10, 20\n  offset: 3, 10\n  index: -1\n";
+    assert_eq!(text(Form::Libgdx), lines);
+}
+
+#[test]
+fn starling() {
+    let line = "<SubTexture name=\"a &quot;b&quot;.png\" x=\"1\" y=\"2\" width=\"6\" height=\"5\" rotated=\"true\" \
+                frameX=\"-3\" frameY=\"-4\" frameWidth=\"10\" frameHeight=\"20\"/>";
+    assert!(text(Form::Starling).contains(line));
+}
+
+#[test]
+fn godot() {
+    let told = text(Form::Godot);
+    assert!(told.contains("region = Rect2(1, 2, 5, 6)\nmargin = Rect2(3, 4, 5, 14)\n"));
+    assert!(told.contains("\"name\": &\"a \\\"b\\\".png\""));
+}
+
+#[test]
+fn css() {
+    let told = text(Form::Css);
+    assert!(told.contains(".s-a--b--png { width: 10px; height: 20px }"));
+    assert!(told
+        .contains("left: 3px; top: 4px; width: 6px; height: 5px; background-position: -1px -2px;"));
+    assert!(told.contains("translateY(6px) rotate(-90deg)"));
+}
+
+#[test]
+fn names() {
+    assert!(check_names(Form::Libgdx, "s", &["a:b"]).is_err());
+    assert!(check_names(Form::Libgdx, "s", &["a b", "ä"]).is_ok());
+    assert!(check_names(Form::Starling, "s", &["a\u{ffff}"]).is_err());
+    assert!(check_names(Form::Css, "s", &["a b", "a-b"]).is_err());
+    assert!(check_names(Form::JsonHash, "s", &["a b", "a-b", "a:b"]).is_ok());
+}

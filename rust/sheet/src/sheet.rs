@@ -1,0 +1,278 @@
+//! From pictures to sheets.
+use crate::fault::{Fault, ROOM};
+use crate::forms;
+use crate::packing::{fits, greatest, pages, Pages};
+use crate::picture::{Lie, Part, Picture};
+use crate::scale::Scale;
+use crate::words::Words;
+use guillotiere::sheet::{SheetError, SheetOptions};
+use guillotiere::{size2, Size};
+use std::collections::HashMap;
+
+/// A sprite in a sheet. Sides and corners are in pixels.
+#[derive(Clone, Debug, PartialEq)]
+pub struct Frame {
+    pub name: String,
+    /// The upper left corner of its place, without what is repeated around it.
+    pub x: u32,
+    pub y: u32,
+    pub is_turned: bool,
+    /// What is kept of its picture, as it lies in the picture.
+    pub kept: Part,
+    /// The size of its picture.
+    pub whole: (u32, u32),
+}
+
+impl Frame {
+    pub fn is_trimmed(&self) -> bool {
+        (self.kept.width, self.kept.height) != self.whole
+    }
+
+    /// The sides of its place in the sheet.
+    pub fn lying(&self) -> (u32, u32) {
+        match self.is_turned {
+            true => (self.kept.height, self.kept.width),
+            false => (self.kept.width, self.kept.height),
+        }
+    }
+}
+
+/// A sheet.
+#[derive(Clone, Debug, PartialEq)]
+pub struct Page {
+    /// The name of its picture's file.
+    pub image: String,
+    pub width: u32,
+    pub height: u32,
+    /// In the order of the names.
+    pub frames: Vec<Frame>,
+}
+
+/// All sheets of one scale.
+#[derive(Clone, Debug, PartialEq)]
+pub struct Sheet {
+    /// The name of the files without their endings.
+    pub stem: String,
+    pub scale: Scale,
+    pub is_premultiplied: bool,
+    pub pages: Vec<Page>,
+}
+
+/// All sheets of one scale, their pictures, and the names that are left out.
+pub struct Built {
+    pub sheet: Sheet,
+    pub pictures: Vec<Picture>,
+    pub left_out: Vec<String>,
+}
+
+/// What is known of a picture before it has a place: the number of what is stored of it.
+struct Known {
+    stored: usize,
+    kept: Part,
+    whole: (u32, u32),
+}
+
+// What is kept of each picture, each different one once.
+fn kept(found: &[(String, Picture)], scale: Scale, is_trimmed: bool) -> (Vec<Known>, Vec<Picture>) {
+    let mut known = Vec::new();
+    let mut numbers: HashMap<Picture, usize> = HashMap::new();
+    for (_, picture) in found {
+        let smaller;
+        let picture = if scale.is_one() {
+            picture
+        } else {
+            smaller = picture.scaled(scale);
+            &smaller
+        };
+        let whole = (picture.width, picture.height);
+        let kept = if is_trimmed {
+            picture.visible()
+        } else {
+            picture.whole()
+        };
+        let part = picture.part(kept);
+        let next = numbers.len();
+        let stored = *numbers.entry(part).or_insert(next);
+        known.push(Known {
+            stored,
+            kept,
+            whole,
+        });
+    }
+    let mut stored: Vec<(usize, Picture)> = numbers
+        .into_iter()
+        .map(|(picture, number)| (number, picture))
+        .collect();
+    stored.sort_by_key(|(number, _)| *number);
+    (
+        known,
+        stored.into_iter().map(|(_, picture)| picture).collect(),
+    )
+}
+
+fn size(picture: &Picture, extrude: u16) -> Size {
+    let side = |pixels: u32| (pixels + 2 * u32::from(extrude)) as i32;
+    size2(side(picture.width), side(picture.height))
+}
+
+// Names each picture that no sheet takes.
+fn check_sizes(
+    names: &[&str],
+    known: &[Known],
+    sizes: &[Size],
+    options: &SheetOptions,
+) -> Result<(), Fault> {
+    let room = greatest(options.allowed);
+    let too_large = names
+        .iter()
+        .zip(known)
+        .filter(|(_, one)| !fits(sizes[one.stored], options));
+    let lines: Vec<String> = too_large
+        .map(|(name, one)| {
+            let size = sizes[one.stored];
+            format!(
+                "{}: {}x{} with padding {} doesn't fit a sheet of {}x{}",
+                name, size.width, size.height, options.padding, room.width, room.height
+            )
+        })
+        .collect();
+    if lines.is_empty() {
+        Ok(())
+    } else {
+        Err(Fault {
+            status: ROOM,
+            lines,
+        })
+    }
+}
+
+fn named(names: &[&str]) -> String {
+    match names {
+        [] => String::new(),
+        [one] => one.to_string(),
+        [one, ..] => format!("{} and {} more", one, names.len() - 1),
+    }
+}
+
+fn packed(
+    names: &[&str],
+    known: &[Known],
+    stored: &[Picture],
+    words: &Words,
+) -> Result<Pages, Fault> {
+    let options = words.options();
+    let sizes: Vec<Size> = stored
+        .iter()
+        .map(|picture| size(picture, words.extrude))
+        .collect();
+    check_sizes(names, known, &sizes, &options)?;
+    let refused = |error: SheetError| Fault::new(ROOM, error.to_string());
+    // With an effort it may take long.
+    let progress = |size: Size| {
+        if words.effort > 0 {
+            eprintln!("guillotiere-sheet: so far {}x{}", size.width, size.height);
+        }
+    };
+    let pages = pages(&sizes, &options, words.pages as usize, progress).map_err(refused)?;
+    let homeless = names
+        .iter()
+        .zip(known)
+        .filter(|(_, one)| pages.places[one.stored].is_none());
+    let homeless: Vec<&str> = homeless.map(|(name, _)| *name).collect();
+    if homeless.is_empty() || words.leave_out && !pages.sizes.is_empty() {
+        return Ok(pages);
+    }
+    let sheets = match words.pages {
+        1 => "one sheet takes".to_string(),
+        count => format!("{} sheets take", count),
+    };
+    let room = greatest(options.allowed);
+    let hint = "more --pages, a larger sheet or --leave-out would help";
+    Err(Fault::new(
+        ROOM,
+        format!(
+            "{} not all pictures, {}x{} at most: {} found no place; {}",
+            sheets,
+            room.width,
+            room.height,
+            named(&homeless),
+            hint
+        ),
+    ))
+}
+
+fn image_name(stem: &str, scale: Scale, page: usize, count: usize) -> String {
+    let number = if count == 1 {
+        String::new()
+    } else {
+        format!("-{}", page)
+    };
+    format!("{}{}{}.png", stem, number, scale.suffix())
+}
+
+/// The sheets of one scale.
+pub fn built(found: &[(String, Picture)], scale: Scale, words: &Words) -> Result<Built, Fault> {
+    let names: Vec<&str> = found.iter().map(|(name, _)| name.as_str()).collect();
+    let (known, stored) = kept(found, scale, words.trim);
+    let packed = packed(&names, &known, &stored, words)?;
+    let count = packed.sizes.len();
+    let mut pages: Vec<Page> = Vec::new();
+    for (number, size) in packed.sizes.iter().enumerate() {
+        pages.push(Page {
+            image: image_name(words.stem(), scale, number, count),
+            width: size.width as u32,
+            height: size.height as u32,
+            frames: Vec::new(),
+        });
+    }
+    let extrude = u32::from(words.extrude);
+    let mut pictures: Vec<Picture> = pages
+        .iter()
+        .map(|page| Picture::empty(page.width, page.height))
+        .collect();
+    let mut left_out = Vec::new();
+    for (name, one) in names.iter().zip(&known) {
+        match &packed.places[one.stored] {
+            None => left_out.push(name.to_string()),
+            Some(place) => pages[place.page].frames.push(Frame {
+                name: name.to_string(),
+                x: place.placed.area.min.x as u32 + extrude,
+                y: place.placed.area.min.y as u32 + extrude,
+                is_turned: place.placed.turned,
+                kept: one.kept,
+                whole: one.whole,
+            }),
+        }
+    }
+    for (picture, place) in stored.iter().zip(&packed.places) {
+        if let Some(place) = place {
+            let corner = place.placed.area.min;
+            let lie = if place.placed.turned {
+                forms::turned(words.form)
+            } else {
+                Lie::Upright
+            };
+            pictures[place.page].draw(
+                picture,
+                corner.x as u32 + extrude,
+                corner.y as u32 + extrude,
+                lie,
+                extrude,
+            );
+        }
+    }
+    if words.premultiply {
+        pictures.iter_mut().for_each(Picture::premultiply);
+    }
+    let sheet = Sheet {
+        stem: format!("{}{}", words.stem(), scale.suffix()),
+        scale,
+        is_premultiplied: words.premultiply,
+        pages,
+    };
+    Ok(Built {
+        sheet,
+        pictures,
+        left_out,
+    })
+}

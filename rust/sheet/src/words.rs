@@ -1,0 +1,208 @@
+//! The words of the command line.
+use crate::fault::{Fault, WORDS};
+use crate::forms::Form;
+use crate::scale::Scale;
+use clap::error::ErrorKind;
+use clap::Parser;
+use guillotiere::sheet::{Allowed, SheetOptions};
+use guillotiere::size2;
+use std::path::PathBuf;
+
+const AFTER: &str = "\
+Status: 0 written; 1 a file can't be read or written; 2 wrong words; 3 the pictures don't fit; 4 written, and some are left out.";
+
+/// Packs the pictures of a folder into sheets that engines load.
+#[derive(Parser, Debug)]
+#[command(name = "guillotiere-sheet", version, after_help = AFTER)]
+pub struct Words {
+    /// Its pictures (.png, .jpg, .jpeg, .webp), and those of the folders in it, are the sprites; names are paths in it
+    pub folder: PathBuf,
+    /// OUT.png is the sheet, and beside it lies the file of the form; with several sheets OUT-0.png, OUT-1.png ..
+    pub out: PathBuf,
+    /// What is written beside the pictures
+    #[arg(long, value_enum, default_value_t = Form::JsonHash)]
+    pub form: Form,
+    /// Leaves out the transparent borders of the pictures
+    #[arg(long)]
+    pub trim: bool,
+    /// Repeats the outermost pixels of each sprite N times around it
+    #[arg(long, value_name = "N", default_value_t = 0)]
+    pub extrude: u16,
+    /// Multiplies red, green and blue by alpha
+    #[arg(long)]
+    pub premultiply: bool,
+    /// Also sheets of smaller pictures: 1,0.5 writes OUT and OUT@0.5x
+    #[arg(long, value_name = "S,..", value_delimiter = ',', default_value = "1")]
+    pub scale: Vec<Scale>,
+    /// At most so many sheets
+    #[arg(long, value_name = "N", default_value_t = 1, value_parser = clap::value_parser!(u32).range(1..))]
+    pub pages: u32,
+    /// Sprites may lie turned by 90 degrees
+    #[arg(long)]
+    pub turn: bool,
+    /// At least N pixels between two sprites, and between a sprite and the border
+    #[arg(long, value_name = "N", default_value_t = 1)]
+    pub padding: u16,
+    /// Each side of a sheet is a power of two
+    #[arg(long)]
+    pub power_of_two: bool,
+    /// A sheet is a square; so it is where nothing else is asked for
+    #[arg(long, conflicts_with = "power_of_two")]
+    pub square: bool,
+    /// A sheet has this size
+    #[arg(long, num_args = 2, value_names = ["W", "H"], conflicts_with_all = ["power_of_two", "square", "greatest", "least"])]
+    pub size: Option<Vec<i32>>,
+    /// A sheet has this width, and a height up to the greatest side
+    #[arg(long, value_name = "W", conflicts_with_all = ["power_of_two", "square", "size"])]
+    pub width: Option<i32>,
+    /// The greatest side of a sheet
+    #[arg(long, value_name = "N", default_value_t = 4096)]
+    pub greatest: i32,
+    /// The least side of a square
+    #[arg(long, value_name = "N", conflicts_with_all = ["power_of_two", "width"], default_value_t = 1)]
+    pub least: i32,
+    /// Each place, with the padding to its left and above it, begins at multiples of W and H
+    #[arg(long, num_args = 2, value_names = ["W", "H"])]
+    pub align: Option<Vec<i32>>,
+    /// So many changes of the order are tried for a smaller sheet
+    #[arg(long, value_name = "N", default_value_t = 0)]
+    pub effort: u32,
+    /// Where the random changes begin
+    #[arg(long, value_name = "N", default_value_t = 0)]
+    pub seed: u64,
+    /// Writes the sheets even where they don't take all pictures, and names those that are left out
+    #[arg(long)]
+    pub leave_out: bool,
+    /// Names without .png, .jpg, .jpeg or .webp
+    #[arg(long)]
+    pub drop_extension: bool,
+    /// With --form css: OUT.html too, which shows each sprite
+    #[arg(long)]
+    pub page: bool,
+    /// Goes on, and writes anew whenever the folder changes
+    #[arg(long)]
+    pub watch: bool,
+}
+
+impl Words {
+    /// How the sprites are packed; they come with what is repeated around them.
+    pub fn options(&self) -> SheetOptions {
+        let greatest = self.greatest;
+        let allowed = match (&self.size, self.width) {
+            (Some(size), _) => Allowed::One(size2(size[0], size[1])),
+            (None, Some(width)) => Allowed::Heights { width, greatest },
+            (None, None) if self.power_of_two => Allowed::Powers { greatest },
+            (None, None) => Allowed::Squares {
+                least: self.least,
+                greatest,
+            },
+        };
+        SheetOptions {
+            padding: self.padding,
+            alignment: self
+                .align
+                .as_ref()
+                .map_or(size2(1, 1), |sides| size2(sides[0], sides[1])),
+            turn: self.turn,
+            effort: self.effort,
+            seed: self.seed,
+            ..SheetOptions::new(allowed)
+        }
+    }
+
+    /// The name of the files without what stands before and after it.
+    pub fn stem(&self) -> &str {
+        self.out
+            .file_name()
+            .and_then(|name| name.to_str())
+            .unwrap_or("")
+    }
+
+    /// The folder that the files are written to.
+    pub fn target(&self) -> PathBuf {
+        match self.out.parent() {
+            Some(folder) if folder.as_os_str().is_empty() => PathBuf::from("."),
+            Some(folder) => folder.to_path_buf(),
+            None => PathBuf::from("/"),
+        }
+    }
+
+    /// What no single word shows.
+    fn check(&mut self) -> Result<(), Fault> {
+        let wrong = |line: &str| Err(Fault::new(WORDS, line));
+        if let Some(name) = self.out.to_str().and_then(|out| out.strip_suffix(".png")) {
+            self.out = PathBuf::from(name);
+        }
+        let is_written = self
+            .out
+            .to_str()
+            .map_or(false, |out| !out.ends_with(std::path::is_separator));
+        if self.stem().is_empty() || !is_written {
+            return wrong("OUT is the name of the sheet, without its ending");
+        }
+        if self.stem().chars().any(char::is_control) {
+            return wrong("OUT has a control character");
+        }
+        if self.page && self.form != Form::Css {
+            return wrong("--page goes with --form css alone");
+        }
+        if self.turn && self.form == Form::Godot {
+            return wrong("--turn doesn't go with --form godot: its textures can't lie turned");
+        }
+        let sides = [
+            self.size.as_deref(),
+            self.align.as_deref(),
+            self.width.as_ref().map(std::slice::from_ref),
+        ];
+        if sides
+            .iter()
+            .flatten()
+            .any(|sides| sides.iter().any(|side| *side < 1))
+        {
+            return wrong("a side of --size, --width or --align is below 1");
+        }
+        if self.least < 1 || self.greatest < self.least {
+            return wrong("--least is below 1, or --greatest below it");
+        }
+        if self
+            .greatest
+            .max(self.size.iter().flatten().copied().max().unwrap_or(1))
+            > 65536
+            || self.width.unwrap_or(1) > 65536
+        {
+            return wrong("a side of a sheet is above 65536");
+        }
+        for (place, scale) in self.scale.iter().enumerate() {
+            if self.scale[..place].contains(scale) {
+                return Err(Fault::new(
+                    WORDS,
+                    format!("the scale {} is asked for twice", scale),
+                ));
+            }
+        }
+        Ok(())
+    }
+}
+
+/// The words, or what is told and how the program ends.
+pub fn words(given: impl IntoIterator<Item = std::ffi::OsString>) -> Result<Words, Fault> {
+    let mut words = Words::try_parse_from(given).map_err(|error| match error.kind() {
+        ErrorKind::DisplayHelp | ErrorKind::DisplayVersion => {
+            print!("{}", error);
+            Fault {
+                status: 0,
+                lines: Vec::new(),
+            }
+        }
+        _ => Fault::new(WORDS, one_line(&error.to_string())),
+    })?;
+    words.check()?;
+    Ok(words)
+}
+
+// The first paragraph of what the parser tells, as one line.
+fn one_line(text: &str) -> String {
+    let first = text.split("\n\n").next().unwrap_or(text);
+    let line = first.split_whitespace().collect::<Vec<_>>().join(" ");
+    line.trim_start_matches("error: ").to_string()
+}
