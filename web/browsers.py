@@ -45,6 +45,9 @@ class Server:
                 self.send_response(404 if content is None else 200)
                 self.send_header('Content-Type', KINDS.get(os.path.splitext(self.path.split('?')[0])[1], 'text/plain; charset=utf-8'))
                 self.send_header('Content-Length', str(len(content or b'')))
+                # So that the page is by itself: then a browser gives it fine times.
+                self.send_header('Cross-Origin-Opener-Policy', 'same-origin')
+                self.send_header('Cross-Origin-Embedder-Policy', 'require-corp')
                 self.end_headers()
                 self.wfile.write(content or b'')
 

@@ -143,6 +143,22 @@ export interface Areas {
   free: number;
 }
 
+/** A part of an atlas: a live box, a free one, or a container, which members fill. */
+export type Member =
+  | ({ kind: 'live' } & Allocation)
+  | ({ kind: 'free' } & Rectangle)
+  | Container;
+
+/**
+ * Its members fill it: where `axis` is `horizontal` they lie to the right of one another, each as high as the container; where
+ * it is `vertical` below one another, each as wide. A container in it has the other axis.
+ */
+export interface Container extends Rectangle {
+  kind: 'container';
+  axis: 'horizontal' | 'vertical';
+  members: Member[];
+}
+
 /** The greatest limit on the slots of an atlas, and that of an atlas without a limit of its own: 16777216. */
 export const MOST_SLOTS: 16777216;
 
@@ -194,6 +210,12 @@ export class Atlas {
   allocated(): Allocation[];
   /** The free boxes, in an order that is left open. Throws `MEMORY`. */
   free(): Rectangle[];
+  /**
+   * The tree of cuts: how the atlas is divided into its live and its free boxes, as a container that is the whole atlas. No two
+   * members of a container that are next to each other are free. Containers may lie in one another as deep as there are boxes,
+   * so go through them by a loop with a list of what is left, and not by a function that calls itself. Throws `MEMORY`.
+   */
+  cuts(): Container;
 
   /** A copy that shares nothing with this atlas. Throws `MEMORY`. */
   clone(): Atlas;

@@ -122,8 +122,9 @@ enum {
     GUILLOTIERE_PAGE_ADDED = 0, /* there is a new page, the last one: make a texture of `size` for `page` */
     GUILLOTIERE_PAGE_GROWN = 1, /* `page` has this `size` now, and nothing on it moved: make its texture larger */
     GUILLOTIERE_EVICTED = 2,    /* `key` is gone, and its place was `from` */
-    GUILLOTIERE_MOVED = 3       /* `key` moved, by a repacking: copy `from.rectangle` to `to.rectangle`, border and all, out
+    GUILLOTIERE_MOVED = 3,      /* `key` moved, by a repacking: copy `from.rectangle` to `to.rectangle`, border and all, out
                                    of a copy of the page as it was before the call */
+    GUILLOTIERE_PAGE_REMOVED = 4 /* `page`, the last one, is gone, and nothing was on it: drop its texture */
 };
 
 /* The version of this header: its three numbers, and a million times the first one, a thousand times the second one and the
@@ -482,6 +483,11 @@ uint32_t guillotiere_cache_clear(guillotiere_cache *cache);
 /* The keys that weren't used for at least so many frames go, each told by a change, the least recently used first: with 1,
  * what this frame didn't use; with 0, all. DONE; MEMORY, and then all is as it was; EMPTY. */
 uint32_t guillotiere_cache_trim(guillotiere_cache *cache, uint64_t frames);
+
+/* The pages behind the last one with a key go, each told by a change, GUILLOTIERE_PAGE_REMOVED, the last one first. The others
+ * stay, with their sizes, and so do all keys; after guillotiere_cache_clear all pages go. DONE; MEMORY, and then all is as it
+ * was; EMPTY. */
+uint32_t guillotiere_cache_shrink(guillotiere_cache *cache);
 
 /* Places the keys of a page anew, the largest first, so that what is free comes together; pages are counted from 0. Each key
  * of the page is told by a change, the most recently used first: GUILLOTIERE_MOVED, also where it stays, or

@@ -67,6 +67,7 @@ enum class change_kind : std::uint32_t {
     page_grown = GUILLOTIERE_PAGE_GROWN,
     evicted = GUILLOTIERE_EVICTED,
     moved = GUILLOTIERE_MOVED,
+    page_removed = GUILLOTIERE_PAGE_REMOVED,
 };
 
 using size = guillotiere_size;
@@ -474,6 +475,7 @@ public:
     [[nodiscard]] status clear() { return static_cast<status>(guillotiere_cache_clear(&handle_)); }
     // What wasn't used for so many frames goes.
     [[nodiscard]] status trim(std::uint64_t frames) { return static_cast<status>(guillotiere_cache_trim(&handle_, frames)); }
+    [[nodiscard]] status shrink() { return static_cast<status>(guillotiere_cache_shrink(&handle_)); }
     // A page's keys are placed anew. Copy all pixels from the page as it was before the call.
     [[nodiscard]] status repack(std::uint32_t page) { return static_cast<status>(guillotiere_cache_repack(&handle_, page)); }
 

@@ -95,6 +95,7 @@ static void empty_handles(void) {
     CHECK(guillotiere_cache_next_change(&cache, &change) == GUILLOTIERE_EMPTY);
     CHECK(guillotiere_cache_clear(&cache) == GUILLOTIERE_EMPTY);
     CHECK(guillotiere_cache_trim(&cache, 1) == GUILLOTIERE_EMPTY);
+    CHECK(guillotiere_cache_shrink(&cache) == GUILLOTIERE_EMPTY);
     CHECK(guillotiere_cache_repack(&cache, 0) == GUILLOTIERE_EMPTY);
     CHECK(guillotiere_cache_len(&cache, &len) == GUILLOTIERE_EMPTY && len == 77);
     CHECK(guillotiere_cache_page_count(&cache, &pages) == GUILLOTIERE_EMPTY && pages == 77);
@@ -196,10 +197,19 @@ static void a_life(void) {
     told_evicted(&cache, 10, &ten);
     told_nothing(&cache);
 
+    /* 11 comes on the first page, so the second one goes; after a clearing that one goes too. */
     inserted(&cache, 11, 16, 32);
-    CHECK(guillotiere_cache_clear(&cache) == GUILLOTIERE_DONE);
-    check_figures(&cache, 0, 2);
+    CHECK(guillotiere_cache_shrink(&cache) == GUILLOTIERE_DONE);
+    told_page(&cache, GUILLOTIERE_PAGE_REMOVED, 1, 0, 0);
     told_nothing(&cache);
+    CHECK(guillotiere_cache_clear(&cache) == GUILLOTIERE_DONE);
+    check_figures(&cache, 0, 1);
+    told_nothing(&cache);
+    uint32_t pages = 7;
+    CHECK(guillotiere_cache_shrink(&cache) == GUILLOTIERE_DONE);
+    told_page(&cache, GUILLOTIERE_PAGE_REMOVED, 0, 0, 0);
+    told_nothing(&cache);
+    CHECK(guillotiere_cache_page_count(&cache, &pages) == GUILLOTIERE_DONE && pages == 0);
     guillotiere_cache_free(&cache);
 }
 

@@ -204,6 +204,9 @@ private:
                 copy(renderer_, before, area_of(change->from.rectangle), page(change->to.page), area_of(change->to.rectangle));
                 happened_.moved++;
                 break;
+            case guillotiere::change_kind::page_removed:
+                pages_.pop_back();
+                break;
             }
         }
     }

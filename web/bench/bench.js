@@ -1,8 +1,8 @@
-/** What is measured of the package; bench/native.c does the first three by C. Each figure is the least of many rounds, in
+/** What is measured of the package; bench/native.c does the first two by C. Each figure is the least of many short rounds, in
  * nanoseconds a call, since a machine that does other things as well only ever makes a round longer. */
 import { Skyline } from './skyline.js';
 
-const ROUNDS = 60;
+const ROUNDS = 500;
 
 class Draw {
   state = 12345;
@@ -32,7 +32,7 @@ function pair(api) {
     return atlas.allocate(width, 5 + draw.below(40)).id;
   };
   const live = Array.from({ length: 3000 }, granted);
-  const time = least(20000, (calls) => {
+  const time = least(4000, (calls) => {
     for (let i = 0; i < calls; i++) {
       const at = draw.below(live.length);
       atlas.deallocate(live[at]);
@@ -50,7 +50,7 @@ function hit(api, keyOf) {
   const keys = Array.from({ length: 1000 }, (_, i) => keyOf(i));
   for (const key of keys) cache.insert(key, 10, 20);
   let sum = 0;
-  const time = least(50000, (calls) => {
+  const time = least(16000, (calls) => {
     for (let i = 0; i < calls; i++) sum += cache.get(keys[i % 1000]).inner.x;
   });
   cache.dispose();

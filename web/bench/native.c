@@ -3,7 +3,7 @@
 #include <stdio.h>
 #include <time.h>
 
-enum { BOXES = 3000, ROUNDS = 60, PAIRS = 20000, HITS = 50000, KEYS = 1000 };
+enum { BOXES = 3000, ROUNDS = 500, PAIRS = 4000, HITS = 16000, KEYS = 1000 };
 
 static uint32_t state = 12345;
 static uint32_t live[BOXES];

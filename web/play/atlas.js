@@ -4,6 +4,7 @@ import { Player } from './player.js';
 import { Pointing } from './pointing.js';
 import { fragmentOf, textOf } from './link.js';
 import { classOf } from './session.js';
+import { Tree } from './tree.js';
 import { sides } from './why.js';
 
 const CLASSES = ['small', 'medium', 'large'];
@@ -15,6 +16,7 @@ const FIRST = ['atlas 512 256', ...['96 120', '64 64', '80 40', '64 64', '48 90'
   '24 24', '40 110', '72 36', '64 64', '18 20', '90 60'].map((size) => `alloc ${size}`)].join('\n');
 let player;
 let pointing;
+let tree;
 let isWritten = true; // whether the field of lines has the session's, and not what a person wrote
 
 export async function start() {
@@ -22,7 +24,8 @@ export async function start() {
     base: find('base'), over: find('over'), room, onFrame: refresh, onEnd: ended,
     own: () => [numberOf(find('own-width')), numberOf(find('own-height'))],
   });
-  pointing = new Pointing(player, find('over'));
+  tree = new Tree(player, (member) => pointing.pointAtMember(member), (id) => pointing.free(id));
+  pointing = new Pointing(player, find('over'), (box) => tree.light(box));
   CLASSES.forEach((name) => find('classes').append(listOf(name)));
   wireButtons();
   wireSettings();
@@ -201,7 +204,10 @@ function fillList(name, holes) {
 }
 
 let written = 0;
-let later;
+let later = null;
+
+/** Whether what stands beside the atlas is still to be written. */
+export const isDue = () => later !== null;
 
 // After each frame. Lists are written at most a few times a second.
 function refresh() {
@@ -213,6 +219,7 @@ function refresh() {
 }
 
 function write() {
+  later = null;
   written = performance.now();
   const { session } = player;
   const classes = [[], [], []];
@@ -220,6 +227,8 @@ function write() {
   CLASSES.forEach((name, at) => fillList(name, classes[at]));
   pointing.extra = null;
   pointing.outline();
+  tree.refresh();
+  tree.light(pointing.box);
   writeButtons();
   writeCounts();
   writeSession();

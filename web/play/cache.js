@@ -147,9 +147,9 @@ class Scroll {
   /** The counts, as they are told. */
   counts() {
     const { hits, misses, evictions } = this.cache.statistics;
-    const share = hits + misses ? (100 * hits / (hits + misses)).toFixed(1) : '-';
+    const share = hits + misses ? `${(100 * hits / (hits + misses)).toFixed(1)} %` : '-';
     return {
-      hits: count(hits), misses: count(misses), 'hits of 100': share, 'put out': count(evictions),
+      hits: count(hits), misses: count(misses), 'hit rate': share, evicted: count(evictions),
       moved: count(this.moved), 'without room': count(this.unplaced), glyphs: count(this.cache.length),
       pages: count(this.cache.pageCount),
     };
@@ -184,7 +184,7 @@ export function writeCounts() {
   if (!shown) return;
   if (shown.canvas.clientWidth && shown.calls === 0) shown.frame();
   const told = shown.counts();
-  find('counts').textContent = `${told.glyphs} glyphs on ${told.pages} pages · ${told['hits of 100']} of 100 are hits`;
+  find('counts').textContent = `${told.glyphs} glyphs on ${told.pages} pages · ${told['hit rate']} hits`;
   find('times').textContent = `a glyph ${shown.calls ? time(shown.milliseconds / shown.calls) : '-'}`;
 }
 

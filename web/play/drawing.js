@@ -2,6 +2,7 @@
 // one has what is pointed at.
 const LABEL = 11;
 const SHARE = 8; // of the time, one part goes into comparing free boxes
+const CELLS = 256; // along each side: what was drawn roughly is kept account of by these
 
 /** The colours of the page, as the style sheet has them now. */
 export function colours() {
@@ -37,6 +38,8 @@ export class Drawing {
     this.above = over.getContext('2d');
     this.known = new Map();
     this.shown = null;
+    this.drawn = 0; // boxes so far
+    this.rough = new Uint8Array(CELLS * CELLS);
   }
 
   /** Fits the canvases to a room, in pixels of the page, and has all drawn anew. */
@@ -82,10 +85,30 @@ export class Drawing {
   drawQuickly(session) {
     this.on.fillStyle = this.hatch;
     for (const box of session.freed) this.on.fillRect(...this.place(box));
-    // A box begins where the free box began that it was taken from. That one is drawn anew should it come back.
-    for (const box of session.added) this.known.delete(box.y0 * session.width + box.x0);
+    for (const box of session.freed) this.roughen(session, box);
+    for (const box of session.added) this.roughen(session, box);
     const boxes = session.added.filter((box) => session.live.get(box.id) === box);
     this.drawBoxes(boxes, this.colours.live, true);
+  }
+
+  // The cells of a box: left, top, and right and bottom behind the last.
+  cells({ width, height }, { x0, y0, x1, y1 }) {
+    const across = CELLS / width, down = CELLS / height;
+    return [Math.floor(x0 * across), Math.floor(y0 * down), Math.ceil(x1 * across), Math.ceil(y1 * down)];
+  }
+
+  roughen(session, box) {
+    const [left, top, right, bottom] = this.cells(session, box);
+    for (let row = top; row < bottom; row += 1) this.rough.fill(1, row * CELLS + left, row * CELLS + right);
+  }
+
+  // Whether something was drawn over a free box that is as it was before.
+  isRough(session, hole) {
+    const [left, top, right, bottom] = this.cells(session, hole);
+    for (let row = top; row < bottom; row += 1) {
+      for (let at = row * CELLS + left; at < row * CELLS + right; at += 1) if (this.rough[at]) return true;
+    }
+    return false;
   }
 
   drawExactly(session) {
@@ -96,9 +119,10 @@ export class Drawing {
       const key = hole.y0 * session.width + hole.x0;
       const was = this.known.get(key);
       known.set(key, hole);
-      if (isWhole || !was || was.x1 !== hole.x1 || was.y1 !== hole.y1) fresh.push(hole);
+      if (isWhole || !was || was.x1 !== hole.x1 || was.y1 !== hole.y1 || this.isRough(session, hole)) fresh.push(hole);
     }
     this.known = known;
+    this.rough.fill(0);
     const boxes = isWhole ? session.live.values() : session.added.filter((box) => session.live.get(box.id) === box);
     this.drawBoxes(fresh, this.hatch, false);
     this.drawBoxes(boxes, this.colours.live, true);
@@ -114,6 +138,7 @@ export class Drawing {
     const { on, pixel } = this;
     const labelled = [];
     for (const box of boxes) {
+      this.drawn += 1;
       const [x, y, wide, high] = this.place(box);
       const isThin = wide < 3 * pixel || high < 3 * pixel;
       if (!isThin) {

@@ -1,7 +1,7 @@
 // The package `wollemigo`, with boxes as the page keeps them: by their corners, as the tool tells them.
-import * as wollemigo from '../index.js';
+import { Atlas as Owned } from '../index.js';
 
-export const { load, pack, TextureCache } = wollemigo;
+export { load, pack, TextureCache } from '../index.js';
 
 const REPLIES = { BAD_CALL: 'bad call', NOT_LIVE: 'refused not live', SLOTS: 'refused slots', MEMORY: 'refused memory' };
 
@@ -15,7 +15,7 @@ const boxOf = ({ id, x, y, width, height }) => ({ id, x0: x, y0: y, x1: x + widt
 
 export class Atlas {
   constructor(width, height, { alignX, alignY, small, large }) {
-    this.atlas = new wollemigo.Atlas(width, height, {
+    this.atlas = new Owned(width, height, {
       alignment: { width: alignX, height: alignY }, smallSizeThreshold: small, largeSizeThreshold: large,
     });
   }
@@ -51,6 +51,10 @@ export class Atlas {
 
   holes() {
     return this.atlas.free().map(boxOf);
+  }
+
+  cuts() {
+    return this.atlas.cuts();
   }
 
   dispose() {

@@ -84,7 +84,7 @@ async function begin() {
     shown.redraw();
   });
   // For the browser's console, and for the tests.
-  window.play = { player, cache: shown, sheet: packed };
+  window.play = { player, cache: shown, sheet: packed, isDue: atlas.isDue };
 }
 
 begin();

@@ -9,8 +9,9 @@ const QUICK = 20000; // lines that are carried out anew for that while the atlas
 const STEPS = { ArrowLeft: [-1, 0], ArrowRight: [1, 0], ArrowUp: [0, -1], ArrowDown: [0, 1] };
 
 export class Pointing {
-  constructor(player, canvas) {
-    Object.assign(this, { player, canvas, box: null, choice: null, at: null });
+  /** `onPoint` is given the box that is pointed at, or null. */
+  constructor(player, canvas, onPoint) {
+    Object.assign(this, { player, canvas, onPoint, box: null, choice: null, at: null });
     canvas.addEventListener('pointermove', (event) => this.pointAt(this.position(event)));
     canvas.addEventListener('pointerleave', (event) => event.pointerType !== 'touch' && this.pointAt(null));
     canvas.addEventListener('pointerdown', (event) => { this.pointer = event.pointerType; });
@@ -43,6 +44,7 @@ export class Pointing {
     const isLooked = box?.id !== undefined && (!isRunning || session.lines.length < QUICK);
     if (isLooked) this.timer = setTimeout(() => this.look(), REST);
     this.show();
+    this.onPoint(box);
   }
 
   look() {
@@ -65,7 +67,16 @@ export class Pointing {
     this.outline();
   }
 
-  /** Outlines a free box of the lists; null ends it. */
+  /** Points at a member of the tree of cuts; null ends it. */
+  pointAtMember(member) {
+    const isLeaf = member && !member.members;
+    this.pointAt(isLeaf ? [member.x, member.y] : null);
+    if (!member || isLeaf) return this.also(null);
+    const { x, y, width, height } = member;
+    return this.also({ x0: x, y0: y, x1: x + width, y1: y + height });
+  }
+
+  /** Outlines a box of the lists; null ends it. */
   also(box) {
     this.extra = box;
     this.outline();
@@ -87,9 +98,8 @@ export class Pointing {
     if (this.pointer !== 'touch' || before === this.box) this.free();
   }
 
-  free() {
-    if (this.box?.id === undefined) return;
-    const { id } = this.box;
+  free(id = this.box?.id) {
+    if (id === undefined) return;
     this.player.call(`free ${id}`);
     this.refresh();
     say(`Box ${id} is free.`);

@@ -1,6 +1,7 @@
 // A session: lines in the form of atlas_tool (docs/TOOL.md), carried out one by one on an atlas, with the tool's replies.
 // Undo carries out all lines but the last once more, in a new atlas.
 import { Atlas, replyTo } from './library.js';
+import { rowsOf } from './tree.js';
 
 const PARTS = {
   atlas: [['n', 'n'], ['n', 'n', 'n', 'n', 'n', 'n']], alloc: [['n', 'n']], free: [['i']], grow: [['n', 'n']],
@@ -59,7 +60,12 @@ export class Session {
     this.isNew = true;
     this.added = [];
     this.freed = [];
-    this.holes = null;
+    this.forget();
+  }
+
+  // What is asked of the atlas must be asked anew.
+  forget() {
+    this.holes = this.tree = null;
   }
 
   /** Carries out a line, and keeps it with its reply. Gives the reply, an array of lines. */
@@ -101,7 +107,7 @@ export class Session {
     box.line = this.lines.length - 1;
     this.live.set(box.id, box);
     this.added.push(box);
-    this.holes = null;
+    this.forget();
     return [`id ${box.id} at ${corners(box)}`];
   }
 
@@ -109,7 +115,7 @@ export class Session {
     this.atlas.free(id);
     this.freed.push(this.live.get(id));
     this.live.delete(id);
-    this.holes = null;
+    this.forget();
     return ['ok'];
   }
 
@@ -169,6 +175,12 @@ export class Session {
   free() {
     if (!this.holes) this.holes = this.atlas ? this.atlas.holes() : [];
     return this.holes;
+  }
+
+  /** The members of the tree of cuts, as rows. */
+  cuts() {
+    if (!this.tree) this.tree = this.atlas ? rowsOf(this.atlas.cuts()) : [];
+    return this.tree;
   }
 
   // The line that made the first atlas: it isn't undone.

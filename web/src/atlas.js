@@ -161,6 +161,16 @@ export class Atlas extends Owner {
     return this.#listed('atlas_free_boxes', 4, reading.rectangle);
   }
 
+  cuts() {
+    const { width, height } = this.size;
+    const many = this.slots.used;
+    const runtime = runtimeOf(this);
+    const at = runtime.room(44 * many);
+    require(runtime.calls.atlas_members(handle(this), at, many, runtime.at));
+    const whole = { kind: 'container', x: 0, y: 0, width, height, axis: 'vertical', members: [] };
+    return reading.tree(runtime.words(), at >>> 2, many, whole);
+  }
+
   #listed(call, step, reader) {
     const runtime = runtimeOf(this);
     const many = this.slots.used;

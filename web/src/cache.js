@@ -40,11 +40,11 @@ export class TextureCache extends Owner {
   }
 
   get(key) {
-    const number = this.#keys.number(key);
+    const lower = this.#keys.lower(key);
     const runtime = runtimeOf(this);
     let status;
     try {
-      status = runtime.get(handle(this), number, runtime.at);
+      status = runtime.get(handle(this), lower, this.#keys.upper, runtime.at);
     } catch (error) {
       throw runtime.trap(error);
     }
@@ -67,7 +67,7 @@ export class TextureCache extends Owner {
     const status = runtime.calls.cache_insert(handle(this), number, w, h, runtime.at);
     const isPlaced = status === DONE || status === HELD;
     const entry = isPlaced ? { ...reading.place(runtime.words(), runtime.word), isNew: status === DONE } : null;
-    if (status === DONE) this.#keys.keep(key, number);
+    if (status === DONE) this.#keys.keep(key);
     this.#follow(runtime);
     if (isPlaced || status === FRAME_FULL) return entry;
     throw failure(STATUSES[status]);

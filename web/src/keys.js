@@ -8,10 +8,26 @@ export class Keys {
   #numbers = new Map();
   #names = new Map();
   #last = 0;
+  /** The upper 32 bits of the number that `lower` gave the others of. */
+  upper = 0;
+
+  /** The lower 32 bits of a key's number. No bigint is made for it, unless the key is one. */
+  lower(key) {
+    if (typeof key === 'string') return this.#halves(this.#numbers.get(key) ?? 0, -0x80000000);
+    if (typeof key === 'number' && Number.isSafeInteger(key) && key >= 0) return this.#halves(key, 0);
+    const number = this.number(key);
+    this.upper = Number(number >> 32n);
+    return Number(number & 0xffffffffn);
+  }
+
+  #halves(number, more) {
+    this.upper = number < 4294967296 ? more : more | (number / 4294967296);
+    return number | 0;
+  }
 
   /** The number of a key. Of a string that isn't held it is one that nothing has. */
   number(key) {
-    if (typeof key === 'string') return this.#numbers.get(key) ?? UPPER;
+    if (typeof key === 'string') return UPPER + BigInt(this.#numbers.get(key) ?? 0);
     if (typeof key === 'number' && Number.isSafeInteger(key) && key >= 0) return BigInt(key);
     if (typeof key === 'bigint' && key >= 0n && key < UPPER) return key;
     throw new WollemigoError('BAD_KEY', 'a key is a string, a whole number from 0 to 9007199254740991, or a bigint below 2^63');
@@ -23,11 +39,11 @@ export class Keys {
     return number === UPPER ? UPPER + BigInt(this.#last + 1) : number;
   }
 
-  /** A key that was given its next number is held. */
-  keep(key, number) {
+  /** A key is held, by the number that `next` gave for it. */
+  keep(key) {
     if (typeof key !== 'string' || this.#numbers.has(key)) return;
     this.#last += 1;
-    this.#numbers.set(key, number);
+    this.#numbers.set(key, this.#last);
     this.#names.set(this.#last, key);
   }
 
@@ -37,7 +53,7 @@ export class Keys {
     const number = this.#numbers.get(key);
     if (number === undefined) return;
     this.#numbers.delete(key);
-    this.#names.delete(Number(number - UPPER));
+    this.#names.delete(number);
   }
 
   clear() {

@@ -5,10 +5,10 @@ const PAGE = 65536;
 const NAMES = [
   ...['new', 'with_options', 'with_slot_limit', 'clone', 'free', 'allocate', 'deallocate', 'deallocate_all', 'get', 'can_fit',
     'reserve', 'grow', 'can_grow_to', 'clear', 'reset', 'rearrange', 'resize_and_rearrange', 'size', 'options', 'is_empty',
-    'slots', 'areas', 'live', 'free_boxes'].map((name) => `atlas_${name}`),
+    'slots', 'areas', 'live', 'free_boxes', 'members'].map((name) => `atlas_${name}`),
   ...['new', 'with_options', 'free', 'allocate', 'grow', 'can_grow_to', 'clear', 'reset', 'init_from_allocator', 'size', 'options',
     'slots', 'is_empty'].map((name) => `simple_${name}`),
-  ...['new', 'free', 'begin_frame', 'get', 'peek', 'insert', 'remove', 'next_change', 'clear', 'trim', 'repack', 'len',
+  ...['new', 'free', 'begin_frame', 'get_halves', 'peek', 'insert', 'remove', 'next_change', 'clear', 'trim', 'repack', 'len',
     'page_count', 'page_size', 'numbers', 'statistics', 'areas', 'options_of', 'newest', 'oldest', 'older', 'reserve',
   ].map((name) => `cache_${name}`),
   'pack',
@@ -40,7 +40,7 @@ export class Runtime {
     // The calls that are made most, without a function in between. Each is made within a `try`, and what it throws goes to `trap`.
     this.allocate = exports.guillotiere_atlas_allocate;
     this.deallocate = exports.guillotiere_atlas_deallocate;
-    this.get = exports.guillotiere_cache_get;
+    this.get = exports.guillotiere_cache_get_halves;
     /** Where values of a few words are passed: 256 bytes, as an address and as an index of words. */
     this.at = this.#take(1);
     this.word = this.at >>> 2;

@@ -65,7 +65,11 @@ test('keys that are the same, and keys that are not', () => {
   const keys = ['', '0', 'é', 'e\u0301', '\ud800', '__proto__', 'x'.repeat(100000), 0, 1, 2 ** 53 - 1, 2n ** 53n, 2n ** 63n - 1n, 4294967296];
   for (const [i, key] of keys.entries()) assert.ok(cache.insert(key, 1 + i, 1).isNew);
   assert.equal(cache.length, keys.length);
-  for (const [i, key] of keys.entries()) assert.equal(cache.peek(key).inner.width, 1 + i);
+  for (const [i, key] of keys.entries()) {
+    assert.equal(cache.peek(key).inner.width, 1 + i);
+    assert.deepEqual(cache.get(key), cache.peek(key));
+  }
+  for (const key of [2, 2 ** 32 + 1, 2 ** 53 - 2, 2n ** 62n, 2n ** 63n - 2n, 'y']) assert.equal(cache.get(key), null);
   for (const [one, other] of [[0, 0n], [-0, 0], [1, 1n], [2 ** 53 - 1, 2n ** 53n - 1n], [4294967296, 4294967296n]]) {
     assert.deepEqual(cache.peek(one), cache.peek(other));
   }

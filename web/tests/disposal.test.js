@@ -17,7 +17,8 @@ const MANY = 16777000;
 const USES = {
   Atlas: {
     allocate: [1, 1], deallocate: [3], deallocateAll: [[]], get: [3], canFit: [1, 1], reserve: [1], grow: [200, 200],
-    canGrowTo: [200, 200], rearrange: [], resizeAndRearrange: [5, 5], clear: [], reset: [5, 5], allocated: [], free: [], clone: [],
+    canGrowTo: [200, 200], rearrange: [], resizeAndRearrange: [5, 5], clear: [], reset: [5, 5], allocated: [], free: [], cuts: [],
+    clone: [],
   },
   SimpleAtlas: { allocate: [1, 1], grow: [200, 200], canGrowTo: [200, 200], clear: [], reset: [5, 5], initFrom: [new Atlas(5, 5)] },
   TextureCache: {

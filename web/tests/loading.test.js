@@ -41,5 +41,5 @@ test('each kind of source', () => {
 
 test('the lines of README.md', () => {
   const [, program] = /^```js\n([^]*?)^```$/m.exec(readFileSync(join(web, 'README.md'), 'utf8'));
-  assert.equal(told(program), '0 0 20 60\npageAdded 0\n0 1 1 true\n43 43 2\n');
+  assert.equal(told(program), '0 0 20 60\ncontainer 1024 1024\npageAdded 0\n0 1 1 true\n43 43 2\n');
 });

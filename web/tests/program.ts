@@ -1,6 +1,6 @@
 // Each call of the package once, as TypeScript sees it. It is compiled, and not run.
 import {
-  Allocation, Atlas, CacheChange, ErrorCode, Key, MOST_SLOTS, Sheet, SimpleAtlas, TextureCache, WollemigoError, load, pack,
+  Allocation, Atlas, CacheChange, Container, ErrorCode, Key, MOST_SLOTS, Sheet, SimpleAtlas, TextureCache, WollemigoError, load, pack,
 } from '../index.js';
 
 function follow(change: CacheChange): Key | number {
@@ -12,6 +12,10 @@ function follow(change: CacheChange): Key | number {
   }
 }
 
+function deepest({ axis, members }: Container): number {
+  return Math.max(...members.map((each) => (each.kind === 'container' ? deepest(each) : each.kind === 'live' ? each.id : each.x + axis.length)));
+}
+
 function useAtlas(): void {
   const atlas = new Atlas(5, 5, { alignment: { width: 1, height: 1 }, smallSizeThreshold: 32 }, MOST_SLOTS);
   const granted: Allocation | null = atlas.allocate(1, 1);
@@ -20,7 +24,7 @@ function useAtlas(): void {
   const { changes, failures } = atlas.resizeAndRearrange(5, 5);
   const sum: number = changes[0].after.id + failures.length + atlas.rearrange().changes.length + atlas.options.largeSizeThreshold;
   const more: boolean = atlas.canFit(1, 1) || atlas.canGrowTo(1, 1) || atlas.isEmpty || sum > atlas.areas.free + atlas.slots.used;
-  if (more) [atlas.reserve(1), atlas.grow(5, 5), atlas.clear(), atlas.reset(5, 5), atlas.get(1), atlas.allocated(), atlas.free()];
+  if (more) [atlas.reserve(1), atlas.grow(5, 5), atlas.clear(), atlas.reset(5, 5), atlas.get(1), atlas.allocated(), atlas.free(), deepest(atlas.cuts())];
   const simple = SimpleAtlas.from(atlas.clone());
   simple.initFrom(atlas);
   simple.allocate(atlas.size.width, 1)?.height;

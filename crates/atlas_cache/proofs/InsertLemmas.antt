@@ -3,7 +3,7 @@ use Rattle.std.proofs.Common.{ℕ, ◌≡◌, ◌<◌, arith, List, [], ◌∷�
 use Rattle.std.specs.List.{AllByRecursion}
 use Rattle.guillotiere.specs.declared.Size.{Size}
 use Rattle.atlas_cache.specs.declared.changes.CacheChange.{CacheChange}
-use Rattle.atlas_cache.specs.declared.changes.CacheChange.TheVariants.{PageAdded, PageGrown, Evicted, Moved}
+use Rattle.atlas_cache.specs.declared.changes.CacheChange.TheVariants.{PageAdded, PageGrown, Evicted, Moved, PageRemoved}
 use Rattle.atlas_cache.specs.declared.entries.Entry.{Entry}
 use Rattle.atlas_cache.specs.declared.error.CacheError.{CacheError}
 use Rattle.atlas_cache.specs.declared.inserted.Inserted.{Inserted}
@@ -33,6 +33,7 @@ module _ {K : Type 0} where
   does_frame (PageGrown page size) s t does = does.keeps.frame
   does_frame (Evicted key place) s t does = does.frame
   does_frame (Moved key from to) s t does = absurd does
+  does_frame (PageRemoved page) s t does = absurd does
 
   led_stays : (asked : Size) (cs : List (CacheChange K)) (s t : CacheState K) → Leads asked cs s t
       → (t.options ≡ s.options) × (t.frame ≡ s.frame)

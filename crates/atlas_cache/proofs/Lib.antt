@@ -7,6 +7,7 @@ pub mod RepackTelling
 pub mod RingCalls
 pub mod RingLemmas
 pub mod RoomLemmas
+pub mod ShrinkLemmas
 pub mod SpareLemmas
 pub mod ListLemmas
 pub mod ApartLemmas
@@ -19,4 +20,5 @@ pub mod NumberLemmas
 pub mod PictureLemmas
 pub mod StandLemmas
 pub mod TrimLemmas
+pub mod UsableLemmas
 pub mod WalkLemmas

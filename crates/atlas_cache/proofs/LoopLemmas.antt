@@ -3,7 +3,7 @@ use Rattle.std.proofs.Common.{◌≡◌, Bool, List, [], ◌∷◌, ◌++◌, No
 use Rattle.std.proofs.lemmas.{Bool.{cases_Bool}}
 use Rattle.guillotiere.specs.declared.Size.{Size}
 use Rattle.atlas_cache.specs.declared.changes.CacheChange.{CacheChange}
-use Rattle.atlas_cache.specs.declared.changes.CacheChange.TheVariants.{PageAdded, PageGrown, Evicted, Moved}
+use Rattle.atlas_cache.specs.declared.changes.CacheChange.TheVariants.{PageAdded, PageGrown, Evicted, Moved, PageRemoved}
 use Rattle.atlas_cache.specs.declared.entries.Entry.{Entry}
 use Rattle.atlas_cache.specs.declared.error.CacheError.{CacheError}
 use Rattle.atlas_cache.specs.declared.inserted.Inserted.{Inserted}
@@ -40,6 +40,7 @@ module _ {K : Type 0} where
   does_options (PageGrown page size) s t does = does.keeps.options
   does_options (Evicted key place) s t does = does.options
   does_options (Moved key from to) s t does = absurd does
+  does_options (PageRemoved page) s t does = absurd does
 
   pub one_options : (before after : List (CacheChange K)) (s t : CacheState K) → DoesOne before after s t → t.options ≡ s.options
   one_options before after s t one = does_options one.change s t one.does
@@ -57,6 +58,7 @@ module _ {K : Type 0} where
     does_absent (PageGrown page size) s t does none = rw does.keeps.entries none
     does_absent (Evicted key place) s t does none = none_left t.entries (does.entry ∷ []) (rw does.last at none)
     does_absent (Moved key from to) s t does none = absurd does
+    does_absent (PageRemoved page) s t does none = absurd does
 
     pub one_absent : (before after : List (CacheChange K)) (s t : CacheState K) → DoesOne before after s t
         → entry_for eq k s.entries ≡ None → entry_for eq k t.entries ≡ None

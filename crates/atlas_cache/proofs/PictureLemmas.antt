@@ -1,11 +1,11 @@
 -- What a caller makes of changes.
-use Rattle.std.proofs.Common.{◌≡◌, Bool, true, false, cond, List, [], ◌∷◌, ◌++◌, Option, None, Some, Result, Ok, Err, option_map, refl, sym, ap, subst, ◌∙◌, slice_set}
+use Rattle.std.proofs.Common.{◌≡◌, Bool, true, false, cond, List, [], ◌∷◌, ◌++◌, Option, None, Some, Result, Ok, Err, option_map, refl, sym, ap, subst, ◌∙◌, slice_set, take}
 use Rattle.std.proofs.Common.{inl, inr}
 use Rattle.std.proofs.lemmas.Bool.{cases_Bool}
 use Rattle.std.specs.Cmp.{IsEquivalence}
 use Rattle.guillotiere.specs.declared.Size.{Size}
 use Rattle.atlas_cache.specs.declared.changes.CacheChange.{CacheChange}
-use Rattle.atlas_cache.specs.declared.changes.CacheChange.TheVariants.{PageAdded, PageGrown, Evicted, Moved}
+use Rattle.atlas_cache.specs.declared.changes.CacheChange.TheVariants.{PageAdded, PageGrown, Evicted, Moved, PageRemoved}
 use Rattle.atlas_cache.specs.declared.entries.Entry.{Entry}
 use Rattle.atlas_cache.specs.declared.error.CacheError.{CacheError}
 use Rattle.atlas_cache.specs.declared.inserted.Inserted.{Inserted}
@@ -28,6 +28,7 @@ module _ {K : Type 0} (eq : K → K → Bool) where
   same_after (PageGrown page size) p q same = record { places = same.places; pages = ap (λ ns. slice_set ns page size) same.pages }
   same_after (Evicted key place) p q same = record { places = λ k. ap (λ o. cond (eq key k) None o) (same.places k); pages = same.pages }
   same_after (Moved key from to) p q same = record { places = λ k. ap (λ o. cond (eq key k) (Some to) o) (same.places k); pages = same.pages }
+  same_after (PageRemoved page) p q same = record { places = same.places; pages = ap (λ ns. take page ns) same.pages }
 
   all_same_after : (cs : List (CacheChange K)) (p q : Picture K) → ShowsSame p q → ShowsSame (all_changed eq cs p) (all_changed eq cs q)
   all_same_after [] p q same = same
@@ -66,6 +67,7 @@ module _ {K : Type 0} (eq : K → K → Bool) where
           rw rest (own_without eq t.entries does.entry [] (rw does.last at own)),
         )
     one_step (Moved key from to) s t own does = absurd does
+    one_step (PageRemoved page) s t own does = absurd does
 
     -- Changes that lead from one state to another tell a caller all of it.
     pub told : (asked : Size) (cs : List (CacheChange K)) (s t : CacheState K) → HaveOwnKeys eq s.entries → Leads asked cs s t

@@ -8,7 +8,7 @@ use Rattle.guillotiere.specs.Pages.{rectangle_on}
 use Rattle.guillotiere.specs.Pixels.{size_of}
 use Rattle.guillotiere.specs.Stored.{AtlasValue}
 use Rattle.atlas_cache.specs.declared.changes.CacheChange.{CacheChange}
-use Rattle.atlas_cache.specs.declared.changes.CacheChange.TheVariants.{PageAdded, PageGrown, Evicted, Moved}
+use Rattle.atlas_cache.specs.declared.changes.CacheChange.TheVariants.{PageAdded, PageGrown, Evicted, Moved, PageRemoved}
 use Rattle.atlas_cache.specs.declared.entries.Entry.{Entry}
 use Rattle.atlas_cache.specs.declared.options.CacheOptions.{CacheOptions}
 use Rattle.atlas_cache.specs.Asking.{bordered, AreUsable, CanStand}
@@ -24,6 +24,7 @@ module _ {K : Type 0} where
   does-unused (Evicted key place) s t does none =
       rw does.frame (each-left (λ (e : Entry K). e.frame < s.frame) t.entries (does.entry ∷ []) (rw does.last at none))
   does-unused (Moved key from to) s t does none = absurd does
+  does-unused (PageRemoved page) s t does none = absurd does
 
   pub led-unused : (asked : Size) (cs : List (CacheChange K)) (s t : CacheState K) → Leads asked cs s t → IsNoneInUse s → IsNoneInUse t
   led-unused asked [] s t same none = subst (λ (u : CacheState K). IsNoneInUse u) same none

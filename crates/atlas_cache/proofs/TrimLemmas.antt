@@ -38,7 +38,7 @@ module _ {K : Type 0} where
     pub shows : ShowsSame (all_changed eq (all_evicted s.options.padding gone) (picture_of eq s)) (picture_of eq t)
 
   module _ (eq : K → K → Bool) where
-    changed-last : (cs : List (CacheChange K)) (c : CacheChange K) (p : Picture K)
+    pub changed-last : (cs : List (CacheChange K)) (c : CacheChange K) (p : Picture K)
         → all_changed eq (cs ++ c ∷ []) p ≡ changed eq c (all_changed eq cs p)
     changed-last [] c p = refl
     changed-last (d ∷ cs) c p = changed-last cs c (changed eq d p)

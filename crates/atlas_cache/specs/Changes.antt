@@ -1,13 +1,13 @@
 -- What a cache does, change by change, and what a caller learns of it.
 use Rattle.std.specs.Prelude.{◌≡◌, ◌≢◌, ◌+◌, ◌<◌, ◌≤◌, max, ℕ, Bool, List, [], ◌∷◌, ◌++◌, length, Option, Some, None, Result, Ok, Err}
-use Rattle.std.specs.Prelude.{if◌then◌else◌, slice_set}
+use Rattle.std.specs.Prelude.{if◌then◌else◌, slice_set, take}
 use Rattle.guillotiere.specs.declared.Size.{Size}
 use Rattle.guillotiere.specs.Boxes.{IsPositive}
 use Rattle.guillotiere.specs.Pixels.{sides_of}
 use Rattle.guillotiere.specs.Stored.{AtlasValue}
 use Rattle.guillotiere.specs.Pages.{AddsBoxOn, HasSameRectangles, LeavesNoBoxOn, NoneHasRoomBelow}
 use Rattle.atlas_cache.specs.declared.changes.CacheChange.{CacheChange}
-use Rattle.atlas_cache.specs.declared.changes.CacheChange.TheVariants.{PageAdded, PageGrown, Evicted, Moved}
+use Rattle.atlas_cache.specs.declared.changes.CacheChange.TheVariants.{PageAdded, PageGrown, Evicted, Moved, PageRemoved}
 use Rattle.atlas_cache.specs.declared.entries.Entry.{Entry}
 use Rattle.atlas_cache.specs.declared.error.CacheError.{CacheError}
 use Rattle.atlas_cache.specs.declared.error.CacheError.TheVariants.{OtherSize}
@@ -39,6 +39,7 @@ module _ {K : Type 0} where
   changed eq (PageGrown page size) p = record p { pages = slice_set p.pages page size }
   changed eq (Evicted key place) p = placed eq key None p
   changed eq (Moved key from to) p = placed eq key (Some to) p
+  changed eq (PageRemoved page) p = record p { pages = take page p.pages }
 
   -- And of several, the first first.
   abbrev pub all_changed : (K → K → Bool) → List (CacheChange K) → Picture K → Picture K
@@ -95,6 +96,7 @@ module _ {K : Type 0} where
   Does (PageGrown page size) s t = GrowsPage page size s t
   Does (Evicted key place) s t = Evicts key place s t
   Does (Moved key from to) s t = ⊥
+  Does (PageRemoved page) s t = ⊥
 
   -- What one more change does, which is listed last.
   pub record DoesOne (before after : List (CacheChange K)) (s t : CacheState K) : Type 0 where

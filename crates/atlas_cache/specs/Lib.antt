@@ -10,6 +10,8 @@ pub mod Refusals
 pub mod Relocating
 pub mod Repacking
 pub mod Rooms
+pub mod Shrinking
 pub mod Tables
 pub mod Telling
+pub mod Usable
 pub mod Walking

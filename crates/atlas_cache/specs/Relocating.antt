@@ -3,11 +3,13 @@ use Rattle.std.specs.Prelude.{◌≡◌, ◌==◌, ◌+◌, ◌-◌, ◌++◌, �
 use Rattle.std.specs.Prelude.{if◌then◌else◌}
 use Rattle.std.specs.List.{filter_map}
 use Rattle.guillotiere.specs.declared.Change.{Change}
+use Rattle.guillotiere.specs.declared.Allocation.{Allocation}
 use Rattle.guillotiere.specs.Pages.{KeepsPages}
 use Rattle.atlas_cache.specs.declared.changes.CacheChange.{CacheChange}
 use Rattle.atlas_cache.specs.declared.changes.CacheChange.TheVariants.{Evicted, Moved}
 use Rattle.atlas_cache.specs.declared.entries.Entry.{Entry}
 use Rattle.atlas_cache.specs.Caches.{CacheState, shown}
+use Rattle.atlas_cache.specs.Repacking.{RearrangesPage}
 use Rattle.atlas_cache.specs.Rooms.{page_sizes}
 
 module _ {K : Type 0} where
@@ -34,10 +36,15 @@ module _ {K : Type 0} where
   numbered_as n o = option_map (λ e. (n, e)) o
 
   -- Each entry of a page moves or goes, which is told once of each, the most recently used first; an entry that moves
-  -- has another id and rectangle, and no other entry and no other page changes.
+  -- has another id and rectangle, and no other entry and no other page changes. Where an entry moves to, and that it goes,
+  -- is what a rearranging of the page's atlas says of its id.
   pub record Repacks (page : ℕ) (before after : List (CacheChange K)) (s t : CacheState K) : Type 0 where
     pub renewed : Entry K → Option (Entry K)
     pub same : (e f : Entry K) → renewed e ≡ Some f → f ≡ record e { id = f.id; rectangle = f.rectangle }
+    pub moved : List Change
+    pub given_up : List Allocation
+    pub moves : (e : Entry K) → renewed e ≡ renewed_by moved e
+    pub placed : RearrangesPage s.pages t.pages page moved given_up
     pub entries : t.entries ≡ filter_map (become page renewed) s.entries
     pub listed : after ≡ before ++ filter_map (told_of s.options.padding page renewed) s.entries
     pub numbers : t.numbers ≡ s.numbers

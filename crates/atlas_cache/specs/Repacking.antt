@@ -1,12 +1,17 @@
 -- What a repacking does to a page, and the areas of pages.
-use Rattle.std.specs.Prelude.{◌≡◌, ◌==◌, ◌≤◌, ◌++◌, ℕ, All, List, map, Option, find, option_map, count_by, sum_by}
+use Rattle.std.specs.Prelude.{◌≡◌, ◌==◌, ◌≤◌, ◌++◌, ℕ, All, List, map, Option, Some, find, option_map, count_by, slice_get, sum_by}
 use Rattle.guillotiere.specs.declared.Allocation.{Allocation}
+use Rattle.guillotiere.specs.declared.Change.{Change}
 use Rattle.guillotiere.specs.declared.ChangeList.{ChangeList}
 use Rattle.guillotiere.specs.declared.Rectangle.{Rectangle}
 use Rattle.guillotiere.specs.Boxes.{area}
 use Rattle.guillotiere.specs.Pages.{rectangle_on, KeepsPages}
-use Rattle.guillotiere.specs.Rearranging.{IsExactChange, KeepsSides}
+use Rattle.guillotiere.specs.Rearranging.{transfer_of, IsExactChange, KeepsSides}
+use Rattle.guillotiere.specs.Replies.{grant_of}
 use Rattle.guillotiere.specs.States.{free_in, live_in}
+use Rattle.guillotiere.specs.Steps.{Step}
+use Rattle.guillotiere.specs.Steps.AtlasCall.{Rearrange}
+use Rattle.guillotiere.specs.Steps.AtlasReply.{Changed}
 use Rattle.guillotiere.specs.Stored.{AtlasValue, state_of}
 
 -- The rectangle of an id among allocations.
@@ -39,6 +44,14 @@ pub record TellsMoves {A : Type 0} (list : ChangeList A) (had has : ℕ → Opti
 pub record RepacksPage {A : Type 0} (old new : List AtlasValue) (page : ℕ) (list : ChangeList A) : Type 0 where
   pub tells : TellsMoves list (rectangle_on old page) (rectangle_on new page)
   pub others : KeepsPages old new page
+
+-- The atlas of a page does what `Rearrange` says: what is live is placed anew in an empty atlas of its size, one after
+-- another in the order of areas, each where a request of its sides is placed then; only what had no room when its turn
+-- came is given up.
+abbrev pub RearrangesPage : (old new : List AtlasValue) → (page : ℕ) → (moved : List Change) → (given_up : List Allocation) → Type 0
+RearrangesPage old new page moved given_up =
+    (s t : AtlasValue) → slice_get old page ≡ Some s → slice_get new page ≡ Some t
+    → Step (state_of s) Rearrange (Changed (record { changes = map transfer_of moved; failures = map grant_of given_up })) (state_of t)
 
 -- The area of what is live on each page, in unit squares.
 abbrev pub live_by_page : List AtlasValue → List ℕ

@@ -14,6 +14,7 @@ mod clearing;
 mod figures;
 pub mod holding;
 mod repacking;
+mod shrinking;
 mod walking;
 
 use crate::cache::holding::{grant, look_up, oldest, place_of, take_out};

@@ -13,8 +13,10 @@ ghost use Rattle.atlas_cache.specs.Asking.{AreUsable};
 ghost use Rattle.atlas_cache.specs.Rooms.{grown_sides, growth_left, page_sizes, AreAllLargest, AreLargestBelow};
 ghost use Rattle.atlas_cache.specs.Rooms.{rooms_of, IsAtLeast, IsFirstToGrow, IsNothingLive, IsRefusal, KeepsRooms};
 ghost use Rattle.atlas_cache.specs.Rooms.{IsRounded, LargestHasRoom};
+ghost use Rattle.atlas_cache.specs.Shrinking.{DropsIdle, IsLastInUse};
 
 mod repacking;
+mod usable;
 
 use crate::error::CacheError;
 use crate::options::CacheOptions;
@@ -260,6 +262,28 @@ fn push_page<A: Allocator + Copy>(
     }
 }
 
+// The last page goes, if nothing is live on it: its number.
+fn pop_idle<A: Allocator + Copy>(
+    pages: &mut Vec<AtlasAllocator<A>, A>,
+    options: &CacheOptions,
+) -> Option<u32>
+    requires { KeepsRooms (rooms_of options.now pages.old.items) }
+    ensures drops { IfSome result (λ page. DropsIdle page pages.old.items pages.new.items) }
+    ensures used { result ≡ None → IsLastInUse pages.old.items }
+    ensures none { result ≡ None → pages.new.items ≡ pages.old.items }
+    ensures kept { KeepsRooms (rooms_of options.now pages.new.items) }
+{
+    if pages.is_empty() {
+        return None;
+    }
+    let last = pages.len() - 1;
+    if !pages[last].is_empty() {
+        return None;
+    }
+    pages.truncate(last);
+    Some(number(last, options.pages))
+}
+
 // All rectangles of each page go.
 fn clear_pages<A: Allocator + Copy>(pages: &mut Vec<AtlasAllocator<A>, A>)
     ensures nothing { IsNothingLive pages.new.items }
@@ -417,6 +441,17 @@ impl<A: Allocator + Copy> Rooms<A> {
         }
         push_page(&mut self.pages, &self.options)?;
         Ok(Some((number, self.options.page)))
+    }
+
+    /// The last page goes, if nothing is live on it: its number. None exactly if there is no page, or if something is live
+    /// on the last one; then nothing changes. Takes no memory.
+    pub fn remove_page(&mut self) -> Option<u32>
+        ensures drops { IfSome result (λ page. DropsIdle page self.old.pages self.new.pages) }
+        ensures options { self.new.options ≡ self.old.options }
+        ensures used { result ≡ None → IsLastInUse self.old.pages }
+        ensures none { result ≡ None → self.new ≡ self.old }
+    {
+        pop_idle(&mut self.pages, &self.options)
     }
 
     /// All rectangles go. The pages stay, with their sizes. Takes no memory.

@@ -31,7 +31,8 @@ sprite_at sprites k = slice_index_or sprites k (record { width = pos 0; height =
 -- What an error says of a sprite with this number.
 abbrev pub IsSpriteFault : (spacing : Spacing) (number : ℕ) → Size → SheetError → Type 0
 IsSpriteFault spacing number sprite (error.EmptySprite k) = (k ≡ number) × (IsPositive (sides_of sprite) → ⊥)
-IsSpriteFault spacing number sprite (error.GreatSprite k) = (k ≡ number) × (IsPackable spacing sprite → ⊥)
+IsSpriteFault spacing number sprite (error.GreatSprite k) =
+    (k ≡ number) × IsPositive (sides_of sprite) × (IsPackable spacing sprite → ⊥)
 IsSpriteFault spacing number sprite _ = ⊥
 
 -- One of the sprites has the fault that an error says.

@@ -24,4 +24,4 @@ pub use options::{SheetOptions, Spacing};
 pub use orders::Key;
 pub use placed::Placed;
 pub use sheets::{Filled, Sheet, fill, pack, pack_telling};
-pub use ways::{Choice, WAYS, Way, ways_tried};
+pub use ways::{Choice, WAYS, Way, prove_ways, ways_tried};

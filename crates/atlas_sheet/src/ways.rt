@@ -1,7 +1,10 @@
 //! The ways to place sprites that are tried.
-ghost use Rattle.std.specs.Prelude.{◌≡◌, ◌<◌, ◌≤◌};
+ghost use Rattle.std.specs.Prelude.{◌≡◌, ◌<◌, ◌≤◌, Contains};
 ghost use Rattle.atlas_sheet.specs.Fillings.{ways_tried};
 ghost use Rattle.guillotiere.specs.Pixels.{options_of};
+ghost use Rattle.atlas_sheet.specs.declared.orders.Key.{Key};
+ghost use Rattle.atlas_sheet.specs.declared.ways.Choice.{Choice};
+ghost use Rattle.atlas_sheet.specs.declared.ways.TheConstants.{WAYS};
 ghost use Rattle.atlas_sheet.specs.Orders.{choice_options};
 
 use crate::options::Spacing;
@@ -86,6 +89,11 @@ pub const WAYS: [Way; 10] = [
         choice: Choice::Roomiest,
     },
 ];
+
+/// Each key stands in `WAYS` with each choice.
+pub fn prove_ways()
+    ensures { (key : Key) → (choice : Choice) → Contains WAYS (record { key = key; choice = choice }) }
+{}
 
 /// How many of `WAYS` a sheet with so many sprites is filled by: all ten up to 1,200 sprites, fewer for more, so that
 /// they ask for some 12,000 places together; at least the first.

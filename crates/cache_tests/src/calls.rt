@@ -1,7 +1,7 @@
 //! Calls that tell what a cache does, or take from it: small traces worked by hand.
 ghost use Rattle.std.specs.Prelude.{◌≡◌};
 
-use crate::asking::{begin_frame, clear, get, insert, peek, trim};
+use crate::asking::{begin_frame, clear, get, insert, peek, remove, shrink, trim};
 use atlas_cache::{CacheChange, CacheError, CacheOptions, Counts, Inserted, Place, TextureCache};
 use guillotiere::{DEFAULT_OPTIONS, Rectangle, point2, size2};
 use std::alloc::Global;
@@ -190,5 +190,47 @@ fn a_new_frame_has_room(rt: HostRuntime) -> Result<(), Fail> {
     begin_frame(&mut cache);
     let next = insert(&mut cache, 5, size2(16, 16), &mut changes)?;
     assert!(rt; next == Inserted::Placed(whole(0)));
+    Ok(())
+}
+
+// The last page is given back, and no page that another one follows.
+#[test]
+fn empty_pages_at_the_end_go(rt: HostRuntime) -> Result<(), Fail> {
+    let mut cache = three(rt.alloc())?;
+    let mut changes = Vec::new(rt.alloc());
+    let _gone = remove(&mut cache, 1);
+    shrink(&mut cache, &mut changes)?;
+    assert!(rt; changes.is_empty() && cache.pages() == 3);
+    let _gone = remove(&mut cache, 3);
+    shrink(&mut cache, &mut changes)?;
+    assert!(rt; changes.as_slice() == [CacheChange::PageRemoved { page: 2 }].as_slice());
+    assert!(rt; cache.pages() == 2 && peek(&cache, 2) == Some(whole(1)));
+    Ok(())
+}
+
+#[test]
+fn all_pages_go_after_a_clearing(rt: HostRuntime) -> Result<(), Fail> {
+    let mut cache = three(rt.alloc())?;
+    let mut changes = Vec::new(rt.alloc());
+    clear(&mut cache);
+    shrink(&mut cache, &mut changes)?;
+    let last = CacheChange::PageRemoved { page: 2 };
+    let middle = CacheChange::PageRemoved { page: 1 };
+    let first = CacheChange::PageRemoved { page: 0 };
+    assert!(rt; changes.as_slice() == [last, middle, first].as_slice());
+    assert!(rt; cache.pages() == 0);
+    Ok(())
+}
+
+// Of a page of 16 by 16, of which the left 8 columns are taken, 8 by 16 pixels are free: no room for a width of 9.
+#[test]
+fn what_has_no_room_for_a_size_is_told(rt: HostRuntime) -> Result<(), Fail> {
+    let mut cache = empty(rt.alloc())?;
+    let mut changes = Vec::new(rt.alloc());
+    let _place = insert(&mut cache, 1, size2(8, 16), &mut changes)?;
+    assert!(rt; cache.unusable_area(0, size2(8, 16))? == Some(0));
+    assert!(rt; cache.unusable_area(0, size2(9, 1))? == Some(128));
+    assert!(rt; cache.unusable_area(0, size2(1, 17))? == Some(128));
+    assert!(rt; cache.unusable_area(1, size2(1, 1))? == None);
     Ok(())
 }

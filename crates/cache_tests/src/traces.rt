@@ -1,5 +1,5 @@
 //! Random traces, call by call beside a plain model.
-use crate::asking::{begin_frame, clear, get, insert, peek, remove, trim};
+use crate::asking::{begin_frame, clear, get, insert, peek, remove, shrink, trim};
 use crate::plain::Plain;
 use atlas_cache::entries::DefaultHasher;
 use atlas_cache::{CacheError, CacheOptions, Changes, Inserted, TextureCache};
@@ -123,7 +123,15 @@ impl<A: Allocator + Copy> Played<A> {
         Ok(self.plain.trim(frames, &self.changes))
     }
 
-    // A call that comes seldom: of sixteen such calls once all keys go, and twice some.
+    // The pages behind the last one with a key go; `false` where something else was told. None goes where memory is
+    // refused, the error then.
+    fn shrink(&mut self) -> Result<bool, CacheError> {
+        self.changes.clear();
+        shrink(&mut self.cache, &mut self.changes)?;
+        Ok(self.plain.shrink(&self.changes))
+    }
+
+    // A call that comes seldom: of sixteen such calls once all keys go, twice some, and twice pages.
     fn turn_seldom(&mut self, key: u32, word: u64) -> Result<bool, CacheError> {
         match (word >> 48) % 16 {
             0 => {
@@ -132,6 +140,7 @@ impl<A: Allocator + Copy> Played<A> {
                 Ok(true)
             }
             1 | 2 => self.trim(1 + (word >> 56) % 3),
+            3 | 4 => self.shrink(),
             _ => self.insert(key, asked_size(key, word)),
         }
     }

@@ -14,6 +14,7 @@ use Rattle.atlas_cache.specs.Clearing.{TellsChanges, Trims}
 use Rattle.atlas_cache.specs.Counting.{one_more}
 use Rattle.atlas_cache.specs.Refusals.{IsRefusedNew}
 use Rattle.atlas_cache.specs.Relocating.{Repacks}
+use Rattle.atlas_cache.specs.Shrinking.{Shrinks}
 use Rattle.atlas_cache.specs.Telling.{Tells}
 use Rattle.atlas_cache.specs.Walking.{ShowsOlder}
 use Rattle.guillotiere_c.specs.Following.{Followed}
@@ -56,6 +57,11 @@ pub record IsOlder (key : ℕ) (found : Option (ℕ × Place)) (s : CacheState �
 -- What `TextureCache::trim` does. The evictions come behind the changes that weren't handed over.
 pub record IsTrim (frames : ℕ) (f g : Followed) : Type 0 where
   pub trims : Trims frames f.changes g.changes f.cache g.cache
+  pub told : TellsChanges nat_eq f.changes g.changes f.cache g.cache
+
+-- What `TextureCache::shrink` does. The pages that go come behind the changes that weren't handed over.
+pub record IsShrinking (f g : Followed) : Type 0 where
+  pub shrinks : Shrinks f.changes g.changes f.cache g.cache
   pub told : TellsChanges nat_eq f.changes g.changes f.cache g.cache
 
 -- What `TextureCache::repack` does with a page that is there. Its changes come behind those that weren't handed over.

@@ -4,14 +4,14 @@ use Rattle.guillotiere_c.specs.declared.plain.TheConstants.{DONE, SLOTS, MEMORY,
 use Rattle.guillotiere_c.specs.declared.plain.TheConstants.{HELD, FRAME_FULL, NEVER_FITS, EMPTY_SIZE}
 use Rattle.guillotiere_c.specs.declared.plain.TheConstants.{EMPTY_PAGE}
 use Rattle.guillotiere_c.specs.declared.plain.TheConstants.{LARGEST_PAGE, NO_PAGES, BAD_PADDING, BAD_ATLAS, NOTHING_FITS}
-use Rattle.guillotiere_c.specs.declared.plain.TheConstants.{NOT_HELD, PAGE_ADDED, PAGE_GROWN, EVICTED, MOVED}
+use Rattle.guillotiere_c.specs.declared.plain.TheConstants.{NOT_HELD, PAGE_ADDED, PAGE_GROWN, EVICTED, MOVED, PAGE_REMOVED}
 use Rattle.guillotiere_c.specs.declared.plain_cache.PlainCacheChange.{PlainCacheChange}
 use Rattle.guillotiere_c.specs.declared.plain_cache.PlainCacheOptions.{PlainCacheOptions}
 use Rattle.guillotiere_c.specs.declared.plain_cache.PlainCounts.{PlainCounts}
 use Rattle.guillotiere_c.specs.declared.plain_cache.PlainPlace.{PlainPlace}
 use Rattle.guillotiere_c.specs.Numbers.{allocator_options_in, corners_in, size_in}
 use Rattle.atlas_cache.specs.declared.changes.CacheChange.{CacheChange}
-use Rattle.atlas_cache.specs.declared.changes.CacheChange.TheVariants.{PageAdded, PageGrown, Evicted, Moved}
+use Rattle.atlas_cache.specs.declared.changes.CacheChange.TheVariants.{PageAdded, PageGrown, Evicted, Moved, PageRemoved}
 use Rattle.atlas_cache.specs.declared.counts.Counts.{Counts}
 use Rattle.atlas_cache.specs.declared.error.CacheError.{CacheError}
 use Rattle.atlas_cache.specs.declared.error.CacheError.TheVariants as error
@@ -39,13 +39,14 @@ cache_options_in o =
       atlas = allocator_options_in o.atlas;
     }
 
--- The change that a struct tells, if it is of one of the four kinds.
+-- The change that a struct tells, if it is of one of the five kinds.
 abbrev pub cache_change_in : PlainCacheChange → Option (CacheChange ℕ)
 cache_change_in c =
     if c.kind == PAGE_ADDED then Some (PageAdded c.page (size_in c.size))
     else (if c.kind == PAGE_GROWN then Some (PageGrown c.page (size_in c.size))
     else (if c.kind == EVICTED then Some (Evicted c.key (place_in c.from))
-    else (if c.kind == MOVED then Some (Moved c.key (place_in c.from) (place_in c.to)) else None)))
+    else (if c.kind == MOVED then Some (Moved c.key (place_in c.from) (place_in c.to))
+    else (if c.kind == PAGE_REMOVED then Some (PageRemoved c.page) else None))))
 
 -- The error that a status tells of options.
 abbrev pub options_fault : ℕ → Option OptionsError

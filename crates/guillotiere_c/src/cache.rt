@@ -5,7 +5,8 @@ ghost use Rattle.atlas_cache.specs.Asking.{AreUsable, IsFaultIn};
 ghost use Rattle.atlas_cache.specs.Caches.{place_for};
 ghost use Rattle.atlas_cache.specs.Clearing.{Clears};
 ghost use Rattle.atlas_cache.specs.Counting.{one_more};
-ghost use Rattle.guillotiere_c.specs.CacheCalls.{IsGet, IsInsert, IsRemoval, IsRepacking, IsTrim};
+ghost use Rattle.guillotiere_c.specs.CacheCalls.{IsGet, IsInsert, IsRemoval, IsRepacking, IsShrinking};
+ghost use Rattle.guillotiere_c.specs.CacheCalls.{IsTrim};
 ghost use Rattle.guillotiere_c.specs.CacheNumbers.{cache_change_in, cache_options_in, found_answer, insert_answer};
 ghost use Rattle.guillotiere_c.specs.CacheNumbers.{options_fault};
 ghost use Rattle.guillotiere_c.specs.Following.{GoesOver, HoldsCache, new_cache};
@@ -279,6 +280,27 @@ pub extern "C" fn guillotiere_cache_trim(alloc: Global, cache: &mut CacheHandle,
     }
     let mut held = cache.take(alloc);
     let answer = held.trim(frames);
+    cache.put(held);
+    match answer {
+        Ok(()) => DONE,
+        Err(error) => status_of_cache_error(error),
+    }
+}
+
+/// The pages behind the last one with a key go, each told as removed, the last one first. The others stay, with their
+/// sizes, and so do all keys; after `clear` all pages go. `DONE`; `MEMORY`.
+#[unsafe(no_mangle)]
+pub extern "C" fn guillotiere_cache_shrink(alloc: Global, cache: &mut CacheHandle) -> u32
+    ensures shrinks { result ≡ DONE → GoesOver cache.old.kept cache.new.kept IsShrinking }
+    ensures refused { result ≢ DONE → cache.new.kept ≡ cache.old.kept }
+    ensures unless { IsSome cache.old.kept → result ≢ DONE → result ≡ MEMORY }
+    ensures empty { IsNone cache.old.kept → result ≡ EMPTY }
+{
+    if !cache.holds() {
+        return EMPTY;
+    }
+    let mut held = cache.take(alloc);
+    let answer = held.shrink();
     cache.put(held);
     match answer {
         Ok(()) => DONE,

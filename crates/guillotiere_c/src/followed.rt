@@ -9,7 +9,8 @@ ghost use Rattle.atlas_cache.specs.Counting.{one_more};
 ghost use Rattle.atlas_cache.specs.Repacking.{free_by_page, live_by_page};
 ghost use Rattle.atlas_cache.specs.Rooms.{page_sizes, IsRefusal};
 ghost use Rattle.atlas_cache.specs.Walking.{first_entry, keyed, last_entry};
-ghost use Rattle.guillotiere_c.specs.CacheCalls.{IsGet, IsInsert, IsOlder, IsRemoval, IsRepacking, IsTrim};
+ghost use Rattle.guillotiere_c.specs.CacheCalls.{IsGet, IsInsert, IsOlder, IsRemoval, IsRepacking};
+ghost use Rattle.guillotiere_c.specs.CacheCalls.{IsShrinking, IsTrim};
 ghost use Rattle.guillotiere_c.specs.Following.{new_cache};
 
 use atlas_cache::{
@@ -150,6 +151,16 @@ impl FollowedCache {
     {
         drop_taken(&mut self.changes, &mut self.taken);
         self.cache.trim(frames, &mut self.changes)
+    }
+
+    /// As `TextureCache::shrink`. Its changes come behind those that weren't handed over.
+    pub fn shrink(&mut self) -> Result<(), CacheError>
+        ensures shrinks { OnOk result (IsShrinking self.old self.new) }
+        ensures refused { OnErr result (self.new ≡ self.old) }
+        ensures unless { IsOkUnless result Memory }
+    {
+        drop_taken(&mut self.changes, &mut self.taken);
+        self.cache.shrink(&mut self.changes)
     }
 
     /// As `TextureCache::repack`. Its changes come behind those that weren't handed over.

@@ -125,6 +125,9 @@ pub const EVICTED: u32 = 2;
 /// A kind of changes: a key has another place.
 pub const MOVED: u32 = 3;
 
+/// A kind of changes: the last page is gone.
+pub const PAGE_REMOVED: u32 = 4;
+
 /// The greatest limit on the slots of an atlas, which is also that of an atlas without a limit of its own.
 pub const MOST_SLOTS: u32 = 16_777_216;
 

@@ -7,8 +7,8 @@ ghost use Rattle.guillotiere_c.specs.declared.plain_cache.PlainPlace.{PlainPlace
 
 use crate::plain::{
     BAD_ATLAS, BAD_PADDING, DONE, EMPTY, EMPTY_PAGE, EVICTED, LARGEST_PAGE, MEMORY, MOVED,
-    NO_PAGES, NOTHING_FITS, NUMBERS, OTHER_SIZE, PAGE_ADDED, PAGE_GROWN, PlainOptions,
-    PlainRectangle, PlainSize, SLOTS, plain_options, plain_rectangle, plain_size,
+    NO_PAGES, NOTHING_FITS, NUMBERS, OTHER_SIZE, PAGE_ADDED, PAGE_GROWN, PAGE_REMOVED,
+    PlainOptions, PlainRectangle, PlainSize, SLOTS, plain_options, plain_rectangle, plain_size,
 };
 use atlas_cache::{CacheChange, CacheError, CacheOptions, Counts, OptionsError, Place};
 use guillotiere::{AllocatorOptions, size2};
@@ -135,6 +135,11 @@ pub fn plain_cache_change(change: CacheChange<u64>) -> PlainCacheChange
             key,
             from: plain_place(from),
             to: plain_place(to),
+            ..NOTHING
+        },
+        CacheChange::PageRemoved { page } => PlainCacheChange {
+            kind: PAGE_REMOVED,
+            page,
             ..NOTHING
         },
     }

@@ -21,6 +21,7 @@
 //!         CacheChange::PageGrown { page, size } => println!("texture {page} grows to {size:?}"),
 //!         CacheChange::Evicted { key, .. } => println!("{key} is gone"),
 //!         CacheChange::Moved { key, to, .. } => println!("{key} is at {to:?}"),
+//!         CacheChange::PageRemoved { page } => println!("drop texture {page}"),
 //!     }
 //! }
 //! match inserted {
@@ -128,6 +129,11 @@ pub enum CacheChange<K = u64> {
         from: Place,
         /// Where it is.
         to: Place,
+    },
+    /// The last page, which had nothing on it, is gone: drop its texture.
+    PageRemoved {
+        /// The page, counted from 0.
+        page: u32,
     },
 }
 
@@ -280,6 +286,7 @@ fn change_of<K>(change: library::CacheChange<K>) -> CacheChange<K> {
             from: place_of(from),
             to: place_of(to),
         },
+        library::CacheChange::PageRemoved { page } => CacheChange::PageRemoved { page },
     }
 }
 

@@ -44,8 +44,8 @@ GOOD = {'a.png': png(8, 8), 'b.png': png(9, 4)}
 WHOLE = png(8, 8)
 CASES = [
     # What, files, words (F is the folder, O the sheet), status, lines.
-    ('no words', GOOD, [], 2, [r'.*required.*']),
-    ('one word', GOOD, ['F'], 2, [r'.*<OUT>.*']),
+    ('no words', GOOD, [], 2, [r'FOLDER and OUT are needed; --help tells more']),
+    ('one word', GOOD, ['F'], 2, [r'FOLDER and OUT are needed; --help tells more']),
     ('three words', GOOD, ['F', 'O', 'x'], 2, [r".*'x'.*"]),
     ('unknown', GOOD, ['F', 'O', '--forms', 'css'], 2, [r".*'--forms'.*"]),
     ('form', GOOD, ['F', 'O', '--form', 'unity'], 2, [r".*'unity'.*"]),

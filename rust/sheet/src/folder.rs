@@ -26,59 +26,47 @@ fn is_shown(entry: &DirEntry) -> bool {
     entry.depth() == 0 || !entry.file_name().to_string_lossy().starts_with('.')
 }
 
+// What is told of a place that can't be walked: of a link to nowhere, nothing, but where a picture is meant.
+fn told(error: &walkdir::Error) -> Option<String> {
+    let is_meant = |path: &Path| is_picture(path) || path.is_dir();
+    let is_fault = error.loop_ancestor().is_some() || error.path().map_or(true, is_meant);
+    is_fault.then(|| error.to_string())
+}
+
 /// The files of the pictures by name, in the order of the names' bytes.
 pub fn files(folder: &Path, drop_extension: bool) -> Result<Vec<(String, PathBuf)>, Fault> {
-    let mut found = Vec::new();
-    let mut lines = Vec::new();
     if !folder.is_dir() {
         return Err(Fault::file(folder, "it isn't a folder"));
     }
-    for entry in WalkDir::new(folder)
-        .follow_links(true)
-        .into_iter()
-        .filter_entry(is_shown)
-    {
+    let (mut found, mut lines) = (Vec::new(), Vec::new());
+    let walk = WalkDir::new(folder).follow_links(true).into_iter();
+    for entry in walk.filter_entry(is_shown) {
         match entry {
             Ok(entry) if entry.file_type().is_dir() || !is_picture(entry.path()) => {}
             Ok(entry) => match name_of(folder, entry.path(), drop_extension) {
                 Ok(name) => found.push((name, entry.into_path())),
                 Err(line) => lines.push(line),
             },
-            // A link to nowhere is a fault where a picture is meant.
-            Err(error)
-                if error.path().map_or(false, |path| !is_picture(path))
-                    && error.loop_ancestor().is_none() =>
-            {
-                lines.extend(
-                    error
-                        .path()
-                        .filter(|path| path.is_dir())
-                        .map(|path| format!("{}: it can't be read", path.display())),
-                );
-            }
-            Err(error) => lines.push(error.to_string()),
+            Err(error) => lines.extend(told(&error)),
         }
     }
     found.sort();
     for pair in found.windows(2).filter(|pair| pair[0].0 == pair[1].0) {
         let (first, second) = (pair[0].1.display(), pair[1].1.display());
-        lines.push(format!(
-            "{} and {} have the same name without their endings",
-            first, second
-        ));
+        let what = "have the same name without their endings";
+        lines.push(format!("{} and {} {}", first, second, what));
     }
     if found.is_empty() && lines.is_empty() {
         return Err(Fault::file(folder, "no PNG, JPEG or WebP lies in it"));
     }
-    if lines.is_empty() {
-        Ok(found)
-    } else {
+    if !lines.is_empty() {
         lines.sort();
-        Err(Fault {
+        return Err(Fault {
             status: FILES,
             lines,
-        })
+        });
     }
+    Ok(found)
 }
 
 // The path in the folder, with `/` between its parts.

@@ -1,7 +1,7 @@
 //! From pictures to sheets.
 use crate::fault::{Fault, ROOM};
 use crate::forms;
-use crate::packing::{fits, greatest, pages, Pages};
+use crate::packing::{fits, greatest, pages, Pages, Place};
 use crate::picture::{Lie, Part, Picture};
 use crate::scale::Scale;
 use crate::words::Words;
@@ -161,10 +161,8 @@ fn packed(
     words: &Words,
 ) -> Result<Pages, Fault> {
     let options = words.options();
-    let sizes: Vec<Size> = stored
-        .iter()
-        .map(|picture| size(picture, words.extrude))
-        .collect();
+    let size = |picture| size(picture, words.extrude);
+    let sizes: Vec<Size> = stored.iter().map(size).collect();
     check_sizes(names, known, &sizes, &options)?;
     let refused = |error: SheetError| Fault::new(ROOM, error.to_string());
     // With an effort it may take long.
@@ -174,31 +172,28 @@ fn packed(
         }
     };
     let pages = pages(&sizes, &options, words.pages as usize, progress).map_err(refused)?;
-    let homeless = names
-        .iter()
-        .zip(known)
-        .filter(|(_, one)| pages.places[one.stored].is_none());
+    let is_homeless = |one: &Known| pages.places[one.stored].is_none();
+    let homeless = names.iter().zip(known).filter(|(_, one)| is_homeless(one));
     let homeless: Vec<&str> = homeless.map(|(name, _)| *name).collect();
     if homeless.is_empty() || words.leave_out && !pages.sizes.is_empty() {
         return Ok(pages);
     }
-    let sheets = match words.pages {
+    Err(no_room(&homeless, greatest(options.allowed), words.pages))
+}
+
+fn no_room(homeless: &[&str], room: Size, pages: u32) -> Fault {
+    let sheets = match pages {
         1 => "one sheet takes".to_string(),
         count => format!("{} sheets take", count),
     };
-    let room = greatest(options.allowed);
-    let hint = "more --pages, a larger sheet or --leave-out would help";
-    Err(Fault::new(
-        ROOM,
-        format!(
-            "{} not all pictures, {}x{} at most: {} found no place; {}",
-            sheets,
-            room.width,
-            room.height,
-            named(&homeless),
-            hint
-        ),
-    ))
+    let line = format!(
+        "{} not all pictures, {}x{} at most: {} found no place; more --pages, a larger sheet or --leave-out would help",
+        sheets,
+        room.width,
+        room.height,
+        named(homeless)
+    );
+    Fault::new(ROOM, line)
 }
 
 fn image_name(stem: &str, scale: Scale, page: usize, count: usize) -> String {
@@ -210,60 +205,67 @@ fn image_name(stem: &str, scale: Scale, page: usize, count: usize) -> String {
     format!("{}{}{}.png", stem, number, scale.suffix())
 }
 
-/// The sheets of one scale.
-pub fn built(found: &[(String, Picture)], scale: Scale, words: &Words) -> Result<Built, Fault> {
-    let names: Vec<&str> = found.iter().map(|(name, _)| name.as_str()).collect();
-    let (known, stored) = kept(found, scale, words.trim);
-    let packed = packed(&names, &known, &stored, words)?;
+// The sheets, still without sprites.
+fn empty_pages(packed: &Pages, scale: Scale, words: &Words) -> Vec<Page> {
     let count = packed.sizes.len();
-    let mut pages: Vec<Page> = Vec::new();
-    for (number, size) in packed.sizes.iter().enumerate() {
-        pages.push(Page {
-            image: image_name(words.stem(), scale, number, count),
-            width: size.width as u32,
-            height: size.height as u32,
-            frames: Vec::new(),
-        });
-    }
-    let extrude = u32::from(words.extrude);
-    let mut pictures: Vec<Picture> = pages
-        .iter()
-        .map(|page| Picture::empty(page.width, page.height))
-        .collect();
-    let mut left_out = Vec::new();
-    for (name, one) in names.iter().zip(&known) {
-        match &packed.places[one.stored] {
-            None => left_out.push(name.to_string()),
-            Some(place) => pages[place.page].frames.push(Frame {
-                name: name.to_string(),
-                x: place.placed.area.min.x as u32 + extrude,
-                y: place.placed.area.min.y as u32 + extrude,
-                is_turned: place.placed.turned,
-                kept: one.kept,
-                whole: one.whole,
-            }),
-        }
-    }
+    let page = |(number, size): (usize, &Size)| Page {
+        image: image_name(words.stem(), scale, number, count),
+        width: size.width as u32,
+        height: size.height as u32,
+        frames: Vec::new(),
+    };
+    packed.sizes.iter().enumerate().map(page).collect()
+}
+
+// The upper left corner of a sprite, inside of what is repeated around it.
+fn corner(place: &Place, words: &Words) -> (u32, u32) {
+    let (corner, extrude) = (place.placed.area.min, u32::from(words.extrude));
+    (corner.x as u32 + extrude, corner.y as u32 + extrude)
+}
+
+fn drawn(pages: &[Page], stored: &[Picture], packed: &Pages, words: &Words) -> Vec<Picture> {
+    let empty = |page: &Page| Picture::empty(page.width, page.height);
+    let mut pictures: Vec<Picture> = pages.iter().map(empty).collect();
     for (picture, place) in stored.iter().zip(&packed.places) {
         if let Some(place) = place {
-            let corner = place.placed.area.min;
             let lie = if place.placed.turned {
                 forms::turned(words.form)
             } else {
                 Lie::Upright
             };
-            pictures[place.page].draw(
-                picture,
-                corner.x as u32 + extrude,
-                corner.y as u32 + extrude,
-                lie,
-                extrude,
-            );
+            let (x, y) = corner(place, words);
+            pictures[place.page].draw(picture, x, y, lie, u32::from(words.extrude));
         }
     }
     if words.premultiply {
         pictures.iter_mut().for_each(Picture::premultiply);
     }
+    pictures
+}
+
+/// The sheets of one scale.
+pub fn built(found: &[(String, Picture)], scale: Scale, words: &Words) -> Result<Built, Fault> {
+    let names: Vec<&str> = found.iter().map(|(name, _)| name.as_str()).collect();
+    let (known, stored) = kept(found, scale, words.trim);
+    let packed = packed(&names, &known, &stored, words)?;
+    let mut pages = empty_pages(&packed, scale, words);
+    let mut left_out = Vec::new();
+    for (name, one) in names.iter().zip(&known) {
+        if let Some(place) = &packed.places[one.stored] {
+            let (x, y) = corner(place, words);
+            pages[place.page].frames.push(Frame {
+                name: name.to_string(),
+                x,
+                y,
+                is_turned: place.placed.turned,
+                kept: one.kept,
+                whole: one.whole,
+            });
+        } else {
+            left_out.push(name.to_string());
+        }
+    }
+    let pictures = drawn(&pages, &stored, &packed, words);
     let sheet = Sheet {
         stem: format!("{}{}", words.stem(), scale.suffix()),
         scale,

@@ -8,12 +8,17 @@ use guillotiere::sheet::{Allowed, SheetOptions};
 use guillotiere::size2;
 use std::path::PathBuf;
 
+// Of a side of a sheet.
+const GREATEST: i32 = 65536;
+
+const USAGE: &str = "guillotiere-sheet [OPTIONS] FOLDER OUT";
+
 const AFTER: &str = "\
 Status: 0 written; 1 a file can't be read or written; 2 wrong words; 3 the pictures don't fit; 4 written, and some are left out.";
 
 /// Packs the pictures of a folder into sheets that engines load.
 #[derive(Parser, Debug)]
-#[command(name = "guillotiere-sheet", version, after_help = AFTER)]
+#[command(name = "guillotiere-sheet", version, override_usage = USAGE, after_help = AFTER)]
 pub struct Words {
     /// Its pictures (.png, .jpg, .jpeg, .webp), and those of the folders in it, are the sprites; names are paths in it
     pub folder: PathBuf,
@@ -129,58 +134,47 @@ impl Words {
 
     /// What no single word shows.
     fn check(&mut self) -> Result<(), Fault> {
-        let wrong = |line: &str| Err(Fault::new(WORDS, line));
         if let Some(name) = self.out.to_str().and_then(|out| out.strip_suffix(".png")) {
             self.out = PathBuf::from(name);
         }
-        let is_written = self
-            .out
-            .to_str()
-            .map_or(false, |out| !out.ends_with(std::path::is_separator));
-        if self.stem().is_empty() || !is_written {
-            return wrong("OUT is the name of the sheet, without its ending");
-        }
-        if self.stem().chars().any(char::is_control) {
-            return wrong("OUT has a control character");
-        }
-        if self.page && self.form != Form::Css {
-            return wrong("--page goes with --form css alone");
-        }
-        if self.turn && self.form == Form::Godot {
-            return wrong("--turn doesn't go with --form godot: its textures can't lie turned");
-        }
-        let sides = [
-            self.size.as_deref(),
-            self.align.as_deref(),
-            self.width.as_ref().map(std::slice::from_ref),
-        ];
-        if sides
-            .iter()
-            .flatten()
-            .any(|sides| sides.iter().any(|side| *side < 1))
-        {
-            return wrong("a side of --size, --width or --align is below 1");
-        }
-        if self.least < 1 || self.greatest < self.least {
-            return wrong("--least is below 1, or --greatest below it");
-        }
-        if self
-            .greatest
-            .max(self.size.iter().flatten().copied().max().unwrap_or(1))
-            > 65536
-            || self.width.unwrap_or(1) > 65536
-        {
-            return wrong("a side of a sheet is above 65536");
+        let out = self.out.to_str().unwrap_or("");
+        let fault = if self.stem().is_empty() || out.ends_with(std::path::is_separator) {
+            Some("OUT is the name of the sheet, without its ending")
+        } else if out.is_empty() {
+            Some("OUT isn't UTF-8")
+        } else if self.stem().chars().any(char::is_control) {
+            Some("OUT has a control character")
+        } else if self.page && self.form != Form::Css {
+            Some("--page goes with --form css alone")
+        } else if self.turn && self.form == Form::Godot {
+            Some("--turn doesn't go with --form godot: its textures can't lie turned")
+        } else {
+            self.fault_of_sides()
+        };
+        if let Some(line) = fault {
+            return Err(Fault::new(WORDS, line));
         }
         for (place, scale) in self.scale.iter().enumerate() {
             if self.scale[..place].contains(scale) {
-                return Err(Fault::new(
-                    WORDS,
-                    format!("the scale {} is asked for twice", scale),
-                ));
+                let line = format!("the scale {} is asked for twice", scale);
+                return Err(Fault::new(WORDS, line));
             }
         }
         Ok(())
+    }
+
+    fn fault_of_sides(&self) -> Option<&'static str> {
+        let mut sides: Vec<i32> = self.size.iter().flatten().copied().collect();
+        sides.extend(self.width);
+        let alignment = self.align.iter().flatten();
+        if sides.iter().chain(alignment).any(|side| *side < 1) {
+            return Some("a side of --size, --width or --align is below 1");
+        }
+        if self.least < 1 || self.greatest < self.least {
+            return Some("--least is below 1, or --greatest below it");
+        }
+        let is_great = self.greatest > GREATEST || sides.iter().any(|side| *side > GREATEST);
+        is_great.then_some("a side of a sheet is above 65536")
     }
 }
 
@@ -193,6 +187,9 @@ pub fn words(given: impl IntoIterator<Item = std::ffi::OsString>) -> Result<Word
                 status: 0,
                 lines: Vec::new(),
             }
+        }
+        ErrorKind::MissingRequiredArgument => {
+            Fault::new(WORDS, "FOLDER and OUT are needed; --help tells more")
         }
         _ => Fault::new(WORDS, one_line(&error.to_string())),
     })?;

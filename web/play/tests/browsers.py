@@ -19,7 +19,8 @@ except ImportError:
         webdriver = None
 
 ELEMENT = 'element-6066-11e4-a52e-4f735466cecf'
-KEYS = {'Enter': '\ue007', 'ArrowLeft': '\ue012', 'ArrowUp': '\ue013', 'ArrowRight': '\ue014', 'ArrowDown': '\ue015', 'Tab': '\ue004'}
+KEYS = {'Enter': '\ue007', 'ArrowLeft': '\ue012', 'ArrowUp': '\ue013', 'ArrowRight': '\ue014', 'ArrowDown': '\ue015', 'Tab': '\ue004',
+        'Home': '\ue011', 'End': '\ue010'}
 
 
 class Browser:
@@ -37,9 +38,16 @@ class Browser:
     def element(self, selector):
         return self.send('findElement', {'using': 'css selector', 'value': selector})[ELEMENT]
 
-    def click(self, selector):
-        self.run('document.querySelector(arguments[0]).scrollIntoView({ block: "center" })', selector)
-        self.send('clickElement', {'id': self.element(selector)})
+    def click(self, selector, seconds=30):
+        """Clicks what is in sight. What the page writes meanwhile may move it below something else: then once more."""
+        end = time.time() + seconds
+        while True:
+            self.run('document.querySelector(arguments[0]).scrollIntoView({ block: "center" })', selector)
+            try:
+                return self.send('clickElement', {'id': self.element(selector)})
+            except Exception as fault:
+                if 'not clickable' not in str(fault) or time.time() > end:
+                    raise
 
     def write(self, selector, text):
         """Types into a field, or gives a file to one."""
@@ -74,7 +82,7 @@ class Browser:
 
     def shot(self, path):
         with open(path, 'wb') as file:
-            file.write(base64.b64decode(self.send('screenshot', {})))
+            file.write(base64.b64decode(self.send('screenshot', {'full': False})))
 
     def wait(self, script, seconds=180):
         """Waits until a script gives something true; gives it."""

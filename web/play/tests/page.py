@@ -36,7 +36,7 @@ class Page:
         self.settle()
 
     def settle(self):
-        self.wait('!play.player.asked')
+        self.wait('!play.player.asked && !play.isDue()')
 
     def text(self, name):
         return self.run('return document.getElementById(arguments[0]).textContent', name)
@@ -96,7 +96,8 @@ class Page:
                 assert live_colour not in found, 'a free box as if it were live: %s' % (holes[number - len(live)],)
 
     def point(self, x, y, click=False, kind='mouse'):
-        """Points at a unit square of the atlas."""
+        """Points at a unit square of the atlas, once nothing is left to be written that would move it."""
+        self.wait('play.player.isRunning || !play.player.asked && !play.isDue()')
         self.run('document.getElementById("stage").scrollIntoView({ block: "center" })')
         left, top, width, height = self.run(
             'const { left, top, width, height } = document.getElementById("over").getBoundingClientRect();'

@@ -1,4 +1,5 @@
 """The whole page: tabs, colours, names for screen readers, size, speed."""
+import os
 import re
 import time
 
@@ -82,27 +83,33 @@ def test_names(page):
 
 
 def test_size(page):
-    """What the page loads."""
+    """What the page loads: itself and the module, under 200 kB together."""
     names = page.run('return performance.getEntriesByType("resource").map((each) => each.name)')
-    plain, packed = page.measure([page.address] + [name for name in names if name.startswith('http')])
-    assert len(names) > 20 and packed < 100000, (len(names), plain, packed)
-    page.notes.append('%s loads %d files: %d bytes, %d packed by gzip' % (page.browser.name, len(names) + 1, plain, packed))
+    names = [name for name in names if name.startswith('http')]
+    plain, packed = page.measure([page.address] + names)
+    assert [name.split('/')[-1] for name in names] == ['wollemigo.wasm'], names
+    assert plain < 200000 and packed < 75000, (plain, packed)
+    page.notes.append('%s loads two files: %d bytes, %d packed by gzip' % (page.browser.name, plain, packed))
 
 
-def test_fifty_thousand_boxes(page):
-    """30 frames a second with as many boxes, while thousands of calls a second are made; all are where the tool says."""
-    page.play(['atlas 2048 2048'] + ['alloc %d %d' % (5 + number % 7, 4 + number * 5 % 9) for number in range(50000)])
-    page.wait('play.player.session.live.size === 50000')
-    page.click('#session > summary')
-    page.browser.choose('#kind', 'own')
-    page.browser.fill('#own-width', '6')
-    page.browser.fill('#own-height', '6')
-    page.settle()
-    page.run('const field = document.getElementById("speed"); field.value = 40; field.dispatchEvent(new Event("input"))')
-    page.click('#run')
-    time.sleep(1)
+def test_sources(page):
+    """The sources as they are, a file each."""
+    page.address = page.address.replace('/built/', '/play/')
+    try:
+        page.open()
+        page.click('#add-many')
+        page.compare()
+        for name in ['cache', 'sheet', 'atlas']:
+            page.click('#tab-' + name)
+        assert page.run('return performance.getEntriesByType("resource").length') > 20
+    finally:
+        page.address = page.address.replace('/play/', '/built/')
+
+
+def frames_a_second(page):
+    """The best of some measurements, since other work on the machine may take a part of one."""
     rate = 0
-    for _ in range(4):  # other work on the machine may take a part of a measurement
+    for _ in range(4):
         page.run('''window.rate = 0; let frames = 0; const begun = performance.now();
           const next = () => { frames += 1; if (performance.now() - begun < 3000) requestAnimationFrame(next);
             else window.rate = frames / (performance.now() - begun) * 1000; };
@@ -110,10 +117,34 @@ def test_fifty_thousand_boxes(page):
         rate = max(rate, page.wait('window.rate'))
         if rate >= 30:
             break
+    return rate
+
+
+def test_fifty_thousand_boxes(page):
+    """While thousands of calls a second are made a frame draws what changed alone; all are where the tool says. On an idle machine
+    there are 30 frames a second."""
+    page.play(['atlas 2048 2048'] + ['alloc %d %d' % (5 + number % 7, 4 + number * 5 % 9) for number in range(50000)])
+    page.wait('play.player.session.live.size === 50000')
+    page.click('#session > summary')
+    page.browser.choose('#kind', 'own')
+    page.browser.fill('#own-width', '6')
+    page.browser.fill('#own-height', '6')
+    page.settle()
+    counts = 'return [play.player.calls, play.player.drawing.drawn]'
+    calls, drawn = page.run(counts)
+    page.run('const field = document.getElementById("speed"); field.value = 40; field.dispatchEvent(new Event("input"))')
+    page.click('#run')
+    page.wait('play.player.calls > %d' % (calls + 3000))
+    rate = frames_a_second(page)
     page.click('#run')
     page.wait('!play.player.isRunning')
-    page.notes.append('%s draws %.0f frames a second with 50,000 boxes and 10,000 calls a second' % (page.browser.name, rate))
-    assert rate >= 30, rate
+    page.settle()
+    more_calls, more_drawn = page.run(counts)
+    assert more_drawn - drawn <= 4 * (more_calls - calls), (more_calls - calls, more_drawn - drawn)
+    load = os.getloadavg()[0]
+    page.notes.append('%s draws %.0f frames a second with 50,000 boxes and 10,000 calls a second, at load %.0f'
+                      % (page.browser.name, rate, load))
+    assert rate >= 30 or load > os.cpu_count() / 2, rate
     live, holes = page.compare()
     assert len(live) > 45000
     begun = time.time()

@@ -3,7 +3,7 @@ use Rattle.std.proofs.Common.{◌≡◌, ◌==◌, ◌<◌, ◌++◌, ◌∷◌,
 use Rattle.std.proofs.Common.{slice_set, refl, sym, ap, ◌∙◌, subst, arith, IsPermutation}
 use Rattle.std.specs.List.{count_by, find}
 use Rattle.std.proofs.lemmas.List.Elements.{All-append, All-head, All-map, All-tail, All-weaker}
-use Rattle.std.proofs.lemmas.Option.{slice_get-get_or}
+use Rattle.std.proofs.lemmas.Option.{same_Some, slice_get-get_or}
 use Rattle.guillotiere.specs.declared.Allocation.{Allocation}
 use Rattle.guillotiere.specs.declared.Change.{Change}
 use Rattle.guillotiere.specs.declared.ChangeList.{ChangeList}
@@ -13,12 +13,15 @@ use Rattle.guillotiere.specs.Pixels.{rectangle_of}
 use Rattle.guillotiere.specs.Rearranging.{rearrangement_of, transfer_of, AreExactChanges, IsExactChange, KeepsSides}
 use Rattle.guillotiere.specs.Replies.{grant_of, IsExact}
 use Rattle.guillotiere.specs.States.{State, live_in, IsSound}
+use Rattle.guillotiere.specs.Steps.{Step}
+use Rattle.guillotiere.specs.Steps.AtlasCall.{Rearrange}
+use Rattle.guillotiere.specs.Steps.AtlasReply.{Changed}
 use Rattle.guillotiere.specs.Stored.{AtlasValue, state_of}
 use Rattle.guillotiere.specs.Trees.{Grant}
 use Rattle.guillotiere.proofs.ListLemmas.CallerLemmas.{count_by-permutation, find-permutation, slice_get-set_here, slice_get-set_other}
 use Rattle.guillotiere.proofs.ListLemmas.Counting.{count_by-cons}
 use Rattle.guillotiere.proofs.StepLemmas.LiveBoxes.{few_live}
-use Rattle.atlas_cache.specs.Repacking.{told_after, told_before, rectangle_among, AreOfOwnIds, RepacksPage, TellsMoves}
+use Rattle.atlas_cache.specs.Repacking.{told_after, told_before, rectangle_among, AreOfOwnIds, RearrangesPage, RepacksPage, TellsMoves}
 
 abbrev HasExact : Allocation → Type 0
 HasExact a = IsExact a.rectangle
@@ -110,3 +113,15 @@ page_repacks pages page a b list is within tells =
       };
       others = λ k differ. slice_get-set_other pages page k b differ;
     }
+
+pub page_rearranges : {A : Type 0} (pages : List AtlasValue) (page : ℕ) (a b : AtlasValue) (list : ChangeList A)
+    → a ≡ get_or pages page a → page < length pages
+    → Step (state_of a) Rearrange (Changed (rearrangement_of list)) (state_of b)
+    → RearrangesPage pages (slice_set pages page b) page list.changes.items list.failures.items
+page_rearranges pages page a b list is within step s t was_s is_t =
+    let has_a = slice_get-get_or pages page a within ∙ ap Some (sym is) in
+    let has_b = slice_get-set_here pages page b within in
+    let same_s : a ≡ s = same_Some a s (sym has_a ∙ was_s) in
+    let same_t : b ≡ t = same_Some b t (sym has_b ∙ is_t) in
+    subst (λ u. Step (state_of s) Rearrange (Changed (rearrangement_of list)) (state_of u)) same_t
+    (subst (λ u. Step (state_of u) Rearrange (Changed (rearrangement_of list)) (state_of b)) same_s step)

@@ -15,7 +15,8 @@ use std::hash::{BuildHasher, Hash};
 
 impl<K: Copy + Eq + Hash, S: BuildHasher, A: Allocator + Copy> TextureCache<K, S, A> {
     /// All keys go. The pages stay, with their sizes and with nothing on them, and so do the frame and the counts. No
-    /// change tells it: the caller forgets all places. Takes no memory.
+    /// change tells it: the caller forgets all places. Takes no memory. A `shrink` after it takes all pages away, and then
+    /// the cache begins with small ones again.
     pub fn clear(&mut self)
         ensures clears { Clears self.old self.new }
         ensures told { ShowsSame (all_forgotten (picture_of K.eq self.old)) (picture_of K.eq self.new) }

@@ -1,11 +1,14 @@
 //! What a cache tells of itself: how it was made, how it was used, and the areas of its pages.
-ghost use Rattle.std.specs.Prelude.{◌≡◌, slice_get};
+ghost use Rattle.std.specs.Prelude.{◌≡◌, slice_get, IfOk, IsOkUnless};
 ghost use Rattle.atlas_cache.specs.Asking.{AreUsable};
 ghost use Rattle.atlas_cache.specs.Repacking.{free_by_page, live_by_page};
+ghost use Rattle.atlas_cache.specs.Usable.{unusable_by_page};
 
 use crate::cache::TextureCache;
 use crate::counts::Counts;
+use crate::error::CacheError;
 use crate::options::CacheOptions;
+use guillotiere::Size;
 use std::alloc::Allocator;
 use std::hash::{BuildHasher, Hash};
 
@@ -55,6 +58,22 @@ impl<K: Copy + Eq + Hash, S: BuildHasher, A: Allocator + Copy> TextureCache<K, S
             Some(self.rooms.free_area(page))
         } else {
             None
+        }
+    }
+
+    /// The area of a page, in pixels, that is free in rectangles which have no room for an entry of this size, with its
+    /// padding and rounded up to the alignment; None if there is no such page. A side below 0 counts as 0. Of the area
+    /// that is free (`free_area`) it tells how much is of no use for entries of the usual size: where that is much, it is
+    /// time to repack the page. Takes memory for a list of the page's free rectangles: `Memory` if that is refused.
+    pub fn unusable_area(&self, page: u32, size: Size) -> Result<Option<u64>, CacheError>
+        ensures area { IfOk result (λ lost. lost
+            ≡ slice_get (unusable_by_page self.now.options size self.now.pages) page) }
+        ensures unless { IsOkUnless result CacheError.Memory }
+    {
+        if page < self.rooms.len() {
+            Ok(Some(self.rooms.unusable_area(page, size)?))
+        } else {
+            Ok(None)
         }
     }
 }

@@ -1,10 +1,14 @@
 //! A page's rectangles placed anew, and the areas of a page.
 ghost use Rattle.std.specs.Prelude.{◌≡◌, ◌<◌, length, slice_get, IfErr, IfOk, OnErr, Some};
 ghost use Rattle.guillotiere.specs.Callers.{rectangle_in, KeepsFrame};
+ghost use Rattle.guillotiere.specs.Rearranging.{rearrangement_of};
 ghost use Rattle.guillotiere.specs.States.{IsSound};
+ghost use Rattle.guillotiere.specs.Steps.{Step};
+ghost use Rattle.guillotiere.specs.Steps.AtlasCall.{Rearrange};
+ghost use Rattle.guillotiere.specs.Steps.AtlasReply.{Changed};
 ghost use Rattle.guillotiere.specs.Stored.{state_of};
 ghost use Rattle.atlas_cache.specs.declared.options.CacheOptions.{CacheOptions};
-ghost use Rattle.atlas_cache.specs.Repacking.{free_by_page, live_by_page, RepacksPage, TellsMoves};
+ghost use Rattle.atlas_cache.specs.Repacking.{free_by_page, live_by_page, RearrangesPage, RepacksPage, TellsMoves};
 ghost use Rattle.atlas_cache.specs.Rooms.{page_sizes, rooms_of, IsRefusal, KeepsRooms};
 
 use crate::error::CacheError;
@@ -18,6 +22,8 @@ fn rearrange<A: Allocator + Copy>(
 ) -> Result<ChangeList<A>, CacheError>
     ensures tells { IfOk result (λ list.
         TellsMoves list (rectangle_in (state_of atlas.old)) (rectangle_in (state_of atlas.new))) }
+    ensures step { IfOk result (λ list.
+        Step (state_of atlas.old) Rearrange (Changed (rearrangement_of list)) (state_of atlas.new)) }
     ensures sound { IsSound (state_of atlas.new) }
     ensures frame { KeepsFrame (state_of atlas.old) (state_of atlas.new) }
     ensures refused { OnErr result (atlas.new ≡ atlas.old) }
@@ -37,6 +43,8 @@ fn rearrange_on<A: Allocator + Copy>(
 ) -> Result<ChangeList<A>, CacheError>
     requires { page < length pages.old.items }
     ensures repacks { IfOk result (RepacksPage pages.old.items pages.new.items page) }
+    ensures step { IfOk result (λ list.
+        RearrangesPage pages.old.items pages.new.items page list.changes.items list.failures.items) }
     ensures sizes { page_sizes pages.new.items ≡ page_sizes pages.old.items }
     ensures kept { (o : CacheOptions) → KeepsRooms (rooms_of o pages.old.items)
         → KeepsRooms (rooms_of o pages.new.items) }
@@ -55,6 +63,8 @@ impl<A: Allocator + Copy> Rooms<A> {
     pub fn repack(&mut self, page: u32) -> Result<ChangeList<A>, CacheError>
         requires { page < length self.old.pages }
         ensures repacks { IfOk result (RepacksPage self.old.pages self.new.pages page) }
+        ensures step { IfOk result (λ list.
+            RearrangesPage self.old.pages self.new.pages page list.changes.items list.failures.items) }
         ensures sizes { page_sizes self.new.pages ≡ page_sizes self.old.pages }
         ensures options { self.new.options ≡ self.old.options }
         ensures refused { OnErr result (self.new ≡ self.old) }

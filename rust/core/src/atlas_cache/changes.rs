@@ -17,6 +17,8 @@ pub enum CacheChange<K> {
     /// A key moved on its page: copy `from.rectangle`, out of a copy of the page as it was before the call, to
     /// `to.rectangle`.
     Moved { key: K, from: Place, to: Place },
+    /// The last page, which had nothing on it, is gone: drop its texture.
+    PageRemoved { page: u32 },
 }
 
 /// Changes in their order. A call adds what it did at the end, also where it was refused in the middle.

@@ -2,6 +2,7 @@
 //! The pages of a cache, each an atlas: small steps, of which none evicts.
 
 mod repacking;
+mod usable;
 
 use crate::atlas_cache::error::CacheError;
 use crate::atlas_cache::options::CacheOptions;
@@ -162,6 +163,23 @@ fn push_page<A: Allocator + Copy>(
     }
 }
 
+// The last page goes, if nothing is live on it: its number.
+#[inline]
+fn pop_idle<A: Allocator + Copy>(
+    pages: &mut Vec<AtlasAllocator<A>, A>,
+    options: &CacheOptions,
+) -> Option<u32> {
+    if pages.is_empty() {
+        return None;
+    }
+    let last = pages.len() - 1;
+    if !pages[last].is_empty() {
+        return None;
+    }
+    pages.truncate(last);
+    Some(number(last, options.pages))
+}
+
 // All rectangles of each page go.
 #[inline]
 fn clear_pages<A: Allocator + Copy>(pages: &mut Vec<AtlasAllocator<A>, A>) {
@@ -255,6 +273,13 @@ impl<A: Allocator + Copy> Rooms<A> {
         }
         push_page(&mut self.pages, &self.options)?;
         Ok(Some((number, self.options.page)))
+    }
+
+    /// The last page goes, if nothing is live on it: its number. None exactly if there is no page, or if something is live
+    /// on the last one; then nothing changes. Takes no memory.
+    #[inline]
+    pub fn remove_page(&mut self) -> Option<u32> {
+        pop_idle(&mut self.pages, &self.options)
     }
 
     /// All rectangles go. The pages stay, with their sizes. Takes no memory.

@@ -24,4 +24,4 @@ pub use options::{SheetOptions, Spacing};
 pub use orders::Key;
 pub use placed::Placed;
 pub use sheets::{fill, pack, pack_telling, Filled, Sheet};
-pub use ways::{ways_tried, Choice, Way, WAYS};
+pub use ways::{prove_ways, ways_tried, Choice, Way, WAYS};

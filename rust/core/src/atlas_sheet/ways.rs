@@ -83,6 +83,10 @@ pub const WAYS: [Way; 10] = [
     },
 ];
 
+/// Each key stands in `WAYS` with each choice.
+#[inline]
+pub fn prove_ways() {}
+
 /// How many of `WAYS` a sheet with so many sprites is filled by: all ten up to 1,200 sprites, fewer for more, so that
 /// they ask for some 12,000 places together; at least the first.
 #[inline]

@@ -59,3 +59,10 @@ pub fn repack<A: Allocator + Copy>(
 ) -> Result<bool, CacheError> {
     cache.repack(page, changes)
 }
+
+pub fn shrink<A: Allocator + Copy>(
+    cache: &mut TextureCache<u32, DefaultHasher, A>,
+    changes: &mut Changes<u32, A>,
+) -> Result<(), CacheError> {
+    cache.shrink(changes)
+}

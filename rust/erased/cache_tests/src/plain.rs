@@ -162,6 +162,34 @@ impl Plain {
         }
     }
 
+    // Whether a key has its place on this page.
+    fn uses_page(&self, page: usize) -> bool {
+        for held in &self.held {
+            if held.place.page as usize == page {
+                return true;
+            }
+        }
+        false
+    }
+
+    /// The pages behind the last one with a key go. Whether these changes tell just them, the last page first.
+    pub fn shrink(&mut self, told: &[CacheChange<u32>]) -> bool {
+        for change in told {
+            let page = match *change {
+                CacheChange::PageRemoved { page } => page,
+                _ => {
+                    return false;
+                }
+            };
+            let went = self.pages.pop().is_some();
+            let last = self.pages.len();
+            if !went || last as u64 != u64::from(page) || self.uses_page(last) {
+                return false;
+            }
+        }
+        self.pages.is_empty() || self.uses_page(self.pages.len().wrapping_sub(1))
+    }
+
     /// Whether a size, in pixels, fits an empty page of the largest size, padding included.
     pub fn can_stand(&self, size: Size) -> bool {
         let largest = self.options.largest_page;
@@ -231,7 +259,7 @@ impl Plain {
                 let is_right = self.evicts(key, place);
                 Ok(self.remove(key).is_some() && is_right)
             }
-            CacheChange::Moved { .. } => Ok(false),
+            CacheChange::Moved { .. } | CacheChange::PageRemoved { .. } => Ok(false),
         }
     }
 

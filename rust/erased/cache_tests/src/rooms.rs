@@ -77,6 +77,14 @@ fn areas_of_first<A: Allocator + Copy>(rooms: &Rooms<A>) -> (u64, u64) {
     (rooms.live_area(0), rooms.free_area(0))
 }
 
+// The area of the first page that is free and has no room for a size.
+fn unusable_of_first<A: Allocator + Copy>(rooms: &Rooms<A>, size: Size) -> Result<u64, CacheError> {
+    if rooms.len() == 0 {
+        return Ok(0);
+    }
+    rooms.unusable_area(0, size)
+}
+
 fn at(x: i32, y: i32, right: i32, bottom: i32) -> Rectangle {
     Rectangle {
         min: point2(x, y),
@@ -180,5 +188,27 @@ fn a_refusal_changes_no_page() -> Result<(), Fail> {
     heap.refuse_every();
     assert_eq!(rt; rooms.add_page(), Err(CacheError::Memory));
     assert!(rt; rooms.is_empty());
+    Ok(())
+}
+
+// Of two pages the last one goes, and not one on which something lies.
+#[test]
+fn idle_pages_go_from_the_end() -> Result<(), Fail> {
+    let rt = HostRuntime;
+    let mut rooms = two_pages(rt.alloc())?;
+    let _placed = place(&mut rooms, size2(32, 16))?;
+    assert!(rt; rooms.remove_page() == Some(1));
+    assert!(rt; rooms.remove_page() == None);
+    assert!(rt; rooms.len() == 1);
+    Ok(())
+}
+
+// A new page of 32 by 16 is one free rectangle.
+#[test]
+fn what_fits_an_empty_page_leaves_nothing_unusable() -> Result<(), Fail> {
+    let rt = HostRuntime;
+    let rooms = two_pages(rt.alloc())?;
+    assert!(rt; unusable_of_first(&rooms, size2(32, 16))? == 0);
+    assert!(rt; unusable_of_first(&rooms, size2(33, 1))? == 512);
     Ok(())
 }

@@ -36,3 +36,14 @@ pub fn place_in_turn<A: Allocator + Copy>(
     cache.begin_frame();
     cache.insert(key, size, changes)
 }
+
+/// What wasn't used for so many frames goes, and then the pages at the end that hold nothing any more: the last page that
+/// is left, if there is one, has an entry.
+pub fn give_back<A: Allocator + Copy>(
+    cache: &mut TextureCache<u64, DefaultHasher, A>,
+    frames: u64,
+    changes: &mut Changes<u64, A>,
+) -> Result<(), CacheError> {
+    cache.trim(frames, changes)?;
+    cache.shrink(changes)
+}

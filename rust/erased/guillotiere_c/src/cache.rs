@@ -221,6 +221,23 @@ pub extern "C" fn guillotiere_cache_trim(cache: &mut CacheHandle, frames: u64) -
     }
 }
 
+/// The pages behind the last one with a key go, each told as removed, the last one first. The others stay, with their
+/// sizes, and so do all keys; after `clear` all pages go. `DONE`; `MEMORY`.
+#[no_mangle]
+pub extern "C" fn guillotiere_cache_shrink(cache: &mut CacheHandle) -> u32 {
+    let alloc = Global;
+    if !cache.holds() {
+        return EMPTY;
+    }
+    let mut held = cache.take(alloc);
+    let answer = held.shrink();
+    cache.put(held);
+    match answer {
+        Ok(()) => DONE,
+        Err(error) => status_of_cache_error(error),
+    }
+}
+
 /// Places the keys of a page anew, the largest first, so that what is free comes together. Each of them is told once,
 /// as moved or, where it found no room, as evicted; no other key changes. Pages are counted from 0. `DONE`; `NO_PAGE`;
 /// `SLOTS`; `MEMORY`.

@@ -92,6 +92,12 @@ impl FollowedCache {
         self.cache.trim(frames, &mut self.changes)
     }
 
+    /// As `TextureCache::shrink`. Its changes come behind those that weren't handed over.
+    pub fn shrink(&mut self) -> Result<(), CacheError> {
+        drop_taken(&mut self.changes, &mut self.taken);
+        self.cache.shrink(&mut self.changes)
+    }
+
     /// As `TextureCache::repack`. Its changes come behind those that weren't handed over.
     pub fn repack(&mut self, page: u32) -> Result<bool, CacheError> {
         drop_taken(&mut self.changes, &mut self.taken);

@@ -4,7 +4,7 @@
 use crate::plain::{
     plain_options, plain_rectangle, plain_size, PlainOptions, PlainRectangle, PlainSize, BAD_ATLAS,
     BAD_PADDING, DONE, EMPTY, EMPTY_PAGE, EVICTED, LARGEST_PAGE, MEMORY, MOVED, NOTHING_FITS,
-    NO_PAGES, NUMBERS, OTHER_SIZE, PAGE_ADDED, PAGE_GROWN, SLOTS,
+    NO_PAGES, NUMBERS, OTHER_SIZE, PAGE_ADDED, PAGE_GROWN, PAGE_REMOVED, SLOTS,
 };
 use wollemigo_core::atlas_cache::{
     CacheChange, CacheError, CacheOptions, Counts, OptionsError, Place,
@@ -127,6 +127,11 @@ pub fn plain_cache_change(change: CacheChange<u64>) -> PlainCacheChange {
             key,
             from: plain_place(from),
             to: plain_place(to),
+            ..NOTHING
+        },
+        CacheChange::PageRemoved { page } => PlainCacheChange {
+            kind: PAGE_REMOVED,
+            page,
             ..NOTHING
         },
     }

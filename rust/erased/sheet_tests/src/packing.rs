@@ -85,6 +85,52 @@ fn order_of_places() {
     assert!(&rt; sheet.places.get(1).copied() == Some(upright(0, 0, 6, 6)));
 }
 
+// Only changes of the order turn a sprite: one of 2 x 1 has no room in 1 x 2 without effort.
+#[test]
+fn turned_with_effort() {
+    let rt = HostRuntime;
+    for (effort, found) in [(0, false), (1, true)] {
+        let options = SheetOptions {
+            turn: true,
+            effort,
+            ..SheetOptions::new(Allowed::One(size2(1, 2)))
+        };
+        let sheet = pack(rt.alloc(), &[size2(2, 1)], &options).expect_in(&rt, "memory");
+        assert!(&rt; sheet.is_some() == found, "effort {effort}");
+    }
+}
+
+// A place takes multiples of the alignment at the right and the lower border too: 33 pixels take 48 at alignment 16.
+#[test]
+fn aligned_at_the_border() {
+    let rt = HostRuntime;
+    let options = SheetOptions {
+        alignment: size2(16, 16),
+        ..SheetOptions::new(Allowed::Squares {
+            least: 1,
+            greatest: 100,
+        })
+    };
+    let found = pack(rt.alloc(), &[size2(33, 33)], &options).expect_in(&rt, "memory");
+    assert!(&rt; found.map(|sheet| sheet.size) == Some(size2(48, 48)));
+}
+
+// Sprites that count alike by a key keep their order, and may find a sheet in one order only.
+#[test]
+fn order_of_equal_sprites() {
+    let rt = HostRuntime;
+    let options = SheetOptions::new(Allowed::Heights {
+        width: 2,
+        greatest: 3,
+    });
+    let high_first = [size2(1, 2), size2(2, 1)];
+    let none = pack(rt.alloc(), &high_first, &options).expect_in(&rt, "memory");
+    assert!(&rt; none.is_none());
+    let wide_first = [size2(2, 1), size2(1, 2)];
+    let found = pack(rt.alloc(), &wide_first, &options).expect_in(&rt, "memory");
+    assert!(&rt; found.map(|sheet| sheet.size) == Some(size2(2, 3)));
+}
+
 // What `pack` refuses.
 #[test]
 fn refused_options() {

@@ -6,8 +6,39 @@ fn quoted(name: &str) -> String {
     format!("\"{}\"", name.replace('\\', "\\\\").replace('"', "\\\""))
 }
 
+// A part of a page, with the margins that were trimmed.
+fn texture(place: usize, page: usize, frame: &Frame) -> String {
+    let (kept, (width, height)) = (frame.kept, frame.whole);
+    let mut text = format!(
+        "\n[sub_resource type=\"AtlasTexture\" id=\"sprite_{}\"]\natlas = ExtResource(\"page_{}\")\n",
+        place, page
+    );
+    let region = (frame.x, frame.y, kept.width, kept.height);
+    writeln!(text, "region = Rect2{:?}", region).unwrap();
+    if frame.is_trimmed() {
+        // The second half is what the margins add to the size.
+        let (wider, higher) = (width - kept.width, height - kept.height);
+        let margin = (kept.left, kept.top, wider, higher);
+        writeln!(text, "margin = Rect2{:?}", margin).unwrap();
+    }
+    text
+}
+
+fn animation(place: usize, frame: &Frame) -> String {
+    let shown = format!(
+        "\"duration\": 1.0,\n\"texture\": SubResource(\"sprite_{}\")",
+        place
+    );
+    format!(
+        "{{\n\"frames\": [{{\n{}\n}}],\n\"loop\": true,\n\"name\": &{},\n\"speed\": 5.0\n}}",
+        shown,
+        quoted(&frame.name)
+    )
+}
+
 pub fn text(sheet: &Sheet) -> String {
-    let frames: Vec<(usize, &Frame)> = (sheet.pages.iter().enumerate())
+    let pages = sheet.pages.iter().enumerate();
+    let frames: Vec<(usize, &Frame)> = pages
         .flat_map(|(number, page)| page.frames.iter().map(move |frame| (number, frame)))
         .collect();
     let steps = sheet.pages.len() + frames.len() + 1;
@@ -24,40 +55,18 @@ pub fn text(sheet: &Sheet) -> String {
         )
         .unwrap();
     }
-    for (place, (number, frame)) in frames.iter().enumerate() {
-        let (kept, (width, height)) = (frame.kept, frame.whole);
-        write!(
-            text,
-            "\n[sub_resource type=\"AtlasTexture\" id=\"sprite_{}\"]\natlas = ExtResource(\"page_{}\")\nregion = Rect2({}, {}, {}, {})\n",
-            place, number, frame.x, frame.y, kept.width, kept.height
-        )
-        .unwrap();
-        if frame.is_trimmed() {
-            // The second half is what the margins add to the size.
-            let (wider, higher) = (width - kept.width, height - kept.height);
-            writeln!(
-                text,
-                "margin = Rect2({}, {}, {}, {})",
-                kept.left, kept.top, wider, higher
-            )
-            .unwrap();
-        }
+    for (place, (page, frame)) in frames.iter().enumerate() {
+        text.push_str(&texture(place, *page, frame));
     }
-    text.push_str("\n[resource]\nanimations = [");
-    for (place, (_, frame)) in frames.iter().enumerate() {
-        let comma = if place == 0 { "" } else { ", " };
-        let shown = format!(
-            "\"duration\": 1.0,\n\"texture\": SubResource(\"sprite_{}\")",
-            place
-        );
-        let name = quoted(&frame.name);
-        write!(
-            text,
-            "{}{{\n\"frames\": [{{\n{}\n}}],\n\"loop\": true,\n\"name\": &{},\n\"speed\": 5.0\n}}",
-            comma, shown, name
-        )
-        .unwrap();
-    }
-    text.push_str("]\n");
+    let animations = frames.iter().enumerate();
+    let animations: Vec<String> = animations
+        .map(|(place, (_, frame))| animation(place, frame))
+        .collect();
+    writeln!(
+        text,
+        "\n[resource]\nanimations = [{}]",
+        animations.join(", ")
+    )
+    .unwrap();
     text
 }

@@ -42,10 +42,9 @@ pub fn files(sheet: &Sheet) -> Vec<File> {
         let lines: String = page.frames.iter().map(line).collect();
         let head = "<?xml version=\"1.0\" encoding=\"UTF-8\"?>\n<TextureAtlas imagePath=\"";
         let text = format!(
-            "{}{}\" scale=\"{}\">\n{}</TextureAtlas>\n",
+            "{}{}\">\n{}</TextureAtlas>\n",
             head,
             escaped(&page.image),
-            sheet.scale,
             lines
         );
         (beside(&page.image, ".xml"), text.into_bytes())

@@ -11,7 +11,8 @@ use wollemigo_support::hash::{BuildHasher, Hash};
 
 impl<K: Copy + Eq + Hash, S: BuildHasher, A: Allocator + Copy> TextureCache<K, S, A> {
     /// All keys go. The pages stay, with their sizes and with nothing on them, and so do the frame and the counts. No
-    /// change tells it: the caller forgets all places. Takes no memory.
+    /// change tells it: the caller forgets all places. Takes no memory. A `shrink` after it takes all pages away, and then
+    /// the cache begins with small ones again.
     #[inline]
     pub fn clear(&mut self) {
         self.entries.clear();

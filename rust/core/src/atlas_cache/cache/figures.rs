@@ -3,7 +3,9 @@
 
 use crate::atlas_cache::cache::TextureCache;
 use crate::atlas_cache::counts::Counts;
+use crate::atlas_cache::error::CacheError;
 use crate::atlas_cache::options::CacheOptions;
+use crate::guillotiere::Size;
 use wollemigo_support::alloc::Allocator;
 use wollemigo_support::hash::{BuildHasher, Hash};
 
@@ -47,6 +49,19 @@ impl<K: Copy + Eq + Hash, S: BuildHasher, A: Allocator + Copy> TextureCache<K, S
             Some(self.rooms.free_area(page))
         } else {
             None
+        }
+    }
+
+    /// The area of a page, in pixels, that is free in rectangles which have no room for an entry of this size, with its
+    /// padding and rounded up to the alignment; None if there is no such page. A side below 0 counts as 0. Of the area
+    /// that is free (`free_area`) it tells how much is of no use for entries of the usual size: where that is much, it is
+    /// time to repack the page. Takes memory for a list of the page's free rectangles: `Memory` if that is refused.
+    #[inline]
+    pub fn unusable_area(&self, page: u32, size: Size) -> Result<Option<u64>, CacheError> {
+        if page < self.rooms.len() {
+            Ok(Some(self.rooms.unusable_area(page, size)?))
+        } else {
+            Ok(None)
         }
     }
 }

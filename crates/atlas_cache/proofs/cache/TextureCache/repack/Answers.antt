@@ -48,6 +48,10 @@ returns-clause-repacks g c = λ _.
     rw (← c.self.view_is) (record {
       renewed = renewed_by cs;
       same = renewed_same cs;
+      moved = cs;
+      given_up = c.in_ok-list.list.failures.items;
+      moves = λ e. refl;
+      placed = c.in_ok-list.ensures.step;
       entries = rw c.deref.ensures.value at c.settle_all.ensures.entries;
       listed = rw (c.deref.ensures.value, c.options-options.ensures.options, c.repack.ensures.options, c.reserve.ensures.items)
           at c.settle_all.ensures.told;

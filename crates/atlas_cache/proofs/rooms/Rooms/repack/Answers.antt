@@ -13,3 +13,6 @@ pub returns-clause-refused : goal.returns-clause-refused
 returns-clause-refused g c =
     on_err_weaker c.rearrange_on.result (λ is. ap (rooms_of c.self.inside.options) is ∙ c.self.view_is)
     c.rearrange_on.ensures.refused
+
+pub returns-clause-step : goal.returns-clause-step
+returns-clause-step g c = rw (← c.self.view_is) c.rearrange_on.ensures.step

@@ -1,0 +1,84 @@
+//! The members of the tree of cuts (docs/SLOTS.md, "Slots of an atlas"). Written by hand, and not proved: it only reads.
+
+use crate::atlas_handle::AtlasHandle;
+use crate::plain::{DONE, EMPTY};
+use wollemigo_core::atlas_allocator::store_of;
+use wollemigo_core::atlas_store::cut::Orientation;
+use wollemigo_core::atlas_store::slots::walks::slot_id;
+use wollemigo_core::atlas_store::slots::{Node, NodeKind};
+use wollemigo_support::alloc::Global;
+use wollemigo_support::raw::slice_mut;
+
+/// A member by its slot; links are numbers of slots, 4294967295 for none. The axis is that of the sequence it is in.
+#[repr(C)]
+pub struct PlainMember {
+    number: u32,
+    parent: u32,
+    previous: u32,
+    next: u32,
+    /// 0 of a container, 1 of a live box, 2 of a free one.
+    kind: u32,
+    /// 0 where members lie to the right of one another, 1 where they lie below one another.
+    axis: u32,
+    /// Of a live box; else 0.
+    id: u32,
+    min_x: i32,
+    min_y: i32,
+    max_x: i32,
+    max_y: i32,
+}
+
+// A used slot; None of an unused one.
+fn plain_member(number: usize, node: &Node) -> Option<PlainMember> {
+    let (kind, id) = match node.kind {
+        NodeKind::Container => (0, 0),
+        NodeKind::Alloc => (1, slot_id(number, node.generation).serialize()),
+        NodeKind::Free => (2, 0),
+        NodeKind::Unused => return None,
+    };
+    let axis = match node.axis {
+        Orientation::Horizontal => 0,
+        Orientation::Vertical => 1,
+    };
+    Some(PlainMember {
+        number: number as u32,
+        parent: node.parent.number,
+        previous: node.previous.number,
+        next: node.next.number,
+        kind,
+        axis,
+        id,
+        min_x: node.area.min.x,
+        min_y: node.area.min.y,
+        max_x: node.area.max.x,
+        max_y: node.area.max.y,
+    })
+}
+
+/// Writes the members of the tree of cuts, by rising number of the slot, as many as there is room for, and into `count`
+/// how many there are: as many as used slots. `DONE`.
+#[no_mangle]
+pub extern "C" fn guillotiere_atlas_members(
+    atlas: &mut AtlasHandle,
+    found: *mut PlainMember,
+    found_len: usize,
+    count: &mut usize,
+) -> u32 {
+    if !atlas.holds() {
+        return EMPTY;
+    }
+    let found = unsafe { slice_mut(found, found_len) };
+    let held = atlas.take(Global);
+    let mut many = 0;
+    for (number, slot) in store_of(&held).slots.iter().enumerate() {
+        if let Some(member) = plain_member(number, &slot.node) {
+            if let Some(place) = found.get_mut(many) {
+                *place = member;
+            }
+            many += 1;
+        }
+    }
+    atlas.put(held);
+    *count = many;
+    DONE
+}
