@@ -5,6 +5,8 @@ import os
 import pathlib
 import subprocess
 
+import kept
+
 TOP = pathlib.Path(__file__).resolve().parent.parent
 CRATES = TOP / "crates"
 
@@ -48,6 +50,11 @@ class Crate:
     def rlib(self):
         return self.folder / "out" / "rlib" / f"{self.name}.rlib"
 
+    def is_new(self):
+        """Whether it is a library that is newer than its sources, as `rt ci` leaves it."""
+        built = self.rlib()
+        return (built / "format").is_file() and built.stat().st_mtime > max(it.stat().st_mtime for it in self.sources())
+
     def words(self, kit):
         words = ["--crate-name", self.name, self.root, "--extern", f"std={kit}/rlibs/std.rlib", "-L", f"dependency={kit}/rlibs"]
         for dep in self.deps:
@@ -69,14 +76,22 @@ def read_crates():
 
 
 def build_below(crates):
-    """Builds the libraries below these crates, lowest first, but for those that are newer than their sources, as `rt ci` leaves them."""
+    """Builds the libraries below these crates, lowest first, but for those that are newer than their sources, as `rt ci` leaves them. Where
+    an earlier run on this machine proved all of them of the same sources, they are copied."""
     needed, stale = {}, set()
     for crate in crates:
         needed.update(crate.below())
+    if not all(library.is_new() for library in needed.values()):
+        folder = kit()
+        names = {name: kept.name_of(library, folder) for name, library in needed.items()}
+        if all(kept.has(it) for it in names.values()):
+            for name, library in needed.items():
+                kept.take(names[name], library.rlib())
+            print(f"proved before on this machine: {' '.join(names)}", flush=True)
+            return
     for name in sorted(needed, key=lambda it: len(needed[it].below())):
         library = needed[name]
-        is_new = library.rlib().is_dir() and library.rlib().stat().st_mtime > max(it.stat().st_mtime for it in library.sources())
-        if is_new and not stale & {*library.below()}:
+        if library.is_new() and not stale & {*library.below()}:
             continue
         print(f"proving {name}", flush=True)
         stale.add(name)

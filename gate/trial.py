@@ -7,19 +7,26 @@ import subprocess
 import tempfile
 
 from edit import BadEdit, edits_of, functions_of
+from values import states_another_value
 
 PROOFS = ("Invariants.antt", "Answers.antt", "Proof.antt")
 # What a check says of a proof file that names what an edit took away. What follows from it is open as well, so it shows nothing of the
 # contract: of a right body that calls a local otherwise the same is said.
-NAMES = re.compile(r"has no field|is not a field of|is not in scope(?! here)|has no `|expected a declaration|`goal\.[^`]*`: module `[^`]*`$|is no name that rattle asks for")
-# What it says of an answer that states another value than the goal. In a file of invariants it is as bad as a name: what follows is open.
-TYPES = re.compile(r"types (first )?differ")
-# What is said of a goal that stays open; also where the search for its proof was broken off.
-GOAL = re.compile(r"note: (what antt said of a `search` in the proof that rattle made: )?src/\S+:\d+:\d+:")
-# What a line says that follows from another one.
-FOLLOWS = re.compile(r"was not admitted|is not admitted")
+NAMES = re.compile(
+    r"has no field|is not a field of|is not in scope(?! here)|has no `|expected a declaration|"
+    r"`goal\.[^`]*`: module `[^`]*`$|is no name that rattle asks for"
+)
+# That a goal is asked for no more. What is asked for in its place has no answer, so that this is open shows nothing either.
+GONE = re.compile(r"`goal\.[^`]*`: module|is no name that rattle asks for")
+# What it says of an answer that searches for a proof and finds none. All else that is said of an answer, as that its type isn't its goal's,
+# may be that it puts things in other words.
+UNFOUND = re.compile(r" error: `[^`]*`: (`(search|grind|omega)`|give the call less to do)")
 # What is said of a goal for which values were found, and checked, that meet all that is known there and not the goal.
 FALSE = "the facts known there allow values at which this goal is false"
+# A goal that stays open; or a search for it that was given up because the goal is too large, of which nothing else is said.
+OPEN = re.compile(r"note: (what antt said of a `search` in the proof that rattle made: )?src/\S+:\d+:\d+:")
+# What a line says that follows from another one.
+FOLLOWS = re.compile(r"was not admitted|is not admitted")
 # Crates in which names alone are no failure yet.
 BY_NAMES = pathlib.Path(__file__).resolve().parent / "by_names"
 ALONE = "REFUSED BY NAMES ALONE: its proof names what the edit took away: change a value and keep the names"
@@ -33,11 +40,11 @@ class Trial:
         self.edits = [edit for edit in edits_of(crate) if word in edit.name]
         # The crates with the most edits would end long after the others.
         self.jobs = 2 if len(self.edits) > 40 else 1
-        self.checks = 0
+        self.checks, self.seconds = 0, 0.0
 
-    def check(self, texts, only, kept, without=None):
-        """Checks a copy of the crate with these texts: functions alone, with the contracts of all others taken as they stand, or else
-        the whole crate; without these answers, by file. Gives the status and what was said."""
+    def check(self, texts, only, kept):
+        """Checks a copy of the crate with these texts: functions alone, with the contracts of all others taken as they stand, or else the
+        whole crate. Gives what was said."""
         with tempfile.TemporaryDirectory(prefix="edits-") as room:
             for part in ("src", "specs", "proofs"):
                 if (self.crate.folder / part).is_dir():
@@ -47,15 +54,16 @@ class Trial:
             command = [f"{self.kit}/bin/rattle", "check", *self.crate.words(self.kit), "--jobs", str(self.jobs), "--incremental", kept]
             if only:
                 self.leave_out(pathlib.Path(room, "proofs"), only)
-                for file, names in (without or {}).items():
-                    leave_answers_out(pathlib.Path(room, file), names)
                 command += ["--allow-holes", *(word for path in only for word in ("--only", path))]
-            ran = subprocess.run(command, cwd=room, stdin=subprocess.DEVNULL, stdout=subprocess.PIPE, stderr=subprocess.STDOUT,
-                                 text=True, errors="replace")
+            with tempfile.TemporaryFile("w+", errors="replace") as told:
+                ran = subprocess.Popen(command, cwd=room, stdin=subprocess.DEVNULL, stdout=told, stderr=subprocess.STDOUT)
+                self.seconds += seconds_of(ran)
+                told.seek(0)
+                said = told.read()
             self.checks += 1
             if os.environ.get("EDITS_LOGS"):
-                pathlib.Path(os.environ["EDITS_LOGS"], f"{self.crate.name}-{self.checks}.log").write_text(ran.stdout)
-            return ran.returncode, ran.stdout
+                pathlib.Path(os.environ["EDITS_LOGS"], f"{self.crate.name}-{self.checks}.log").write_text(said)
+            return said
 
     def leave_out(self, proofs, only):
         """Puts a hole in place of the proof of each function that isn't asked for: its contract stands, and nothing of it is proved."""
@@ -98,17 +106,11 @@ class Trial:
         with tempfile.TemporaryDirectory(prefix="edits-kept-") as kept:
             if (self.crate.folder / "out/incremental").is_dir():
                 shutil.copytree(self.crate.folder / "out/incremental", kept, dirs_exist_ok=True)
-            alone = [edit for edit in left if not edit.checked()]
-            named = {}
-            for edit, told in self.rounds([edit for edit in left if edit.checked()], kept):
-                if told and told.names:
-                    named[edit] = told
-                elif told:
-                    self.said[edit] = told.verdict()
-                else:
-                    alone.append(edit)
-            self.try_without_answers(named, kept)
-            for edit in alone:
+            while any(edit.checked() for edit in left):
+                chosen, _ = self.batch([edit for edit in left if edit.checked()])
+                self.try_together(chosen, kept)
+                left = [edit for edit in left if edit not in chosen]
+            for edit in left:
                 self.said[edit] = self.try_alone(edit, kept)
             self.prove_without(kept)
             self.pass_by_names()
@@ -119,78 +121,100 @@ class Trial:
         listed = re.findall(r"^(\w+): ", BY_NAMES.read_text(encoding="utf-8"), re.M)
         for edit, (well, text) in self.said.items():
             if not well and text.startswith(ALONE) and self.crate.name in listed:
-                self.said[edit] = (True, f"refused, as it must be (by names alone, which gate/by_names lets pass): {text[len(ALONE) + 2 :]}")
+                self.said[edit] = (True, f"refused, as it must be (by names alone, which gate/by_names lets pass){text[len(ALONE) :]}")
 
-    def rounds(self, left, kept, answers=None):
-        """Each edit with what a check says of it, or None; as many in a check as turn different functions."""
-        while left:
-            chosen, texts = self.batch(left)
-            only = list(dict.fromkeys(path for edit in chosen for path in edit.checked()))
-            without = {file: names for edit in chosen for file, names in (answers or {}).get(edit, {}).items()}
-            _, said = self.check(texts, only, kept, without)
-            told = {edit: told_of(edit.checked(), said) for edit in chosen}
-            done = [edit for edit in chosen if told[edit]]
-            # What stays untold is tried once more, the first of it by itself.
-            done = done or chosen[:1]
-            yield from ((edit, told[edit]) for edit in done)
-            left = [edit for edit in left if edit not in done]
-
-    def try_without_answers(self, named, kept):
-        """Tries those whose proof names what they took away once more, without the answers that do. It counts if another answer fails
-        then, or if a goal is false: that the goals that were answered stay open shows nothing."""
-        answers = {edit: answers_of(told.names) for edit, told in named.items()}
-        for edit, told in self.rounds([edit for edit in named if answers[edit]], kept, answers):
-            if told and not told.names and (told.refused or told.false):
-                self.said[edit] = (True, f"refused, as it must be: {(told.refused or told.false)[:200]}")
-        for edit, told in named.items():
-            self.said.setdefault(edit, told.verdict())
+    def try_together(self, chosen, kept):
+        """Tries edits in one check; in two, of half of them each, where one has an error that the prover doesn't come to."""
+        texts = {}
+        for edit in chosen:
+            edit.apply(texts)
+        said = self.check(texts, list(dict.fromkeys(path for edit in chosen for path in edit.checked())), kept)
+        if len(chosen) > 1 and not is_checked(said):
+            self.try_together(chosen[: len(chosen) // 2], kept)
+            self.try_together(chosen[len(chosen) // 2 :], kept)
+            return
+        for edit in chosen:
+            told = told_of(edit.checked(), said)
+            if told:
+                self.said[edit] = told.verdict()
+            else:
+                self.said[edit] = self.judged(edit, said) if len(chosen) == 1 else self.try_alone(edit, kept)
 
     def prove_without(self, kept):
         """Where it isn't known that the crate is proved as it stands: sees that the functions that edits turn are."""
         asked = sorted({path for edit in self.said for path in edit.checked()})
         if self.is_proved or not asked:
             return
-        _, said = self.check({}, asked, kept)
+        said = self.check({}, asked, kept)
         for edit in self.said:
             if told_of(edit.checked(), said):
                 self.said[edit] = (False, "its function isn't proved without it either, so nothing is shown")
 
     def try_alone(self, edit, kept):
-        """Tries one edit over the whole crate, as the kit tries those of must-fail."""
+        """Tries one edit by itself, over the functions that it is to be refused by, or over the whole crate where it names none."""
         texts = {}
         edit.apply(texts)
-        status, said = self.check(texts, [], kept)
+        return self.judged(edit, self.check(texts, edit.checked(), kept))
+
+    def judged(self, edit, said):
+        """What a check of this edit alone shows, whatever functions it speaks of."""
         lines = said.rstrip().splitlines()
-        if status == 0:
-            return False, "NOT REFUSED: the crate is still proved with this edit"
-        if status != 1 or not lines[-1].startswith("logic=not-proved"):
+        if not is_checked(said):
             return False, "BAD EDIT: it did not reach the prover: " + " | ".join(lines[:4])[:600]
-        return Told(said.splitlines(), "", len(lines) - 1).verdict()
+        told = Told(lines, "", len(lines) - 1)
+        if told.shown or told.names or lines[-1].startswith("logic=not-proved"):
+            return told.verdict()
+        return False, f"NOT REFUSED: {' and '.join(edit.checked()) or 'the crate'} is still proved with this edit"
+
+
+def seconds_of(ran):
+    """Waits for a process, and gives the processor's seconds that it and those below it took."""
+    _, status, used = os.wait4(ran.pid, 0)
+    ran.returncode = os.waitstatus_to_exitcode(status)
+    return used.ru_utime + used.ru_stime
+
+
+def is_checked(said):
+    """Whether a check came to the prover and ended with it."""
+    last = said.rstrip().rpartition("\n")[2]
+    return last.startswith(("only=", "logic=proved", "logic=not-proved", "holes="))
 
 
 class Told:
-    """What a check says of a function that it doesn't prove, or of all: the goals that stay open, and the lines of its proof files."""
+    """What a check says of a function that it doesn't prove, or of all: what shows that its contract refuses it, and what shows nothing."""
 
     def __init__(self, said, function, at):
         first = at if function else 0
         while first > 0 and not said[first - 1].startswith(("fn ", "impl ", "struct ", "enum ")):
             first -= 1
         place = r"(note: )?\./proofs/" + (re.escape(function) + r"/[^/]*\.antt:" if function else "")
-        of_proof = [it for it in said if re.match(place, it)]
-        goals = [it for it in said[first:at] if GOAL.match(it)]
-        self.names = [it for it in of_proof if NAMES.search(it) or TYPES.search(it) and "/Answers.antt:" not in it]
-        self.refused = next((it for it in of_proof if " error: " in it and not FOLLOWS.search(it)), "")
-        self.false = next((it for it in goals if FALSE in it), "")
-        told = [it for it in [*of_proof, *goals] if not FOLLOWS.search(it) and (" error: " in it or it.startswith("note: src/"))]
-        self.first = next((it for it in told if not TYPES.search(it)), told[0] if told else "")
+        of_proof = [whole(said, number) for number, line in enumerate(said) if re.match(place, line)]
+        errors = [it for it in of_proof if " error: " in it and not FOLLOWS.search(it)]
+        goals = [it for it in said[first:at] if OPEN.match(it)]
+        failing = [it for it in errors if UNFOUND.search(it)]
+        self.names = [it for it in of_proof if NAMES.search(it.partition("  ")[0]) or it in errors and it not in failing]
+        # Where an invariant or a whole proof is among them, all that is open may follow from it.
+        is_shown = all("/Answers.antt:" in it for it in self.names)
+        is_open = is_shown and not any(GONE.search(it) for it in self.names)
+        shown = [*(failing if is_shown else []), *(goals if is_open else [])]
+        by_value = next((it for it in self.names if is_shown and states_another_value(it)), "")
+        self.shown = next((it for it in shown if FALSE in it), shown[0] if shown else by_value)
+        self.by_value = " (by the value of an answer)" if by_value and not shown else ""
 
     def verdict(self):
+        if self.shown:
+            return True, f"refused, as it must be{self.by_value}: {self.shown[:200]}"
         if self.names:
             return False, f"{ALONE}: {self.names[0][:200]}"
-        if not self.first:
-            return False, "NO GOAL: the check says of no goal that it stays open, and refuses it for something else"
-        by_type = " (by the type of an answer)" if TYPES.search(self.first) else ""
-        return True, f"refused, as it must be{by_type}: {self.first[:200]}"
+        return False, "NO GOAL: the check says of no goal that it stays open, and refuses it for something else"
+
+
+def whole(said, number):
+    """The message that begins at this line: the lines below it that are indented belong to it, parted by two spaces."""
+    end = number + 1
+    while end < len(said) and said[end].startswith("  "):
+        end += 1
+    return "  ".join(it.strip() for it in said[number:end])
 
 
 def told_of(functions, said):
@@ -203,31 +227,6 @@ def told_of(functions, said):
             continue
         own = f"it stands on `Rattle.{head[1]}.proofs.{head[2].replace('::', '.')}."
         told = Told(said, head[2].replace("::", "/"), at)
-        if "did not prove `" in head[3] or own in head[3] or head[3].startswith("not proved") and told.refused:
+        if "did not prove `" in head[3] or own in head[3] or head[3].startswith("not proved") and (told.shown or told.names):
             found.append(told)
-    return next((it for it in found if not it.names), found[0] if found else None)
-
-
-def answers_of(lines):
-    """The answers that these lines are said of, by file; none where an invariant or a whole proof is among them: without these more
-    would be false than the edit made so."""
-    found = {}
-    for line in lines:
-        at = re.match(r"(?:note: )?\./(\S+?\.antt):\S* (?:error: )?`([^`]*)`", line)
-        if not at or not at[1].endswith("/Answers.antt"):
-            return {}
-        found.setdefault(at[1], set()).add(at[2])
-    return found
-
-
-def leave_answers_out(file, names):
-    """Takes these definitions out of a file of answers, and those that cite them."""
-    parts = re.split(r"\n(?=[^\s\])}|])", file.read_text(encoding="utf-8"))
-    names, kept = set(names), parts
-    while True:
-        gone = [it for it in kept if set(re.findall(r"[^\s(){}.,;]+", it)) & names and not it.startswith("use ")]
-        if not gone:
-            break
-        names |= {re.sub(r"^pub ", "", it).split()[0] for it in gone}
-        kept = [it for it in kept if it not in gone]
-    file.write_text("\n".join(kept), encoding="utf-8")
+    return next((it for it in found if it.shown), found[0] if found else None)

@@ -1,0 +1,89 @@
+#!/usr/bin/env python3
+"""What was proved on this machine, for later runs in other clones: libraries, which `./check` keeps once `rt ci` has passed, and archives
+for C, which bindings/build keeps. Each has the sum of all that it was made from in its name, so none goes stale. They lie in
+~/.cache/guillotiere, or in $XDG_CACHE_HOME/guillotiere; whoever can write there is trusted, as with what `rt` keeps.
+
+    gate/kept.py      keeps this clone's libraries that others stand on and that are newer than their sources, as `rt ci` leaves them
+"""
+import contextlib
+import hashlib
+import os
+import pathlib
+import shutil
+import sys
+import tempfile
+
+sys.dont_write_bytecode = True
+PLACE = pathlib.Path(os.environ.get("XDG_CACHE_HOME") or pathlib.Path.home() / ".cache") / "guillotiere"
+# As many of one crate are kept, the newest.
+MOST = 4
+
+
+def name_of(crate, kit, *words):
+    """The name under which what these words make of a crate is kept: with a sum of them, of the kit, of the crate and of all below."""
+    found = hashlib.sha256(pathlib.Path(kit, "KIT-ID").read_bytes() + repr(words).encode())
+    for each in [*crate.below().values(), crate]:
+        found.update(repr((each.name, each.is_static, each.deps)).encode())
+        for path in sorted(each.sources()):
+            found.update(repr((str(path.relative_to(each.folder)), path.read_bytes())).encode())
+    return f"{crate.name}-{found.hexdigest()}"
+
+
+def link(one, other):
+    """Gives a file of a library a second name: `rt` makes such a file anew, and never writes into it."""
+    try:
+        os.link(one, other)
+    except OSError:
+        shutil.copyfile(one, other)
+
+
+def copy(one, other):
+    """Copies a file or the folder of a library."""
+    if one.is_dir():
+        shutil.copytree(one, other, copy_function=link)
+    else:
+        shutil.copyfile(one, other)
+
+
+def has(name):
+    return (PLACE / name).exists()
+
+
+def take(name, path):
+    """Copies what is kept under this name, in place of what stands there, with today's date."""
+    path.parent.mkdir(parents=True, exist_ok=True)
+    shutil.rmtree(path) if path.is_dir() else path.unlink(missing_ok=True)
+    copy(PLACE / name, path)
+    os.utime(path)
+
+
+def keep(name, path):
+    """Keeps a file or a folder under a name: copied apart and then renamed, so that no other run meets half of it. Where there is no room
+    for it nothing is kept."""
+    if has(name):
+        return
+    with contextlib.suppress(OSError):
+        PLACE.mkdir(mode=0o700, parents=True, exist_ok=True)
+        with tempfile.TemporaryDirectory(dir=PLACE, prefix=".new-") as room:
+            copy(path, pathlib.Path(room, name))
+            os.rename(pathlib.Path(room, name), PLACE / name)
+        of_crate = sorted(PLACE.glob(f"{name.rpartition('-')[0]}-*"), key=lambda it: -it.stat().st_mtime)
+        for old in of_crate[MOST:]:
+            shutil.rmtree(old) if old.is_dir() else old.unlink()
+
+
+def main():
+    import crates
+    crates.read_crates()
+    kit, kept = crates.kit(), 0
+    cited = {dep for crate in crates.Crate.all.values() for dep in crate.deps}
+    for crate in crates.Crate.all.values():
+        if crate.name in cited and crate.is_new():
+            keep(name_of(crate, kit), crate.rlib())
+            kept += 1
+    print(f"{kept} proved libraries are kept in {PLACE}")
+
+
+if __name__ == "__main__":
+    sys.path.insert(0, str(pathlib.Path(__file__).resolve().parent))
+    main()
