@@ -1,5 +1,5 @@
 //! The log of events that recordings, recorders and recording allocators keep.
-ghost use Rattle.std.specs.Prelude.{◌≡◌, [], ◌<◌, OnOk, IsOkUnless, vec_len, vec_capacity};
+ghost use Rattle.std.specs.Prelude.{◌≡◌, [], ◌<◌, OnOk, IfOk, IsOkUnless, vec_len, vec_capacity};
 ghost use Rattle.guillotiere.specs.Boxes.{IsPositive};
 ghost use Rattle.guillotiere.specs.Choice.{AreValid};
 ghost use Rattle.guillotiere.specs.Pixels.{sides_of, options_of};
@@ -53,5 +53,21 @@ impl<A: Allocator + Copy> Log<A> {
         ensures { recording_of self.new ≡ with_event (event_of event) (recording_of self.old) }
     {
         append(&mut self.events, event);
+    }
+
+    /// The same log once more. `Memory` is the only error.
+    pub fn clone(&self) -> Result<Log<A>, RecordingError>
+        ensures unless { IsOkUnless result RecordingError.Memory }
+        ensures same { IfOk result (λ log. recording_of log ≡ recording_of self.now) }
+    {
+        let mut events = Vec::new(*self.events.allocator());
+        for event in &self.events {
+            events.push(event.clone()?)?;
+        }
+        Ok(Log {
+            size: self.size,
+            options: self.options,
+            events,
+        })
     }
 }

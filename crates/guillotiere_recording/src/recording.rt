@@ -42,6 +42,22 @@ impl<A: Allocator + Copy> Recording<A> {
         Recording { log }
     }
 
+    /// The size of the atlas when it was new, in pixels.
+    pub fn size(&self) -> Size
+        ensures size { result ≡ self.now.size }
+        ensures positive { IsPositive (sides_of result) }
+    {
+        self.log.size
+    }
+
+    /// The options of the atlas.
+    pub fn options(&self) -> AllocatorOptions
+        ensures options { result ≡ self.now.options }
+        ensures valid { AreValid (options_of result) }
+    {
+        self.log.options
+    }
+
     /// The events, in order.
     pub fn events(&self) -> &[Event<A>]
         ensures events { map event_of result.now ≡ self.now.events }
@@ -91,16 +107,8 @@ impl<A: Allocator + Copy> Recording<A> {
         ensures same { IfOk result (λ recording. recording ≡ self.now) }
         ensures recorded { IsRecorded self.now → IfOk result IsRecorded }
     {
-        let mut events = Vec::new(*self.log.events.allocator());
-        for event in &self.log.events {
-            events.push(event.clone()?)?;
-        }
         Ok(Recording {
-            log: Log {
-                size: self.log.size,
-                options: self.log.options,
-                events,
-            },
+            log: self.log.clone()?,
         })
     }
 }

@@ -2,9 +2,11 @@
 -- beneath was refused.
 use Rattle.std.specs.Prelude.{◌≡◌, ◌≤◌, ◌<◌, ◌<ℤ◌, ℕ}
 use Rattle.guillotiere.specs.declared.AtlasError.{AtlasError}
-use Rattle.guillotiere.specs.declared.AtlasError.TheVariants.{Memory}
+use Rattle.guillotiere.specs.declared.AtlasError.TheVariants.{Memory, Slots, NotLive}
 use Rattle.guillotiere.specs.Boxes.{Sides, Fits, IsPositive}
 use Rattle.guillotiere.specs.Choice.{Options, AreValid}
+use Rattle.guillotiere_recording.specs.declared.error.RecordingError.{RecordingError}
+use Rattle.guillotiere_recording.specs.declared.error.RecordingError.TheVariants as refusal
 use Rattle.guillotiere_total.specs.declared.error.CallError.{CallError}
 use Rattle.guillotiere_total.specs.declared.error.CallError.TheVariants as fault
 
@@ -46,3 +48,10 @@ abbrev pub IsPageFault : (May : AtlasError → Type 0) → (pages page : ℕ) �
 IsPageFault May pages page fault.NoPage = pages ≤ page
 IsPageFault May pages page (fault.Refused e) = (page < pages) × May e
 IsPageFault May pages page e = ⊥
+
+-- A refusal of a recording allocator; no call asks a name of it here.
+abbrev pub call_error : RecordingError → CallError
+call_error refusal.Memory = fault.Refused Memory
+call_error refusal.Slots = fault.Refused Slots
+call_error refusal.NotLive = fault.Refused NotLive
+call_error refusal.Names = fault.Refused Slots

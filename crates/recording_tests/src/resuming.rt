@@ -94,6 +94,41 @@ fn memory_refused_in_turn(rt: HostRuntime) -> Result<(), Fail> {
     Ok(())
 }
 
+// The copy of a session that goes on.
+#[test]
+fn a_copy_is_what_finish_answers(rt: HostRuntime) -> Result<(), Fail> {
+    let whole = column(rt.alloc())?;
+    let mut session = whole.resume()?;
+    let copy = session.recording()?;
+    assert!(rt; copy.events() == whole.events());
+    assert!(rt; copy.size() == size2(100, 300) && copy.options() == DEFAULT_OPTIONS);
+    request(&mut session, (100, 100))?;
+    let after = session.recording()?;
+    assert!(rt; copy.events().len() == 6 && after.events().len() == 7);
+    assert!(rt; after.events() == session.finish().events());
+    Ok(())
+}
+
+#[test]
+fn memory_for_a_copy_is_refused_in_turn(rt: HostRuntime) -> Result<(), Fail> {
+    let heap = Refusing::new(rt.alloc());
+    let whole = column(&heap)?;
+    let session = whole.resume()?;
+    let mut refusals = 0u32;
+    for number in 1..100u32 {
+        heap.refuse_nth(number);
+        let answer = session.recording();
+        if !heap.is_done() {
+            assert!(rt; answer?.events().len() == 6);
+            break;
+        }
+        assert!(rt; answer.err() == Some(RecordingError::Memory));
+        refusals = number;
+    }
+    assert!(rt; refusals >= 2, "too few requests for memory");
+    Ok(())
+}
+
 // What is asked without being recorded is as the bare atlas answers.
 #[test]
 fn what_is_not_recorded(rt: HostRuntime) -> Result<(), Fail> {

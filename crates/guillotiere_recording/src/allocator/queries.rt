@@ -1,14 +1,16 @@
-//! What a recording allocator is asked without recording it: options, room, slots; and memory in reserve.
-ghost use Rattle.std.specs.Prelude.{◌≡◌, ◌≢◌, ◌+◌, ◌<◌, ◌↔◌, IsTrue, Err, OnErr, OnOk};
+//! What a recording allocator is asked without recording it: options, room, slots, a copy of the recording; and memory in reserve.
+ghost use Rattle.std.specs.Prelude.{◌≡◌, ◌≢◌, ◌+◌, ◌<◌, ◌↔◌, IsTrue, Err, IfOk, OnErr, OnOk, IsOkUnless};
 ghost use Rattle.guillotiere.specs.Boxes.{Fits};
 ghost use Rattle.guillotiere.specs.Choice.{AreValid, HasRoom};
 ghost use Rattle.guillotiere.specs.Pixels.{allocator_options_of, options_of, sides_of};
 ghost use Rattle.guillotiere.specs.Reserves.{HasReserve};
 ghost use Rattle.guillotiere.specs.States.{free_in, used_in};
 ghost use Rattle.guillotiere.specs.Stored.{state_of};
+ghost use Rattle.guillotiere_recording.specs.Replays.{IsRecorded};
 
 use crate::allocator::RecordingAllocator;
 use crate::error::RecordingError;
+use crate::recording::Recording;
 use guillotiere::{AllocId, AllocatorOptions, Size, SlotCount};
 use std::alloc::Allocator;
 
@@ -60,6 +62,15 @@ impl<A: Allocator + Copy> RecordingAllocator<A> {
         ensures refused { OnErr result (self.new ≡ self.old) }
     {
         Ok(self.atlas.reserve(additional)?)
+    }
+
+    /// A copy of what is recorded so far: what `finish` would answer. `Memory` is the only error.
+    pub fn recording(&self) -> Result<Recording<A>, RecordingError>
+        ensures unless { IsOkUnless result RecordingError.Memory }
+        ensures same { IfOk result (λ r. r ≡ self.now.recording) }
+        ensures recorded { IfOk result IsRecorded }
+    {
+        Ok(Recording::from_log(self.log.clone()?))
     }
 
     // Whether this is the name of the next grant.

@@ -39,4 +39,18 @@ impl<A: Allocator + Copy> Log<A> {
     pub fn note(&mut self, event: Event<A>) {
         append(&mut self.events, event);
     }
+
+    /// The same log once more. `Memory` is the only error.
+    #[inline]
+    pub fn clone(&self) -> Result<Log<A>, RecordingError> {
+        let mut events = Vec::new(*self.events.allocator());
+        for event in &self.events {
+            events.push(event.clone()?)?;
+        }
+        Ok(Log {
+            size: self.size,
+            options: self.options,
+            events,
+        })
+    }
 }

@@ -25,6 +25,18 @@ impl<A: Allocator + Copy> Recording<A> {
         Recording { log }
     }
 
+    /// The size of the atlas when it was new, in pixels.
+    #[inline]
+    pub fn size(&self) -> Size {
+        self.log.size
+    }
+
+    /// The options of the atlas.
+    #[inline]
+    pub fn options(&self) -> AllocatorOptions {
+        self.log.options
+    }
+
     /// The events, in order.
     #[inline]
     pub fn events(&self) -> &[Event<A>] {
@@ -61,16 +73,8 @@ impl<A: Allocator + Copy> Recording<A> {
     /// The same recording once more. `Memory` is the only error.
     #[inline]
     pub fn clone(&self) -> Result<Recording<A>, RecordingError> {
-        let mut events = Vec::new(*self.log.events.allocator());
-        for event in &self.log.events {
-            events.push(event.clone()?)?;
-        }
         Ok(Recording {
-            log: Log {
-                size: self.log.size,
-                options: self.log.options,
-                events,
-            },
+            log: self.log.clone()?,
         })
     }
 }

@@ -10,6 +10,8 @@ mod errors;
 #[cfg(test)]
 mod pages;
 #[cfg(test)]
+mod recording;
+#[cfg(test)]
 mod rectangles;
 #[cfg(test)]
 mod simple;

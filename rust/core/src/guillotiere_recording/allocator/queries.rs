@@ -1,9 +1,10 @@
 // Erased from crates/guillotiere_recording/src/allocator/queries.rt by rust/erase: don't edit.
-//! What a recording allocator is asked without recording it: options, room, slots; and memory in reserve.
+//! What a recording allocator is asked without recording it: options, room, slots, a copy of the recording; and memory in reserve.
 
 use crate::guillotiere::{AllocId, AllocatorOptions, Size, SlotCount};
 use crate::guillotiere_recording::allocator::RecordingAllocator;
 use crate::guillotiere_recording::error::RecordingError;
+use crate::guillotiere_recording::recording::Recording;
 use wollemigo_support::alloc::Allocator;
 
 impl<A: Allocator + Copy> RecordingAllocator<A> {
@@ -37,6 +38,12 @@ impl<A: Allocator + Copy> RecordingAllocator<A> {
     #[inline]
     pub fn reserve(&mut self, additional: u32) -> Result<(), RecordingError> {
         Ok(self.atlas.reserve(additional)?)
+    }
+
+    /// A copy of what is recorded so far: what `finish` would answer. `Memory` is the only error.
+    #[inline]
+    pub fn recording(&self) -> Result<Recording<A>, RecordingError> {
+        Ok(Recording::from_log(self.log.clone()?))
     }
 
     // Whether this is the name of the next grant.

@@ -1,6 +1,6 @@
 use Rattle.std.proofs.Common.{◌≡◌, map, take}
 use Rattle.guillotiere_recording.specs.Events.{event_of}
-use Rattle.guillotiere_recording.proofs.recording.Recording.clone.Given as goal
+use Rattle.guillotiere_recording.proofs.log.Log.clone.Given as goal
 
 -- What was copied so far is the beginning of the events.
 abbrev pub invariant-loop-event : goal.invariant-loop-event

@@ -1,0 +1,111 @@
+//! Calls of a recording allocator and of a recorder.
+use crate::tables::{BAD_STARTS, Start, options};
+use guillotiere::{AllocId, AtlasError, ChangeList, DEFAULT_OPTIONS, Size, size2};
+use guillotiere_recording::{Event, RecordingAllocator};
+use guillotiere_total::{CallError, recording};
+use std::alloc::Global;
+use std::process::Abort;
+use std::test::Fail;
+use test_memory::Refusing;
+use test_tables::{ALIGNED_TO_8, size};
+
+fn begun(alloc: Global, row: Start) -> Option<CallError> {
+    let options = options(row.1, row.2);
+    recording::with_options(alloc, size(row.0), &options).err()
+}
+
+fn recorder(alloc: Global, row: Start) -> Option<CallError> {
+    let options = options(row.1, row.2);
+    recording::recorder(alloc, size(row.0), &options).err()
+}
+
+// No start here has a limit.
+#[test]
+fn bad_starts_have_the_error_of_the_first_condition(rt: HostRuntime) -> Result<(), Fail> {
+    for row in BAD_STARTS {
+        if row.4 != CallError::SlotLimit {
+            assert_eq!(rt; begun(rt.alloc(), row), Some(row.4));
+            assert_eq!(rt; recorder(rt.alloc(), row), Some(row.4));
+        }
+    }
+    Ok(())
+}
+
+fn frame(session: &RecordingAllocator) -> (Size, i32) {
+    (session.size(), session.options().alignment.width)
+}
+
+#[test]
+fn good_starts_are_made(rt: HostRuntime) -> Result<(), Fail> {
+    let session = recording::with_options(rt.alloc(), size2(9, 7), &ALIGNED_TO_8)?;
+    assert_eq!(rt; frame(&session), (size2(9, 7), 8));
+    assert!(rt; session.finish().events().is_empty());
+    let mut recorder = recording::recorder(rt.alloc(), size2(9, 7), &ALIGNED_TO_8)?;
+    recorder.record(Event::Deallocate(AllocId::deserialize(3)))?;
+    let made = recorder.finish();
+    assert_eq!(rt; made.size(), size2(9, 7));
+    assert_eq!(rt; made.options().alignment.width, 8);
+    assert!(rt; made.events() == [Event::Deallocate(AllocId::deserialize(3))].as_slice());
+    Ok(())
+}
+
+fn plain(alloc: Global) -> Result<RecordingAllocator, CallError> {
+    recording::with_options(alloc, size2(9, 7), &DEFAULT_OPTIONS)
+}
+
+#[test]
+fn only_growths_are_made(rt: HostRuntime) -> Result<(), Fail> {
+    let mut session = plain(rt.alloc())?;
+    let shrinks = Err(CallError::Shrinks);
+    assert_eq!(rt; recording::grow(&mut session, size2(8, 99)), shrinks);
+    assert_eq!(rt; recording::grow(&mut session, size2(99, 6)), shrinks);
+    assert_eq!(rt; session.size(), size2(9, 7));
+    assert_eq!(rt; recording::grow(&mut session, size2(9, 8)), Ok(()));
+    assert_eq!(rt; session.size(), size2(9, 8));
+    assert!(rt; session.finish().events() == [Event::Grow(size2(9, 8))].as_slice());
+    Ok(())
+}
+
+fn counts(list: &ChangeList) -> (usize, usize) {
+    (list.changes.len(), list.failures.len())
+}
+
+#[test]
+fn a_rearranging_wants_a_size(rt: HostRuntime) -> Result<(), Fail> {
+    let mut session = plain(rt.alloc())?;
+    let refused = recording::resize_and_rearrange(&mut session, size2(9, 0)).err();
+    assert_eq!(rt; refused, Some(CallError::EmptySize));
+    assert!(rt; session.allocate(size2(5, 5))?.is_some());
+    assert!(rt; session.allocate(size2(4, 7))?.is_some());
+    let list = recording::resize_and_rearrange(&mut session, size2(4, 7))?;
+    assert_eq!(rt; counts(&list), (1, 1));
+    assert_eq!(rt; session.size(), size2(4, 7));
+    assert_eq!(rt; session.finish().events().len(), 3);
+    Ok(())
+}
+
+fn start_refused(rt: &impl Abort, alloc: Global, number: u32) -> Option<CallError> {
+    let heap = Refusing::new(alloc);
+    heap.refuse_nth(number);
+    let error = recording::with_options(&heap, size2(9, 7), &DEFAULT_OPTIONS).err();
+    assert!(rt; heap.is_done());
+    error
+}
+
+fn growth_refused(rt: &impl Abort, alloc: Global) -> Result<Option<CallError>, CallError> {
+    let heap = Refusing::new(alloc);
+    let mut session = recording::with_options(&heap, size2(9, 7), &DEFAULT_OPTIONS)?;
+    heap.refuse_nth(1);
+    let error = recording::grow(&mut session, size2(9, 8)).err();
+    assert!(rt; heap.is_done() && session.size() == size2(9, 7));
+    Ok(error)
+}
+
+#[test]
+fn memory_may_be_refused(rt: HostRuntime) -> Result<(), Fail> {
+    let refused = Some(CallError::Refused(AtlasError::Memory));
+    assert_eq!(rt; start_refused(&rt, rt.alloc(), 1), refused);
+    assert_eq!(rt; start_refused(&rt, rt.alloc(), 0), None);
+    assert_eq!(rt; growth_refused(&rt, rt.alloc())?, refused);
+    Ok(())
+}
