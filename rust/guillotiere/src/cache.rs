@@ -374,12 +374,27 @@ impl<K: Copy + Eq + Hash, S: BuildHasher> TextureCache<K, S> {
         Ok(self.cache.trim(frames, &mut self.changes)?)
     }
 
+    /// The pages behind the last one with a key go, each told by a change, the last one first; the others stay, with their
+    /// sizes, and so do all keys. After `clear` all pages go.
+    pub fn shrink(&mut self) -> Result<(), CacheError> {
+        Ok(self.cache.shrink(&mut self.changes)?)
+    }
+
     /// Places the keys of a page anew, the largest first, so that what is free comes together; whether there is such a
     /// page. Each of its keys is told by a change, as moved, also where it stays, or as evicted, where it found no
     /// room. A place that a key moves to can overlap one that a later change moves from: copy all pixels from the page
     /// as it was.
     pub fn repack(&mut self, page: u32) -> Result<bool, CacheError> {
         Ok(self.cache.repack(page, &mut self.changes)?)
+    }
+
+    /// The area of a page, in pixels, that is free in rectangles which have no room for an entry of this size, with its
+    /// padding and rounded up to the alignment; None if there is no such page. Where much of the free area is of no use
+    /// for entries of the usual size, it is time to repack the page.
+    pub fn unusable_area(&self, page: u32, size: Size) -> Result<Option<u64>, CacheError> {
+        Ok(self
+            .cache
+            .unusable_area(page, convert::library_size(size))?)
     }
 
     /// Takes memory for so many more entries.

@@ -195,3 +195,39 @@ fn options_that_are_wrong() {
     };
     assert_eq!(error(wide), Some(OptionsError::NothingFits));
 }
+
+#[test]
+fn pages_at_the_end_that_hold_nothing_go() {
+    let options = CacheOptions {
+        largest_page: size2(16, 16),
+        pages: 3,
+        ..one_page()
+    };
+    let mut cache = TextureCache::new(&options).unwrap();
+    for key in [1, 2, 3] {
+        cache.insert(key, size2(16, 16)).unwrap();
+    }
+    while cache.next_change().is_some() {}
+    cache.remove(1);
+    cache.remove(3);
+    assert_eq!(cache.shrink(), Ok(()));
+    let gone = |page| Some(CacheChange::PageRemoved { page });
+    assert_eq!((cache.next_change(), cache.next_change()), (gone(2), None));
+    assert_eq!(cache.pages(), 2);
+    cache.clear();
+    assert_eq!(cache.shrink(), Ok(()));
+    assert_eq!(
+        (cache.next_change(), cache.next_change()),
+        (gone(1), gone(0))
+    );
+    assert_eq!(cache.pages(), 0);
+}
+
+#[test]
+fn free_area_of_no_use() {
+    let mut cache = TextureCache::new(&one_page()).unwrap();
+    cache.insert(7, size2(8, 16)).unwrap();
+    assert_eq!(cache.unusable_area(0, size2(9, 9)), Ok(Some(128)));
+    assert_eq!(cache.unusable_area(0, size2(8, 16)), Ok(Some(0)));
+    assert_eq!(cache.unusable_area(1, size2(8, 16)), Ok(None));
+}
