@@ -1,6 +1,6 @@
 //! Recordings that are resumed: what goes on from their end, and what can't be carried out.
 
-use crate::replay::{Corners, MOVED, allocation, box_of_seven, column, remove, request};
+use crate::replay::{Corners, MOVED, allocation, are_equal, box_of_seven, column, remove, request};
 use guillotiere::{AllocId, Allocation, AtlasAllocator, ChangeList, DEFAULT_OPTIONS, size2};
 use guillotiere_recording::{Event, Recorder, RecordingAllocator, RecordingError, ReplayFault};
 use std::alloc::Global;
@@ -84,7 +84,7 @@ fn memory_refused_in_turn(rt: HostRuntime) -> Result<(), Fail> {
         heap.refuse_nth(number);
         let answer = recording.resume();
         if !heap.is_done() {
-            assert!(rt; answer?.finish().events() == recording.events());
+            assert!(rt; are_equal(&answer?.finish(), &recording));
             break;
         }
         assert!(rt; answer.err() == Some(ReplayFault::Memory));

@@ -294,16 +294,10 @@ impl AtlasAllocator {
     ) -> Result<ChangeList, AtlasError> {
         let mut live = 0;
         self.atlas.for_each_allocated_rectangle(|_, _| live += 1);
-        let mut list = ChangeList::empty();
-        let refused = |_| AtlasError::Memory;
-        list.changes.try_reserve_exact(live).map_err(refused)?;
-        list.failures.try_reserve_exact(live).map_err(refused)?;
+        let mut list = convert::change_list_for(live, live)?;
         self.shown.reserve(1 + SLOTS_OF_A_REQUEST * live)?;
         let moved = call(&mut self.atlas)?;
-        list.changes
-            .extend(moved.changes.as_slice().iter().map(convert::change));
-        list.failures
-            .extend(moved.failures.as_slice().iter().map(convert::allocation));
+        convert::fill_change_list(&mut list, &moved);
         for change in &list.changes {
             self.shown.put(&change.new);
         }

@@ -1,6 +1,7 @@
 //! Why a call of an allocator can't be made, or was refused.
 use core::fmt;
 use wollemigo_core::guillotiere as library;
+use wollemigo_core::guillotiere_recording::RecordingError;
 use wollemigo_core::guillotiere_total::CallError;
 
 /// Which condition of a call fails, or why the call was refused. After an error everything is as before the call.
@@ -23,6 +24,8 @@ pub enum AtlasError {
     Slots,
     /// A request for memory was refused.
     Memory,
+    /// A recording allocator gave all of its 4294967296 names.
+    Names,
 }
 
 impl fmt::Display for AtlasError {
@@ -36,6 +39,7 @@ impl fmt::Display for AtlasError {
             AtlasError::NotLive => "the id is not live",
             AtlasError::Slots => "no slot is left",
             AtlasError::Memory => "memory was refused",
+            AtlasError::Names => "no name is left",
         })
     }
 }
@@ -49,6 +53,17 @@ impl From<library::AtlasError> for AtlasError {
             library::AtlasError::NotLive => AtlasError::NotLive,
             library::AtlasError::Slots => AtlasError::Slots,
             library::AtlasError::Memory => AtlasError::Memory,
+        }
+    }
+}
+
+impl From<RecordingError> for AtlasError {
+    fn from(error: RecordingError) -> AtlasError {
+        match error {
+            RecordingError::NotLive => AtlasError::NotLive,
+            RecordingError::Slots => AtlasError::Slots,
+            RecordingError::Memory => AtlasError::Memory,
+            RecordingError::Names => AtlasError::Names,
         }
     }
 }

@@ -23,11 +23,11 @@
 //! such call has a `try_` form that returns the error as a value; after an error everything is as before. This crate's
 //! README.md has a table of what else differs from the crate.
 //!
-//! The crate `guillotiere` has no [`sheet`] and no [`cache`].
+//! The crate `guillotiere` has no [`sheet`] and no [`cache`], and its recorder doesn't compile; here [`recording`] is one.
 //!
 //! Features: `std` (default), with `std::error::Error` for the errors and with `dump_svg`; `serialization`, with serde
-//! for [`AllocId`] and [`AllocatorOptions`]. Without `std` this crate uses only `core` and `alloc`; euclid has features
-//! of its own.
+//! for [`AllocId`] and [`AllocatorOptions`], and for an allocator by its [`recording`]. Without `std` this crate uses
+//! only `core` and `alloc`; euclid has features of its own.
 #![forbid(unsafe_code)]
 #![warn(missing_docs)]
 #![cfg_attr(not(feature = "std"), no_std)]
@@ -41,6 +41,7 @@ mod atlas;
 pub mod cache;
 mod convert;
 mod error;
+pub mod recording;
 #[cfg(feature = "serde")]
 mod serialization;
 pub mod sheet;

@@ -1,10 +1,15 @@
 //! serde of ids and options, in the form that the crate `guillotiere` gives them: an id is a number, options are a
 //! struct of three fields, and their alignment a pair. What is read is data alone: whether an id is live and whether
-//! options are valid is tested by the call that takes them.
+//! options are valid is tested by the call that takes them. Recordings have a form that `recording` describes.
 use crate::{size2, AllocId, AllocatorOptions};
 use core::fmt;
-use serde::de::{Deserialize, Deserializer, Error, IgnoredAny, MapAccess, SeqAccess, Visitor};
+use core::marker::PhantomData;
+use serde::de::{
+    Deserialize, DeserializeSeed, Deserializer, Error, IgnoredAny, MapAccess, SeqAccess, Visitor,
+};
 use serde::ser::{Serialize, SerializeStruct, Serializer};
+
+mod recordings;
 
 impl Serialize for AllocId {
     fn serialize<S: Serializer>(&self, serializer: S) -> Result<S::Ok, S::Error> {
@@ -38,59 +43,51 @@ impl<'de> Deserialize<'de> for AllocId {
     }
 }
 
-const FIELDS: &[&str] = &["alignment", "small_size_threshold", "large_size_threshold"];
+// Which of these names: its number among them, or how many there are for any other.
+struct Among(&'static [&'static str]);
 
-impl Serialize for AllocatorOptions {
-    fn serialize<S: Serializer>(&self, serializer: S) -> Result<S::Ok, S::Error> {
-        let alignment = (self.alignment.width, self.alignment.height);
-        let mut fields = serializer.serialize_struct("AllocatorOptions", FIELDS.len())?;
-        fields.serialize_field(FIELDS[0], &alignment)?;
-        fields.serialize_field(FIELDS[1], &self.small_size_threshold)?;
-        fields.serialize_field(FIELDS[2], &self.large_size_threshold)?;
-        fields.end()
-    }
-}
-
-// The number of a field in `FIELDS`, or the number of fields for any other.
-struct Field(usize);
-
-struct FieldVisitor;
-
-impl<'de> Visitor<'de> for FieldVisitor {
-    type Value = Field;
+impl<'de> Visitor<'de> for Among {
+    type Value = usize;
 
     fn expecting(&self, f: &mut fmt::Formatter<'_>) -> fmt::Result {
-        f.write_str("the name of a field")
+        f.write_str("the name of a field or of an event")
     }
 
-    fn visit_u64<E: Error>(self, number: u64) -> Result<Field, E> {
-        let found = (0..FIELDS.len()).find(|at| *at as u64 == number);
-        Ok(Field(found.unwrap_or(FIELDS.len())))
+    fn visit_u64<E: Error>(self, number: u64) -> Result<usize, E> {
+        let found = (0..self.0.len()).find(|at| *at as u64 == number);
+        Ok(found.unwrap_or(self.0.len()))
     }
 
-    fn visit_str<E: Error>(self, name: &str) -> Result<Field, E> {
+    fn visit_str<E: Error>(self, name: &str) -> Result<usize, E> {
         self.visit_bytes(name.as_bytes())
     }
 
-    fn visit_bytes<E: Error>(self, name: &[u8]) -> Result<Field, E> {
-        let found = FIELDS.iter().position(|field| field.as_bytes() == name);
-        Ok(Field(found.unwrap_or(FIELDS.len())))
+    fn visit_bytes<E: Error>(self, name: &[u8]) -> Result<usize, E> {
+        let found = self.0.iter().position(|known| known.as_bytes() == name);
+        Ok(found.unwrap_or(self.0.len()))
     }
 }
 
-impl<'de> Deserialize<'de> for Field {
-    fn deserialize<D: Deserializer<'de>>(deserializer: D) -> Result<Self, D::Error> {
-        deserializer.deserialize_identifier(FieldVisitor)
+impl<'de> DeserializeSeed<'de> for Among {
+    type Value = usize;
+
+    fn deserialize<D: Deserializer<'de>>(self, deserializer: D) -> Result<usize, D::Error> {
+        deserializer.deserialize_identifier(self)
     }
 }
 
-struct OptionsVisitor;
+// A struct of three fields: in any order by their names, where others are passed over, or in this order without names.
+struct Fields<T, U, V> {
+    what: &'static str,
+    names: &'static [&'static str],
+    values: PhantomData<(T, U, V)>,
+}
 
-fn options_of(alignment: (i32, i32), small: i32, large: i32) -> AllocatorOptions {
-    AllocatorOptions {
-        alignment: size2(alignment.0, alignment.1),
-        small_size_threshold: small,
-        large_size_threshold: large,
+fn fields<T, U, V>(what: &'static str, names: &'static [&'static str]) -> Fields<T, U, V> {
+    Fields {
+        what,
+        names,
+        values: PhantomData,
     }
 }
 
@@ -107,43 +104,68 @@ fn first<'de, T: Deserialize<'de>, A: MapAccess<'de>>(
     Ok(())
 }
 
-impl<'de> Visitor<'de> for OptionsVisitor {
-    type Value = AllocatorOptions;
+impl<'de, T, U, V> Visitor<'de> for Fields<T, U, V>
+where
+    T: Deserialize<'de>,
+    U: Deserialize<'de>,
+    V: Deserialize<'de>,
+{
+    type Value = (T, U, V);
 
     fn expecting(&self, f: &mut fmt::Formatter<'_>) -> fmt::Result {
-        f.write_str("the options of an allocator")
+        f.write_str(self.what)
     }
 
-    fn visit_seq<A: SeqAccess<'de>>(self, mut input: A) -> Result<AllocatorOptions, A::Error> {
-        let short = |count| A::Error::invalid_length(count, &"the options of an allocator");
-        let alignment = input.next_element()?.ok_or_else(|| short(0))?;
-        let small = input.next_element()?.ok_or_else(|| short(1))?;
-        let large = input.next_element()?.ok_or_else(|| short(2))?;
-        Ok(options_of(alignment, small, large))
+    fn visit_seq<A: SeqAccess<'de>>(self, mut input: A) -> Result<(T, U, V), A::Error> {
+        let short = |count| A::Error::invalid_length(count, &self.what);
+        let one = input.next_element()?.ok_or_else(|| short(0))?;
+        let other = input.next_element()?.ok_or_else(|| short(1))?;
+        let last = input.next_element()?.ok_or_else(|| short(2))?;
+        Ok((one, other, last))
     }
 
-    fn visit_map<A: MapAccess<'de>>(self, mut input: A) -> Result<AllocatorOptions, A::Error> {
-        let (mut alignment, mut small, mut large) = (None, None, None);
-        while let Some(Field(number)) = input.next_key()? {
+    fn visit_map<A: MapAccess<'de>>(self, mut input: A) -> Result<(T, U, V), A::Error> {
+        let (mut one, mut other, mut last) = (None, None, None);
+        while let Some(number) = input.next_key_seed(Among(self.names))? {
             match number {
-                0 => first(&mut alignment, FIELDS[0], &mut input)?,
-                1 => first(&mut small, FIELDS[1], &mut input)?,
-                2 => first(&mut large, FIELDS[2], &mut input)?,
+                0 => first(&mut one, self.names[0], &mut input)?,
+                1 => first(&mut other, self.names[1], &mut input)?,
+                2 => first(&mut last, self.names[2], &mut input)?,
                 _ => {
                     input.next_value::<IgnoredAny>()?;
                 }
             }
         }
-        let missing = |number: usize| A::Error::missing_field(FIELDS[number]);
-        let alignment = alignment.ok_or_else(|| missing(0))?;
-        let small = small.ok_or_else(|| missing(1))?;
-        let large = large.ok_or_else(|| missing(2))?;
-        Ok(options_of(alignment, small, large))
+        let missing = |number: usize| A::Error::missing_field(self.names[number]);
+        let one = one.ok_or_else(|| missing(0))?;
+        let other = other.ok_or_else(|| missing(1))?;
+        let last = last.ok_or_else(|| missing(2))?;
+        Ok((one, other, last))
+    }
+}
+
+const FIELDS: &[&str] = &["alignment", "small_size_threshold", "large_size_threshold"];
+
+impl Serialize for AllocatorOptions {
+    fn serialize<S: Serializer>(&self, serializer: S) -> Result<S::Ok, S::Error> {
+        let alignment = (self.alignment.width, self.alignment.height);
+        let mut fields = serializer.serialize_struct("AllocatorOptions", FIELDS.len())?;
+        fields.serialize_field(FIELDS[0], &alignment)?;
+        fields.serialize_field(FIELDS[1], &self.small_size_threshold)?;
+        fields.serialize_field(FIELDS[2], &self.large_size_threshold)?;
+        fields.end()
     }
 }
 
 impl<'de> Deserialize<'de> for AllocatorOptions {
     fn deserialize<D: Deserializer<'de>>(deserializer: D) -> Result<Self, D::Error> {
-        deserializer.deserialize_struct("AllocatorOptions", FIELDS, OptionsVisitor)
+        let visitor = fields("the options of an allocator", FIELDS);
+        let (alignment, small, large): ((i32, i32), i32, i32) =
+            deserializer.deserialize_struct("AllocatorOptions", FIELDS, visitor)?;
+        Ok(AllocatorOptions {
+            alignment: size2(alignment.0, alignment.1),
+            small_size_threshold: small,
+            large_size_threshold: large,
+        })
     }
 }

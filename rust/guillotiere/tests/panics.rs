@@ -1,4 +1,5 @@
 //! What a panic says: which condition of the call failed.
+use guillotiere::recording::RecordingAllocator;
 use guillotiere::*;
 use std::panic::{catch_unwind, AssertUnwindSafe};
 
@@ -63,4 +64,23 @@ fn changes_that_panic() {
     let mut full = AtlasAllocator::try_with_slot_limit(size2(9, 9), &DEFAULT_OPTIONS, 1).unwrap();
     assert_eq!(text(|| full.allocate(size2(2, 3))), "no slot is left");
     assert!(atlas.is_empty() && simple.is_empty() && full.is_empty());
+}
+
+#[test]
+fn recorded_calls_that_panic() {
+    assert_eq!(text(|| RecordingAllocator::new(size2(0, 5))), EMPTY_SIZE);
+    let crossed = AllocatorOptions {
+        small_size_threshold: 257,
+        ..DEFAULT_OPTIONS
+    };
+    assert_eq!(
+        text(|| RecordingAllocator::with_options(size2(5, 5), &crossed)),
+        THRESHOLDS
+    );
+    let mut atlas = RecordingAllocator::new(size2(9, 9));
+    assert_eq!(text(|| atlas.grow(size2(8, 10))), SHRINKS);
+    assert_eq!(text(|| atlas.resize_and_rearrange(size2(3, 0))), EMPTY_SIZE);
+    let name = AllocId::deserialize(0);
+    assert_eq!(text(|| atlas.deallocate(name)), NOT_LIVE);
+    assert_eq!(atlas.recording().events, []);
 }

@@ -1,5 +1,6 @@
 //! Each request for memory refused in turn: a call that gives an error leaves everything as it was.
 use guillotiere::cache::{CacheError, CacheOptions, TextureCache};
+use guillotiere::recording::{RecordingAllocator, ResumeError};
 use guillotiere::sheet::{fill, pack, Allowed, SheetError, SheetOptions};
 use guillotiere::*;
 use std::alloc::{GlobalAlloc, Layout, System};
@@ -129,6 +130,82 @@ fn an_atlas_stays_where_memory_is_refused() {
         }
     }
     assert!(refused >= 10);
+}
+
+type RecordedCall = fn(&mut RecordingAllocator) -> Result<(), AtlasError>;
+
+fn request_some(atlas: &mut RecordingAllocator) -> Result<(), AtlasError> {
+    let turn = atlas.slots().used as i32;
+    atlas
+        .try_allocate(size2(3 + turn % 7, 2 + turn % 5))
+        .map(drop)
+}
+
+const RECORDED_CALLS: &[RecordedCall] = &[
+    request_some,
+    request_some,
+    |atlas| atlas.try_reserve(20),
+    request_some,
+    |atlas| atlas.try_allocate(size2(99, 1)).map(drop),
+    |atlas| atlas.try_deallocate(AllocId::deserialize(1)),
+    |atlas| atlas.try_grow(size2(64, 48)),
+    |atlas| atlas.try_rearrange().map(drop),
+    request_some,
+    |atlas| atlas.try_resize_and_rearrange(size2(9, 9)).map(drop),
+    request_some,
+];
+
+// The recording allocator after so many calls, none of which is refused.
+fn recorded(calls: usize) -> RecordingAllocator {
+    let mut atlas = RecordingAllocator::new(size2(32, 32));
+    for call in &RECORDED_CALLS[..calls] {
+        call(&mut atlas).unwrap();
+    }
+    atlas
+}
+
+#[test]
+fn nothing_is_recorded_where_memory_is_refused() {
+    let mut refused = 0;
+    for (number, call) in RECORDED_CALLS.iter().enumerate() {
+        let after = recorded(number + 1);
+        for requests in 0.. {
+            let mut atlas = recorded(number);
+            let before = (atlas.recording(), atlas.allocations(), atlas.slots());
+            if granting(requests, || call(&mut atlas)).is_ok() {
+                assert_eq!(atlas.recording(), after.recording());
+                assert_eq!(atlas.allocations(), after.allocations());
+                break;
+            }
+            refused += 1;
+            let now = (atlas.recording(), atlas.allocations(), atlas.slots());
+            assert_eq!(now, before);
+        }
+    }
+    assert!(refused >= 10);
+}
+
+#[test]
+fn copies_and_resumptions_are_refused() {
+    let atlas = recorded(RECORDED_CALLS.len());
+    let whole = atlas.recording();
+    let mut requests = 0;
+    while granting(requests, || atlas.try_recording()) != Ok(whole.clone()) {
+        let refused = granting(requests, || atlas.try_recording());
+        assert_eq!(refused, Err(AtlasError::Memory));
+        requests += 1;
+    }
+    assert!(requests >= 4);
+    requests = 0;
+    while let Err(error) = granting(requests, || whole.resume()) {
+        assert_eq!(error, ResumeError::Memory);
+        requests += 1;
+    }
+    assert!(requests >= 10);
+    let live = granting(0, || atlas.try_allocations());
+    assert_eq!(live, Err(AtlasError::Memory));
+    let start = granting(0, || RecordingAllocator::try_new(size2(9, 9)).err());
+    assert_eq!(start, Some(AtlasError::Memory));
 }
 
 #[test]

@@ -1,5 +1,6 @@
 //! What the compiler knows of the types, and what they show of themselves.
 use guillotiere::cache::{CacheOptions, TextureCache};
+use guillotiere::recording::{Event, Recording, RecordingAllocator, ResumeError};
 use guillotiere::sheet::{Filled, Sheet};
 use guillotiere::*;
 use std::collections::hash_map::RandomState;
@@ -15,6 +16,10 @@ fn all_types_go_to_other_threads_and_through_unwinding() {
     goes_anywhere::<SimpleAtlasAllocator>();
     goes_anywhere::<TextureCache>();
     goes_anywhere::<TextureCache<(u32, char), RandomState>>();
+    goes_anywhere::<RecordingAllocator>();
+    goes_anywhere::<Recording>();
+    goes_anywhere::<Event>();
+    goes_anywhere::<ResumeError>();
     goes_anywhere::<ChangeList>();
     goes_anywhere::<AtlasError>();
     goes_anywhere::<Sheet>();
@@ -64,6 +69,7 @@ fn what_debug_shows() {
         assert!(shown.contains(part), "{}", shown);
     }
     assert!(format!("{:?}", SimpleAtlasAllocator::new(size2(64, 32))).contains("64"));
+    assert!(format!("{:?}", RecordingAllocator::new(size2(64, 32))).contains("64"));
 }
 
 #[test]

@@ -99,7 +99,7 @@ pub fn remove<A: Allocator + Copy>(rt: &impl Abort, recording: &mut Recording<A>
     recording.remove_event(at);
 }
 
-fn are_equal<A: Allocator + Copy>(one: &Recording<A>, other: &Recording<A>) -> bool {
+pub fn are_equal<A: Allocator + Copy>(one: &Recording<A>, other: &Recording<A>) -> bool {
     one.events() == other.events()
 }
 

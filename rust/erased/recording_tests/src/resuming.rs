@@ -1,7 +1,7 @@
 // Erased from crates/recording_tests/src/resuming.rt by rust/erase: don't edit.
 //! Recordings that are resumed: what goes on from their end, and what can't be carried out.
 
-use crate::replay::{allocation, box_of_seven, column, remove, request, Corners, MOVED};
+use crate::replay::{allocation, are_equal, box_of_seven, column, remove, request, Corners, MOVED};
 use test_memory::Refusing;
 use wollemigo_core::guillotiere::{
     size2, AllocId, Allocation, AtlasAllocator, ChangeList, DEFAULT_OPTIONS,
@@ -94,7 +94,7 @@ fn memory_refused_in_turn() -> Result<(), Fail> {
         heap.refuse_nth(number);
         let answer = recording.resume();
         if !heap.is_done() {
-            assert!(rt; answer?.finish().events() == recording.events());
+            assert!(rt; are_equal(&answer?.finish(), &recording));
             break;
         }
         assert!(rt; answer.err() == Some(ReplayFault::Memory));

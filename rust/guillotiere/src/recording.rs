@@ -1,0 +1,422 @@
+//! Persistence: an allocator that records its calls, and recordings that can be kept and taken up again. The recorder of
+//! the crate `guillotiere` 0.7.0 doesn't compile; this one has names of its own.
+//!
+//! The ids of an [`AtlasAllocator`](crate::AtlasAllocator) hang on its slots, and of slots that are read from a file no
+//! one can say whether calls led to them. So what is kept is the list of calls with their answers, a [`Recording`]:
+//! `resume` carries them out once more in a new allocator and compares each answer before the allocator is given out.
+//!
+//! ```
+//! use guillotiere::recording::{RecordingAllocator, ResumeError};
+//! use guillotiere::size2;
+//!
+//! let mut atlas = RecordingAllocator::new(size2(512, 512));
+//! let glyph = atlas.allocate(size2(20, 30)).unwrap();
+//! let mut kept = atlas.recording();
+//!
+//! let mut resumed = kept.resume().unwrap();
+//! assert_eq!(resumed.allocations(), [glyph]);
+//! resumed.deallocate(glyph.id);
+//!
+//! kept.size = size2(10, 10);
+//! assert_eq!(kept.resume().err(), Some(ResumeError::Differs(0)));
+//! ```
+//!
+//! A recording allocator hands out names in place of ids: the `AllocId`s 0, 1, 2, .. in the order of the grants. None
+//! is given twice, and a rearranging leaves each live rectangle its name.
+//!
+//! With the feature `serialization` a `Recording` and an [`Event`] are written and read as they are, and a
+//! [`RecordingAllocator`] as its recording, which is resumed as soon as it is read. The form: a recording is a struct of
+//! `size`, `options` and `events`; an event is a variant with the name that it has here, and one value:
+//!
+//! | event | its value |
+//! |---|---|
+//! | `Allocate` | `(size, allocation)`, or `(size, none)` if there was no room |
+//! | `Deallocate` | the name |
+//! | `Grow` | the size |
+//! | `Rearrange` | `(changes, failures)`, lists of pairs `(allocation, allocation)`, old and new, and of allocations |
+//! | `ResizeAndRearrange` | `(size, (changes, failures))` |
+//!
+//! A size is `(width, height)`, a name a number, and an allocation `(name, (min.x, min.y, max.x, max.y))`.
+use crate::error::expected;
+use crate::{
+    convert, AllocId, Allocation, AllocatorOptions, AtlasError, ChangeList, Rectangle, Size,
+    SlotCount, DEFAULT_OPTIONS,
+};
+use alloc::vec::Vec;
+use core::fmt;
+use wollemigo_core::guillotiere as library_atlas;
+use wollemigo_core::guillotiere_recording as library;
+use wollemigo_core::guillotiere_total::{recording as total, CallError};
+use wollemigo_support::alloc::Global;
+
+/// An allocator that hands out names in place of ids, and records each of its calls that isn't refused. Where rectangles
+/// lie is as [`AtlasAllocator`](crate::AtlasAllocator) has it.
+///
+/// A call panics where that of an `AtlasAllocator` does, and has a `try_` form that returns the error as a value; after
+/// an error everything is as before, and nothing was recorded. Each call that is recorded takes memory for its event,
+/// freeing too.
+pub struct RecordingAllocator {
+    session: library::RecordingAllocator<Global>,
+}
+
+impl RecordingAllocator {
+    /// An atlas of this size with `DEFAULT_OPTIONS`: one free rectangle, and nothing recorded.
+    ///
+    /// # Panics
+    ///
+    /// If a side is below 1, or memory runs out.
+    #[track_caller]
+    pub fn new(size: Size) -> Self {
+        expected(RecordingAllocator::try_new(size))
+    }
+
+    /// `new` with the error as a value: `EmptySize` or `Memory`.
+    pub fn try_new(size: Size) -> Result<Self, AtlasError> {
+        RecordingAllocator::try_with_options(size, &DEFAULT_OPTIONS)
+    }
+
+    /// The same with these options.
+    ///
+    /// # Panics
+    ///
+    /// Where `new` does, and if a side of the alignment is below 1 or the small threshold is above the large one.
+    #[track_caller]
+    pub fn with_options(size: Size, options: &AllocatorOptions) -> Self {
+        expected(RecordingAllocator::try_with_options(size, options))
+    }
+
+    /// `with_options` with the error as a value: `EmptySize`, `Alignment`, `Thresholds` or `Memory`.
+    pub fn try_with_options(size: Size, options: &AllocatorOptions) -> Result<Self, AtlasError> {
+        let options = convert::library_options(options);
+        let session = total::with_options(Global, convert::library_size(size), &options)?;
+        Ok(RecordingAllocator { session })
+    }
+
+    /// The size of the atlas, in pixels.
+    pub fn size(&self) -> Size {
+        convert::size(self.session.size())
+    }
+
+    /// The options of the atlas.
+    pub fn options(&self) -> AllocatorOptions {
+        convert::options(&self.session.options())
+    }
+
+    /// How many slots are used, the most that were used at once since the last start, and how many may be used.
+    pub fn slots(&self) -> SlotCount {
+        convert::slots(self.session.slots())
+    }
+
+    /// Asks for a rectangle of this size; it gets the next name. None if a side is below 1, or the size, rounded up to
+    /// the alignment, fits no free rectangle; that is recorded too.
+    ///
+    /// # Panics
+    ///
+    /// If memory or slots run out, or all 4294967296 names were given.
+    #[track_caller]
+    pub fn allocate(&mut self, requested_size: Size) -> Option<Allocation> {
+        expected(self.try_allocate(requested_size))
+    }
+
+    /// `allocate` with the error as a value: `Slots`, `Memory` or `Names`.
+    pub fn try_allocate(&mut self, requested_size: Size) -> Result<Option<Allocation>, AtlasError> {
+        let granted = self
+            .session
+            .allocate(convert::library_size(requested_size))?;
+        Ok(granted.map(|granted| convert::allocation(&granted)))
+    }
+
+    /// Whether a request of this size has room: then `allocate` grants it, names, slots and memory aside; else it
+    /// answers None. Takes one search, and no memory.
+    pub fn can_fit(&self, requested_size: Size) -> bool {
+        self.session.can_fit(convert::library_size(requested_size))
+    }
+
+    /// Takes memory for so many more slots than are used, as `AtlasAllocator::try_reserve` does; it is not recorded.
+    /// What is recorded and the names want memory beside it. An error is `Slots` or `Memory`.
+    pub fn try_reserve(&mut self, additional: u32) -> Result<(), AtlasError> {
+        Ok(self.session.reserve(additional)?)
+    }
+
+    /// Frees the rectangle of a live name.
+    ///
+    /// # Panics
+    ///
+    /// If the name isn't live, or memory runs out.
+    #[track_caller]
+    pub fn deallocate(&mut self, name: AllocId) {
+        expected(self.try_deallocate(name));
+    }
+
+    /// `deallocate` with the error as a value: `NotLive` or `Memory`.
+    pub fn try_deallocate(&mut self, name: AllocId) -> Result<(), AtlasError> {
+        Ok(self.session.deallocate(convert::library_id(name))?)
+    }
+
+    /// Makes the atlas larger; every live name keeps its rectangle.
+    ///
+    /// # Panics
+    ///
+    /// If a side shrinks, or memory or slots run out.
+    #[track_caller]
+    pub fn grow(&mut self, new_size: Size) {
+        expected(self.try_grow(new_size));
+    }
+
+    /// `grow` with the error as a value: `Shrinks`, `Slots` or `Memory`.
+    pub fn try_grow(&mut self, new_size: Size) -> Result<(), AtlasError> {
+        Ok(total::grow(
+            &mut self.session,
+            convert::library_size(new_size),
+        )?)
+    }
+
+    /// Whether `grow` may be called with this size: no side shrinks.
+    pub fn can_grow_to(&self, new_size: Size) -> bool {
+        self.session.can_grow_to(convert::library_size(new_size))
+    }
+
+    /// `resize_and_rearrange` at the present size.
+    ///
+    /// # Panics
+    ///
+    /// If memory or slots run out.
+    #[track_caller]
+    pub fn rearrange(&mut self) -> ChangeList {
+        expected(self.try_rearrange())
+    }
+
+    /// `rearrange` with the error as a value: `Slots` or `Memory`.
+    pub fn try_rearrange(&mut self) -> Result<ChangeList, AtlasError> {
+        self.rearranged(|session| Ok(session.rearrange()?))
+    }
+
+    /// Places what is allocated anew in an empty atlas of this size, the largest first. Each change has one name in
+    /// `old` and `new`; the name of a failure is live no more.
+    ///
+    /// # Panics
+    ///
+    /// If a side is below 1, or memory or slots run out.
+    #[track_caller]
+    pub fn resize_and_rearrange(&mut self, new_size: Size) -> ChangeList {
+        expected(self.try_resize_and_rearrange(new_size))
+    }
+
+    /// `resize_and_rearrange` with the error as a value: `EmptySize`, `Slots` or `Memory`.
+    pub fn try_resize_and_rearrange(&mut self, new_size: Size) -> Result<ChangeList, AtlasError> {
+        let new_size = convert::library_size(new_size);
+        self.rearranged(|session| Ok(total::resize_and_rearrange(session, new_size)?))
+    }
+
+    // Memory for the lists comes first, so that nothing is refused after the rearranging.
+    fn rearranged(
+        &mut self,
+        call: impl FnOnce(
+            &mut library::RecordingAllocator<Global>,
+        ) -> Result<library_atlas::ChangeList, AtlasError>,
+    ) -> Result<ChangeList, AtlasError> {
+        let live = self.live();
+        let mut list = convert::change_list_for(live, live)?;
+        let moved = call(&mut self.session)?;
+        convert::fill_change_list(&mut list, &moved);
+        Ok(list)
+    }
+
+    // How many names are live.
+    fn live(&self) -> usize {
+        let mut live = 0;
+        self.session.for_each_allocated_rectangle(|_, _| live += 1);
+        live
+    }
+
+    /// Calls `callback` on each free rectangle once, in an order that is left open.
+    pub fn for_each_free_rectangle<F>(&self, mut callback: F)
+    where
+        F: FnMut(&Rectangle),
+    {
+        self.session
+            .for_each_free_rectangle(|free: &library_atlas::Rectangle| {
+                callback(&convert::rectangle(free))
+            });
+    }
+
+    /// Calls `callback` on each live name and its rectangle once, by rising name.
+    pub fn for_each_allocated_rectangle<F>(&self, mut callback: F)
+    where
+        F: FnMut(AllocId, &Rectangle),
+    {
+        self.session.for_each_allocated_rectangle(
+            |name: library_atlas::AllocId, area: &library_atlas::Rectangle| {
+                callback(convert::id(name), &convert::rectangle(area))
+            },
+        );
+    }
+
+    /// The live names with their rectangles, by rising name.
+    ///
+    /// # Panics
+    ///
+    /// If memory runs out.
+    #[track_caller]
+    pub fn allocations(&self) -> Vec<Allocation> {
+        expected(self.try_allocations())
+    }
+
+    /// `allocations` with the error as a value: `Memory`.
+    pub fn try_allocations(&self) -> Result<Vec<Allocation>, AtlasError> {
+        let found = self.session.allocations()?;
+        convert::listed(found.as_slice(), convert::allocation)
+    }
+
+    /// A copy of what is recorded so far.
+    ///
+    /// # Panics
+    ///
+    /// If memory runs out.
+    #[track_caller]
+    pub fn recording(&self) -> Recording {
+        expected(self.try_recording())
+    }
+
+    /// `recording` with the error as a value: `Memory`.
+    pub fn try_recording(&self) -> Result<Recording, AtlasError> {
+        let recorded = self.session.recording()?;
+        let mut events = Vec::new();
+        events
+            .try_reserve_exact(recorded.events().len())
+            .map_err(|_| AtlasError::Memory)?;
+        for event in recorded.events() {
+            events.push(convert::event(event)?);
+        }
+        Ok(Recording {
+            size: convert::size(recorded.size()),
+            options: convert::options(&recorded.options()),
+            events,
+        })
+    }
+}
+
+impl fmt::Debug for RecordingAllocator {
+    fn fmt(&self, f: &mut fmt::Formatter<'_>) -> fmt::Result {
+        f.debug_struct("RecordingAllocator")
+            .field("size", &self.size())
+            .field("options", &self.options())
+            .field("slots", &self.slots())
+            .finish_non_exhaustive()
+    }
+}
+
+/// One call that wasn't refused, with its answer. Every id in it is a name; lengths are in pixels.
+#[derive(Clone, Debug, PartialEq)]
+pub enum Event {
+    /// A request of this size, and what it was granted; None if it had no room.
+    Allocate(Size, Option<Allocation>),
+    /// The rectangle of this name was freed.
+    Deallocate(AllocId),
+    /// The atlas grew to this size.
+    Grow(Size),
+    /// The atlas was rearranged.
+    Rearrange(ChangeList),
+    /// The atlas was rearranged into this size.
+    ResizeAndRearrange(Size, ChangeList),
+}
+
+/// What happened to an atlas: plain data, which may be anything until `resume` has tested it.
+///
+/// It grows by one event with each call, and to resume it takes about as long as its calls took. To keep it short, ask a new
+/// allocator for what is live now; names and places are then new, as after a rearranging, so pixels are to be copied:
+///
+/// ```
+/// use guillotiere::recording::RecordingAllocator;
+/// use guillotiere::size2;
+///
+/// let mut atlas = RecordingAllocator::new(size2(512, 512));
+/// let first = atlas.allocate(size2(20, 30)).unwrap();
+/// let second = atlas.allocate(size2(40, 50)).unwrap();
+/// atlas.deallocate(first.id);
+///
+/// let mut live = atlas.allocations();
+/// live.sort_by_key(|old| std::cmp::Reverse(old.rectangle.area()));
+/// let mut anew = RecordingAllocator::with_options(atlas.size(), &atlas.options());
+/// for old in live {
+///     match anew.allocate(old.rectangle.size()) {
+///         Some(new) => println!("copy {:?} to {:?}", old, new),
+///         None => println!("{:?} found no room", old),
+///     }
+/// }
+/// assert_eq!((atlas.recording().events.len(), anew.recording().events.len()), (3, 1));
+/// # assert_eq!(anew.allocations()[0].rectangle.size(), second.rectangle.size());
+/// ```
+#[derive(Clone, Debug, PartialEq)]
+pub struct Recording {
+    /// The size of the atlas when it was new, in pixels.
+    pub size: Size,
+    /// The options of the atlas.
+    pub options: AllocatorOptions,
+    /// What was called since, in order.
+    pub events: Vec<Event>,
+}
+
+impl Recording {
+    /// An allocator that carried out the events as its own calls, each answer compared, and so goes on from where they
+    /// end: its recording is this one. The first fault ends it.
+    pub fn resume(&self) -> Result<RecordingAllocator, ResumeError> {
+        let options = convert::library_options(&self.options);
+        let mut recorder = total::recorder(Global, convert::library_size(self.size), &options)?;
+        for event in &self.events {
+            let event = convert::library_event(event).map_err(|_| ResumeError::Memory)?;
+            recorder.record(event).map_err(|_| ResumeError::Memory)?;
+        }
+        let session = recorder.finish().resume()?;
+        Ok(RecordingAllocator { session })
+    }
+}
+
+/// Why a recording isn't resumed. Events are counted from 0.
+#[derive(Copy, Clone, Debug, PartialEq, Eq, Hash)]
+#[non_exhaustive]
+pub enum ResumeError {
+    /// No atlas has this size and these options: `EmptySize`, `Alignment` or `Thresholds`.
+    Start(AtlasError),
+    /// The event with this number can't be carried out: its new name isn't the next one, no name is left, the name that
+    /// it frees isn't live, a side shrinks, or a size is empty.
+    BadEvent(usize),
+    /// The event with this number has another answer than the atlas gives.
+    Differs(usize),
+    /// More slots would be used than an atlas may use.
+    Slots,
+    /// A request for memory was refused.
+    Memory,
+}
+
+impl fmt::Display for ResumeError {
+    fn fmt(&self, f: &mut fmt::Formatter<'_>) -> fmt::Result {
+        match self {
+            ResumeError::Start(error) => write!(f, "{}", error),
+            ResumeError::BadEvent(number) => write!(f, "event {} is bad", number),
+            ResumeError::Differs(number) => write!(f, "event {} differs", number),
+            ResumeError::Slots => write!(f, "{}", AtlasError::Slots),
+            ResumeError::Memory => write!(f, "{}", AtlasError::Memory),
+        }
+    }
+}
+
+#[cfg(feature = "std")]
+impl std::error::Error for ResumeError {}
+
+impl From<CallError> for ResumeError {
+    fn from(error: CallError) -> ResumeError {
+        ResumeError::Start(AtlasError::from(error))
+    }
+}
+
+impl From<library::ReplayFault> for ResumeError {
+    fn from(fault: library::ReplayFault) -> ResumeError {
+        match fault {
+            library::ReplayFault::Memory => ResumeError::Memory,
+            library::ReplayFault::Slots => ResumeError::Slots,
+            library::ReplayFault::Differs(number) => ResumeError::Differs(number),
+            library::ReplayFault::BadEvent(number) => ResumeError::BadEvent(number),
+        }
+    }
+}
