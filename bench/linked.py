@@ -13,11 +13,6 @@ edition = "2021"
 
 [dependencies]
 guillotiere = { package = "wollemigo", path = "%s" }
-
-[profile.release]
-panic = "abort"
-lto = "fat"
-codegen-units = 1
 """
 
 # bench/driver.rs names the crate's allocator.rs, and of euclid three types and a function.
@@ -39,12 +34,12 @@ def write(path, text):
 
 
 def build(folder):
-    """Builds bench/driver.rs over rust/guillotiere by cargo, in release, with what is inlined across crates."""
+    """Builds bench/driver.rs over rust/guillotiere by cargo, in release, with cargo's own settings."""
     here = os.path.join(folder, 'linked')
     say('building the driver over rust/guillotiere')
     crate = os.path.join(ROOT, 'rust', 'guillotiere')
     write(os.path.join(here, 'Cargo.toml'), PACKAGE % ('driver', crate) + '\n[dependencies.euclid]\npath = "euclid"\n\n[workspace]\n')
-    write(os.path.join(here, 'euclid', 'Cargo.toml'), (PACKAGE % ('euclid', crate)).split('\n[profile')[0])
+    write(os.path.join(here, 'euclid', 'Cargo.toml'), PACKAGE % ('euclid', crate))
     write(os.path.join(here, 'euclid', 'src', 'lib.rs'), EUCLID)
     write(os.path.join(here, 'src', 'allocator.rs'), ALLOCATOR)
     shutil.copy(os.path.join(ROOT, 'bench', 'driver.rs'), os.path.join(here, 'src', 'main.rs'))
