@@ -38,6 +38,7 @@ class Trial:
     def __init__(self, crate, kit, is_proved, word=""):
         self.crate, self.kit, self.is_proved, self.said = crate, kit, is_proved, {}
         self.edits = [edit for edit in edits_of(crate) if word in edit.name]
+        self.is_listed = crate.name in re.findall(r"^(\w+): ", BY_NAMES.read_text(encoding="utf-8"), re.M)
         # The crates with the most edits would end long after the others.
         self.jobs = 2 if len(self.edits) > 40 else 1
         self.checks, self.seconds = 0, 0.0
@@ -118,9 +119,8 @@ class Trial:
 
     def pass_by_names(self):
         """Lets pass what names alone refuse, in a crate of which gate/by_names says so."""
-        listed = re.findall(r"^(\w+): ", BY_NAMES.read_text(encoding="utf-8"), re.M)
         for edit, (well, text) in self.said.items():
-            if not well and text.startswith(ALONE) and self.crate.name in listed:
+            if not well and text.startswith(ALONE) and self.is_listed:
                 self.said[edit] = (True, f"refused, as it must be (by names alone, which gate/by_names lets pass){text[len(ALONE) :]}")
 
     def try_together(self, chosen, kept):
@@ -138,7 +138,8 @@ class Trial:
             if told:
                 self.said[edit] = told.verdict()
             else:
-                self.said[edit] = self.judged(edit, said) if len(chosen) == 1 else self.try_alone(edit, kept)
+                is_alone = len(chosen) == 1 and not self.is_listed
+                self.said[edit] = self.judged(edit, said) if is_alone else self.try_alone(edit, kept)
 
     def prove_without(self, kept):
         """Where it isn't known that the crate is proved as it stands: sees that the functions that edits turn are."""
@@ -151,10 +152,11 @@ class Trial:
                 self.said[edit] = (False, "its function isn't proved without it either, so nothing is shown")
 
     def try_alone(self, edit, kept):
-        """Tries one edit by itself, over the functions that it is to be refused by, or over the whole crate where it names none."""
+        """Tries one edit by itself, over the functions that it is to be refused by, or over the whole crate where it names none, and in
+        the crates of gate/by_names."""
         texts = {}
         edit.apply(texts)
-        return self.judged(edit, self.check(texts, edit.checked(), kept))
+        return self.judged(edit, self.check(texts, [] if self.is_listed else edit.checked(), kept))
 
     def judged(self, edit, said):
         """What a check of this edit alone shows, whatever functions it speaks of."""

@@ -3,8 +3,7 @@ use crate::{AllocId, Allocation, AtlasError, Point, Rectangle, MOST_SLOTS};
 use alloc::vec::Vec;
 
 /// The rectangle of each live id, at the number of its slot: the low 24 bits of the id. At other numbers it has what
-/// stood there last, so whoever reads asks the library first whether the id is live. All memory that was taken is filled
-/// at once, so that a grant writes and no more.
+/// stood there last, so whoever reads asks the library first whether the id is live.
 pub(crate) struct Shown {
     at: Vec<Rectangle>,
 }
@@ -21,7 +20,7 @@ impl Shown {
     /// Takes memory for the slots with the numbers below this one.
     #[inline]
     pub(crate) fn reserve(&mut self, slots: usize) -> Result<(), AtlasError> {
-        if slots <= self.at.len() {
+        if slots <= self.at.capacity() {
             return Ok(());
         }
         self.take(slots)
@@ -30,19 +29,21 @@ impl Shown {
     #[cold]
     fn take(&mut self, slots: usize) -> Result<(), AtlasError> {
         let more = slots - self.at.len();
-        self.at.try_reserve(more).map_err(|_| AtlasError::Memory)?;
-        let none = Rectangle {
-            min: Point::new(0, 0),
-            max: Point::new(0, 0),
-        };
-        self.at.resize(self.at.capacity(), none);
-        Ok(())
+        self.at.try_reserve(more).map_err(|_| AtlasError::Memory)
     }
 
     /// Keeps a rectangle for which memory was taken.
     #[inline]
     pub(crate) fn put(&mut self, granted: &Allocation) {
-        self.at[slot_of(granted.id)] = granted.rectangle;
+        let slot = slot_of(granted.id);
+        if slot >= self.at.len() {
+            let none = Rectangle {
+                min: Point::new(0, 0),
+                max: Point::new(0, 0),
+            };
+            self.at.resize(slot + 1, none);
+        }
+        self.at[slot] = granted.rectangle;
     }
 
     /// The rectangle of a live id.
@@ -54,7 +55,7 @@ impl Shown {
     pub(crate) fn try_clone(&self) -> Result<Shown, AtlasError> {
         let mut copy = Shown::new();
         copy.reserve(self.at.len())?;
-        copy.at[..self.at.len()].copy_from_slice(&self.at);
+        copy.at.extend_from_slice(&self.at);
         Ok(copy)
     }
 }
