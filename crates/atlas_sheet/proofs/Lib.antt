@@ -5,6 +5,9 @@ pub mod Finding
 pub mod Maybes
 pub mod Numbering
 pub mod Ordering
+pub mod PageFinds
+pub mod PageViews
+pub mod PageSteps
 pub mod Placing
 pub mod Powers
 pub mod Rows

@@ -54,7 +54,7 @@ pub struct Filled<A: Allocator = Global> {
 }
 
 // Whether the options and all sprites are good.
-fn check_all(sprites: &[Size], options: &SheetOptions) -> Result<(), SheetError>
+pub fn check_all(sprites: &[Size], options: &SheetOptions) -> Result<(), SheetError>
     ensures usable { OnOk result (IsUsable options.now.allowed) }
     ensures aligned { OnOk result (IsPositive (sides_of options.now.alignment)) }
     ensures packable { OnOk result (All (IsPackable (spacing_of options.now)) sprites.now) }
@@ -78,7 +78,7 @@ fn numbers_of<A: Allocator>(alloc: A, order: &[(usize, Size)]) -> Result<Vec<usi
 }
 
 // An arrangement as a filled sheet.
-fn filled_of<A: Allocator + Copy>(
+pub fn filled_of<A: Allocator + Copy>(
     alloc: A,
     sprites: &[Size],
     options: &SheetOptions,
@@ -137,7 +137,7 @@ fn first_filled<A: Allocator + Copy>(
 }
 
 // What the first ways find, and no fewer pixels by changes of the order.
-fn best_filled<A: Allocator + Copy>(
+pub fn best_filled<A: Allocator + Copy>(
     alloc: A,
     sprites: &[Size],
     options: &SheetOptions,

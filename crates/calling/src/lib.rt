@@ -17,5 +17,6 @@ mod plain;
 mod reserved;
 mod sheet;
 mod shown;
+mod textures;
 mod tiled;
 mod total;

@@ -7,3 +7,5 @@ mod climbing;
 mod filling;
 #[cfg(test)]
 mod packing;
+#[cfg(test)]
+mod pages;

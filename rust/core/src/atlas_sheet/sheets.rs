@@ -44,7 +44,7 @@ pub struct Filled<A: Allocator = Global> {
 
 // Whether the options and all sprites are good.
 #[inline]
-fn check_all(sprites: &[Size], options: &SheetOptions) -> Result<(), SheetError> {
+pub fn check_all(sprites: &[Size], options: &SheetOptions) -> Result<(), SheetError> {
     check_allowed(options.allowed)?;
     if !options.alignment.is_positive() {
         return Err(SheetError::EmptyAlignment);
@@ -65,7 +65,7 @@ fn numbers_of<A: Allocator>(
 
 // An arrangement as a filled sheet.
 #[inline]
-fn filled_of<A: Allocator + Copy>(
+pub fn filled_of<A: Allocator + Copy>(
     alloc: A,
     sprites: &[Size],
     options: &SheetOptions,
@@ -104,7 +104,7 @@ fn first_filled<A: Allocator + Copy>(
 
 // What the first ways find, and no fewer pixels by changes of the order.
 #[inline]
-fn best_filled<A: Allocator + Copy>(
+pub fn best_filled<A: Allocator + Copy>(
     alloc: A,
     sprites: &[Size],
     options: &SheetOptions,

@@ -19,5 +19,6 @@ mod plain;
 mod reserved;
 mod sheet;
 mod shown;
+mod textures;
 mod tiled;
 mod total;

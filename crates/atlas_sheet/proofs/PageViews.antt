@@ -1,0 +1,216 @@
+-- What places on several sheets keep to, and sprites of which none has room.
+use Rattle.std.proofs.Common.{◌≡◌, ◌≢◌, ◌==◌, ◌+◌, ◌<◌, ◌≤◌, ◌⊎◌, ℕ, zero, suc, Bool, true, false, cond, nat_le, inl, inr, List, [], ◌∷◌, length, map, get_or, All, Option, Some, None, IfSome, IsNone, IsSome, refl, ap, sym, subst, ◌∙◌, arith}
+use Rattle.std.specs.List.{AllZip, count_by, enumerate_from}
+use Rattle.std.proofs.lemmas.Bool.{eq-eqb, eqb-true, false≢true, le-leb, leb-true, ne_eqb}
+use Rattle.std.proofs.lemmas.List.{length-map}
+use Rattle.std.proofs.lemmas.List.Elements.{All-nil, All-cons, All-head, All-tail}
+use Rattle.std.proofs.lemmas.Slice.Zip.{AllZip-long}
+use Rattle.std.proofs.lemmas.List.Sorted.{length_permutation}
+use Rattle.guillotiere.specs.declared.Size.{Size}
+use Rattle.guillotiere.specs.Boxes.{Sides, Box, Fits, covers, whole_box}
+use Rattle.guillotiere.specs.Pixels.{box_of, sides_of}
+use Rattle.guillotiere.specs.Choice.{rounded, up}
+use Rattle.guillotiere.specs.Simple.{SimpleState, simple_start}
+use Rattle.guillotiere.proofs.TreeLemmas.TreeBasics.{one_if}
+use Rattle.guillotiere.proofs.ListLemmas.Counting.{count_by-cons}
+use Rattle.atlas_model.proofs.SimpleLemmas.SimpleSteps.{whole-fits}
+use Rattle.atlas_sheet.specs.declared.options.SheetOptions.{SheetOptions}
+use Rattle.atlas_sheet.specs.declared.options.Spacing.{Spacing}
+use Rattle.atlas_sheet.specs.declared.paging.OnPage.{OnPage}
+use Rattle.atlas_sheet.specs.declared.placed.Placed.{Placed}
+use Rattle.atlas_sheet.specs.declared.ways.Choice.{Choice}
+use Rattle.atlas_sheet.specs.declared.ways.Way.{Way}
+use Rattle.atlas_sheet.specs.Allowances.{IsGreatest}
+use Rattle.atlas_sheet.specs.Lying.{IsPlacedFor, IsShown, MayLie, areas_of}
+use Rattle.atlas_sheet.specs.Orders.{choice_options}
+use Rattle.atlas_sheet.specs.Paging.{AreApart, AreGreatest, ArePages, AreUsed, FitsEmpty, IsFull, IsOnPage, TakesAll, boxes_on, page_sides, place_on, places_on, sprites_from}
+use Rattle.atlas_sheet.specs.Settings.{spacing_of}
+use Rattle.atlas_sheet.specs.Sheets.{FindPlaces, FindsPlace, IsPackable, asked_sides, covers_place, inner_sides, padded, with_places}
+use Rattle.atlas_sheet.proofs.Asking.{covers_inside}
+use Rattle.atlas_sheet.proofs.Numbering.{order_all}
+use Rattle.atlas_sheet.proofs.Turning.{lie_packable}
+use Rattle.atlas_sheet.proofs.WholeSheets.{choice_alignment}
+
+-- A pair that stands in two lists or not.
+zip_later : {X Y : Type 0} (R : X → Y → Type 0) (b : Bool) (x : X) (xs : List X) (y : Y) (ys : List Y)
+    → AllZip R (cond b (x ∷ xs) xs) (cond b (y ∷ ys) ys) → AllZip R xs ys
+zip_later R true x xs y ys each = each.1
+zip_later R false x xs y ys each = each
+
+zip_here : {X Y : Type 0} (R : X → Y → Type 0) (b : Bool) (x : X) (xs : List X) (y : Y) (ys : List Y) → b ≡ true
+    → AllZip R (cond b (x ∷ xs) xs) (cond b (y ∷ ys) ys) → R x y
+zip_here R true x xs y ys on each = each.0
+zip_here R false x xs y ys on each = absurd (false≢true on)
+
+-- What each sheet shows is so of each place.
+module _ (n : ℕ) (R : ℕ → Size → Option Placed → Type 0) (Q : Size → OnPage → Type 0)
+    (one : (s : Size) (p : OnPage) → p.page < n → R p.page s (Some p.placed) → Q s p) where
+  pub each_on : (sprites : List Size) (places : List OnPage) → length (map Some places) ≡ length sprites
+      → All (λ p. IfSome p (λ q. q.page < n)) (map Some places)
+      → ((k : ℕ) → k < n → AllZip (R k) (sprites_from k sprites (map Some places)) (places_on k (map Some places))) → AllZip Q sprites places
+  each_on [] [] long below shown = tt
+  each_on [] (p ∷ places) long below shown = absurd (omega (arith, long))
+  each_on (s ∷ sprites) [] long below shown = absurd (omega (arith, long))
+  each_on (s ∷ sprites) (p ∷ places) long below shown =
+      let B : Option OnPage → Type 0 = λ p. IfSome p (λ q. q.page < n) in
+      let known : p.page < n = All-head B (Some p) (map Some places) below in
+      let here = zip_here (R p.page) (nat_le p.page p.page) s (sprites_from p.page sprites (map Some places)) (place_on p.page (Some p))
+      (places_on p.page (map Some places)) (le-leb p.page p.page (omega arith)) (shown p.page known) in
+      let at : place_on p.page (Some p) ≡ Some p.placed = ap (λ b. cond b (Some p.placed) None) (eq-eqb p.page p.page refl) in (
+        one s p known (subst (R p.page s) at here),
+        each_on sprites places (omega (arith, long)) (All-tail B (Some p) (map Some places) below)
+            (λ k less. zip_later (R k) (nat_le k p.page) s (sprites_from k sprites (map Some places)) (place_on k (Some p)) (places_on k (map Some places)) (shown k less)),
+      )
+
+pub below_all : (n : ℕ) (places : List OnPage) → All (λ p. IfSome p (λ q. q.page < n)) (map Some places) → All (λ q. q.page < n) places
+below_all n [] below = All-nil (λ q. q.page < n)
+below_all n (p ∷ places) below =
+    let B : Option OnPage → Type 0 = λ p. IfSome p (λ q. q.page < n) in
+    All-cons (λ q. q.page < n) p places (All-head B (Some p) (map Some places) below) (below_all n places (All-tail B (Some p) (map Some places) below))
+
+module _ (spacing : Spacing) (x y : ℕ) where
+  one_on : (b c : Bool) → (b ≡ true → c ≡ true) → (p : Placed) (boxes : List Box) (placed : List (Option Placed))
+      → count_by (covers x y) boxes ≤ count_by (covers_place spacing x y) (areas_of placed)
+      → count_by (covers x y) (cond b (box_of p.area ∷ boxes) boxes) ≤ count_by (covers_place spacing x y) (areas_of (cond c (cond b (Some p) None ∷ placed) placed))
+  one_on true true on p boxes placed few =
+      let a : count_by (covers x y) (box_of p.area ∷ boxes) ≡ one_if (covers x y (box_of p.area)) + count_by (covers x y) boxes =
+      count_by-cons (covers x y) (box_of p.area) boxes in
+      let b : count_by (covers_place spacing x y) (areas_of (Some p ∷ placed))
+      ≡ one_if (covers x y (padded spacing.padding p.area)) + count_by (covers_place spacing x y) (areas_of placed) =
+      count_by-cons (covers_place spacing x y) (Some p.area) (areas_of placed) in
+      let c : one_if (covers x y (box_of p.area)) ≤ one_if (covers x y (padded spacing.padding p.area)) =
+      covers_inside (box_of p.area) (padded spacing.padding p.area) x y (omega arith, omega arith, omega arith, omega arith) in
+      omega (arith, a, b, c, few)
+  one_on true false on p boxes placed few = absurd (false≢true (on refl))
+  one_on false true on p boxes placed few =
+      let a : count_by (covers_place spacing x y) (None ∷ areas_of placed) ≡ 0 + count_by (covers_place spacing x y) (areas_of placed) =
+      count_by-cons (covers_place spacing x y) None (areas_of placed) in
+      omega (arith, a, few)
+  one_on false false on p boxes placed few = few
+
+  pub counts_on : (k : ℕ) (places : List OnPage)
+      → count_by (covers x y) (boxes_on k places) ≤ count_by (covers_place spacing x y) (areas_of (places_on k (map Some places)))
+  counts_on k [] = omega arith
+  counts_on k (p ∷ places) =
+      one_on (p.page == k) (nat_le k p.page) (λ e. let same : p.page ≡ k = eqb-true p.page k e in le-leb k p.page (omega (arith, same))) p.placed
+      (boxes_on k places) (places_on k (map Some places)) (counts_on k places)
+
+-- Nothing lies on a sheet that no place names.
+none_if : (b c : Bool) → b ≡ false → (p : Placed) (placed : List (Option Placed)) → All IsNone placed
+    → All IsNone (cond c (cond b (Some p) None ∷ placed) placed)
+none_if true c off p placed none = absurd (false≢true (sym off))
+none_if false true off p placed none = All-cons IsNone None placed refl none
+none_if false false off p placed none = none
+
+none_on : (k : ℕ) (places : List OnPage) → All (λ p. p.page ≢ k) places → All IsNone (places_on k (map Some places))
+none_on k [] other = All-nil IsNone
+none_on k (p ∷ places) other =
+    none_if (p.page == k) (nat_le k p.page) (ne_eqb p.page k (All-head (λ p. p.page ≢ k) p places other)) p.placed (places_on k (map Some places))
+    (none_on k places (All-tail (λ p. p.page ≢ k) p places other))
+
+-- Where all from a sheet on lie on it, none lies on the next.
+whole_if : (b c d e : Bool) → (d ≡ true → (b ≡ true) × (c ≡ false)) → (p : Placed) (here next : List (Option Placed))
+    → (All IsSome here → All IsNone next) → All IsSome (cond b (cond c (Some p) None ∷ here) here)
+    → All IsNone (cond d (cond e (Some p) None ∷ next) next)
+whole_if true c false e on p here next later all = later (All-tail IsSome (cond c (Some p) None) here all)
+whole_if false c false e on p here next later all = later all
+whole_if false c true e on p here next later all = absurd (false≢true (on refl).0)
+whole_if true true true e on p here next later all = absurd (false≢true (sym (on refl).1))
+whole_if true false true e on p here next later all = absurd (false≢true (All-head IsSome None here all))
+
+whole_last : (k : ℕ) (places : List OnPage) → All IsSome (places_on k (map Some places)) → All IsNone (places_on (k + 1) (map Some places))
+whole_last k [] all = All-nil IsNone
+whole_last k (p ∷ places) all =
+    whole_if (nat_le k p.page) (p.page == k) (nat_le (k + 1) p.page) (p.page == k + 1)
+    (λ e. let past : k + 1 ≤ p.page = leb-true (k + 1) p.page e in
+    (le-leb k p.page (omega (arith, past)), ne_eqb p.page k (λ f. let same : p.page ≡ k = f in absurd (omega (arith, past)))))
+    p.placed (places_on k (map Some places)) (places_on (k + 1) (map Some places)) (whole_last k places) all
+
+module _ (ways : List Way) (o : SheetOptions) (sprites sizes : List Size) (places : List OnPage)
+    (are : ArePages ways o sprites sizes (map Some places)) where
+  pub pages_count : length places ≡ length sprites
+  pages_count = sym (length-map places Some) ∙ are.long
+
+  pub pages_each : AllZip (IsOnPage o sizes) sprites places
+  pages_each =
+      each_on (length sizes) (λ k s p. IfSome p (IsPlacedFor (page_sides sizes k) (spacing_of o) o.turn s)) (IsOnPage o sizes)
+      (λ s p known placed. (known, placed)) sprites places are.long are.below (λ k less. (are.pages k less).shown.each)
+
+  pub pages_apart : AreApart sizes places
+  pages_apart k less x y =
+      let few : count_by (covers_place (spacing_of o) x y) (areas_of (places_on k (map Some places))) ≤ 1 =
+      (are.pages k less).shown.arranged.good.apart x y in
+      omega (arith, few, counts_on (spacing_of o) x y k places)
+
+  pub pages_used : AreUsed sizes places
+  pages_used k less other = (are.pages k less).used (none_on k places other)
+
+  pub pages_greatest : AreGreatest o sizes
+  pages_greatest k less = by_kind (are.pages k (omega (arith, less))).kind
+    where
+      by_kind : TakesAll ways o (sprites_from k sprites (map Some places)) (page_sides sizes k) (places_on k (map Some places))
+          ⊎ IsFull ways o (sprites_from k sprites (map Some places)) (page_sides sizes k) (places_on k (map Some places))
+          → IsGreatest o.allowed (page_sides sizes k)
+      by_kind (inl all) = absurd ((are.pages (k + 1) less).used (whole_last k places all.0))
+      by_kind (inr full) = full.0
+
+-- Sprites of which none has room.
+none_at : (placed : List (Option Placed)) (k : ℕ) → All IsNone placed → get_or (areas_of placed) k None ≡ None
+none_at [] k none = refl
+none_at (None ∷ placed) zero none = refl
+none_at (Some p ∷ placed) zero none = let off : IsNone (Some p) = All-head IsNone (Some p) placed none in cc
+none_at (p ∷ placed) (suc k) none = none_at placed k (All-tail IsNone p placed none)
+
+all_lie : (P : Size → Type 0) (turn : Bool) (sprites lying : List Size) → AllZip (MayLie turn) sprites lying
+    → All (λ s. (l : Size) → MayLie turn s l → P l) sprites → All P lying
+all_lie P turn [] [] lies each = All-nil P
+all_lie P turn [] (l ∷ lying) lies each = elim lies [ ]
+all_lie P turn (s ∷ sprites) [] lies each = elim lies [ ]
+all_lie P turn (s ∷ sprites) (l ∷ lying) lies each =
+    let Q : Size → Type 0 = λ s. (l : Size) → MayLie turn s l → P l in
+    All-cons P l lying (All-head Q s sprites each l lies.0) (all_lie P turn sprites lying lies.1 (All-tail Q s sprites each))
+
+module _ (sheet : Sides) (spacing : Spacing) (choice : Choice) where
+  finds_room : (s : Size) (placed : List (Option Placed)) (k : ℕ) → IsPackable spacing s → FitsEmpty sheet spacing s → All IsNone placed
+      → (next : SimpleState) → FindsPlace spacing (simple_start (inner_sides spacing sheet) (choice_options spacing choice)) s (get_or (areas_of placed) k None) next → ⊥
+  finds_room s placed k packs fits none next found =
+      let start = simple_start (inner_sides spacing sheet) (choice_options spacing choice) in
+      let step : FindsPlace spacing start s None next = subst (λ o. FindsPlace spacing start s o next) (none_at placed k none) found in
+      let wide : 0 < (sides_of s).width = packs.positive.0 in
+      let high : 0 < (sides_of s).height = packs.positive.1 in
+      let aligned : Fits (rounded (choice_options spacing choice) (asked_sides spacing.padding s)) (inner_sides spacing sheet) =
+      subst (λ (a : Sides). Fits (record {
+        width = up (asked_sides spacing.padding s).width a.width;
+        height = up (asked_sides spacing.padding s).height a.height;
+      }) (inner_sides spacing sheet)) (sym (choice_alignment spacing choice)) fits in
+      step.0 (record {
+        positive = (omega (arith, wide), omega (arith, high));
+        box = whole_box (inner_sides spacing sheet);
+        fitting = record { is_free = (0, omega arith, refl); fits = whole-fits _ _ aligned };
+      })
+
+  first_asks : (placed : List (Option Placed)) (order : List (ℕ × Size)) → 0 < length order → All IsNone placed
+      → All (λ s. IsPackable spacing s.1) order → All (λ s. FitsEmpty sheet spacing s.1) order
+      → FindPlaces spacing (simple_start (inner_sides spacing sheet) (choice_options spacing choice)) (with_places (areas_of placed) order) → ⊥
+  first_asks placed [] some none packs fits found = absurd (omega (arith, some))
+  first_asks placed (s ∷ order) some none packs fits found =
+      finds_room s.1 placed s.0 (All-head (λ s. IsPackable spacing s.1) s order packs) (All-head (λ s. FitsEmpty sheet spacing s.1) s order fits) none found.0 found.1
+
+-- A sheet on which none of some sprites has a place is too small for one of them.
+pub bare_sheet : (sheet : Sides) (spacing : Spacing) (turn : Bool) (sprites : List Size) (order : List ℕ) (placed : List (Option Placed))
+    → IsShown sheet spacing turn sprites order placed → All (IsPackable spacing) sprites → 0 < length sprites → All IsNone placed
+    → All (λ s. (lying : Size) → MayLie turn s lying → FitsEmpty sheet spacing lying) sprites → ⊥
+bare_sheet sheet spacing turn sprites order placed shown packs some none fit =
+    let a = shown.arranged in
+    let lying = shown.lying in
+    let numbered = shown.numbered in
+    let count : length lying ≡ length sprites = AllZip-long (MayLie turn) sprites lying a.lies in
+    let listed : length numbered ≡ length (enumerate_from 0 lying) = length_permutation (enumerate_from 0 lying) numbered a.permuted in
+    let numbers : length (enumerate_from 0 lying) ≡ length lying = numbered_long 0 lying in
+    first_asks sheet spacing shown.choice placed numbered (omega (arith, count, listed, numbers, some)) none
+    (order_all lying numbered a.permuted (IsPackable spacing) (lie_packable spacing turn sprites lying a.lies packs))
+    (order_all lying numbered a.permuted (FitsEmpty sheet spacing) (all_lie (FitsEmpty sheet spacing) turn sprites lying a.lies fit)) a.found
+  where
+    numbered_long : (n : ℕ) (xs : List Size) → length (enumerate_from n xs) ≡ length xs
+    numbered_long n [] = refl
+    numbered_long n (x ∷ xs) = ap suc (numbered_long (n + 1) xs)
