@@ -318,6 +318,8 @@ static void follow(void) {
         if (change.kind == GUILLOTIERE_PAGE_ADDED || change.kind == GUILLOTIERE_PAGE_GROWN) {
             add(change.page);
             add_size(&change.size);
+        } else if (change.kind == GUILLOTIERE_PAGE_REMOVED) {
+            add(change.page);
         } else {
             add_wide(change.key);
             add_place(&change.from);
@@ -358,7 +360,8 @@ static void let_go(void) {
     guillotiere_place place = nowhere;
     const uint32_t kind = below(20);
     if (kind < 12) add(guillotiere_cache_remove(&cache, some_key(), &place));
-    else if (kind < 16) add(guillotiere_cache_trim(&cache, 5 + below(60)));
+    else if (kind < 15) add(guillotiere_cache_trim(&cache, 5 + below(60)));
+    else if (kind < 16) add(guillotiere_cache_shrink(&cache));
     else if (kind < 19) add(guillotiere_cache_repack(&cache, below(5)));
     else add(guillotiere_cache_clear(&cache));
     add_place(&place);

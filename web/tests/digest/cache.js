@@ -24,10 +24,12 @@ export class Cache {
 
   follow() {
     for (const change of this.cache?.changes() ?? []) {
-      this.sum.add(['pageAdded', 'pageGrown', 'evicted', 'moved'].indexOf(change.kind));
+      this.sum.add(['pageAdded', 'pageGrown', 'evicted', 'moved', 'pageRemoved'].indexOf(change.kind));
       if (change.kind === 'pageAdded' || change.kind === 'pageGrown') {
         this.sum.add(change.page);
         this.sum.size(change);
+      } else if (change.kind === 'pageRemoved') {
+        this.sum.add(change.page);
       } else {
         this.sum.wide(this.hasNames ? Number(change.key.slice('key '.length)) : change.key);
         this.sum.place(change.from);
@@ -81,9 +83,11 @@ export class Cache {
     if (kind < 12) {
       const key = this.someKey();
       place = this.place('NOT_HELD', (cache) => cache.remove(this.key(key)));
-    } else if (kind < 16) {
+    } else if (kind < 15) {
       const frames = 5 + this.draw.below(60);
       this.sum.add(this.call((cache) => cache.trim(frames)).status);
+    } else if (kind < 16) {
+      this.sum.add(this.call((cache) => cache.shrink()).status);
     } else if (kind < 19) {
       const page = this.draw.below(5);
       this.sum.add(this.call((cache) => cache.repack(page)).status);
