@@ -56,11 +56,11 @@ pub trait Write {
 
     /// Writes all the bytes. On an Err some of them may be written.
     fn write_all(&mut self, bytes: &[u8]) -> Result<()> {
-        let mut rest = bytes;
-        while !rest.is_empty() {
-            match self.write(rest) {
+        let mut written = 0;
+        while written < bytes.len() {
+            match self.write(&bytes[written..]) {
                 Ok(0) => return Err(Error::from(ErrorKind::WriteZero)),
-                Ok(count) => rest = &rest[count..],
+                Ok(count) => written += count,
                 Err(error) if is_interrupted(&error) => {}
                 Err(error) => return Err(error),
             }
