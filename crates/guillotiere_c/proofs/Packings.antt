@@ -9,6 +9,7 @@ use Rattle.atlas_sheet.specs.Allowances.{IsAllowed}
 use Rattle.atlas_sheet.specs.Lying.{IsShown, areas_of}
 use Rattle.atlas_sheet.specs.Packings.{IsFirstFound, IsNoLarger}
 use Rattle.atlas_sheet.specs.Settings.{spacing_of}
+use Rattle.atlas_sheet.specs.Turnings.{InEach, InOne}
 use Rattle.guillotiere_c.specs.Packing.{IsPackedSheet}
 
 -- The facts of a sheet that was found, if one was.
@@ -18,9 +19,9 @@ pub packed :
     → asked ≡ sprites
     → IfSome found (λ s. IsAllowed o.allowed (sides_of (size s)))
     → IfSome found (λ s. IsShown (sides_of (size s)) (spacing_of o) o.turn asked (order s) (map Some (placed s)))
-    → (o.effort ≡ 0 → IfSome found (λ s. IsFirstFound WAYS o.allowed (spacing_of o) asked (sides_of (size s))
-    (order s) (areas_of (map Some (placed s)))))
-    → IfSome found (λ s. IsNoLarger WAYS o.allowed (spacing_of o) asked (sides_of (size s)))
+    → (o.effort ≡ 0 → IfSome found (λ s. InOne o asked (λ lying. IsFirstFound WAYS o.allowed (spacing_of o) lying (sides_of (size s))
+    (order s) (areas_of (map Some (placed s))))))
+    → IfSome found (λ s. InEach o asked (λ lying. IsNoLarger WAYS o.allowed (spacing_of o) lying (sides_of (size s))))
     → IfSome found (λ s. IsPackedSheet o sprites (size s) (placed s))
 packed o asked sprites size order placed None same allowed shown first larger = allowed
 packed o asked sprites size order placed (Some s) same allowed shown first larger =

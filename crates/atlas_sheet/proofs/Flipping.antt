@@ -22,7 +22,7 @@ pub lie_as_given : (turn : Bool) (sprites : List Size) → AllZip (MayLie turn) 
 lie_as_given turn [] = tt
 lie_as_given turn (s ∷ sprites) = (inl refl, lie_as_given turn sprites)
 
-lie_again : (turn : Bool) (s l m : Size) → MayLie turn s l → MayLie turn l m → MayLie turn s m
+pub lie_again : (turn : Bool) (s l m : Size) → MayLie turn s l → MayLie turn l m → MayLie turn s m
 lie_again turn s l m (inl e) (inl f) = inl (f ∙ e)
 lie_again turn s l m (inl e) (inr f) = inr (f.0, f.1 ∙ ap turned_size e)
 lie_again turn s l m (inr e) (inl f) = inr (e.0, f ∙ e.1)
