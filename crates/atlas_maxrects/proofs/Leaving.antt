@@ -1,5 +1,5 @@
 -- What lies inside one of some free boxes, and what is left where one is taken.
-use Rattle.std.proofs.Common.{◌≡◌, ◌+◌, ◌<◌, ◌≤◌, ◌⊎◌, ℕ, min, max, List, [], ◌∷◌, ◌++◌, length, take, get_or, All, Contains, sym, subst, inl, inr, arith}
+use Rattle.std.proofs.Common.{◌≡◌, ◌+◌, ◌<◌, ◌≤◌, ◌⊎◌, ℕ, min, max, List, [], ◌∷◌, ◌++◌, length, take, get_or, All, Contains, refl, sym, subst, inl, inr, arith}
 use Rattle.std.proofs.lemmas.List.{take_all, take_more}
 use Rattle.std.proofs.lemmas.List.Elements.{All-append, All-contains, All-contains_itself, All-push, All-weaker, Contains-append_left, Contains-append_right, Contains-get_or, Contains-push, Contains-push_cases}
 use Rattle.atlas_model.specs.Boxes.{Box, IsInside, IsNonempty}
@@ -140,3 +140,43 @@ all_left free taken i far near end before =
             | inr there ↦ lies_right far near b there
           ];
     }
+
+-- Those that don't lie inside a part, one more at a time.
+
+pub record AreWithout (boxes : List FreeBox) (part : FreeBox) (i : ℕ) (xs : List FreeBox) : Type 0 where
+  pub kept : (b : Box) → LiesInOne (take i boxes) b → LiesInOne xs b ⊎ IsInside b (free_box part)
+  pub every : All (Contains boxes) xs
+
+pub without_kept : (boxes : List FreeBox) (part : FreeBox) (i : ℕ) (xs : List FreeBox) (d : FreeBox) → i < length boxes
+    → AreWithout boxes part i xs → AreWithout boxes part (i + 1) (xs ++ get_or boxes i d ∷ [])
+without_kept boxes part i xs d below before =
+    let f = get_or boxes i d in
+    record {
+      kept = λ b lies. elim (taken_cases boxes i d b below lies) [
+        | inl old ↦ elim (before.kept b old) [ inl there ↦ inl (lies_left xs (f ∷ []) b there) | inr inside ↦ inr inside ]
+        | inr inside ↦ inl (lies_last xs f b inside)
+      ];
+      every = All-push (Contains boxes) xs f before.every (Contains-get_or boxes i d below);
+    }
+
+pub without_dropped : (boxes : List FreeBox) (part : FreeBox) (i : ℕ) (xs : List FreeBox) (d : FreeBox) → i < length boxes
+    → IsInside (free_box (get_or boxes i d)) (free_box part) → AreWithout boxes part i xs → AreWithout boxes part (i + 1) xs
+without_dropped boxes part i xs d below lies before = record {
+  kept = λ b is. elim (taken_cases boxes i d b below is) [
+    | inl old ↦ before.kept b old
+    | inr inside ↦ inr (inside_both b (free_box (get_or boxes i d)) (free_box part) inside lies)
+  ];
+  every = before.every;
+}
+
+pub added_last : (old kept : List FreeBox) (part : FreeBox)
+    → ((b : Box) → LiesInOne old b → LiesInOne kept b ⊎ IsInside b (free_box part))
+    → (b : Box) → LiesInOne old b → LiesInOne (kept ++ part ∷ []) b
+added_last old kept part is b lies =
+    elim (is b lies) [ inl there ↦ lies_left kept (part ∷ []) b there | inr inside ↦ lies_last kept part b inside ]
+
+pub every_last : (old kept : List FreeBox) (part : FreeBox) → All (Contains old) kept
+    → All (λ f. Contains old f ⊎ (f ≡ part)) (kept ++ part ∷ [])
+every_last old kept part every =
+    All-push (λ f. Contains old f ⊎ (f ≡ part)) kept part
+    (All-weaker (Contains old) (λ f. Contains old f ⊎ (f ≡ part)) (λ f has. inl has) kept every) (inr refl)

@@ -56,8 +56,28 @@ fn lies_in_one(boxes: &[FreeBox], part: FreeBox) -> bool
     false
 }
 
-// Adds a box, unless it is empty or lies inside one that is there.
-fn add<A: Allocator>(boxes: &mut Vec<FreeBox, A>, part: FreeBox) -> Result<(), AtlasError>
+// Those of these boxes that don't lie inside another.
+fn without<A: Allocator>(
+    alloc: A,
+    boxes: &[FreeBox],
+    part: FreeBox,
+) -> Result<Vec<FreeBox, A>, AtlasError>
+    ensures kept { IfOk result (λ kept. (b : Box) → LiesInOne boxes.now b
+        → LiesInOne kept.items b ⊎ IsInside b (free_box part)) }
+    ensures every { IfOk result (λ kept. All (Contains boxes.now) kept.items) }
+    ensures unless { IsOkUnless result Memory }
+{
+    let mut kept = Vec::new(alloc);
+    for other in boxes {
+        if !lies_in(*other, part) {
+            kept.push(*other)?;
+        }
+    }
+    Ok(kept)
+}
+
+// Adds a box in place of those inside it, unless it is empty or lies inside one that is there.
+fn add<A: Allocator + Copy>(boxes: &mut Vec<FreeBox, A>, part: FreeBox) -> Result<(), AtlasError>
     ensures kept { OnOk result ((b : Box) → LiesInOne boxes.old.items b → LiesInOne boxes.new.items b) }
     ensures added { OnOk result ((b : Box) → IsNonempty b → IsInside b (free_box part)
         → LiesInOne boxes.new.items b) }
@@ -67,12 +87,14 @@ fn add<A: Allocator>(boxes: &mut Vec<FreeBox, A>, part: FreeBox) -> Result<(), A
     if !has_pixels(part) || lies_in_one(boxes, part) {
         return Ok(());
     }
-    boxes.push(part)?;
+    let mut kept = without(*boxes.allocator(), boxes, part)?;
+    kept.push(part)?;
+    *boxes = kept;
     Ok(())
 }
 
 // Adds what is left of a free box beside, above and below a box that is taken.
-fn add_parts<A: Allocator>(
+fn add_parts<A: Allocator + Copy>(
     boxes: &mut Vec<FreeBox, A>,
     whole: FreeBox,
     taken: FreeBox,
