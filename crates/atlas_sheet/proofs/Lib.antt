@@ -2,10 +2,12 @@ pub mod Arranging
 pub mod Asking
 pub mod BareSheets
 pub mod BestWays
+pub mod Densing
 pub mod Finding
 pub mod Flipping
 pub mod LaidWays
 pub mod Laying
+pub mod Gridding
 pub mod Maybes
 pub mod Numbering
 pub mod Ordering

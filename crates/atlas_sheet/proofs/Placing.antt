@@ -22,7 +22,7 @@ use Rattle.atlas_sheet.proofs.Asking.{AreOnGrid, granted_on_grid, granted_room, 
 use Rattle.atlas_sheet.proofs.Numbering.{order_all}
 
 -- A side of a box that lies within what is left of a sheet.
-fits_side : (whole padding sprite end : ℕ) → 0 < whole → 0 < sprite → sprite + padding ≤ end → end ≤ max (whole - padding) 1
+pub fits_side : (whole padding sprite end : ℕ) → 0 < whole → 0 < sprite → sprite + padding ≤ end → end ≤ max (whole - padding) 1
     → end + padding ≤ whole
 fits_side whole padding sprite end sheet positive long within = elim (cases_lt padding whole) [
   | inl less ↦ let e : max (whole - padding) 1 ≡ whole - padding = max-eq_left (omega arith) in omega arith

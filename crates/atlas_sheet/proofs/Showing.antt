@@ -18,7 +18,7 @@ module _ (sheet : Sides) (spacing : Spacing) (turn : Bool) where
   abbrev Shows : Size → Option Placed → Type 0
   Shows sprite p = IfSome p (IsPlacedFor sheet spacing turn sprite)
 
-  inside_each : (sprites : List Size) (places : List Placed) → AllZip Shows sprites (map Some places)
+  pub inside_each : (sprites : List Size) (places : List Placed) → AllZip Shows sprites (map Some places)
       → All (λ p. IsWithin sheet (box_of p.area)) places
   inside_each [] [] each = All-nil (λ p. IsWithin sheet (box_of p.area))
   inside_each [] (p ∷ places) each = elim each [ ]
@@ -35,7 +35,7 @@ module _ (sheet : Sides) (spacing : Spacing) (turn : Bool) where
       by_turn true is = let on : turn ≡ true = placed.allowed is in cc
       by_turn false is = placed.place.sides ∙ ap (λ b. sides_of (lie b sprite)) is
 
-  upright_each : (sprites : List Size) (places : List Placed) → turn ≡ false → AllZip Shows sprites (map Some places)
+  pub upright_each : (sprites : List Size) (places : List Placed) → turn ≡ false → AllZip Shows sprites (map Some places)
       → AllZip (λ sprite p. box_sides (box_of p.area) ≡ sides_of sprite) sprites places
   upright_each [] [] off each = tt
   upright_each [] (p ∷ places) off each = elim each [ ]
@@ -43,7 +43,7 @@ module _ (sheet : Sides) (spacing : Spacing) (turn : Bool) where
   upright_each (s ∷ sprites) (p ∷ places) off each = (upright_one s p off each.0, upright_each sprites places off each.1)
 
 -- No pixel lies in more places than in places with their padding.
-counts : (spacing : Spacing) (x y : ℕ) (places : List Placed)
+pub counts : (spacing : Spacing) (x y : ℕ) (places : List Placed)
     → count_by (covers x y) (map (λ p. box_of p.area) places) ≤ count_by (covers_place spacing x y) (areas_of (map Some places))
 counts spacing x y [] = omega arith
 counts spacing x y (p ∷ places) =

@@ -1,4 +1,5 @@
 pub mod Allowances
+pub mod Dense
 pub mod Fillings
 pub mod Lying
 pub mod Orders

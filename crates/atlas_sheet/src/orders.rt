@@ -39,7 +39,10 @@ impl Key {
 }
 
 // The sprites with their numbers, from 0.
-fn numbered<A: Allocator>(alloc: A, sprites: &[Size]) -> Result<Vec<(usize, Size), A>, SheetError>
+pub fn numbered<A: Allocator>(
+    alloc: A,
+    sprites: &[Size],
+) -> Result<Vec<(usize, Size), A>, SheetError>
     ensures numbered { IfOk result (λ order. order.items ≡ enumerate_from 0 sprites.now) }
     ensures unless { IsOkUnless result Memory }
 {

@@ -64,7 +64,7 @@ fn start<A: Allocator + Copy>(
 }
 
 // What a sprite asks for: its sides with the padding.
-fn asked(sprite: Size, padding: u16) -> Size
+pub fn asked(sprite: Size, padding: u16) -> Size
     requires positive { IsPositive (sides_of sprite) }
     requires wide { (sides_of sprite).width + padding ≤ 2147483647 }
     requires high { (sides_of sprite).height + padding ≤ 2147483647 }
@@ -87,7 +87,7 @@ fn inset_side(low: i32, padding: u16, side: i32) -> (i32, i32)
 }
 
 // The place of a sprite in the corner of a box, without the padding at its left and above.
-fn inset(area: Rectangle, sprite: Size, padding: u16) -> Rectangle
+pub fn inset(area: Rectangle, sprite: Size, padding: u16) -> Rectangle
     requires positive { IsPositive (sides_of sprite) }
     requires exact { IsExact area }
     requires wide { (box_of area).min.x + ((sides_of sprite).width + padding) ≤ (box_of area).max.x }

@@ -70,7 +70,10 @@ pub fn check_all(sprites: &[Size], options: &SheetOptions) -> Result<(), SheetEr
 }
 
 // The numbers of numbered sprites.
-fn numbers_of<A: Allocator>(alloc: A, order: &[(usize, Size)]) -> Result<Vec<usize, A>, SheetError>
+pub fn numbers_of<A: Allocator>(
+    alloc: A,
+    order: &[(usize, Size)],
+) -> Result<Vec<usize, A>, SheetError>
     ensures numbers { IfOk result (λ numbers. numbers.items ≡ map (λ s. s.0) order.now) }
     ensures unless { IsOkUnless result Memory }
 {

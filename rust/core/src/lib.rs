@@ -7,6 +7,7 @@
 
 pub mod atlas_allocator;
 pub mod atlas_cache;
+pub mod atlas_maxrects;
 pub mod atlas_model;
 pub mod atlas_sheet;
 pub mod atlas_store;

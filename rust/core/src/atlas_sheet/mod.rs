@@ -3,8 +3,10 @@
 
 mod allowed;
 mod arrangement;
+mod cells;
 mod changes;
 mod climbing;
+mod dense;
 mod error;
 mod filling;
 mod options;
@@ -21,6 +23,7 @@ mod turnings;
 mod ways;
 
 pub use allowed::Allowed;
+pub use dense::pack_dense;
 pub use error::SheetError;
 pub use options::{SheetOptions, Spacing};
 pub use orders::Key;

@@ -35,7 +35,10 @@ impl Key {
 
 // The sprites with their numbers, from 0.
 #[inline]
-fn numbered<A: Allocator>(alloc: A, sprites: &[Size]) -> Result<Vec<(usize, Size), A>, SheetError> {
+pub fn numbered<A: Allocator>(
+    alloc: A,
+    sprites: &[Size],
+) -> Result<Vec<(usize, Size), A>, SheetError> {
     let mut order = Vec::with_capacity(alloc, sprites.len())?;
     order.extend(sprites.iter().copied().enumerate())?;
     Ok(order)

@@ -47,7 +47,7 @@ fn start<A: Allocator + Copy>(
 
 // What a sprite asks for: its sides with the padding.
 #[inline]
-fn asked(sprite: Size, padding: u16) -> Size {
+pub fn asked(sprite: Size, padding: u16) -> Size {
     let border = i32::from(padding);
     size2(sprite.width + border, sprite.height + border)
 }
@@ -61,7 +61,7 @@ fn inset_side(low: i32, padding: u16, side: i32) -> (i32, i32) {
 
 // The place of a sprite in the corner of a box, without the padding at its left and above.
 #[inline]
-fn inset(area: Rectangle, sprite: Size, padding: u16) -> Rectangle {
+pub fn inset(area: Rectangle, sprite: Size, padding: u16) -> Rectangle {
     let across = inset_side(area.min.x, padding, sprite.width);
     let down = inset_side(area.min.y, padding, sprite.height);
     Rectangle {

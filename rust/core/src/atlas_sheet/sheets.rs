@@ -55,7 +55,7 @@ pub fn check_all(sprites: &[Size], options: &SheetOptions) -> Result<(), SheetEr
 
 // The numbers of numbered sprites.
 #[inline]
-fn numbers_of<A: Allocator>(
+pub fn numbers_of<A: Allocator>(
     alloc: A,
     order: &[(usize, Size)],
 ) -> Result<Vec<usize, A>, SheetError> {

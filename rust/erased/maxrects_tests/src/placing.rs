@@ -1,7 +1,7 @@
 // Erased from crates/maxrects_tests/src/placing.rt by rust/erase: don't edit.
 //! Places worked out by hand.
-use atlas_maxrects::TopmostPacker;
 use test_memory::Refusing;
+use wollemigo_core::atlas_maxrects::TopmostPacker;
 use wollemigo_core::atlas_model::{point2, size2, AtlasError, Rectangle, Size};
 use wollemigo_support::alloc::{Allocator, Global};
 use wollemigo_support::prelude::{assert, ExpectIn, HostRuntime};

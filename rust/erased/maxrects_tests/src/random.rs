@@ -1,6 +1,6 @@
 // Erased from crates/maxrects_tests/src/random.rt by rust/erase: don't edit.
 //! Random boxes, each looked for position by position.
-use atlas_maxrects::TopmostPacker;
+use wollemigo_core::atlas_maxrects::TopmostPacker;
 use wollemigo_core::atlas_model::{point2, size2, Point, Rectangle, Size};
 use wollemigo_support::alloc::Allocator;
 use wollemigo_support::prelude::{assert, ExpectIn, HostRuntime};

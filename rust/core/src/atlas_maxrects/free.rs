@@ -1,7 +1,7 @@
 // Erased from crates/atlas_maxrects/src/free.rt by rust/erase: don't edit.
 //! Free boxes: every box that may still lie in the sheet lies inside one of them.
 
-use wollemigo_core::atlas_model::AtlasError;
+use crate::atlas_model::AtlasError;
 use wollemigo_support::alloc::Allocator;
 use wollemigo_support::prelude::Vec;
 
@@ -15,11 +15,13 @@ pub struct FreeBox {
 }
 
 // Whether a pixel lies in the box.
+#[inline]
 fn has_pixels(part: FreeBox) -> bool {
     part.left < part.right && part.top < part.bottom
 }
 
 // Whether the first box lies inside the second.
+#[inline]
 fn lies_in(part: FreeBox, whole: FreeBox) -> bool {
     whole.left <= part.left
         && whole.top <= part.top
@@ -28,6 +30,7 @@ fn lies_in(part: FreeBox, whole: FreeBox) -> bool {
 }
 
 // Whether a pixel or more lies between two boxes.
+#[inline]
 fn is_far(one: FreeBox, other: FreeBox) -> bool {
     one.right < other.left
         || other.right < one.left
@@ -36,6 +39,7 @@ fn is_far(one: FreeBox, other: FreeBox) -> bool {
 }
 
 // Whether a box lies inside one of these.
+#[inline]
 fn lies_in_one(boxes: &[FreeBox], part: FreeBox) -> bool {
     for other in boxes {
         if lies_in(part, *other) {
@@ -46,6 +50,7 @@ fn lies_in_one(boxes: &[FreeBox], part: FreeBox) -> bool {
 }
 
 // Those of these boxes that don't lie inside another.
+#[inline]
 fn without<A: Allocator>(
     alloc: A,
     boxes: &[FreeBox],
@@ -61,6 +66,7 @@ fn without<A: Allocator>(
 }
 
 // Adds a box in place of those inside it, unless it is empty or lies inside one that is there.
+#[inline]
 fn add<A: Allocator + Copy>(boxes: &mut Vec<FreeBox, A>, part: FreeBox) -> Result<(), AtlasError> {
     if !has_pixels(part) || lies_in_one(boxes, part) {
         return Ok(());
@@ -72,6 +78,7 @@ fn add<A: Allocator + Copy>(boxes: &mut Vec<FreeBox, A>, part: FreeBox) -> Resul
 }
 
 // Adds what is left of a free box beside, above and below a box that is taken.
+#[inline]
 fn add_parts<A: Allocator + Copy>(
     boxes: &mut Vec<FreeBox, A>,
     whole: FreeBox,
@@ -90,6 +97,7 @@ fn add_parts<A: Allocator + Copy>(
 
 /// What is left of free boxes where one is taken: a box that lies inside one of them, and apart from the taken one, lies
 /// inside one of those that are left.
+#[inline]
 pub fn left_over<A: Allocator + Copy>(
     alloc: A,
     free: &[FreeBox],

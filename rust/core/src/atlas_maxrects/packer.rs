@@ -1,9 +1,9 @@
 // Erased from crates/atlas_maxrects/src/packer.rt by rust/erase: don't edit.
 //! The packer.
 
-use crate::corners::{best_corner, Corner};
-use crate::free::{left_over, FreeBox};
-use wollemigo_core::atlas_model::{point2, AtlasError, Rectangle, Size};
+use crate::atlas_maxrects::corners::{best_corner, Corner};
+use crate::atlas_maxrects::free::{left_over, FreeBox};
+use crate::atlas_model::{point2, AtlasError, Rectangle, Size};
 use wollemigo_support::alloc::{Allocator, Global};
 use wollemigo_support::prelude::Vec;
 
@@ -20,11 +20,13 @@ pub struct TopmostPacker<A: Allocator + Copy = Global> {
 }
 
 // The width and the height.
+#[inline]
 fn sides_in(size: Size) -> (u32, u32) {
     (size.width as u32, size.height as u32)
 }
 
 // The box with these sides at a corner.
+#[inline]
 fn taken_at(corner: Corner, width: u32, height: u32) -> FreeBox {
     FreeBox {
         left: corner.x,
@@ -35,6 +37,7 @@ fn taken_at(corner: Corner, width: u32, height: u32) -> FreeBox {
 }
 
 // A box of these coordinates.
+#[inline]
 fn rectangle_in(taken: FreeBox) -> Rectangle {
     Rectangle {
         min: point2(taken.left as i32, taken.top as i32),
@@ -43,6 +46,7 @@ fn rectangle_in(taken: FreeBox) -> Rectangle {
 }
 
 // The box of a whole sheet. A side below 0 counts as 0.
+#[inline]
 fn whole(size: Size) -> FreeBox {
     FreeBox {
         left: 0,
@@ -54,6 +58,7 @@ fn whole(size: Size) -> FreeBox {
 
 impl<A: Allocator + Copy> TopmostPacker<A> {
     /// A sheet of this size, in pixels, in which nothing lies. The only error is `Memory`.
+    #[inline]
     pub fn new(alloc: A, size: Size) -> Result<Self, AtlasError> {
         let mut free = Vec::new(alloc);
         free.push(whole(size))?;
@@ -67,6 +72,7 @@ impl<A: Allocator + Copy> TopmostPacker<A> {
     /// Places a box of this size, in pixels, at the topmost position that is free for it, and of these at the leftmost.
     /// None if the size is empty, or if the box has no room anywhere. The only error is `Memory`. Unless something is
     /// placed, nothing changes.
+    #[inline]
     pub fn place(&mut self, size: Size) -> Result<Option<Rectangle>, AtlasError> {
         if !size.is_positive() {
             return Ok(None);
@@ -86,11 +92,13 @@ impl<A: Allocator + Copy> TopmostPacker<A> {
     }
 
     /// The size of the sheet.
+    #[inline]
     pub fn size(&self) -> Size {
         self.size
     }
 
     /// The boxes that were placed, the first one first. They lie in the sheet, and no pixel lies in two.
+    #[inline]
     pub fn placed(&self) -> &[Rectangle] {
         &self.placed
     }

@@ -1,7 +1,7 @@
 // Erased from crates/atlas_maxrects/src/corners.rt by rust/erase: don't edit.
 //! Where a box of some sides may lie in free boxes: the topmost corner, and of these the leftmost.
 
-use crate::free::FreeBox;
+use crate::atlas_maxrects::free::FreeBox;
 
 /// A corner of a free box.
 #[derive(Clone, Copy)]
@@ -11,16 +11,19 @@ pub struct Corner {
 }
 
 // Whether a box of these sides has room in a free one.
+#[inline]
 fn has_room(free: FreeBox, width: u32, height: u32) -> bool {
     width <= free.right.saturating_sub(free.left) && height <= free.bottom.saturating_sub(free.top)
 }
 
 // Whether the first corner is higher up, or as high and no further right.
+#[inline]
 fn comes_first(one: Corner, other: Corner) -> bool {
     one.y < other.y || one.y == other.y && one.x <= other.x
 }
 
 // The better of a corner, if there is one, and another.
+#[inline]
 fn better(best: Option<Corner>, other: Corner) -> Corner {
     match best {
         Some(one) if comes_first(one, other) => one,
@@ -29,6 +32,7 @@ fn better(best: Option<Corner>, other: Corner) -> Corner {
 }
 
 /// The topmost corner of a free box that has room for these sides, and of these the leftmost.
+#[inline]
 pub fn best_corner(free: &[FreeBox], width: u32, height: u32) -> Option<Corner> {
     let mut best = None;
     for one in free {

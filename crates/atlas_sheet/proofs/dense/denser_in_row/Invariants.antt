@@ -1,0 +1,14 @@
+use Rattle.std.proofs.Common.{◌≤◌, ◌-◌, IfNone, IfSome}
+use Rattle.atlas_sheet.specs.Allowances.{row_length}
+use Rattle.atlas_sheet.specs.Dense.{IsWhole, NoWayFinds}
+use Rattle.atlas_sheet.proofs.dense.denser_in_row.Given as goal
+
+abbrev pub invariant-loop-low : goal.invariant-loop-low
+invariant-loop-low g l = record {
+  best : IfSome l.best (λ sheet. IsWhole l.options l.sprites sheet.size sheet.places.items sheet.used_area);
+  none : IfNone l.best (NoWayFinds l.options l.sprites);
+  inside : l.high ≤ row_length l.options.allowed;
+}
+
+abbrev pub decreases-loop-low : goal.decreases-loop-low
+decreases-loop-low g l = l.high - l.low

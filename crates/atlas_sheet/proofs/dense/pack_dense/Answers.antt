@@ -1,0 +1,38 @@
+use Rattle.std.proofs.lemmas.Option.{IfSome_then}
+use Rattle.atlas_sheet.proofs.Densing.{whole_apart, whole_inside, whole_packed, whole_upright}
+use Rattle.atlas_sheet.proofs.dense.pack_dense.Goals as goal
+
+pub denser-requires-clause-whole : goal.denser-requires-clause-whole
+denser-requires-clause-whole g c =
+    whole_packed c.args.options.now c.args.sprites.now (λ s. s.size) (λ s. s.order.items) (λ s. s.places.items) (λ s. s.used_area) c.in_ok-first.first
+    c.in_ok-first.ensures.allowed c.in_ok-first.ensures.shown c.in_ok-first.ensures.area c.in_ok-first.ensures.larger
+
+pub returns-clause-allowed : goal.returns-clause-allowed
+returns-clause-allowed g c = IfSome_then c.in_ok-found.found c.in_ok-found.ensures.whole (λ sheet whole. whole.allowed)
+
+pub returns-clause-each : goal.returns-clause-each
+returns-clause-each g c = IfSome_then c.in_ok-found.found c.in_ok-found.ensures.whole (λ sheet whole. whole.each)
+
+pub returns-clause-padded : goal.returns-clause-padded
+returns-clause-padded g c = IfSome_then c.in_ok-found.found c.in_ok-found.ensures.whole (λ sheet whole. whole.apart)
+
+pub returns-clause-inside : goal.returns-clause-inside
+returns-clause-inside g c =
+    IfSome_then c.in_ok-found.found c.in_ok-found.ensures.whole
+    (λ sheet whole. whole_inside c.args.options.now c.args.sprites.now sheet.size sheet.places.items sheet.used_area whole)
+
+pub returns-clause-apart : goal.returns-clause-apart
+returns-clause-apart g c =
+    IfSome_then c.in_ok-found.found c.in_ok-found.ensures.whole
+    (λ sheet whole. whole_apart c.args.options.now c.args.sprites.now sheet.size sheet.places.items sheet.used_area whole)
+
+pub returns-clause-upright : goal.returns-clause-upright
+returns-clause-upright g c off =
+    IfSome_then c.in_ok-found.found c.in_ok-found.ensures.whole
+    (λ sheet whole. whole_upright c.args.options.now c.args.sprites.now sheet.size sheet.places.items sheet.used_area whole off)
+
+pub returns-clause-area : goal.returns-clause-area
+returns-clause-area g c = IfSome_then c.in_ok-found.found c.in_ok-found.ensures.whole (λ sheet whole. whole.area)
+
+pub returns-clause-larger : goal.returns-clause-larger
+returns-clause-larger g c = IfSome_then c.in_ok-found.found c.in_ok-found.ensures.whole (λ sheet whole. whole.larger)

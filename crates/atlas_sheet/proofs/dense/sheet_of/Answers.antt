@@ -1,0 +1,8 @@
+use Rattle.atlas_sheet.proofs.Densing.{whole_sheet}
+use Rattle.atlas_sheet.proofs.dense.sheet_of.Goals as goal
+
+pub returns-clause-whole : goal.returns-clause-whole
+returns-clause-whole g c =
+    whole_sheet c.args.options.now c.args.sprites.now c.args.size c.args.placed.now c.in_ok-places.places.items _ c.in_ok-areas.areas.items _
+    c.in_ok-places.ensures.all c.in_ok-areas.ensures.areas c.deref.ensures.value c.used_area-used_area.ensures
+    c.requires.allowed c.requires.each c.requires.apart c.requires.larger
