@@ -14,6 +14,7 @@ use Rattle.atlas_sheet.specs.Packings.{IsFirstFound, IsNoLarger}
 use Rattle.atlas_sheet.specs.Paging.{AreApart, AreGreatest, ArePages, AreUsed, IsOnPage}
 use Rattle.atlas_sheet.specs.Settings.{spacing_of}
 use Rattle.atlas_sheet.specs.Sheets.{used_area}
+use Rattle.atlas_sheet.specs.Turnings.{InEach, InOne}
 use Rattle.guillotiere_c.specs.Filling.{IsFilledSheet}
 use Rattle.guillotiere_c.specs.Packing.{IsPackedSheet}
 use Rattle.guillotiere_c.specs.SheetPages.{ArePackedPages}
@@ -25,9 +26,9 @@ pub packed :
     → asked ≡ sprites
     → IfSome found (λ s. IsAllowed o.allowed (sides_of (size s)))
     → IfSome found (λ s. IsShown (sides_of (size s)) (spacing_of o) o.turn asked (order s) (map Some (placed s)))
-    → (o.effort ≡ 0 → IfSome found (λ s. IsFirstFound WAYS o.allowed (spacing_of o) asked (sides_of (size s))
-    (order s) (areas_of (map Some (placed s)))))
-    → IfSome found (λ s. IsNoLarger WAYS o.allowed (spacing_of o) asked (sides_of (size s)))
+    → (o.effort ≡ 0 → IfSome found (λ s. InOne o asked (λ lying. IsFirstFound WAYS o.allowed (spacing_of o) lying (sides_of (size s))
+    (order s) (areas_of (map Some (placed s))))))
+    → IfSome found (λ s. InEach o asked (λ lying. IsNoLarger WAYS o.allowed (spacing_of o) lying (sides_of (size s))))
     → IfSome found (λ s. IsPackedSheet o sprites (size s) (placed s))
 packed o asked sprites size order placed None same allowed shown first larger = allowed
 packed o asked sprites size order placed (Some s) same allowed shown first larger =
@@ -57,12 +58,14 @@ pub filled_sheet :
     → IsGreatest o.allowed (sides_of sheet)
     → IsShown (sides_of sheet) (spacing_of o) o.turn asked order placed
     → area ≡ used_area (areas_of placed)
-    → All (IsNoBetter (sides_of sheet) (spacing_of o) asked area) (take (ways_tried (length asked)) WAYS)
-    → (o.effort ≡ 0 → IsBestFound (take (ways_tried (length asked)) WAYS) (sides_of sheet) (spacing_of o) asked order
-    (areas_of placed))
+    → InEach o asked (λ lying. All (IsNoBetter (sides_of sheet) (spacing_of o) lying area)
+    (take (ways_tried (length asked)) WAYS))
+    → (o.effort ≡ 0 → InOne o asked (λ lying. IsBestFound (take (ways_tried (length asked)) WAYS) (sides_of sheet)
+    (spacing_of o) lying order (areas_of placed)))
     → IsFilledSheet o sprites sheet placed
 filled_sheet o asked sprites sheet order placed area same greatest shown used best plain =
     let P : List Size → Type 0 = λ l. IsFilledSheet o l sheet placed in
-    let Q : ℕ → Type 0 = λ n. All (IsNoBetter (sides_of sheet) (spacing_of o) asked n) (take (ways_tried (length asked)) WAYS) in
+    let Q : ℕ → Type 0 = λ n. InEach o asked (λ lying. All (IsNoBetter (sides_of sheet) (spacing_of o) lying n)
+        (take (ways_tried (length asked)) WAYS)) in
     let best' : Q (used_area (areas_of placed)) = subst Q used best in
     subst P same (record { order = order; greatest = greatest; shown = shown; best = best'; plain = plain })

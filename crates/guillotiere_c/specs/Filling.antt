@@ -10,6 +10,7 @@ use Rattle.atlas_sheet.specs.Fillings.{IsBestFound, IsNoBetter, ways_tried}
 use Rattle.atlas_sheet.specs.Lying.{IsShown, areas_of}
 use Rattle.atlas_sheet.specs.Settings.{spacing_of}
 use Rattle.atlas_sheet.specs.Sheets.{used_area}
+use Rattle.atlas_sheet.specs.Turnings.{InEach, InOne}
 use Rattle.guillotiere_c.specs.declared.plain_sheet.PlainMaybePlaced.{PlainMaybePlaced}
 use Rattle.guillotiere_c.specs.SheetNumbers.{maybe_placed_in}
 use Rattle.guillotiere_c.specs.Writing.{IsWritten}
@@ -26,10 +27,10 @@ pub record IsFilledSheet (o : SheetOptions) (sprites : List Size) (sheet : Size)
   pub order : List ℕ
   pub greatest : IsGreatest o.allowed (sides_of sheet)
   pub shown : IsShown (sides_of sheet) (spacing_of o) o.turn sprites order placed
-  pub best : All (IsNoBetter (sides_of sheet) (spacing_of o) sprites (used_area (areas_of placed)))
-      (take (ways_tried (length sprites)) WAYS)
-  pub plain : o.effort ≡ 0 → IsBestFound (take (ways_tried (length sprites)) WAYS) (sides_of sheet) (spacing_of o)
-      sprites order (areas_of placed)
+  pub best : InEach o sprites (λ lying. All (IsNoBetter (sides_of sheet) (spacing_of o) lying (used_area (areas_of placed)))
+      (take (ways_tried (length sprites)) WAYS))
+  pub plain : o.effort ≡ 0 → InOne o sprites (λ lying. IsBestFound (take (ways_tried (length sprites)) WAYS)
+      (sides_of sheet) (spacing_of o) lying order (areas_of placed))
 
 -- These places stand at the start of an array, which has room for them, and those that are missing are counted.
 pub record IsFillingWritten (o : SheetOptions) (sprites : List Size) (sheet : Size) (left : ℕ)
