@@ -44,6 +44,15 @@ test('pages come, grow, and keys give way', () => {
   assert.deepEqual([cache.length, cache.has('f'), [...cache.changes()]], [4, false, []]);
 });
 
+test('what is free on a page and of no use', () => {
+  const cache = new TextureCache({ page: SIDE });
+  refused(() => cache.unusableArea(0, 1, 1), 'NO_PAGE', 'unusableArea');
+  for (const [key, height] of [['a', 8], ['b', 8]]) cache.insert(key, 16, height);
+  cache.remove(cache.peek('a').rectangle.y === 0 ? 'a' : 'b');
+  assert.equal(cache.areas(0).free, 128);
+  assert.deepEqual([[16, 8], [17, 8], [16, 9], [-1, 9]].map(([width, height]) => cache.unusableArea(0, width, height)), [0, 128, 128, 128]);
+});
+
 test('pages at the end that hold nothing go', () => {
   const cache = new TextureCache({ page: SIDE, pages: 3 });
   for (const key of ['a', 'b', 'c']) cache.insert(key, 16, 16);

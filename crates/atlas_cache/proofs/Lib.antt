@@ -1,5 +1,6 @@
 pub mod EntryKeeping
 pub mod EntryLemmas
+pub mod GatherLemmas
 pub mod Moves
 pub mod RelocateLemmas
 pub mod RepackLemmas
