@@ -1,4 +1,4 @@
-//! The slots of an atlas with their lists: each call keeps the tree that the slots stand for, and the lists, in order.
+//! The slots of an atlas with their lists: each call keeps the tree that the slots represent, and the lists, in order.
 ghost use Rattle.std.specs.Prelude.{◌≡◌, ◌≢◌, ◌<◌, ◌≤◌, ◌↔◌, ℕ, true, false, IsTrue, IfOk, length};
 ghost use Rattle.atlas_store.specs.declared.slots.NodeKind.TheVariants.{Alloc, Free};
 ghost use Rattle.atlas_model.specs.Trees.{most_slots};

@@ -1,5 +1,5 @@
 // Erased from crates/atlas_store/src/store.rt by rust/erase: don't edit.
-//! The slots of an atlas with their lists: each call keeps the tree that the slots stand for, and the lists, in order.
+//! The slots of an atlas with their lists: each call keeps the tree that the slots represent, and the lists, in order.
 
 pub mod extend;
 pub mod start;

@@ -32,7 +32,7 @@ pub fn choose<A: Allocator>(store: &Store<A>, size: Size) -> Option<Chosen> {
     })
 }
 
-/// Makes room for slots beside those that are used. `Slots` if there would be more than the limit; `Memory`, if they
+/// Makes room for slots in addition to those in use. `Slots` if there would be more than the limit; `Memory`, if they
 /// are more than were ever used and more than there is room for, and memory for them is refused. The slots and their
 /// lists stay as they are.
 #[inline]
