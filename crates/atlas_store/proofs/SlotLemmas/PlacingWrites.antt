@@ -1,5 +1,28 @@
 -- What the writes of `place_leaf` make.
-use Rattle.std.proofs.Common.{ℕ, ◌+◌, ◌<◌, ◌≤◌, ◌≡◌, ◌≢◌, ◌⊎◌, List, [], ◌∷◌, refl, sym, ap, ◌∙◌, inl, inr, arith, length, subst, get_or-set_same, get_or-set_other, length-set}
+use Rattle.std.proofs.Common.{
+  ℕ,
+  ◌+◌,
+  ◌<◌,
+  ◌≤◌,
+  ◌≡◌,
+  ◌≢◌,
+  ◌⊎◌,
+  List,
+  [],
+  ◌∷◌,
+  refl,
+  sym,
+  ap,
+  ◌∙◌,
+  inl,
+  inr,
+  arith,
+  length,
+  subst,
+  get_or-set_same,
+  get_or-set_other,
+  length-set,
+}
 use Rattle.std.proofs.lemmas.List.{get_or_past, length-map}
 use Rattle.atlas_store.specs.declared.slots.Node.{Node}
 use Rattle.atlas_store.specs.declared.slots.Link.{Link}
@@ -131,6 +154,10 @@ module _ (ns : List Node) (at : Link) (p : Plan) (t : Parts) (short : length ns 
   leaf_inside : at.number < length ns
   leaf_inside = used-inside ns at.number (rw can.free (omega arith))
 
+-- Slots of which one doesn't count as the other.
+differs : (x y : ℕ) → same x y ≡ 0 → x ≢ y
+differs x y z e = absurd (omega (arith, z, ap (same x) e, same-self x))
+
 pub whole-by : (ns ms : List Node) (at : Link) (t : Parts) → length ns < no_slot → IsTree ns
     → CanPlace ns at.number plan.Whole t
     → ms ≡ with_kind ns at.number kind.Alloc → IsPlaced ns ms at plan.Whole t
@@ -185,9 +212,9 @@ corner_along-by ns m1 m2 ms at t p q front short tree can len cut e ef last =
     → k ≢ at.number = part_leaf ns at (plan.CornerAlong p q) t short tree can in
     let away : (k : ℕ) → 0 < occurs k (l ∷ g ∷ s ∷ [])
     → k ≢ a = part_after ns at (plan.CornerAlong p q) t short tree can in
-    let sg : s ≢ g = λ x. absurd (omega (arith, can.once s, ap (same s) x, same-self s)) in
-    let sl : s ≢ l = λ x. absurd (omega (arith, can.once s, ap (same s) x, same-self s)) in
-    let gl : g ≢ l = λ x. absurd (omega (arith, can.once g, ap (same g) x, same-self g)) in
+    let sg : s ≢ g = differs s g (omega (arith, can.once s, same-self s)) in
+    let sl : s ≢ l = differs s l (omega (arith, can.once s, same-self s)) in
+    let gl : g ≢ l = differs g l (omega (arith, can.once g, same-self g)) in
     let same_g : node_at m2 g ≡ node_at ns g = fo.others g (away g is_g)
     ∙ cut.others g (apart g is_g) (λ x. sg (sym x)) in
     let same_l : node_at m2 l ≡ node_at ns l = fo.others l (away l is_l)
@@ -217,9 +244,8 @@ corner_along-by ns m1 m2 ms at t p q front short tree can len cut e ef last =
           (cut.others a f.apart a_s);
       stays = λ x. last.others a a_g a_l ∙ fo.stays x ∙ cut.others a f.apart a_s;
       others = λ i ne na z.
-          last.others i (λ x. absurd (omega (arith, z, ap (same i) x, same-self i)))
-          (λ x. absurd (omega (arith, z, ap (same i) x, same-self i)))
-          ∙ fo.others i na ∙ cut.others i ne (λ x. absurd (omega (arith, z, ap (same i) x, same-self i)));
+          last.others i (differs i g (omega (arith, z))) (differs i l (omega (arith, z))) ∙ fo.others i na
+          ∙ cut.others i ne (differs i s (omega (arith, z)));
     }
 
 pub strip_across-by : (ns m1 ms : List Node) (at : Link) (t : Parts) (q : ℕ) → length ns < no_slot → IsTree ns
@@ -256,8 +282,7 @@ strip_across-by ns m1 ms at t q short tree can e last =
       );
       moved = λ _. keeps a (λ x. away g is_g (sym x)) (λ x. away s is_s (sym x)) f.apart;
       stays = λ _. keeps a (λ x. away g is_g (sym x)) (λ x. away s is_s (sym x)) f.apart;
-      others = λ i ne _ z. keeps i (λ x. absurd (omega (arith, z, ap (same i) x, same-self i)))
-          (λ x. absurd (omega (arith, z, ap (same i) x, same-self i))) ne;
+      others = λ i ne _ z. keeps i (differs i g (omega (arith, z))) (differs i s (omega (arith, z))) ne;
     }
 
 pub corner_across-by : (ns m1 m2 ms : List Node) (at : Link) (t : Parts) (p q : ℕ) (front : Node)
@@ -286,11 +311,11 @@ corner_across-by ns m1 m2 ms at t p q front short tree can e cut ef last =
     → k ≢ at.number = part_leaf ns at (plan.CornerAcross p q) t short tree can in
     let away : (k : ℕ) → 0 < occurs k (l ∷ g ∷ c ∷ s ∷ [])
     → k ≢ a = part_after ns at (plan.CornerAcross p q) t short tree can in
-    let sc : s ≢ c = λ x. absurd (omega (arith, can.once s, ap (same s) x, same-self s)) in
-    let sg : s ≢ g = λ x. absurd (omega (arith, can.once s, ap (same s) x, same-self s)) in
-    let sl : s ≢ l = λ x. absurd (omega (arith, can.once s, ap (same s) x, same-self s)) in
-    let cg : c ≢ g = λ x. absurd (omega (arith, can.once c, ap (same c) x, same-self c)) in
-    let cl : c ≢ l = λ x. absurd (omega (arith, can.once c, ap (same c) x, same-self c)) in
+    let sc : s ≢ c = differs s c (omega (arith, can.once s, same-self s)) in
+    let sg : s ≢ g = differs s g (omega (arith, can.once s, same-self s)) in
+    let sl : s ≢ l = differs s l (omega (arith, can.once s, same-self s)) in
+    let cg : c ≢ g = differs c g (omega (arith, can.once c, same-self c)) in
+    let cl : c ≢ l = differs c l (omega (arith, can.once c, same-self c)) in
     let kept : (x : ℕ) → x ≢ at.number → node_at m1 x ≡ node_at ns x = kind-others ns m1 at.number kind.Container e in
     let keeps : (x : ℕ) → x ≢ c → x ≢ s → x ≢ at.number
     → node_at m2 x ≡ node_at ns x = λ x xc xs xi. cut.others x xc xs ∙ kept x xi in
@@ -331,8 +356,6 @@ corner_across-by ns m1 m2 ms at t p q front short tree can e cut ef last =
       moved = λ _. after_a;
       stays = λ _. after_a;
       others = λ i ne _ z.
-          all i (λ x. absurd (omega (arith, z, ap (same i) x, same-self i)))
-          (λ x. absurd (omega (arith, z, ap (same i) x, same-self i)))
-          (λ x. absurd (omega (arith, z, ap (same i) x, same-self i)))
-          (λ x. absurd (omega (arith, z, ap (same i) x, same-self i))) ne;
+          all i (differs i g (omega (arith, z))) (differs i l (omega (arith, z))) (differs i c (omega (arith, z)))
+          (differs i s (omega (arith, z))) ne;
     }
