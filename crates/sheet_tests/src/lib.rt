@@ -4,6 +4,8 @@
 #[cfg(test)]
 mod climbing;
 #[cfg(test)]
+mod dense;
+#[cfg(test)]
 mod filling;
 #[cfg(test)]
 mod packing;

@@ -44,7 +44,7 @@ fn keeps_to(placed: Placed, sheet: Size, options: &SheetOptions) -> bool {
 }
 
 // Whether each place is good and apart from those after it.
-fn all_good(sprites: &[Size], places: &[Placed], sheet: Size, options: &SheetOptions) -> bool {
+pub fn all_good(sprites: &[Size], places: &[Placed], sheet: Size, options: &SheetOptions) -> bool {
     let padding = i32::from(options.padding);
     for (number, (sprite, placed)) in sprites.iter().zip(places).enumerate() {
         if !has_sides(*sprite, *placed) || !keeps_to(*placed, sheet, options) {
@@ -60,7 +60,7 @@ fn all_good(sprites: &[Size], places: &[Placed], sheet: Size, options: &SheetOpt
 }
 
 // Whether the numbers from 0 to `count` stand in the order, each once.
-fn is_order(order: &[usize], count: usize) -> bool {
+pub fn is_order(order: &[usize], count: usize) -> bool {
     for number in 0..count {
         if order.iter().filter(|n| **n == number).count() != 1 {
             return false;
@@ -131,7 +131,7 @@ fn packs_well(alloc: Global, seed: u32, options: &SheetOptions) -> Result<bool, 
 }
 
 // How many pixels a sheet has.
-fn pixels(size: Size) -> u64 {
+pub fn pixels(size: Size) -> u64 {
     u64::from(size.width.unsigned_abs()) * u64::from(size.height.unsigned_abs())
 }
 
