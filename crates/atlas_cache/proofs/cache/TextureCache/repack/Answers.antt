@@ -1,6 +1,8 @@
 use Rattle.std.proofs.Common.{◌≡◌, ◌+◌, ◌-◌, min, length, refl, arith, ap}
 use Rattle.atlas_cache.specs.Caches.{entries_of}
 use Rattle.atlas_cache.specs.Relocating.{become, renewed_by}
+use Rattle.atlas_cache.proofs.BlankLemmas.{each-where}
+use Rattle.atlas_cache.proofs.HoldingLemmas.{IsLiveOn}
 use Rattle.atlas_cache.proofs.KeyLemmas.{own_keys}
 use Rattle.atlas_cache.proofs.ListLemmas.{length-listed}
 use Rattle.atlas_cache.proofs.RepackLemmas.{repacked_held, repacked_falls, repacked_bordered, renewed_same, shorter}
@@ -12,7 +14,8 @@ pub settle_all-requires-clause-is : goal.settle_all-requires-clause-is
 settle_all-requires-clause-is g c =
     rw (c.options-options.ensures.options, c.repack.ensures.options, c.deref.ensures.value)
     (repacked_bordered c.self.inside.rooms.pages c.repack.new.self.pages c.args.page c.in_ok-list.list c.in_ok-list.ensures.repacks
-    c.self.inside.rooms.options.padding (entries_of c.self.inside.entries.entries) c.self.invariant.held.live c.self.invariant.bordered)
+    c.self.inside.rooms.options.padding (entries_of c.self.inside.entries.entries) (each-where (IsLiveOn c.self.inside.rooms.pages) (entries_of c.self.inside.entries.entries) c.self.invariant.held.live)
+    c.self.invariant.bordered)
 
 pub overflow_sub-gone : goal.overflow_sub-gone
 overflow_sub-gone g c = omega (
@@ -28,10 +31,12 @@ invariant_of-self-2 g c =
     let does = c.in_ok-list.ensures.repacks in
     record {
       held = rw (c.settle_all.ensures.entries, c.deref.ensures.value)
-          (repacked_held it.rooms.pages c.repack.new.self.pages c.args.page c.in_ok-list.list does (entries_of it.entries.entries) c.self.invariant.held);
+          (repacked_held it.rooms.pages c.repack.new.self.pages c.args.page c.in_ok-list.list does
+          (λ q. omega (arith, q, c.if-page-len.false, c.len.ensures.numbered)) (entries_of it.entries.entries) c.self.invariant.held);
       bordered = rw (c.settle_all.ensures.entries, c.deref.ensures.value, c.repack.ensures.options)
           (repacked_bordered it.rooms.pages c.repack.new.self.pages c.args.page c.in_ok-list.list does it.rooms.options.padding
-          (entries_of it.entries.entries) c.self.invariant.held.live c.self.invariant.bordered);
+          (entries_of it.entries.entries) (each-where (IsLiveOn c.self.inside.rooms.pages) (entries_of c.self.inside.entries.entries) c.self.invariant.held.live)
+          c.self.invariant.bordered);
       frames = rw (c.settle_all.ensures.entries, c.deref.ensures.value)
           (repacked_falls it.rooms.pages c.repack.new.self.pages c.args.page c.in_ok-list.list does it.frame (entries_of it.entries.entries)
           c.self.invariant.frames);
