@@ -35,8 +35,10 @@ ALONE = "REFUSED BY NAMES ALONE: its proof names what the edit took away: change
 class Trial:
     """The trial of one crate's edits, or of those with a word in their name, over work that is kept from one round to the next."""
 
-    def __init__(self, crate, kit, is_proved, word=""):
+    def __init__(self, crate, kit, is_proved, word="", work=None):
+        """`work` is a folder with what an earlier check of the crate kept; without it that is out/incremental, where it is there."""
         self.crate, self.kit, self.is_proved, self.said = crate, kit, is_proved, {}
+        self.work = work or crate.folder / "out/incremental"
         self.edits = [edit for edit in edits_of(crate) if word in edit.name]
         self.is_listed = crate.name in re.findall(r"^(\w+): ", BY_NAMES.read_text(encoding="utf-8"), re.M)
         # The crates with the most edits would end long after the others.
@@ -105,8 +107,8 @@ class Trial:
             except BadEdit as error:
                 self.said[edit] = (False, f"BAD EDIT: {error}")
         with tempfile.TemporaryDirectory(prefix="edits-kept-") as kept:
-            if (self.crate.folder / "out/incremental").is_dir():
-                shutil.copytree(self.crate.folder / "out/incremental", kept, dirs_exist_ok=True)
+            if os.path.isdir(self.work):
+                shutil.copytree(self.work, kept, dirs_exist_ok=True)
             while any(edit.checked() for edit in left):
                 chosen, _ = self.batch([edit for edit in left if edit.checked()])
                 self.try_together(chosen, kept)

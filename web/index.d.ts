@@ -380,6 +380,12 @@ export class TextureCache {
   pageSize(page: number): Size;
   /** The areas of a page that its keys take, with their padding and what the alignment added, and that are free. Throws `NO_PAGE`. */
   areas(page: number): Areas;
+  /**
+   * Of the area of a page that is free, what lies in free boxes which have no room for a key of this size, with its padding and rounded
+   * up. Asked with the size of a usual key it says how fragmented the page is: where that is much, it is time to repack it. Throws
+   * `NO_PAGE`, `MEMORY`.
+   */
+  unusableArea(page: number, width: number, height: number): number;
   /** Those with which it was made, and what was left out. */
   readonly options: Required<CacheOptions> & { atlas: Required<AtlasOptions> };
   /** Counted since the cache was made. */
@@ -433,3 +439,29 @@ export interface Sheet extends Size {
  * `GREAT_SPRITE`, `MEMORY`.
  */
 export function pack(sprites: Iterable<Size>, options?: SheetOptions): Sheet | null;
+
+/** Where a sprite lies on one of several sheets: the number of the sheet, counted from 0, and its place there. */
+export interface OnPage extends Placed {
+  page: number;
+}
+
+/** Sheets, and where each sprite lies, in the order of the sprites. */
+export interface Pages {
+  sizes: Size[];
+  places: OnPage[];
+}
+
+/**
+ * Packs all sprites into as few sheets as are found: each but the last is the greatest of those allowed, and the last as small as `pack`
+ * finds it. On each sheet lies a sprite. null if a sprite is too large for an empty sheet. Throws as `pack`.
+ */
+export function packPages(sprites: Iterable<Size>, options?: SheetOptions): Pages | null;
+
+/** A sheet, a place or null for each sprite, in the order of the sprites, and how many have none. */
+export interface Filled extends Size {
+  places: (Placed | null)[];
+  left: number;
+}
+
+/** Places sprites in the greatest sheet that is allowed, as many pixels of them as are found room for. Throws as `pack`. */
+export function fill(sprites: Iterable<Size>, options?: SheetOptions): Filled;

@@ -3,7 +3,8 @@
  * An atlas is one large rectangle, often a texture, that hands out boxes and takes them back. A simple allocator hands
  * out boxes and takes none back. A cache keeps rectangles under keys in the pages of a texture array, and tells what its
  * caller has to do to the textures. guillotiere_pack takes sprites that all are known beforehand and packs them into one
- * small sheet; it needs no handle. Lengths and coordinates are in pixels, areas in unit squares; y grows downwards.
+ * small sheet, guillotiere_pack_pages into several, and guillotiere_fill as many of them as one sheet takes; these need no
+ * handle. Lengths and coordinates are in pixels, areas in unit squares; y grows downwards.
  *
  * Handles. A handle is a place for an allocator, which its owner keeps:
  *
@@ -18,7 +19,7 @@
  *
  * Statuses. A call answers a status. It is total: sizes, options, ids and limits may be any numbers, and what is wrong
  * is answered. After each status but GUILLOTIERE_DONE all handles hold what they held, and nothing was written, but for
- * the number of a bad sprite (guillotiere_pack), and but for two calls of a cache: guillotiere_cache_insert answers
+ * the number of a bad sprite (of a sheet), and but for two calls of a cache: guillotiere_cache_insert answers
  * GUILLOTIERE_HELD of a key that was held, which is used then and whose place is written, and may have made changes after
  * another status, which it tells; and guillotiere_cache_get counts a miss.
  *
@@ -29,7 +30,8 @@
  *   the length says.
  * - What is passed by pointers without `const` overlaps nothing else that is passed.
  * - A handle is used by one call at a time, also where it is passed by `const`, which says that it holds afterwards what it
- *   held. It may be handed to another thread, by a lock, a start or a join.
+ *   held: two threads that read through one handle at once break it. It may be handed to another thread, by a lock, a start
+ *   or a join.
  * - malloc, realloc and free are those of one allocator; no call is made from a signal handler. */
 #ifndef GUILLOTIERE_H
 #define GUILLOTIERE_H
@@ -233,6 +235,18 @@ typedef struct guillotiere_placed {
     guillotiere_rectangle area;
     uint32_t turned;
 } guillotiere_placed;
+
+/* Where a sprite lies in a sheet that was filled: `is_placed` is 1, and it lies in `placed`; or 0, where it found no room. */
+typedef struct guillotiere_maybe_placed {
+    uint32_t is_placed;
+    guillotiere_placed placed;
+} guillotiere_maybe_placed;
+
+/* Where a sprite lies on one of several sheets: the number of the sheet, counted from 0, and its place there. */
+typedef struct guillotiere_on_page {
+    size_t page;
+    guillotiere_placed placed;
+} guillotiere_on_page;
 
 /* How a cache is made. Lengths are in pixels. The layers of a texture array have one size: for those `page` is to be equal
  * to `largest_page`. Pages that grow are for a texture each. */
@@ -528,6 +542,13 @@ uint32_t guillotiere_cache_page_size(const guillotiere_cache *cache, uint32_t pa
  * are evicted all the same, is worth a repacking. DONE; NO_PAGE; EMPTY. */
 uint32_t guillotiere_cache_areas(const guillotiere_cache *cache, uint32_t page, guillotiere_areas *areas);
 
+/* Of the area of a page that is free, what lies in free boxes which have no room for a key of this size, with its padding and
+ * rounded up to the alignment; a side below 0 counts as 0. Asked with the size of a usual key it says how fragmented the page
+ * is: where much is of no use, it is time to repack it. Takes memory for a list of the page's free boxes.
+ * DONE; NO_PAGE; MEMORY; EMPTY. */
+uint32_t guillotiere_cache_unusable_area(const guillotiere_cache *cache, uint32_t page, int32_t width, int32_t height,
+                                         uint64_t *area);
+
 /* The options with which the cache was made. DONE; EMPTY. */
 uint32_t guillotiere_cache_options_of(const guillotiere_cache *cache, guillotiere_cache_options *options);
 
@@ -545,6 +566,24 @@ uint32_t guillotiere_cache_statistics(const guillotiere_cache *cache, guillotier
  * GREAT_SPRITE, and then `sprite` has the number of the sprite, counted from 0, and is else as before; MEMORY. */
 uint32_t guillotiere_pack(const guillotiere_size *sprites, size_t sprites_len, const guillotiere_sheet_options *options,
                           guillotiere_placed *places, size_t places_len, guillotiere_size *size, size_t *sprite);
+
+/* Packs all sprites into as few sheets as are found: into the greatest of those allowed what guillotiere_fill places there,
+ * then the same with the sprites that are left, and the last of them into as small a sheet as guillotiere_pack finds. With
+ * `effort` so many changes of the order are tried for each sheet. DONE: `places` has where each sprite lies, in the order of
+ * the sprites, `count` how many sheets there are, at most as many as sprites, and `sizes` their sizes, as many as there is room
+ * for; what the arrays have after that stays. No two places on one sheet overlap, and on each sheet lies a sprite. Sprites may
+ * be none: then there are no sheets.
+ * NO_ROOM if a sprite is too large for an empty sheet; else as guillotiere_pack. */
+uint32_t guillotiere_pack_pages(const guillotiere_size *sprites, size_t sprites_len, const guillotiere_sheet_options *options,
+                                guillotiere_on_page *places, size_t places_len, guillotiere_size *sizes, size_t sizes_len,
+                                size_t *count, size_t *sprite);
+
+/* Places sprites in the greatest sheet that is allowed, as many pixels of them as are found room for. DONE, also where not all
+ * of them have a place: `places` has a place or none for each, in the order of the sprites, `left` how many have none, and
+ * `size` the sheet's size. Never NO_ROOM; else as guillotiere_pack. */
+uint32_t guillotiere_fill(const guillotiere_size *sprites, size_t sprites_len, const guillotiere_sheet_options *options,
+                          guillotiere_maybe_placed *places, size_t places_len, size_t *left, guillotiere_size *size,
+                          size_t *sprite);
 
 #ifdef __cplusplus
 }

@@ -77,6 +77,7 @@ using options = guillotiere_options;
 using slots = guillotiere_slots;
 using areas = guillotiere_areas;
 using placed = guillotiere_placed;
+using on_page = guillotiere_on_page;
 using cache_options = guillotiere_cache_options;
 using place = guillotiere_place;
 using counts = guillotiere_counts;
@@ -520,6 +521,13 @@ public:
         if (guillotiere_cache_areas(&handle_, page, &found) != GUILLOTIERE_DONE) return std::nullopt;
         return found;
     }
+    // What is free on a page in boxes that have no room for a key of this size: where that is much, it is time to repack the page.
+    result<std::uint64_t> unusable_area(std::uint32_t page, guillotiere::size of) const {
+        std::uint64_t found = 0;
+        const auto answer = guillotiere_cache_unusable_area(&handle_, page, of.width, of.height, &found);
+        if (answer != GUILLOTIERE_DONE) return static_cast<status>(answer);
+        return found;
+    }
     // Of a cache that was moved from: all zero.
     cache_options options() const {
         cache_options found{};
@@ -558,16 +566,44 @@ struct sheet {
     std::vector<placed> places;
 };
 
+// Sheets that take all sprites: the size of each, and where each sprite lies, in the order of the sprites.
+struct pages {
+    std::vector<guillotiere::size> sizes;
+    std::vector<on_page> places;
+};
+
+// A sheet that takes as many pixels of sprites as are found room for: its size, a place or nothing for each sprite, in their
+// order, and how many have none.
+struct filled_sheet {
+    guillotiere::size size;
+    std::vector<std::optional<placed>> places;
+    std::size_t left;
+};
+
+namespace detail {
+
+inline guillotiere_sheet_options asked(const sheet_options &with) {
+    return {static_cast<std::uint32_t>(with.allowed), with.width, with.height, with.least, with.greatest, with.padding,
+            with.alignment_width, with.alignment_height, with.turn ? 1u : 0u, with.effort, with.seed};
+}
+
+// The status of an answer, and for `bad`, if it isn't null, the number of a sprite that it names.
+inline status refused(std::uint32_t answer, std::size_t number, std::size_t *bad) {
+    const auto error = static_cast<status>(answer);
+    if (bad != nullptr && (error == status::empty_sprite || error == status::great_sprite)) *bad = number;
+    return error;
+}
+
+} // namespace detail
+
 // Packs all sprites into the smallest allowed sheet that is found; nothing where not even the greatest took them all. After
-// status::empty_sprite and status::great_sprite `bad` has the number of the sprite, if it isn't null.
+// status::empty_sprite and status::great_sprite `bad` has the number of the sprite, if it isn't null; so in the calls below.
 inline result<std::optional<sheet>> pack(const size *sprites, std::size_t count, const sheet_options &with,
                                          std::size_t *bad = nullptr) {
     const size none{};
     std::size_t number = 0;
     sheet made{{}, std::vector<placed>(count + 1)};
-    const guillotiere_sheet_options asked{static_cast<std::uint32_t>(with.allowed), with.width, with.height, with.least,
-                                          with.greatest, with.padding, with.alignment_width, with.alignment_height,
-                                          with.turn ? 1u : 0u, with.effort, with.seed};
+    const auto asked = detail::asked(with);
     const auto answer = guillotiere_pack(count == 0 ? &none : sprites, count, &asked, made.places.data(), count, &made.size,
                                          &number);
     if (answer == GUILLOTIERE_DONE) {
@@ -575,13 +611,53 @@ inline result<std::optional<sheet>> pack(const size *sprites, std::size_t count,
         return std::optional<sheet>(std::move(made));
     }
     if (answer == GUILLOTIERE_NO_ROOM) return std::optional<sheet>();
-    const auto error = static_cast<status>(answer);
-    if (bad != nullptr && (error == status::empty_sprite || error == status::great_sprite)) *bad = number;
-    return error;
+    return detail::refused(answer, number, bad);
 }
 inline result<std::optional<sheet>> pack(const std::vector<size> &sprites, const sheet_options &with,
                                          std::size_t *bad = nullptr) {
     return pack(sprites.data(), sprites.size(), with, bad);
+}
+
+// Packs all sprites into as few sheets as are found, each but the last the greatest that is allowed; nothing where a sprite is
+// too large for an empty sheet.
+inline result<std::optional<pages>> pack_pages(const size *sprites, std::size_t count, const sheet_options &with,
+                                               std::size_t *bad = nullptr) {
+    const size none{};
+    std::size_t number = 0, sheets = 0;
+    pages made{std::vector<size>(count + 1), std::vector<on_page>(count + 1)};
+    const auto asked = detail::asked(with);
+    const auto answer = guillotiere_pack_pages(count == 0 ? &none : sprites, count, &asked, made.places.data(), count,
+                                               made.sizes.data(), count, &sheets, &number);
+    if (answer == GUILLOTIERE_DONE) {
+        made.sizes.resize(sheets);
+        made.places.resize(count);
+        return std::optional<pages>(std::move(made));
+    }
+    if (answer == GUILLOTIERE_NO_ROOM) return std::optional<pages>();
+    return detail::refused(answer, number, bad);
+}
+inline result<std::optional<pages>> pack_pages(const std::vector<size> &sprites, const sheet_options &with,
+                                               std::size_t *bad = nullptr) {
+    return pack_pages(sprites.data(), sprites.size(), with, bad);
+}
+
+// Places sprites in the greatest sheet that is allowed, as many pixels of them as are found room for.
+inline result<filled_sheet> fill(const size *sprites, std::size_t count, const sheet_options &with, std::size_t *bad = nullptr) {
+    const size none{};
+    std::size_t number = 0;
+    filled_sheet made{{}, std::vector<std::optional<placed>>(count), 0};
+    std::vector<guillotiere_maybe_placed> places(count + 1);
+    const auto asked = detail::asked(with);
+    const auto answer = guillotiere_fill(count == 0 ? &none : sprites, count, &asked, places.data(), count, &made.left, &made.size,
+                                         &number);
+    if (answer != GUILLOTIERE_DONE) return detail::refused(answer, number, bad);
+    for (std::size_t i = 0; i < count; i++) {
+        if (places[i].is_placed != 0) made.places[i] = places[i].placed;
+    }
+    return made;
+}
+inline result<filled_sheet> fill(const std::vector<size> &sprites, const sheet_options &with, std::size_t *bad = nullptr) {
+    return fill(sprites.data(), sprites.size(), with, bad);
 }
 
 } // namespace guillotiere

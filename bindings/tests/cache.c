@@ -86,7 +86,7 @@ static void empty_handles(void) {
     guillotiere_cache_options options;
     size_t len = 77;
     uint32_t pages = 77;
-    uint64_t key = 77;
+    uint64_t key = 77, area = 77;
     CHECK(guillotiere_cache_begin_frame(&cache) == GUILLOTIERE_EMPTY);
     CHECK(guillotiere_cache_get(&cache, 1, &place) == GUILLOTIERE_EMPTY);
     CHECK(guillotiere_cache_peek(&cache, 1, &place) == GUILLOTIERE_EMPTY);
@@ -103,6 +103,7 @@ static void empty_handles(void) {
     CHECK(guillotiere_cache_page_size(&cache, 0, &size) == GUILLOTIERE_EMPTY);
     CHECK(guillotiere_cache_statistics(&cache, &counts) == GUILLOTIERE_EMPTY);
     CHECK(guillotiere_cache_areas(&cache, 0, &areas) == GUILLOTIERE_EMPTY);
+    CHECK(guillotiere_cache_unusable_area(&cache, 0, 1, 1, &area) == GUILLOTIERE_EMPTY && area == 77);
     CHECK(guillotiere_cache_options_of(&cache, &options) == GUILLOTIERE_EMPTY);
     CHECK(guillotiere_cache_newest(&cache, &key, &place) == GUILLOTIERE_EMPTY && key == 77);
     CHECK(guillotiere_cache_oldest(&cache, &key, &place) == GUILLOTIERE_EMPTY && key == 77);
@@ -238,6 +239,31 @@ static void told_areas(const guillotiere_cache *cache, uint32_t page, uint64_t a
     guillotiere_areas areas = {7, 7};
     CHECK(guillotiere_cache_areas(cache, page, &areas) == GUILLOTIERE_DONE);
     CHECK(areas.allocated == allocated && areas.free == free);
+}
+
+static void told_unusable(const guillotiere_cache *cache, int32_t width, int32_t height, uint64_t wanted) {
+    uint64_t area = 7;
+    CHECK(guillotiere_cache_unusable_area(cache, 0, width, height, &area) == GUILLOTIERE_DONE && area == wanted);
+}
+
+/* Of a page of 16 by 16 the upper half is taken: the lower one, 16 by 8, is free, and has no room for what is higher or wider
+ * than it with a pixel round it. */
+static void unusable_area(void) {
+    guillotiere_cache_options with = two_pages;
+    guillotiere_cache cache = GUILLOTIERE_NONE;
+    uint64_t area = 7;
+    with.largest_page = with.page;
+    with.padding = 1;
+    make(&with, &cache);
+    CHECK(guillotiere_cache_unusable_area(&cache, 0, 1, 1, &area) == GUILLOTIERE_NO_PAGE && area == 7);
+    inserted(&cache, 1, 14, 6);
+    told_unusable(&cache, 14, 6, 0);
+    told_unusable(&cache, 15, 6, 128);
+    told_unusable(&cache, 14, 7, 128);
+    told_unusable(&cache, INT32_MAX, INT32_MIN, 128);
+    told_unusable(&cache, INT32_MIN, INT32_MIN, 0);
+    CHECK(guillotiere_cache_unusable_area(&cache, 1, 1, 1, &area) == GUILLOTIERE_NO_PAGE && area == 7);
+    guillotiere_cache_free(&cache);
 }
 
 /* What a cache knows of itself: the keys in the order of their use, the areas of its pages, and its options. */
@@ -407,6 +433,7 @@ int main(void) {
     a_life();
     a_key_moves();
     what_it_knows();
+    unusable_area();
     waiting_changes();
     random_session();
     return 0;

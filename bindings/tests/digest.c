@@ -188,7 +188,7 @@ static void ask_atlas(void) {
     sequence *const it = either();
     const int32_t width = side(300), height = side(300);
     add(guillotiere_atlas_can_fit(&it->atlas, width, height));
-    add(guillotiere_atlas_can_grow_to(&it->atlas, 4 * width, 4 * height));
+    add(guillotiere_atlas_can_grow_to(&it->atlas, (int32_t)(4 * (uint32_t)width), (int32_t)(4 * (uint32_t)height)));
     add(guillotiere_atlas_is_empty(&it->atlas));
 }
 
@@ -381,6 +381,10 @@ static void know_cache(void) {
     add(guillotiere_cache_areas(&cache, below(4), &areas));
     add_wide(areas.allocated);
     add_wide(areas.free);
+    const uint32_t page = below(4);
+    const int32_t width = side(60), height = side(60);
+    add(guillotiere_cache_unusable_area(&cache, page, width, height, &areas.free));
+    add_wide(areas.free);
     add(guillotiere_cache_options_of(&cache, &with));
     add_size(&with.page);
     add_size(&with.largest_page);
@@ -417,31 +421,80 @@ static void describe_cache(void) {
 
 /* --- A sheet ---------------------------------------------------------------------------------------------------- */
 
-static void pack(void) {
-    guillotiere_size sprites[SPRITES], size = {7, 7};
-    guillotiere_placed places[SPRITES];
-    guillotiere_sheet_options options = GUILLOTIERE_DEFAULT_SHEET_OPTIONS;
-    const uint32_t count = below(SPRITES + 1);
-    size_t sprite = 7;
+typedef struct {
+    guillotiere_size sprites[SPRITES];
+    guillotiere_sheet_options options;
+    size_t count, room;
+} asked;
+
+static asked some_sprites(void) {
+    asked it = {.options = GUILLOTIERE_DEFAULT_SHEET_OPTIONS};
+    it.count = below(SPRITES + 1);
     for (uint32_t i = 0; i < SPRITES; i++) {
-        sprites[i].width = one_in(10) ? side(40) : 1 + (int32_t)below(40);
-        sprites[i].height = 1 + (int32_t)below(40);
-        places[i].area = untouched;
-        places[i].turned = 7;
+        it.sprites[i].width = one_in(10) ? side(40) : 1 + (int32_t)below(40);
+        it.sprites[i].height = 1 + (int32_t)below(40);
     }
-    options.allowed = below(one_in(10) ? 6 : 4);
-    options.width = options.height = 40 + (int32_t)below(200);
-    options.least = one_in(10) ? side(300) : 1;
-    options.greatest = 256;
-    options.padding = one_in(10) ? below(70000) : below(3);
-    options.alignment_width = one_in(10) ? side(9) : 1;
-    options.turn = below(2);
-    options.effort = below(20);
-    options.seed = state;
-    add(guillotiere_pack(sprites, count, &options, places, one_in(10) ? count / 2 : SPRITES, &size, &sprite));
+    it.options.allowed = below(one_in(10) ? 6 : 4);
+    it.options.width = it.options.height = 40 + (int32_t)below(200);
+    it.options.least = one_in(10) ? side(300) : 1;
+    it.options.greatest = 256;
+    it.options.padding = one_in(10) ? below(70000) : below(3);
+    it.options.alignment_width = one_in(10) ? side(9) : 1;
+    it.options.turn = below(2);
+    it.options.effort = below(20);
+    it.options.seed = state;
+    it.room = one_in(10) ? it.count / 2 : SPRITES;
+    return it;
+}
+
+static const guillotiere_placed unplaced = {{7, 7, 7, 7}, 7};
+
+static void add_placed(const guillotiere_placed *it) {
+    add_box(&it->area);
+    add(it->turned);
+}
+
+static void pack(void) {
+    const asked it = some_sprites();
+    guillotiere_size size = {7, 7};
+    guillotiere_placed places[SPRITES];
+    size_t sprite = 7;
+    for (uint32_t i = 0; i < SPRITES; i++) places[i] = unplaced;
+    add(guillotiere_pack(it.sprites, it.count, &it.options, places, it.room, &size, &sprite));
     add_size(&size);
     add_wide(sprite);
-    for (uint32_t i = 0; i < SPRITES; i++) add_box(&places[i].area), add(places[i].turned);
+    for (uint32_t i = 0; i < SPRITES; i++) add_placed(&places[i]);
+}
+
+/* Greatest sides so small that many sprites need several sheets. */
+static void pack_pages(void) {
+    asked it = some_sprites();
+    guillotiere_size sizes[SPRITES];
+    guillotiere_on_page places[SPRITES];
+    size_t sprite = 7, count = 7;
+    for (uint32_t i = 0; i < SPRITES; i++) places[i] = (guillotiere_on_page){7, unplaced}, sizes[i] = (guillotiere_size){7, 7};
+    it.options.greatest = it.options.width = it.options.height = 40 + (int32_t)below(40);
+    add(guillotiere_pack_pages(it.sprites, it.count, &it.options, places, it.room, sizes, SPRITES, &count, &sprite));
+    add_wide(count);
+    add_wide(sprite);
+    for (uint32_t i = 0; i < SPRITES; i++) add_size(&sizes[i]), add_wide(places[i].page), add_placed(&places[i].placed);
+}
+
+static void fill(void) {
+    asked it = some_sprites();
+    guillotiere_size size = {7, 7};
+    guillotiere_maybe_placed places[SPRITES];
+    size_t sprite = 7, left = 7;
+    for (uint32_t i = 0; i < SPRITES; i++) places[i] = (guillotiere_maybe_placed){7, unplaced};
+    it.options.greatest = it.options.width = it.options.height = 40 + (int32_t)below(40);
+    add(guillotiere_fill(it.sprites, it.count, &it.options, places, it.room, &left, &size, &sprite));
+    add_wide(left);
+    add_size(&size);
+    add_wide(sprite);
+    for (uint32_t i = 0; i < SPRITES; i++) {
+        add(places[i].is_placed);
+        if (places[i].is_placed == 1) add_placed(&places[i].placed);
+    }
 }
 
 /* --- All of them ------------------------------------------------------------------------------------------------ */
@@ -455,7 +508,7 @@ static const struct {
     {12, rearrange},      {40, make_atlas},       {10, copy_atlas},     {4, free_atlas},      {800, take},
     {10, make_simple},    {20, start_simple_again}, {40, grow_simple},  {100, describe_simple}, {900, insert},
     {700, ask_cache},     {80, let_go},           {100, next_frame},    {80, describe_cache}, {6, make_cache},
-    {8, pack},           {30, know_cache},
+    {8, pack},           {30, know_cache},        {4, pack_pages},      {4, fill},
 };
 
 static void any_call(void) {

@@ -181,6 +181,34 @@ static void pack(void) {
     CHECK(counted > 100);
 }
 
+/* The same of several sheets, and of one that is filled: all the sprites of the packing into 64 by 64. */
+static void pages_and_fill(void) {
+    guillotiere_size sprites[40], sizes[40], size;
+    guillotiere_sheet_options options = GUILLOTIERE_DEFAULT_SHEET_OPTIONS;
+    guillotiere_on_page places[40];
+    guillotiere_maybe_placed filled[40];
+    long counted = 0;
+    for (int32_t i = 0; i < 40; i++) sprites[i] = (guillotiere_size){5 + 7 * i % 31, 4 + 11 * i % 23};
+    options.greatest = 64;
+    options.effort = 10;
+    for (int which = 0; which < 2; which++) {
+        for (long nth = 0;; nth++) {
+            const long before = blocks, refused = refusals;
+            size_t sprite = 99, told = 77;
+            left = nth;
+            const uint32_t status = which == 0 ? guillotiere_pack_pages(sprites, 40, &options, places, 40, sizes, 40, &told, &sprite)
+                                               : guillotiere_fill(sprites, 40, &options, filled, 40, &told, &size, &sprite);
+            left = -1;
+            CHECK(blocks == before && sprite == 99);
+            CHECK(status == GUILLOTIERE_DONE || status == GUILLOTIERE_MEMORY);
+            CHECK((told == 77) == (status == GUILLOTIERE_MEMORY));
+            if (refusals == refused) break;
+            counted += status == GUILLOTIERE_MEMORY;
+        }
+    }
+    CHECK(counted > 40);
+}
+
 static size_t keys_of(guillotiere_cache *cache) {
     size_t len = 0;
     CHECK(guillotiere_cache_len(cache, &len) == GUILLOTIERE_DONE);
@@ -206,6 +234,10 @@ static void use_cache(guillotiere_cache *cache) {
     status = guillotiere_cache_reserve(cache, 1000);
     CHECK(status == GUILLOTIERE_DONE || status == GUILLOTIERE_MEMORY);
     CHECK(keys_of(cache) == held);
+    uint64_t area = 77;
+    status = guillotiere_cache_unusable_area(cache, 0, 10, 10, &area);
+    CHECK(status == GUILLOTIERE_DONE || status == GUILLOTIERE_MEMORY || (status == GUILLOTIERE_NO_PAGE && held == 0));
+    CHECK((area == 77) == (status != GUILLOTIERE_DONE));
     status = guillotiere_cache_repack(cache, 0);
     CHECK(status == GUILLOTIERE_DONE || status == GUILLOTIERE_MEMORY || (status == GUILLOTIERE_NO_PAGE && held == 0));
     while (guillotiere_cache_next_change(cache, &change) == GUILLOTIERE_DONE) held -= change.kind == GUILLOTIERE_EVICTED;
@@ -237,6 +269,7 @@ int main(void) {
     caches();
     reserve();
     pack();
+    pages_and_fill();
     for (long nth = 0;; nth++) {
         guillotiere_atlas atlas = GUILLOTIERE_NONE, copy = GUILLOTIERE_NONE;
         guillotiere_simple simple = GUILLOTIERE_NONE;

@@ -115,6 +115,30 @@ static void sheets_of_sprites() {
     CHECK(pack(sprites, with).error() == status::bad_call);
 }
 
+static void several_sheets() {
+    const std::vector<size> sprites = {{4, 4}, {4, 4}, {4, 4}, {4, 4}, {4, 4}};
+    const auto with = sheet_options::of_squares(1, 8);
+    auto made = pack_pages(sprites, with);
+    CHECK(made && *made && (*made)->sizes.size() == 2 && (*made)->sizes[0].width == 8 && (*made)->sizes[1].height == 4);
+    std::size_t first = 0;
+    for (const auto &each : (*made)->places) first += each.page == 0;
+    CHECK(first == 4 && (*made)->places.size() == 5);
+    made = pack_pages({{4, 4}, {9, 1}}, with);
+    CHECK(made && !*made);
+    made = pack_pages(nullptr, 0, with);
+    CHECK(made && *made && (*made)->sizes.empty() && (*made)->places.empty());
+    std::size_t bad = 77;
+    CHECK(pack_pages({{3, 5}, {0, 5}}, with, &bad).error() == status::empty_sprite && bad == 1);
+    auto filled = fill(sprites, with);
+    CHECK(filled && filled->size.width == 8 && filled->left == 1 && filled->places.size() == 5);
+    for (const auto &each : filled->places) first -= each.has_value();
+    CHECK(first == 0);
+    filled = fill(std::vector<size>(), with);
+    CHECK(filled && filled->size.height == 8 && filled->left == 0 && filled->places.empty());
+    CHECK(fill({{3, 5}, {4, 4}, {3, -5}}, with, &bad).error() == status::empty_sprite && bad == 2);
+    CHECK(fill(sprites, sheet_options::of_squares(9, 8)).error() == status::empty_range);
+}
+
 static std::uint64_t evicted(cache &of) {
     const auto change = of.next_change();
     CHECK(change && change->kind == change_kind::evicted);
@@ -153,6 +177,7 @@ static void caches() {
     CHECK(made->statistics().hits == 1 && made->statistics().misses == 1 && made->statistics().evictions == 1);
     CHECK(made->newest()->key == 8 && made->oldest()->at.number == 0 && !made->older(8) && made->reserve(10) == status::done);
     const cache &read = *made;
+    CHECK(*read.unusable_area(0, {16, 33}) == 511 && read.unusable_area(1, {1, 1}).error() == status::no_page);
     CHECK(read.areas(0)->allocated == 1 && read.areas(0)->free == 511 && !read.areas(1) && read.options().pages == 1);
     cache taken = std::move(*made);
     CHECK(!made->newest() && made->options().pages == 0 && made->reserve(1) == status::empty);
@@ -172,6 +197,7 @@ int main() {
     blank_keys();
     caches();
     sheets_of_sprites();
+    several_sheets();
     makes();
     moves();
     calls();

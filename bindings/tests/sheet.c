@@ -236,6 +236,150 @@ static void ends_of_ranges(void) {
     CHECK(is_at(&into.places[0], 65535, 65535, INT32_MAX - 131070, 1));
 }
 
+/* What a packing into several sheets and a filling write, with as much room as `room` says. */
+typedef struct {
+    guillotiere_on_page places[ROOM];
+    guillotiere_size sizes[ROOM];
+    size_t count, sprite;
+} written_pages;
+
+typedef struct {
+    guillotiere_maybe_placed places[ROOM];
+    guillotiere_size size;
+    size_t left, sprite;
+} written_fill;
+
+static uint32_t pack_pages(const guillotiere_size *sprites, size_t count, const guillotiere_sheet_options *options, size_t room,
+                           size_t sizes, written_pages *into) {
+    return guillotiere_pack_pages(sprites, count, options, into->places, room, into->sizes, sizes, &into->count, &into->sprite);
+}
+
+static uint32_t fill(const guillotiere_size *sprites, size_t count, const guillotiere_sheet_options *options, size_t room,
+                     written_fill *into) {
+    return guillotiere_fill(sprites, count, options, into->places, room, &into->left, &into->size, &into->sprite);
+}
+
+/* Five sprites of 4 x 4, and sheets of 8 x 8 at most: four on the first, and one alone on a sheet of its own size. Sizes are
+ * written as far as there is room, and counted all the same; one sheet that is filled leaves the fifth out. */
+static void five_sprites(void) {
+    const guillotiere_size sprites[] = {{4, 4}, {4, 4}, {4, 4}, {4, 4}, {4, 4}};
+    guillotiere_sheet_options options = options_of(GUILLOTIERE_SQUARES);
+    options.greatest = 8;
+    for (size_t sizes = 0; sizes < 4; sizes++) {
+        written_pages into;
+        size_t first = 0;
+        memset(&into, 0x55, sizeof into);
+        const written_pages before = into;
+        CHECK(pack_pages(sprites, 5, &options, ROOM, sizes, &into) == GUILLOTIERE_DONE && into.count == 2);
+        for (int i = 0; i < 5; i++) {
+            CHECK(into.places[i].page < 2 && into.places[i].placed.turned == 0);
+            if (into.places[i].page == 1) CHECK(is_at(&into.places[i].placed, 0, 0, 4, 4));
+            else first++;
+        }
+        CHECK(first == 4);
+        CHECK(memcmp(&before.places[5], &into.places[5], (ROOM - 5) * sizeof *into.places) == 0);
+        if (sizes > 0) CHECK(into.sizes[0].width == 8 && into.sizes[0].height == 8);
+        if (sizes > 1) CHECK(into.sizes[1].width == 4 && into.sizes[1].height == 4);
+        const size_t told = sizes < 2 ? sizes : 2;
+        CHECK(memcmp(&before.sizes[told], &into.sizes[told], (ROOM - told) * sizeof *into.sizes) == 0);
+    }
+    written_fill into;
+    size_t placed = 0;
+    CHECK(fill(sprites, 5, &options, 5, &into) == GUILLOTIERE_DONE && into.left == 1);
+    CHECK(into.size.width == 8 && into.size.height == 8);
+    for (int i = 0; i < 5; i++) placed += into.places[i].is_placed == 1;
+    CHECK(placed == 4);
+}
+
+/* A sprite that is larger than the greatest sheet: no sheets, or left out. */
+static void too_large_sprite(void) {
+    const guillotiere_size sprites[] = {{4, 4}, {9, 1}};
+    guillotiere_sheet_options options = options_of(GUILLOTIERE_SQUARES);
+    written_pages pages, before;
+    written_fill into;
+    options.greatest = 8;
+    memset(&pages, 0x55, sizeof pages);
+    before = pages;
+    CHECK(pack_pages(sprites, 2, &options, 2, 2, &pages) == GUILLOTIERE_NO_ROOM);
+    CHECK(memcmp(&before, &pages, sizeof pages) == 0);
+    CHECK(fill(sprites, 2, &options, 2, &into) == GUILLOTIERE_DONE && into.left == 1 && into.size.width == 8);
+    CHECK(into.places[0].is_placed == 1 && is_at(&into.places[0].placed, 0, 0, 4, 4) && into.places[1].is_placed == 0);
+    CHECK(pack_pages(sprites, 0, &options, 0, 0, &pages) == GUILLOTIERE_DONE && pages.count == 0);
+    CHECK(fill(sprites, 0, &options, 0, &into) == GUILLOTIERE_DONE && into.left == 0 && into.size.height == 8);
+}
+
+/* The places of random sprites on several sheets: each sheet by itself is one that `check_places` knows. */
+static void random_pages(void) {
+    uint32_t state = 11;
+    for (uint32_t round = 0; round < 12; round++) {
+        guillotiere_size sprites[ROOM], there[ROOM];
+        guillotiere_sheet_options options = options_of(round % 4);
+        written_pages into;
+        written_fill filled;
+        const size_t count = 20 + next(&state) % (ROOM - 21);
+        for (size_t i = 0; i < count; i++)
+            sprites[i] = (guillotiere_size){1 + (int32_t)(next(&state) % 40), 1 + (int32_t)(next(&state) % 60)};
+        options.width = options.height = options.greatest = 128;
+        options.padding = round / 4;
+        options.turn = round % 2;
+        options.effort = round % 3 * 10;
+        CHECK(pack_pages(sprites, count, &options, count, ROOM, &into) == GUILLOTIERE_DONE && into.count >= 1);
+        CHECK(into.count <= count);
+        for (size_t page = 0; page < into.count; page++) {
+            written sheet = {.size = into.sizes[page]};
+            size_t many = 0;
+            for (size_t i = 0; i < count; i++)
+                if (into.places[i].page == page) there[many] = sprites[i], sheet.places[many++] = into.places[i].placed;
+            CHECK(many > 0);
+            check_size(&options, sheet.size);
+            check_places(there, many, &options, &sheet);
+        }
+        CHECK(fill(sprites, count, &options, count, &filled) == GUILLOTIERE_DONE);
+        written sheet = {.size = filled.size};
+        size_t many = 0;
+        for (size_t i = 0; i < count; i++)
+            if (filled.places[i].is_placed) there[many] = sprites[i], sheet.places[many++] = filled.places[i].placed;
+        CHECK(many + filled.left == count && (filled.left == 0) == (into.count == 1));
+        check_places(there, many, &options, &sheet);
+    }
+}
+
+/* Bad calls of both: this status, and nothing written but the number of a sprite. */
+static void both_refuse(uint32_t wanted, const guillotiere_size *sprites, size_t count, const guillotiere_sheet_options *options,
+                        size_t room, size_t sprite) {
+    written_pages pages, pages_before;
+    written_fill into, before;
+    memset(&pages, 0x55, sizeof pages);
+    memset(&into, 0x55, sizeof into);
+    pages_before = pages, before = into;
+    if (sprite != SIZE_MAX) pages_before.sprite = before.sprite = sprite;
+    CHECK(pack_pages(sprites, count, options, room, ROOM, &pages) == wanted);
+    CHECK(memcmp(&pages_before, &pages, sizeof pages) == 0);
+    CHECK(fill(sprites, count, options, room, &into) == wanted);
+    CHECK(memcmp(&before, &into, sizeof into) == 0);
+}
+
+static void bad_calls_of_both(void) {
+    const guillotiere_size sprites[] = {{3, 5}, {4, 6}, {0, 1}}, great[] = {{1, 1}, {INT32_MAX, 1}};
+    guillotiere_sheet_options options = options_of(4);
+    both_refuse(GUILLOTIERE_BAD_CALL, sprites, 2, &options, 2, SIZE_MAX);
+    options = options_of(GUILLOTIERE_SQUARES);
+    both_refuse(GUILLOTIERE_SHORT, sprites, 2, &options, 1, SIZE_MAX);
+    both_refuse(GUILLOTIERE_EMPTY_SPRITE, sprites, 3, &options, 3, 2);
+    options.padding = 1;
+    both_refuse(GUILLOTIERE_GREAT_SPRITE, great, 2, &options, 2, 1);
+    options.padding = 65536;
+    both_refuse(GUILLOTIERE_BAD_CALL, sprites, 2, &options, 2, SIZE_MAX);
+    options = options_of(GUILLOTIERE_SQUARES);
+    options.least = 0;
+    both_refuse(GUILLOTIERE_EMPTY_SHEET, sprites, 2, &options, 2, SIZE_MAX);
+    options.least = 5000;
+    both_refuse(GUILLOTIERE_EMPTY_RANGE, sprites, 2, &options, 2, SIZE_MAX);
+    options = options_of(GUILLOTIERE_SQUARES);
+    options.alignment_width = 0;
+    both_refuse(GUILLOTIERE_EMPTY_ALIGNMENT, sprites, 2, &options, 2, SIZE_MAX);
+}
+
 int main(void) {
     one_sprite();
     one_size();
@@ -245,5 +389,9 @@ int main(void) {
     bad_options();
     bad_sprites();
     ends_of_ranges();
+    five_sprites();
+    too_large_sprite();
+    random_pages();
+    bad_calls_of_both();
     return 0;
 }

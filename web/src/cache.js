@@ -190,6 +190,13 @@ export class TextureCache extends Owner {
     return reading.areas(runtime.words(), runtime.word);
   }
 
+  unusableArea(page, width, height) {
+    const [number, w, h] = [count(page, 'page'), length(width, 'width'), length(height, 'height')];
+    const runtime = runtimeOf(this);
+    require(runtime.calls.cache_unusable_area(handle(this), number, w, h, runtime.at));
+    return reading.wide(runtime.words(), runtime.word);
+  }
+
   get options() {
     return this.#found('cache_options_of', (words, at) => (
       { page: reading.size(words, at), largestPage: reading.size(words, at + 2), pages: words[at + 4] >>> 0, padding: words[at + 5],

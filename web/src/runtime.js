@@ -9,9 +9,9 @@ const NAMES = [
   ...['new', 'with_options', 'free', 'allocate', 'grow', 'can_grow_to', 'clear', 'reset', 'init_from_allocator', 'size', 'options',
     'slots', 'is_empty'].map((name) => `simple_${name}`),
   ...['new', 'free', 'begin_frame', 'get_halves', 'peek', 'insert', 'remove', 'next_change', 'clear', 'trim', 'shrink', 'repack', 'len',
-    'page_count', 'page_size', 'numbers', 'statistics', 'areas', 'options_of', 'newest', 'oldest', 'older', 'reserve',
+    'page_count', 'page_size', 'numbers', 'statistics', 'areas', 'options_of', 'newest', 'oldest', 'older', 'reserve', 'unusable_area',
   ].map((name) => `cache_${name}`),
-  'pack',
+  'pack', 'pack_pages', 'fill',
 ];
 
 /** The call of an export, of so many arguments; what it throws is a trap. */

@@ -32,7 +32,7 @@ const OPTIONS = {
   seed: [wide, 0n],
 };
 
-function placed(words, at) {
+export function placed(words, at) {
   return { ...reading.rectangle(words, at), turned: words[at + 4] !== 0 };
 }
 
@@ -41,19 +41,28 @@ function sprite(value, name) {
   return [length(value?.width, `${name}.width`), length(value?.height, `${name}.height`)];
 }
 
-export function pack(sprites, given) {
+/** What was asked, written: the sprites at the start of room, with as many words more for each as `step` says; then its options. */
+export function written(sprites, given, step) {
   const sides = list(sprites, 'sprites', sprite);
   const { sheets: allowed, padding, alignment, turn, effort, seed } = options(given, 'options', OPTIONS);
   const runtime = running();
-  const [many, at] = [sides.length, runtime.room(28 * sides.length)];
-  const [places, sheet, bad] = [at + 8 * many, runtime.at + 64, runtime.at + 72];
+  const [many, at] = [sides.length, runtime.room(4 * (2 + step) * sides.length)];
   const halves = [Number(BigInt.asUintN(32, seed)), Number(seed >> 32n)];
   runtime.write(at, sides.flat());
   runtime.write(runtime.at, [...allowed, padding, alignment.width, alignment.height, turn ? 1 : 0, effort, ...halves]);
-  const status = runtime.calls.pack(at, many, runtime.at, places, many, sheet, bad);
-  const words = runtime.words();
-  if (status === DONE) return { ...reading.size(words, sheet >>> 2), places: reading.list(words, places >>> 2, many, 5, placed) };
-  if (status === NO_ROOM) return null;
+  return { runtime, many, at, places: at + 8 * many, told: runtime.at + 64, bad: runtime.at + 72 };
+}
+
+export function refused(status, words, bad) {
   const code = STATUSES[status];
-  throw failure(code, code.endsWith('_SPRITE') ? { sprite: words[bad >>> 2] >>> 0 } : undefined);
+  return failure(code, code.endsWith('_SPRITE') ? { sprite: words[bad >>> 2] >>> 0 } : undefined);
+}
+
+export function pack(sprites, given) {
+  const { runtime, many, at, places, told, bad } = written(sprites, given, 5);
+  const status = runtime.calls.pack(at, many, runtime.at, places, many, told, bad);
+  const words = runtime.words();
+  if (status === DONE) return { ...reading.size(words, told >>> 2), places: reading.list(words, places >>> 2, many, 5, placed) };
+  if (status === NO_ROOM) return null;
+  throw refused(status, words, bad);
 }

@@ -59,6 +59,15 @@ test('a blank key takes no room, and is found, listed and trimmed', () => {
   assert.deepEqual([...cache.changes()].at(-1), { kind: 'evicted', key: 'space', from: place });
 });
 
+test('what is free on a page and of no use', () => {
+  const cache = new TextureCache({ page: SIDE });
+  refused(() => cache.unusableArea(0, 1, 1), 'NO_PAGE', 'unusableArea');
+  for (const [key, height] of [['a', 8], ['b', 8]]) cache.insert(key, 16, height);
+  cache.remove(cache.peek('a').rectangle.y === 0 ? 'a' : 'b');
+  assert.equal(cache.areas(0).free, 128);
+  assert.deepEqual([[16, 8], [17, 8], [16, 9], [-1, 9]].map(([width, height]) => cache.unusableArea(0, width, height)), [0, 128, 128, 128]);
+});
+
 test('pages at the end that hold nothing go', () => {
   const cache = new TextureCache({ page: SIDE, pages: 3 });
   for (const key of ['a', 'b', 'c']) cache.insert(key, 16, 16);

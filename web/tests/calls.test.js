@@ -5,7 +5,7 @@ import { test } from 'node:test';
 import * as wollemigo from '../node.js';
 import { refused, simpleState, stateOf } from './support.js';
 
-const { Atlas, MOST_SLOTS, SimpleAtlas, TextureCache, pack } = wollemigo;
+const { Atlas, MOST_SLOTS, SimpleAtlas, TextureCache, fill, pack, packPages } = wollemigo;
 await wollemigo.load();
 
 function box(x, y, width, height) {
@@ -131,6 +131,25 @@ test('sheets that were worked by hand', () => {
   assert.deepEqual(pack([]), { width: 1, height: 1, places: [] });
 });
 
+test('several sheets, and one that is filled', () => {
+  const four = { width: 4, height: 4 };
+  const sheets = { kind: 'squares', greatest: 8 };
+  const pages = packPages([four, four, four, four, four], { sheets });
+  assert.deepEqual(pages.sizes, [{ width: 8, height: 8 }, four]);
+  assert.deepEqual(pages.places.filter(({ page }) => page === 1), [{ page: 1, ...box(0, 0, 4, 4), turned: false }]);
+  const corners = pages.places.filter(({ page }) => page === 0).map(({ x, y, width, height }) => [x, y, width, height].join(' '));
+  assert.deepEqual(corners.sort(), ['0 0 4 4', '0 4 4 4', '4 0 4 4', '4 4 4 4']);
+  assert.equal(packPages([four, { width: 9, height: 1 }], { sheets }), null);
+  assert.deepEqual(packPages([]), { sizes: [], places: [] });
+  const wide = { width: 9, height: 1 };
+  assert.deepEqual(fill([four, wide], { sheets }), { width: 8, height: 8, left: 1, places: [{ ...box(0, 0, 4, 4), turned: false }, null] });
+  assert.deepEqual(fill([], { sheets, padding: 2 }), { width: 8, height: 8, left: 0, places: [] });
+  const turned = { turn: true, effort: 100, sheets: { kind: 'size', width: 8, height: 4 } };
+  for (const place of [fill([{ width: 4, height: 8 }], turned).places[0], packPages([{ width: 4, height: 8 }], turned)?.places[0]]) {
+    assert.deepEqual([place.x, place.y, place.width, place.height, place.turned], [0, 0, 8, 4, true]);
+  }
+});
+
 test('bad sheets', () => {
   const sprites = [{ width: 1, height: 1 }, { width: 2, height: 0 }];
   assert.equal(refused(() => pack(sprites), 'EMPTY_SPRITE', 'empty').sprite, 1);
@@ -140,7 +159,10 @@ test('bad sheets', () => {
     [{ sheets: { kind: 'squares', least: 10, greatest: 9 } }, 'EMPTY_RANGE'], [{ alignment: { width: 0, height: 1 } }, 'EMPTY_ALIGNMENT'],
     [{ padding: 65536 }, 'BAD_CALL'],
   ];
-  for (const [options, code] of cases) refused(() => pack(sprites.slice(0, 1), options), code, code);
+  for (const [options, code] of cases) {
+    for (const call of [pack, packPages, fill]) refused(() => call(sprites.slice(0, 1), options), code, code);
+  }
+  for (const call of [packPages, fill]) assert.equal(refused(() => call(sprites), 'EMPTY_SPRITE', 'empty').sprite, 1);
 });
 
 test('the seed and the effort of a sheet', () => {

@@ -24,6 +24,7 @@ const USES = {
   TextureCache: {
     beginFrame: [], get: ['a'], peek: ['a'], insert: ['a', 1, 1], remove: ['a'], has: ['a'], changes: [], clear: [], trim: [1], repack: [0],
     shrink: [], pageSize: [0], areas: [0], newest: [], oldest: [], older: ['a'], reserve: [1],
+    unusableArea: [0, 1, 1],
   },
 };
 const MAKERS = {

@@ -1,6 +1,7 @@
 // Each call of the package once, as TypeScript sees it. It is compiled, and not run.
 import {
-  Allocation, Atlas, CacheChange, Container, ErrorCode, Key, MOST_SLOTS, Sheet, SimpleAtlas, TextureCache, WollemigoError, load, pack,
+  Allocation, Atlas, CacheChange, Container, ErrorCode, Filled, Key, MOST_SLOTS, Pages, Sheet, SimpleAtlas, TextureCache, WollemigoError, fill,
+  load, pack, packPages,
 } from '../index.js';
 
 function follow(change: CacheChange): Key | number {
@@ -42,10 +43,17 @@ function useCache(): void {
   for (const change of cache.changes()) follow(change);
   [cache.remove('a'), cache.has('b'), cache.clear(), cache.trim(5n), cache.shrink(), cache.repack(0), cache.length, cache.numbers, cache.pageCount, cache.pageSize(0).width];
   for (let next = cache.newest(); next !== null; next = cache.older(next.key)) next.place.inner.x;
-  [cache.oldest()?.key, cache.reserve(5), cache.areas(0).free, cache.options.atlas.largeSizeThreshold, cache.options.padding];
+  [cache.oldest()?.key, cache.reserve(5), cache.areas(0).free, cache.unusableArea(0, 1, 1), cache.options.atlas.largeSizeThreshold, cache.options.padding];
   const { hits, misses, evictions } = cache.statistics;
   cache.dispose();
   hits + misses + evictions;
+}
+
+function useSheets(): number {
+  const pages: Pages | null = packPages([{ width: 1, height: 1 }], { sheets: { kind: 'squares', greatest: 64 }, effort: 5 });
+  const filled: Filled = fill([{ width: 1, height: 1 }]);
+  const corner: number | undefined = filled.places[0]?.x;
+  return filled.left + filled.width + (corner ?? 0) + (pages === null ? 0 : pages.sizes[pages.places[0].page].height);
 }
 
 export async function use(): Promise<ErrorCode | Sheet | null> {
@@ -54,6 +62,7 @@ export async function use(): Promise<ErrorCode | Sheet | null> {
   try {
     useAtlas();
     useCache();
+    useSheets();
     return pack([{ width: 1, height: 1 }], { sheets: { kind: 'heights', width: 5, greatest: 9 }, turn: true, seed: 5n });
   } catch (error) {
     return error instanceof WollemigoError ? error.code : null;

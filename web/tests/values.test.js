@@ -5,7 +5,7 @@ import { test } from 'node:test';
 import * as wollemigo from '../node.js';
 import { NO_GIVEN_NUMBERS, NO_NUMBERS, cacheState, named, refused, simpleState, stateOf } from './support.js';
 
-const { Atlas, SimpleAtlas, TextureCache, pack } = wollemigo;
+const { Atlas, SimpleAtlas, TextureCache, fill, pack, packPages } = wollemigo;
 await wollemigo.load();
 const NO_LENGTHS = [...NO_NUMBERS, 2 ** 31];
 const NO_COUNTS = [...NO_NUMBERS, -1];
@@ -64,6 +64,7 @@ test('numbers and keys of a cache', () => {
   const state = () => cacheState(cache, ['a', 1]);
   tryAll('insert', state, (w, h) => cache.insert('b', w, h), NO_LENGTHS, 'BAD_NUMBER', true);
   for (const name of ['repack', 'pageSize']) tryAll(name, state, (value) => cache[name](value), NO_COUNTS, 'BAD_NUMBER', false);
+  tryAll('unusableArea', state, (w, h) => cache.unusableArea(0, w, h), NO_LENGTHS, 'BAD_NUMBER', true);
   const noFrames = NO_NUMBERS.filter((value) => value !== 2 ** 32 && value !== 5n).concat([-1, -1n, 2n ** 64n]);
   tryAll('trim', state, (value) => cache.trim(value), noFrames, 'BAD_NUMBER', false);
   const noKeys = NO_NUMBERS.filter((value) => ![2 ** 32, 5n].includes(value) && typeof value !== 'string')
@@ -89,7 +90,9 @@ test('numbers of a sheet', () => {
     { kind: 'powers', greatest: 64, width: 5 }]) {
     refused(() => pack(sprites, { sheets }), 'BAD_OPTION', JSON.stringify(sheets));
   }
-  for (const value of [null, undefined, 5, {}, { length: 1, 0: sprites[0] }]) refused(() => pack(value), 'BAD_OPTION', named(value));
+  for (const value of [null, undefined, 5, {}, { length: 1, 0: sprites[0] }]) {
+    for (const call of [pack, packPages, fill]) refused(() => call(value), 'BAD_OPTION', named(value));
+  }
 });
 
 test('options of the wrong kind, and with names that are not known', () => {

@@ -2,6 +2,7 @@ pub mod BlankLemmas
 pub mod PassLemmas
 pub mod EntryKeeping
 pub mod EntryLemmas
+pub mod GatherLemmas
 pub mod Moves
 pub mod RelocateLemmas
 pub mod RepackLemmas

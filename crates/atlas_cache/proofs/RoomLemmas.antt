@@ -1,5 +1,6 @@
 -- What the steps make of the pages of a cache.
 pub mod Growing
+pub mod Ordering
 pub mod Paging
 pub mod Repacking
 pub mod Standing

@@ -9,7 +9,7 @@ use Rattle.atlas_cache.specs.declared.changes.CacheChange.{CacheChange}
 use Rattle.atlas_cache.specs.declared.changes.CacheChange.TheVariants.{Evicted, Moved}
 use Rattle.atlas_cache.specs.declared.entries.Entry.{Entry}
 use Rattle.atlas_cache.specs.Caches.{CacheState, shown}
-use Rattle.atlas_cache.specs.Repacking.{RearrangesPage}
+use Rattle.atlas_cache.specs.Repacking.{PlacesAnew}
 use Rattle.atlas_cache.specs.Rooms.{page_sizes}
 
 module _ {K : Type 0} where
@@ -31,20 +31,28 @@ module _ {K : Type 0} where
   renewed_by cs e =
       option_map (λ c. record e { id = c.new.id; rectangle = c.new.rectangle }) (find (λ c. c.old.id == e.id) cs)
 
+  -- What the page's atlas holds of an entry of the page.
+  abbrev pub held_of : (page : ℕ) → Entry K → Option Allocation
+  held_of page e = if e.page == page then Some (record { id = e.id; rectangle = e.rectangle }) else None
+
+  -- The rectangles of the entries of a page, the most recently used first.
+  abbrev pub held_on : (page : ℕ) → List (Entry K) → List Allocation
+  held_on page es = filter_map (held_of page) es
+
   -- An entry under its number.
   abbrev pub numbered_as : ℕ → Option (Entry K) → Option (ℕ × Entry K)
   numbered_as n o = option_map (λ e. (n, e)) o
 
   -- Each entry of a page moves or goes, which is told once of each, the most recently used first; an entry that moves
-  -- has another id and rectangle, and no other entry and no other page changes. Where an entry moves to, and that it goes,
-  -- is what a rearranging of the page's atlas says of its id.
+  -- has another id and rectangle, and no other entry and no other page changes. The entries are placed in an empty page of
+  -- that size, the largest first, and of one area the one that was used last; only what has no room in its turn goes.
   pub record Repacks (page : ℕ) (before after : List (CacheChange K)) (s t : CacheState K) : Type 0 where
     pub renewed : Entry K → Option (Entry K)
     pub same : (e f : Entry K) → renewed e ≡ Some f → f ≡ record e { id = f.id; rectangle = f.rectangle }
     pub moved : List Change
     pub given_up : List Allocation
     pub moves : (e : Entry K) → renewed e ≡ renewed_by moved e
-    pub placed : RearrangesPage s.pages t.pages page moved given_up
+    pub placed : PlacesAnew s.pages t.pages page (held_on page s.entries) moved given_up
     pub entries : t.entries ≡ filter_map (become page renewed) s.entries
     pub listed : after ≡ before ++ filter_map (told_of s.options.padding page renewed) s.entries
     pub numbers : t.numbers ≡ s.numbers

@@ -1,18 +1,21 @@
 -- What a repacking does to a page, and the areas of pages.
-use Rattle.std.specs.Prelude.{◌≡◌, ◌==◌, ◌≤◌, ◌++◌, ℕ, All, List, map, Option, Some, find, option_map, count_by, slice_get, sum_by}
+use Rattle.std.specs.Prelude.{◌≡◌, ◌==◌, ◌≤◌, ◌++◌, ℕ, All, IsPermutation, List, length, map, filter, Option, Some, find, option_map}
+use Rattle.std.specs.Prelude.{count_by, slice_get, sum_by}
+use Rattle.std.specs.List.{AllAdjacentBelow}
 use Rattle.guillotiere.specs.declared.Allocation.{Allocation}
 use Rattle.guillotiere.specs.declared.Change.{Change}
 use Rattle.guillotiere.specs.declared.ChangeList.{ChangeList}
 use Rattle.guillotiere.specs.declared.Rectangle.{Rectangle}
 use Rattle.guillotiere.specs.Boxes.{area}
 use Rattle.guillotiere.specs.Pages.{rectangle_on, KeepsPages}
+use Rattle.guillotiere.specs.Pixels.{box_of}
 use Rattle.guillotiere.specs.Rearranging.{transfer_of, IsExactChange, KeepsSides}
 use Rattle.guillotiere.specs.Replies.{grant_of}
-use Rattle.guillotiere.specs.States.{free_in, live_in}
-use Rattle.guillotiere.specs.Steps.{Step}
-use Rattle.guillotiere.specs.Steps.AtlasCall.{Rearrange}
-use Rattle.guillotiere.specs.Steps.AtlasReply.{Changed}
+use Rattle.guillotiere.specs.Changes.{fresh}
+use Rattle.guillotiere.specs.Refits.{Refits}
+use Rattle.guillotiere.specs.States.{after_refit, free_in, live_in}
 use Rattle.guillotiere.specs.Stored.{AtlasValue, state_of}
+use Rattle.guillotiere.specs.Trees.{Tree}
 
 -- The rectangle of an id among allocations.
 abbrev pub rectangle_among : List Allocation → ℕ → Option Rectangle
@@ -45,13 +48,37 @@ pub record RepacksPage {A : Type 0} (old new : List AtlasValue) (page : ℕ) (li
   pub tells : TellsMoves list (rectangle_on old page) (rectangle_on new page)
   pub others : KeepsPages old new page
 
--- The atlas of a page does what `Rearrange` says: what is live is placed anew in an empty atlas of its size, one after
--- another in the order of areas, each where a request of its sides is placed then; only what had no room when its turn
--- came is given up.
-abbrev pub RearrangesPage : (old new : List AtlasValue) → (page : ℕ) → (moved : List Change) → (given_up : List Allocation) → Type 0
-RearrangesPage old new page moved given_up =
+-- The allocations name what is live on a page, each once.
+pub record NamesPage (pages : List AtlasValue) (page : ℕ) (held : List Allocation) : Type 0 where
+  pub told : (id : ℕ) → rectangle_on pages page id ≡ rectangle_among held id
+  pub once : AreOfOwnIds held
+
+-- How many pixels an allocation has.
+abbrev pub area_held : Allocation → ℕ
+area_held a = area (box_of a.rectangle)
+
+-- The order in which allocations are placed: the largest first, and those of one area as they stand in `held`.
+pub record IsLargestFirst (held order : List Allocation) : Type 0 where
+  pub permuted : IsPermutation held order
+  pub falling : AllAdjacentBelow (λ a b. area_held b ≤ area_held a) order (length order)
+  pub ties : (n : ℕ) → filter (λ a. area_held a == n) order ≡ filter (λ a. area_held a == n) held
+
+-- The atlas of a page is made anew: in an empty one of its size the rectangles of `order` are placed, one after another,
+-- each where a request of its sides is placed then; only what had no room when its turn came is given up.
+abbrev pub PlacesInOrder : (old new : List AtlasValue) → (page : ℕ) → (order : List Allocation) → (moved : List Change)
+    → (given_up : List Allocation) → Type 0
+PlacesInOrder old new page order moved given_up =
     (s t : AtlasValue) → slice_get old page ≡ Some s → slice_get new page ≡ Some t
-    → Step (state_of s) Rearrange (Changed (record { changes = map transfer_of moved; failures = map grant_of given_up })) (state_of t)
+    → (tree : Tree) × Refits (state_of s).size (state_of s).options (state_of s).limit (fresh (state_of s).size)
+    (map grant_of order) (record { changes = map transfer_of moved; failures = map grant_of given_up }) tree
+    × (state_of t ≡ after_refit (state_of s) (state_of s).size tree)
+
+-- The same, the largest first, and those of one area as they stand in `held`.
+pub record PlacesAnew (old new : List AtlasValue) (page : ℕ) (held : List Allocation) (moved : List Change)
+    (given_up : List Allocation) : Type 0 where
+  pub order : List Allocation
+  pub ordered : IsLargestFirst held order
+  pub placed : PlacesInOrder old new page order moved given_up
 
 -- The area of what is live on each page, in unit squares.
 abbrev pub live_by_page : List AtlasValue → List ℕ

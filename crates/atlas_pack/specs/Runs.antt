@@ -17,6 +17,7 @@ use Rattle.atlas_sheet.specs.Lying.{IsShown, areas_of}
 use Rattle.atlas_sheet.specs.Packings.{IsFirstFound, IsNoLarger, NoneIsFound}
 use Rattle.atlas_sheet.specs.Settings.{IsSheetFault, spacing_of}
 use Rattle.atlas_sheet.specs.Sheets.{used_area}
+use Rattle.atlas_sheet.specs.Turnings.{InEach, InOne}
 use Rattle.atlas_words.specs.Devices.{HoldsBytes}
 use Rattle.pack_lines.specs.declared.error.PackError.{PackError}
 use Rattle.pack_lines.specs.declared.error.PackError.TheVariants as error
@@ -79,8 +80,9 @@ pub record IsFound (o : SheetOptions) (sizes : List Size) (sheet : Size) (places
   pub whole : places ≡ map Some all
   pub order : List ℕ
   pub shown : IsShown (sides_of sheet) (spacing_of o) o.turn sizes order places
-  pub larger : IsNoLarger WAYS o.allowed (spacing_of o) sizes (sides_of sheet)
-  pub first : o.effort ≡ 0 → IsFirstFound WAYS o.allowed (spacing_of o) sizes (sides_of sheet) order (areas_of places)
+  pub larger : InEach o sizes (λ lying. IsNoLarger WAYS o.allowed (spacing_of o) lying (sides_of sheet))
+  pub first : o.effort ≡ 0
+      → InOne o sizes (λ lying. IsFirstFound WAYS o.allowed (spacing_of o) lying (sides_of sheet) order (areas_of places))
 
 -- What `fill` answers: the greatest sheet that is allowed, with a place or none for each sprite. The places have no fewer pixels than those
 -- that any of the ways finds; without effort they are those of the best of these.
@@ -88,9 +90,10 @@ pub record IsFilled (o : SheetOptions) (sizes : List Size) (sheet : Size) (place
   pub greatest : IsGreatest o.allowed (sides_of sheet)
   pub order : List ℕ
   pub shown : IsShown (sides_of sheet) (spacing_of o) o.turn sizes order places
-  pub best : All (IsNoBetter (sides_of sheet) (spacing_of o) sizes (used_area (areas_of places))) (take (ways_tried (length sizes)) WAYS)
-  pub plain : o.effort ≡ 0
-      → IsBestFound (take (ways_tried (length sizes)) WAYS) (sides_of sheet) (spacing_of o) sizes order (areas_of places)
+  pub best : InEach o sizes (λ lying.
+      All (IsNoBetter (sides_of sheet) (spacing_of o) lying (used_area (areas_of places))) (take (ways_tried (length sizes)) WAYS))
+  pub plain : o.effort ≡ 0 → InOne o sizes (λ lying.
+      IsBestFound (take (ways_tried (length sizes)) WAYS) (sides_of sheet) (spacing_of o) lying order (areas_of places))
 
 -- What the library answers to these options, where it is to fill a sheet or not.
 abbrev pub Answers : (fill : Bool) → SheetOptions → List Size → (sheet : Size) → List (Option Placed) → Type 0
@@ -120,7 +123,8 @@ IsPackFault fill before o sizes (error.EmptySprite line) =
     (k : ℕ) × (line ≡ before + k + 1) × IsSheetFault o sizes (sheet_error.EmptySprite k)
 IsPackFault fill before o sizes (error.GreatSprite line) =
     (k : ℕ) × (line ≡ before + k + 1) × IsSheetFault o sizes (sheet_error.GreatSprite k)
-IsPackFault fill before o sizes error.NoSheet = (fill ≡ false) × NoneIsFound WAYS o.allowed (spacing_of o) sizes
+IsPackFault fill before o sizes error.NoSheet =
+    (fill ≡ false) × InEach o sizes (λ lying. NoneIsFound WAYS o.allowed (spacing_of o) lying)
 IsPackFault fill before o sizes error.Memory = ⊤
 IsPackFault fill before o sizes e = ⊥
 

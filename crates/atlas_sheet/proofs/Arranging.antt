@@ -19,7 +19,7 @@ use Rattle.atlas_sheet.specs.Lying.{IsArrangement, IsPlacedFor, MayLie, areas_of
 use Rattle.atlas_sheet.specs.Orders.{choice_options}
 use Rattle.atlas_sheet.specs.Packings.{ArePacked, IsNoLarger, Packed}
 use Rattle.atlas_sheet.specs.Sheets.{FindPlaces, IsPackable, IsPlaceFor, inner_sides, with_places}
-use Rattle.atlas_sheet.proofs.Turning.{lie_as_given, lie_on, lie_packable}
+use Rattle.atlas_sheet.proofs.Flipping.{lie_as_given, lie_on, lie_packable}
 use Rattle.atlas_sheet.proofs.WholeSheets.{found_places}
 
 -- What sprites find as they lie is an arrangement.

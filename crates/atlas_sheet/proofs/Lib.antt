@@ -1,7 +1,11 @@
 pub mod Arranging
 pub mod Asking
+pub mod BareSheets
 pub mod BestWays
 pub mod Finding
+pub mod Flipping
+pub mod LaidWays
+pub mod Laying
 pub mod Maybes
 pub mod Numbering
 pub mod Ordering
@@ -14,5 +18,4 @@ pub mod Rows
 pub mod Showing
 pub mod Steps
 pub mod Taking
-pub mod Turning
 pub mod WholeSheets

@@ -1,5 +1,7 @@
 -- A sheet as it is found for the sprites that are left.
-use Rattle.std.proofs.Common.{◌≡◌, ◌==◌, ◌<◌, ◌⊎◌, ℕ, Bool, true, false, inl, inr, List, [], ◌∷◌, ◌++◌, length, replicate, take, All, Option, Some, None, IfSome, IsNone, IsSome, refl, ap, sym, subst, ◌∙◌, arith}
+use Rattle.std.proofs.Common.{◌≡◌, ◌==◌, ◌/◌, ◌<◌, ◌≤◌, ◌⊎◌, ℕ, zero, suc, max, min, IsTrue, Bool, true, false, inl, inr, List, [], ◌∷◌, ◌++◌, length, replicate, take, All, Option, Some, None, IfSome, IsNone, IsSome, refl, ap, sym, subst, ◌∙◌, arith}
+use Rattle.std.specs.List.{AllZip}
+use Rattle.std.proofs.Math.Nat.{le-max_left}
 use Rattle.std.proofs.lemmas.Bool.{eq-eqb, eqb-true, false≢true}
 use Rattle.std.proofs.lemmas.List.Elements.{All-nil, All-cons, All-head, All-tail}
 use Rattle.std.proofs.lemmas.Slice.Zip.{AllZip-long}
@@ -15,19 +17,52 @@ use Rattle.atlas_sheet.specs.Allowances.{IsAllowed, IsGreatest}
 use Rattle.atlas_sheet.specs.Fillings.{IsNoBetter, ways_tried}
 use Rattle.atlas_sheet.specs.Lying.{IsPlacedFor, IsShown, MayLie, areas_of}
 use Rattle.atlas_sheet.specs.Packings.{IsNoLarger}
-use Rattle.atlas_sheet.specs.Paging.{ArePages, FitsEmpty, IsFull, IsPage, OneIsTooLarge, TakesAll, holes, put_on, sprites_left}
+use Rattle.atlas_sheet.specs.Paging.{ArePages, IsFull, IsPage, OneIsTooLarge, TakesAll, holes, put_on, sprites_left}
 use Rattle.atlas_sheet.specs.Settings.{spacing_of}
 use Rattle.atlas_sheet.specs.Sheets.{IsPackable, used_area}
+use Rattle.atlas_sheet.specs.Turnings.{InEach, has_room, laid}
+use Rattle.atlas_sheet.specs.declared.turnings.Turning.TheVariants as turning
 use Rattle.atlas_sheet.proofs.Arranging.{shown_whole}
+use Rattle.atlas_sheet.proofs.BareSheets.{none_area, room_found}
+use Rattle.atlas_sheet.proofs.Flipping.{lie_packable}
+use Rattle.atlas_sheet.proofs.Laying.{first_laid, greatest_once, laid_lies, laid_room}
 use Rattle.atlas_sheet.proofs.PageSteps.{all_left, all_there, begun, fewer, left_first, left_long, one_page_more, put_long}
-use Rattle.atlas_sheet.proofs.PageViews.{bare_sheet}
 
 -- What is known of a sheet that was found.
 abbrev pub IsKind : List Way → SheetOptions → List Size → Sides → List (Option Rectangle) → Type 0
 IsKind ways o left sheet areas =
-    (All IsSome areas × IsNoLarger ways o.allowed (spacing_of o) left sheet)
-    ⊎ (IsGreatest o.allowed sheet × All (IsNoBetter sheet (spacing_of o) left (used_area areas)) (take (ways_tried (length left)) ways)
+    (All IsSome areas × InEach o left (λ lying. IsNoLarger ways o.allowed (spacing_of o) lying sheet))
+    ⊎ (IsGreatest o.allowed sheet
+    × InEach o left (λ lying. All (IsNoBetter sheet (spacing_of o) lying (used_area areas)) (take (ways_tried (length left)) ways))
     × (All IsSome areas → ⊥))
+
+-- A way that is tried first.
+first_way : (P : Way → Type 0) (n : ℕ) (ways : List Way) → 0 < n → 0 < length ways → All P (take n ways) → (way : Way) × P way
+first_way P zero ways some ways_some each = absurd (omega (arith, some))
+first_way P (suc n) [] some ways_some each = absurd (omega (arith, ways_some))
+first_way P (suc n) (way ∷ ways) some ways_some each = (way, All-head P way (take n ways) each)
+
+-- A sheet that none of the ways fills with any pixels is too small for one of the sprites.
+bare_sheet : (ways : List Way) (o : SheetOptions) (left : List Size) (sheet : Sides) → 0 < length ways → IsGreatest o.allowed sheet
+    → InEach o left (λ lying. All (IsNoBetter sheet (spacing_of o) lying 0) (take (ways_tried (length left)) ways))
+    → All (IsPackable (spacing_of o)) left → 0 < length left
+    → All (λ s. (lying : Size) × MayLie o.turn s lying × IsTrue (has_room sheet (spacing_of o) lying)) left → ⊥
+bare_sheet ways o left sheet ways_some greatest none packs some room =
+    let first = first_laid o left (λ lying. All (IsNoBetter sheet (spacing_of o) lying 0) (take (ways_tried (length left)) ways)) none in
+    let lying = first.0 in
+    let at : first.1.sheet ≡ sheet = greatest_once o.allowed first.1.sheet sheet first.1.greatest greatest in
+    let is : lying ≡ laid o.turn sheet (spacing_of o) turning.AsGiven left =
+    first.1.lie ∙ ap (λ (s : Sides). laid o.turn s (spacing_of o) turning.AsGiven left) at in
+    let may : AllZip (MayLie o.turn) left lying =
+    subst (AllZip (MayLie o.turn) left) (sym is) (laid_lies sheet (spacing_of o) o.turn turning.AsGiven left) in
+    let count : length lying ≡ length left = AllZip-long (MayLie o.turn) left lying may in
+    let tried : 0 < ways_tried (length left) = omega (arith, le-max_left 1 (min (12000 / max (length left) 1) 10)) in
+    let by = first_way (IsNoBetter sheet (spacing_of o) lying 0) (ways_tried (length left)) ways tried ways_some first.2 in
+    let used = room_found sheet (spacing_of o) lying by.0 by.1.0 by.1.1 by.1.2 (omega (arith, count, some))
+    (lie_packable (spacing_of o) o.turn left lying may packs)
+    (subst (All (λ s. IsTrue (has_room sheet (spacing_of o) s))) (sym is) (laid_room sheet (spacing_of o) o.turn turning.AsGiven left room)) in
+    let few : used_area by.1.1 ≤ 0 = by.1.3 in
+    absurd (omega (arith, used, few))
 
 not_both : (placed : List (Option Placed)) → 0 < length placed → All IsSome placed → All IsNone placed → ⊥
 not_both [] some all none = absurd (omega (arith, some))
@@ -55,7 +90,8 @@ module _ (ways : List Way) (o : SheetOptions) (left : List Size) (sheet : Sides)
       by_kind (inl all) = inl (shown_whole placed areas are all.0, all.1)
       by_kind (inr full) = inr (
         full.0,
-        subst (λ xs. All (IsNoBetter sheet (spacing_of o) left (used_area xs)) (take (ways_tried (length left)) ways)) (sym are) full.1,
+        subst (λ xs. InEach o left (λ lying. All (IsNoBetter sheet (spacing_of o) lying (used_area xs)) (take (ways_tried (length left)) ways)))
+            (sym are) full.1,
         λ whole. full.2 (subst (All IsSome) are (areas_whole placed whole)),
       )
 
@@ -70,9 +106,9 @@ module _ (ways : List Way) (o : SheetOptions) (left : List Size) (sheet : Sides)
   }
 
   -- Where none has a place one is too large.
-  pub none_found : (sprites : List Size) (places : List (Option OnPage)) → left ≡ sprites_left sprites places → 0 < length left
+  pub none_found : (sprites : List Size) (places : List (Option OnPage)) → 0 < length ways → left ≡ sprites_left sprites places → 0 < length left
       → All (IsPackable (spacing_of o)) left → All IsNone placed → OneIsTooLarge o sprites
-  none_found sprites places is some packs none = by_kind kind_here
+  none_found sprites places ways_some is some packs none = by_kind kind_here
     where
       by_kind : TakesAll ways o left sheet placed ⊎ IsFull ways o left sheet placed → OneIsTooLarge o sprites
       by_kind (inl all) =
@@ -82,9 +118,11 @@ module _ (ways : List Way) (o : SheetOptions) (left : List Size) (sheet : Sides)
         sheet = sheet;
         greatest = full.0;
         large = λ fit.
-            let Q : Size → Type 0 = λ s. (lying : Size) → MayLie o.turn s lying → FitsEmpty sheet (spacing_of o) lying in
-            bare_sheet sheet (spacing_of o) o.turn left order placed shown packs some none
-            (subst (All Q) (sym is) (all_left Q sprites places fit));
+            let Q : Size → Type 0 = λ s. (lying : Size) × MayLie o.turn s lying × IsTrue (has_room sheet (spacing_of o) lying) in
+            bare_sheet ways o left sheet ways_some full.0
+            (subst (λ n. InEach o left (λ lying. All (IsNoBetter sheet (spacing_of o) lying n) (take (ways_tried (length left)) ways)))
+            (none_area placed none) full.1)
+            packs some (subst (All Q) (sym is) (all_left Q sprites places fit));
       }
 
 -- Before the first sheet.
@@ -158,6 +196,6 @@ module _ (ways : List Way) (o : SheetOptions) (left given seen : List Size) (giv
       page_found ways o left (sides_of size) order placed areas shown_here are kind_so
       (subst (λ (s : Size). IsAllowed o.allowed (sides_of s)) (sym size_is) allowed) some
 
-  pub none_as_given : (sprites : List Size) (places : List (Option OnPage)) → left ≡ sprites_left sprites places → 0 < length left
+  pub none_as_given : (sprites : List Size) (places : List (Option OnPage)) → 0 < length ways → left ≡ sprites_left sprites places → 0 < length left
       → All (IsPackable (spacing_of o)) left → All IsNone placed → OneIsTooLarge o sprites
   none_as_given = none_found ways o left (sides_of size) order placed areas shown_here are kind_so

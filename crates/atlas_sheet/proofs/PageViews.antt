@@ -1,35 +1,25 @@
 -- What places on several sheets keep to, and sprites of which none has room.
-use Rattle.std.proofs.Common.{◌≡◌, ◌≢◌, ◌==◌, ◌+◌, ◌<◌, ◌≤◌, ◌⊎◌, ℕ, zero, suc, Bool, true, false, cond, nat_le, inl, inr, List, [], ◌∷◌, length, map, get_or, All, Option, Some, None, IfSome, IsNone, IsSome, refl, ap, sym, subst, ◌∙◌, arith}
-use Rattle.std.specs.List.{AllZip, count_by, enumerate_from}
+use Rattle.std.proofs.Common.{◌≡◌, ◌≢◌, ◌==◌, ◌+◌, ◌<◌, ◌≤◌, ◌⊎◌, ℕ, Bool, true, false, cond, nat_le, inl, inr, List, [], ◌∷◌, length, map, All, Option, Some, None, IfSome, IsNone, IsSome, refl, ap, sym, subst, ◌∙◌, arith}
+use Rattle.std.specs.List.{AllZip, count_by}
 use Rattle.std.proofs.lemmas.Bool.{eq-eqb, eqb-true, false≢true, le-leb, leb-true, ne_eqb}
 use Rattle.std.proofs.lemmas.List.{length-map}
 use Rattle.std.proofs.lemmas.List.Elements.{All-nil, All-cons, All-head, All-tail}
-use Rattle.std.proofs.lemmas.Slice.Zip.{AllZip-long}
-use Rattle.std.proofs.lemmas.List.Sorted.{length_permutation}
 use Rattle.guillotiere.specs.declared.Size.{Size}
-use Rattle.guillotiere.specs.Boxes.{Sides, Box, Fits, covers, whole_box}
-use Rattle.guillotiere.specs.Pixels.{box_of, sides_of}
-use Rattle.guillotiere.specs.Choice.{rounded, up}
-use Rattle.guillotiere.specs.Simple.{SimpleState, simple_start}
+use Rattle.guillotiere.specs.Boxes.{Box, covers}
+use Rattle.guillotiere.specs.Pixels.{box_of}
 use Rattle.guillotiere.proofs.TreeLemmas.TreeBasics.{one_if}
 use Rattle.guillotiere.proofs.ListLemmas.Counting.{count_by-cons}
-use Rattle.atlas_model.proofs.SimpleLemmas.SimpleSteps.{whole-fits}
 use Rattle.atlas_sheet.specs.declared.options.SheetOptions.{SheetOptions}
 use Rattle.atlas_sheet.specs.declared.options.Spacing.{Spacing}
 use Rattle.atlas_sheet.specs.declared.paging.OnPage.{OnPage}
 use Rattle.atlas_sheet.specs.declared.placed.Placed.{Placed}
-use Rattle.atlas_sheet.specs.declared.ways.Choice.{Choice}
 use Rattle.atlas_sheet.specs.declared.ways.Way.{Way}
 use Rattle.atlas_sheet.specs.Allowances.{IsGreatest}
-use Rattle.atlas_sheet.specs.Lying.{IsPlacedFor, IsShown, MayLie, areas_of}
-use Rattle.atlas_sheet.specs.Orders.{choice_options}
-use Rattle.atlas_sheet.specs.Paging.{AreApart, AreGreatest, ArePages, AreUsed, FitsEmpty, IsFull, IsOnPage, TakesAll, boxes_on, page_sides, place_on, places_on, sprites_from}
+use Rattle.atlas_sheet.specs.Lying.{IsPlacedFor, areas_of}
+use Rattle.atlas_sheet.specs.Paging.{AreApart, AreGreatest, ArePages, AreUsed, IsFull, IsOnPage, TakesAll, boxes_on, page_sides, place_on, places_on, sprites_from}
 use Rattle.atlas_sheet.specs.Settings.{spacing_of}
-use Rattle.atlas_sheet.specs.Sheets.{FindPlaces, FindsPlace, IsPackable, asked_sides, covers_place, inner_sides, padded, with_places}
+use Rattle.atlas_sheet.specs.Sheets.{covers_place, padded}
 use Rattle.atlas_sheet.proofs.Asking.{covers_inside}
-use Rattle.atlas_sheet.proofs.Numbering.{order_all}
-use Rattle.atlas_sheet.proofs.Turning.{lie_packable}
-use Rattle.atlas_sheet.proofs.WholeSheets.{choice_alignment}
 
 -- A pair that stands in two lists or not.
 zip_later : {X Y : Type 0} (R : X → Y → Type 0) (b : Bool) (x : X) (xs : List X) (y : Y) (ys : List Y)
@@ -153,64 +143,3 @@ module _ (ways : List Way) (o : SheetOptions) (sprites sizes : List Size) (place
           → IsGreatest o.allowed (page_sides sizes k)
       by_kind (inl all) = absurd ((are.pages (k + 1) less).used (whole_last k places all.0))
       by_kind (inr full) = full.0
-
--- Sprites of which none has room.
-none_at : (placed : List (Option Placed)) (k : ℕ) → All IsNone placed → get_or (areas_of placed) k None ≡ None
-none_at [] k none = refl
-none_at (None ∷ placed) zero none = refl
-none_at (Some p ∷ placed) zero none = let off : IsNone (Some p) = All-head IsNone (Some p) placed none in cc
-none_at (p ∷ placed) (suc k) none = none_at placed k (All-tail IsNone p placed none)
-
-all_lie : (P : Size → Type 0) (turn : Bool) (sprites lying : List Size) → AllZip (MayLie turn) sprites lying
-    → All (λ s. (l : Size) → MayLie turn s l → P l) sprites → All P lying
-all_lie P turn [] [] lies each = All-nil P
-all_lie P turn [] (l ∷ lying) lies each = elim lies [ ]
-all_lie P turn (s ∷ sprites) [] lies each = elim lies [ ]
-all_lie P turn (s ∷ sprites) (l ∷ lying) lies each =
-    let Q : Size → Type 0 = λ s. (l : Size) → MayLie turn s l → P l in
-    All-cons P l lying (All-head Q s sprites each l lies.0) (all_lie P turn sprites lying lies.1 (All-tail Q s sprites each))
-
-module _ (sheet : Sides) (spacing : Spacing) (choice : Choice) where
-  finds_room : (s : Size) (placed : List (Option Placed)) (k : ℕ) → IsPackable spacing s → FitsEmpty sheet spacing s → All IsNone placed
-      → (next : SimpleState) → FindsPlace spacing (simple_start (inner_sides spacing sheet) (choice_options spacing choice)) s (get_or (areas_of placed) k None) next → ⊥
-  finds_room s placed k packs fits none next found =
-      let start = simple_start (inner_sides spacing sheet) (choice_options spacing choice) in
-      let step : FindsPlace spacing start s None next = subst (λ o. FindsPlace spacing start s o next) (none_at placed k none) found in
-      let wide : 0 < (sides_of s).width = packs.positive.0 in
-      let high : 0 < (sides_of s).height = packs.positive.1 in
-      let aligned : Fits (rounded (choice_options spacing choice) (asked_sides spacing.padding s)) (inner_sides spacing sheet) =
-      subst (λ (a : Sides). Fits (record {
-        width = up (asked_sides spacing.padding s).width a.width;
-        height = up (asked_sides spacing.padding s).height a.height;
-      }) (inner_sides spacing sheet)) (sym (choice_alignment spacing choice)) fits in
-      step.0 (record {
-        positive = (omega (arith, wide), omega (arith, high));
-        box = whole_box (inner_sides spacing sheet);
-        fitting = record { is_free = (0, omega arith, refl); fits = whole-fits _ _ aligned };
-      })
-
-  first_asks : (placed : List (Option Placed)) (order : List (ℕ × Size)) → 0 < length order → All IsNone placed
-      → All (λ s. IsPackable spacing s.1) order → All (λ s. FitsEmpty sheet spacing s.1) order
-      → FindPlaces spacing (simple_start (inner_sides spacing sheet) (choice_options spacing choice)) (with_places (areas_of placed) order) → ⊥
-  first_asks placed [] some none packs fits found = absurd (omega (arith, some))
-  first_asks placed (s ∷ order) some none packs fits found =
-      finds_room s.1 placed s.0 (All-head (λ s. IsPackable spacing s.1) s order packs) (All-head (λ s. FitsEmpty sheet spacing s.1) s order fits) none found.0 found.1
-
--- A sheet on which none of some sprites has a place is too small for one of them.
-pub bare_sheet : (sheet : Sides) (spacing : Spacing) (turn : Bool) (sprites : List Size) (order : List ℕ) (placed : List (Option Placed))
-    → IsShown sheet spacing turn sprites order placed → All (IsPackable spacing) sprites → 0 < length sprites → All IsNone placed
-    → All (λ s. (lying : Size) → MayLie turn s lying → FitsEmpty sheet spacing lying) sprites → ⊥
-bare_sheet sheet spacing turn sprites order placed shown packs some none fit =
-    let a = shown.arranged in
-    let lying = shown.lying in
-    let numbered = shown.numbered in
-    let count : length lying ≡ length sprites = AllZip-long (MayLie turn) sprites lying a.lies in
-    let listed : length numbered ≡ length (enumerate_from 0 lying) = length_permutation (enumerate_from 0 lying) numbered a.permuted in
-    let numbers : length (enumerate_from 0 lying) ≡ length lying = numbered_long 0 lying in
-    first_asks sheet spacing shown.choice placed numbered (omega (arith, count, listed, numbers, some)) none
-    (order_all lying numbered a.permuted (IsPackable spacing) (lie_packable spacing turn sprites lying a.lies packs))
-    (order_all lying numbered a.permuted (FitsEmpty sheet spacing) (all_lie (FitsEmpty sheet spacing) turn sprites lying a.lies fit)) a.found
-  where
-    numbered_long : (n : ℕ) (xs : List Size) → length (enumerate_from n xs) ≡ length xs
-    numbered_long n [] = refl
-    numbered_long n (x ∷ xs) = ap suc (numbered_long (n + 1) xs)

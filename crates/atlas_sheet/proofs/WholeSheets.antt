@@ -1,10 +1,8 @@
 -- What a way finds in a new sheet, and how many pixels places have.
-use Rattle.std.proofs.Common.{◌≡◌, ◌+◌, ◌-◌, ◌++◌, ◌<◌, ℕ, suc, List, [], ◌∷◌, length, take, get_or, All, IsPermutation, Option, ap, refl, rules, arith}
+use Rattle.std.proofs.Common.{◌≡◌, ◌-◌, ℕ, List, [], ◌∷◌, length, All, IsPermutation, Option, refl, rules, arith}
 use Rattle.std.specs.List.{enumerate_from}
 use Rattle.std.proofs.Math.Nat.{le-max_right, zero-mod}
-use Rattle.std.proofs.Math.Seq.{take-suc}
 use Rattle.std.proofs.lemmas.List.Elements.{All-nil, All-cons, All-weaker}
-use Rattle.std.proofs.lemmas.List.Sums.{sum_by-append, sum_by-cons}
 use Rattle.guillotiere.specs.declared.Size.{Size}
 use Rattle.guillotiere.specs.declared.Rectangle.{Rectangle}
 use Rattle.guillotiere.specs.Boxes.{Sides, IsPositive, IsWithin, whole_box}
@@ -16,7 +14,7 @@ use Rattle.atlas_sheet.specs.declared.options.Spacing.{Spacing}
 use Rattle.atlas_sheet.specs.declared.ways.Choice.{Choice}
 use Rattle.atlas_sheet.specs.declared.ways.Choice.TheVariants as choice
 use Rattle.atlas_sheet.specs.Orders.{choice_options}
-use Rattle.atlas_sheet.specs.Sheets.{ArePlaces, FindPlaces, IsOnGrid, IsPackable, inner_sides, place_area, used_area, with_places}
+use Rattle.atlas_sheet.specs.Sheets.{ArePlaces, FindPlaces, IsOnGrid, IsPackable, inner_sides, with_places}
 use Rattle.atlas_sheet.proofs.Asking.{AreOnGrid}
 use Rattle.atlas_sheet.proofs.Placing.{in_order}
 

@@ -6,3 +6,4 @@ pub mod Packings
 pub mod Paging
 pub mod Settings
 pub mod Sheets
+pub mod Turnings

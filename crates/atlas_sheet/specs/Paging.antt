@@ -1,12 +1,10 @@
 -- Sprites on several sheets.
 use Rattle.std.specs.Prelude.{◌≡◌, ◌≢◌, ℕ, suc, pos, ◌+◌, ◌<◌, ◌==◌, ◌⊎◌, nat_le, if◌then◌else◌, Bool, true, List, [], ◌∷◌}
-use Rattle.std.specs.Prelude.{length, take, All, Option, Some, None, IfSome, IsNone, IsSome, is_none, slice_index_or}
+use Rattle.std.specs.Prelude.{length, take, All, Option, Some, None, IfSome, IsNone, IsSome, IsTrue, is_none, slice_index_or}
 use Rattle.guillotiere.specs.declared.Size.{Size}
-use Rattle.guillotiere.specs.Boxes.{Box, Sides, AreDisjoint, Fits}
-use Rattle.guillotiere.specs.Choice.{up}
+use Rattle.guillotiere.specs.Boxes.{Box, Sides, AreDisjoint}
 use Rattle.guillotiere.specs.Pixels.{box_of, sides_of}
 use Rattle.atlas_sheet.specs.declared.options.SheetOptions.{SheetOptions}
-use Rattle.atlas_sheet.specs.declared.options.Spacing.{Spacing}
 use Rattle.atlas_sheet.specs.declared.paging.OnPage.{OnPage}
 use Rattle.atlas_sheet.specs.declared.placed.Placed.{Placed}
 use Rattle.atlas_sheet.specs.declared.ways.Way.{Way}
@@ -15,7 +13,8 @@ use Rattle.atlas_sheet.specs.Fillings.{IsNoBetter, ways_tried}
 use Rattle.atlas_sheet.specs.Lying.{IsPlacedFor, IsShown, MayLie, areas_of}
 use Rattle.atlas_sheet.specs.Packings.{IsNoLarger}
 use Rattle.atlas_sheet.specs.Settings.{spacing_of}
-use Rattle.atlas_sheet.specs.Sheets.{asked_sides, inner_sides, used_area}
+use Rattle.atlas_sheet.specs.Sheets.{used_area}
+use Rattle.atlas_sheet.specs.Turnings.{InEach, has_room}
 
 -- The sides of the sheet with a number.
 abbrev pub page_sides : List Size → ℕ → Sides
@@ -52,17 +51,18 @@ abbrev pub boxes_on : (page : ℕ) → List OnPage → List Box
 boxes_on page [] = []
 boxes_on page (p ∷ places) = if p.page == page then box_of p.placed.area ∷ boxes_on page places else boxes_on page places
 
--- All of these sprites lie on this sheet, and it is no larger than the one that a way packs them into first.
+-- All of these sprites lie on this sheet, and it is no larger than one that a way packs them into first.
 abbrev pub TakesAll : List Way → SheetOptions → List Size → Sides → List (Option Placed) → Type 0
 TakesAll ways o sprites sheet placed =
-    All IsSome placed × IsNoLarger ways o.allowed (spacing_of o) sprites sheet
+    All IsSome placed × InEach o sprites (λ lying. IsNoLarger ways o.allowed (spacing_of o) lying sheet)
 
 -- The greatest sheet that is allowed, and none of the first ways fills it with more pixels of these sprites; it doesn't
 -- take them all.
 abbrev pub IsFull : List Way → SheetOptions → List Size → Sides → List (Option Placed) → Type 0
 IsFull ways o sprites sheet placed =
     IsGreatest o.allowed sheet
-    × All (IsNoBetter sheet (spacing_of o) sprites (used_area (areas_of placed))) (take (ways_tried (length sprites)) ways)
+    × InEach o sprites (λ lying.
+    All (IsNoBetter sheet (spacing_of o) lying (used_area (areas_of placed))) (take (ways_tried (length sprites)) ways))
     × (All IsSome placed → ⊥)
 
 -- A sheet for sprites that lie on no earlier one. Those without a place asked, and found no room.
@@ -99,21 +99,11 @@ AreUsed sizes places = (page : ℕ) → page < length sizes → All (λ p. p.pag
 abbrev pub AreGreatest : SheetOptions → (sizes : List Size) → Type 0
 AreGreatest o sizes = (page : ℕ) → page + 1 < length sizes → IsGreatest o.allowed (page_sides sizes page)
 
--- A sprite that lies so has room in an empty sheet: with its padding, and rounded up to the alignment.
-abbrev pub FitsEmpty : (sheet : Sides) (spacing : Spacing) → Size → Type 0
-FitsEmpty sheet spacing lying =
-    Fits
-    (record {
-      width = up (asked_sides spacing.padding lying).width (sides_of spacing.alignment).width;
-      height = up (asked_sides spacing.padding lying).height (sides_of spacing.alignment).height;
-    })
-    (inner_sides spacing sheet)
-
--- Not each sprite has room in the greatest sheet, however it may lie.
+-- Not each sprite has room in the greatest sheet, in one of the ways that it may lie.
 pub record OneIsTooLarge (o : SheetOptions) (sprites : List Size) : Type 0 where
   pub sheet : Sides
   pub greatest : IsGreatest o.allowed sheet
-  pub large : All (λ s. (lying : Size) → MayLie o.turn s lying → FitsEmpty sheet (spacing_of o) lying) sprites → ⊥
+  pub large : All (λ s. (lying : Size) × MayLie o.turn s lying × IsTrue (has_room sheet (spacing_of o) lying)) sprites → ⊥
 
 -- How many sprites have no place.
 abbrev pub holes : List (Option OnPage) → ℕ

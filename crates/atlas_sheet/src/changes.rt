@@ -43,8 +43,8 @@ fn turn_run(random: &mut Random, order: &mut [(usize, Size)])
     order[first..end].reverse();
 }
 
-// The sides of a sprite that is turned.
-fn flipped(size: Size) -> Size
+/// The sides of a sprite that is turned.
+pub fn flipped(size: Size) -> Size
     ensures { result ≡ turned_size size }
 {
     size2(size.height, size.width)

@@ -55,8 +55,8 @@ pub fn check(sprites: &[Size], spacing: Spacing) -> Result<(), SheetError>
     Ok(())
 }
 
-// A coordinate, or 0 for one below 0.
-fn from_zero(coordinate: i32) -> u64
+/// A coordinate or a side, or 0 for one below 0.
+pub fn from_zero(coordinate: i32) -> u64
     ensures value { result ≡ natural coordinate }
     ensures small { result ≤ 2147483647 }
 {

@@ -17,6 +17,7 @@ mod random;
 mod search;
 mod sheets;
 mod trials;
+mod turnings;
 mod ways;
 
 pub use allowed::Allowed;
@@ -26,4 +27,5 @@ pub use orders::Key;
 pub use paging::{OnPage, Pages, pack_pages};
 pub use placed::Placed;
 pub use sheets::{Filled, Sheet, fill, pack, pack_telling};
+pub use turnings::Turning;
 pub use ways::{Choice, WAYS, Way, prove_ways, ways_tried};

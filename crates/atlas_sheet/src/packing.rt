@@ -1,5 +1,5 @@
 //! Smaller and smaller sheets.
-ghost use Rattle.std.specs.Prelude.{◌≡◌, ◌<◌, ◌≤◌, map, All, IfNone, IfOk, IfSome, IsNone, IsOkUnless, IsSome};
+ghost use Rattle.std.specs.Prelude.{◌≡◌, ◌<◌, ◌≤◌, ◌⊎◌, map, All, IfNone, IfOk, IfSome, IsNone, IsOkUnless, IsSome, List};
 ghost use Rattle.guillotiere.specs.Boxes.{IsPositive};
 ghost use Rattle.guillotiere.specs.Pixels.{sides_of};
 ghost use Rattle.atlas_sheet.specs.declared.error.SheetError.TheVariants.{Memory};
@@ -9,15 +9,18 @@ ghost use Rattle.atlas_sheet.specs.Lying.{IsArrangement};
 ghost use Rattle.atlas_sheet.specs.Packings.{IsFirstFound, IsLeastFound, IsNoLarger, IsToldLast, NoneIsFound};
 ghost use Rattle.atlas_sheet.specs.Settings.{spacing_of};
 ghost use Rattle.atlas_sheet.specs.Sheets.{IsPackable};
+ghost use Rattle.atlas_sheet.specs.Turnings.{AreLaid, InEach, InOne};
 
 use crate::arrangement::Arrangement;
 use crate::climbing::{asked_in, improve, is_whole};
 use crate::error::SheetError;
+use crate::filling::from_zero;
 use crate::options::SheetOptions;
 use crate::orders::greatest_first;
 use crate::random::Random;
 use crate::search::{greatest_sheet, smaller_sheet, smallest};
 use crate::trials::{Packing, trials_of};
+use crate::turnings::{Turning, laid};
 use crate::ways::WAYS;
 use guillotiere::{Rectangle, Size};
 use std::alloc::Allocator;
@@ -38,23 +41,21 @@ fn somes<A: Allocator + Copy>(
 // What a way packs, as an arrangement.
 fn arrangement_of<A: Allocator + Copy>(
     alloc: A,
-    sprites: &[Size],
     options: &SheetOptions,
+    lying: Vec<Size, A>,
     packing: Packing<A>,
 ) -> Result<Arrangement<A>, SheetError>
-    requires { IsLeastFound WAYS options.now.allowed (spacing_of options.now) sprites.now (sides_of packing.size)
+    requires { IsLeastFound WAYS options.now.allowed (spacing_of options.now) lying.items (sides_of packing.size)
         (record { way = packing.way; order = packing.order.items; places = packing.places.items }) }
     ensures arranged { IfOk result (λ a. IsArrangement (sides_of a.size) (spacing_of options.now) options.now.turn
-        sprites.now a.choice a.lying.items a.order.items a.places.items) }
+        lying.items a.choice a.lying.items a.order.items a.places.items) }
+    ensures lying { IfOk result (λ a. a.lying.items ≡ lying.items) }
     ensures allowed { IfOk result (λ a. IsAllowed options.now.allowed (sides_of a.size)) }
     ensures whole { IfOk result (λ a. All IsSome a.places.items) }
-    ensures first { IfOk result (λ a. IsFirstFound WAYS options.now.allowed (spacing_of options.now) sprites.now
+    ensures first { IfOk result (λ a. IsFirstFound WAYS options.now.allowed (spacing_of options.now) lying.items
         (sides_of a.size) (map (λ s. s.0) a.order.items) a.places.items) }
-    ensures larger { IfOk result (λ a. IsNoLarger WAYS options.now.allowed (spacing_of options.now) sprites.now
-        (sides_of a.size)) }
     ensures unless { IsOkUnless result Memory }
 {
-    let lying = Vec::from_slice(alloc, sprites)?;
     let places = somes(alloc, &packing.places)?;
     Ok(Arrangement {
         size: packing.size,
@@ -63,6 +64,104 @@ fn arrangement_of<A: Allocator + Copy>(
         order: packing.order,
         places,
     })
+}
+
+// The sprites as they are laid, in the smallest sheet into which a way packs them.
+fn first_so<A: Allocator + Copy>(
+    alloc: A,
+    sprites: &[Size],
+    options: &SheetOptions,
+    how: Turning,
+) -> Result<Option<Arrangement<A>>, SheetError>
+    requires usable { IsUsable options.now.allowed }
+    requires aligned { IsPositive (sides_of options.now.alignment) }
+    requires packable { All (IsPackable (spacing_of options.now)) sprites.now }
+    ensures arranged { IfOk result (λ found. IfSome found (λ a. IsArrangement (sides_of a.size)
+        (spacing_of options.now) options.now.turn
+        sprites.now a.choice a.lying.items a.order.items a.places.items)) }
+    ensures allowed { IfOk result (λ found. IfSome found (λ a. IsAllowed options.now.allowed (sides_of a.size))) }
+    ensures whole { IfOk result (λ found. IfSome found (λ a. All IsSome a.places.items)) }
+    ensures laid { IfOk result (λ found. IfSome found (λ a. AreLaid options.now how sprites.now a.lying.items)) }
+    ensures first { IfOk result (λ found. IfSome found (λ a. IsFirstFound WAYS options.now.allowed
+        (spacing_of options.now) a.lying.items (sides_of a.size) (map (λ s. s.0) a.order.items) a.places.items)) }
+    ensures none { IfOk result (λ found. IfNone found (
+        (lying : List Size) × AreLaid options.now how sprites.now lying
+        × NoneIsFound WAYS options.now.allowed (spacing_of options.now) lying)) }
+    ensures unless { IsOkUnless result Memory }
+{
+    let lying = laid(alloc, sprites, options, how)?;
+    let trials = trials_of(alloc, &lying, &WAYS)?;
+    let found = smallest(alloc, &lying, &trials, options.allowed, options.spacing())?;
+    match found {
+        None => Ok(None),
+        Some(packing) => {
+            let first = arrangement_of(alloc, options, lying, packing)?;
+            Ok(Some(first))
+        }
+    }
+}
+
+// How many pixels a sheet has.
+fn pixels(size: Size) -> u64
+    ensures { result ≡ pixels (sides_of size) }
+{
+    from_zero(size.width) * from_zero(size.height)
+}
+
+// The arrangement in the smaller sheet, if there is one; of two with as many pixels the first.
+fn smaller_of<A: Allocator>(
+    one: Option<Arrangement<A>>,
+    other: Option<Arrangement<A>>,
+) -> Option<Arrangement<A>>
+    ensures kept { (result ≡ one) ⊎ (result ≡ other) }
+    ensures one { IfSome one (λ a. IfSome result (λ b. pixels (sides_of b.size) ≤ pixels (sides_of a.size))) }
+    ensures other { IfSome other (λ a. IfSome result (λ b. pixels (sides_of b.size) ≤ pixels (sides_of a.size))) }
+    ensures none_one { IfNone result (IsNone one) }
+    ensures none_other { IfNone result (IsNone other) }
+{
+    let Some(first) = one else {
+        return other;
+    };
+    let Some(second) = other else {
+        return Some(first);
+    };
+    if pixels(second.size) < pixels(first.size) {
+        Some(second)
+    } else {
+        Some(first)
+    }
+}
+
+// The smallest sheet into which a way packs all sprites, however they are laid.
+fn first_found<A: Allocator + Copy>(
+    alloc: A,
+    sprites: &[Size],
+    options: &SheetOptions,
+) -> Result<Option<Arrangement<A>>, SheetError>
+    requires usable { IsUsable options.now.allowed }
+    requires aligned { IsPositive (sides_of options.now.alignment) }
+    requires packable { All (IsPackable (spacing_of options.now)) sprites.now }
+    ensures arranged { IfOk result (λ found. IfSome found (λ a. IsArrangement (sides_of a.size)
+        (spacing_of options.now) options.now.turn
+        sprites.now a.choice a.lying.items a.order.items a.places.items)) }
+    ensures allowed { IfOk result (λ found. IfSome found (λ a. IsAllowed options.now.allowed (sides_of a.size))) }
+    ensures whole { IfOk result (λ found. IfSome found (λ a. All IsSome a.places.items)) }
+    ensures first { IfOk result (λ found. IfSome found (λ a. InOne options.now sprites.now (λ lying. IsFirstFound WAYS
+        options.now.allowed (spacing_of options.now) lying (sides_of a.size) (map (λ s. s.0) a.order.items)
+        a.places.items))) }
+    ensures larger { IfOk result (λ found. IfSome found (λ a. InEach options.now sprites.now (λ lying. IsNoLarger WAYS
+        options.now.allowed (spacing_of options.now) lying (sides_of a.size)))) }
+    ensures none { IfOk result (λ found. IfNone found (InEach options.now sprites.now (λ lying.
+        NoneIsFound WAYS options.now.allowed (spacing_of options.now) lying))) }
+    ensures unless { IsOkUnless result Memory }
+{
+    let given = first_so(alloc, sprites, options, Turning::AsGiven)?;
+    if !options.turn {
+        return Ok(given);
+    }
+    let wide = first_so(alloc, sprites, options, Turning::Wide)?;
+    let high = first_so(alloc, sprites, options, Turning::High)?;
+    Ok(smaller_of(given, smaller_of(wide, high)))
 }
 
 // Sprites in smaller and smaller sheets, as long as there are tries: the last one that took all. `told` is called with
@@ -117,7 +216,8 @@ fn squeeze<A: Allocator + Copy>(
     random: &mut Random,
     tries: &mut u32,
 ) -> Result<Option<Arrangement<A>>, SheetError>
-    requires none { NoneIsFound WAYS options.now.allowed (spacing_of options.now) sprites.now }
+    requires none { InEach options.now sprites.now (λ lying. NoneIsFound WAYS options.now.allowed
+        (spacing_of options.now) lying) }
     requires usable { IsUsable options.now.allowed }
     requires aligned { IsPositive (sides_of options.now.alignment) }
     requires packable { All (IsPackable (spacing_of options.now)) sprites.now }
@@ -127,8 +227,8 @@ fn squeeze<A: Allocator + Copy>(
     ensures allowed { IfOk result (λ found. IfSome found (λ a. IsAllowed options.now.allowed (sides_of a.size))) }
     ensures whole { IfOk result (λ found. IfSome found (λ a. All IsSome a.places.items)) }
     ensures plain { tries.old ≡ 0 → IfOk result (λ found. IsNone found) }
-    ensures larger { IfOk result (λ found. IfSome found (λ a. IsNoLarger WAYS options.now.allowed
-        (spacing_of options.now) sprites.now (sides_of a.size))) }
+    ensures larger { IfOk result (λ found. IfSome found (λ a. InEach options.now sprites.now (λ lying. IsNoLarger WAYS
+        options.now.allowed (spacing_of options.now) lying (sides_of a.size)))) }
     ensures unless { IsOkUnless result Memory }
 {
     if *tries == 0 {
@@ -136,8 +236,9 @@ fn squeeze<A: Allocator + Copy>(
     }
     let size = greatest_sheet(options.allowed);
     let way = WAYS[0];
-    let order = greatest_first(alloc, sprites, way.key)?;
-    let asked = asked_in(alloc, options, size, way.choice, sprites, &order)?;
+    let lying = laid(alloc, sprites, options, Turning::AsGiven)?;
+    let order = greatest_first(alloc, &lying, way.key)?;
+    let asked = asked_in(alloc, options, size, way.choice, &lying, &order)?;
     let found = improve(alloc, options, random, tries, asked)?;
     if !is_whole(&found) {
         return Ok(None);
@@ -161,25 +262,22 @@ fn first_whole<A: Allocator + Copy>(
         sprites.now a.choice a.lying.items a.order.items a.places.items)) }
     ensures allowed { IfOk result (λ found. IfSome found (λ a. IsAllowed options.now.allowed (sides_of a.size))) }
     ensures whole { IfOk result (λ found. IfSome found (λ a. All IsSome a.places.items)) }
-    ensures first { tries.old ≡ 0 → IfOk result (λ found. IfSome found (λ a. IsFirstFound WAYS options.now.allowed
-        (spacing_of options.now) sprites.now (sides_of a.size) (map (λ s. s.0) a.order.items) a.places.items)) }
-    ensures larger { IfOk result (λ found. IfSome found (λ a. IsNoLarger WAYS options.now.allowed
-        (spacing_of options.now) sprites.now (sides_of a.size))) }
-    ensures none { IfOk result (λ found. IfNone found
-        (NoneIsFound WAYS options.now.allowed (spacing_of options.now) sprites.now)) }
+    ensures first { tries.old ≡ 0 → IfOk result (λ found. IfSome found (λ a. InOne options.now sprites.now (λ lying.
+        IsFirstFound WAYS options.now.allowed (spacing_of options.now) lying (sides_of a.size)
+        (map (λ s. s.0) a.order.items) a.places.items))) }
+    ensures larger { IfOk result (λ found. IfSome found (λ a. InEach options.now sprites.now (λ lying. IsNoLarger WAYS
+        options.now.allowed (spacing_of options.now) lying (sides_of a.size)))) }
+    ensures none { IfOk result (λ found. IfNone found (InEach options.now sprites.now (λ lying.
+        NoneIsFound WAYS options.now.allowed (spacing_of options.now) lying))) }
     ensures unless { IsOkUnless result Memory }
 {
-    let trials = trials_of(alloc, sprites, &WAYS)?;
-    let found = smallest(alloc, sprites, &trials, options.allowed, options.spacing())?;
+    let found = first_found(alloc, sprites, options)?;
     match found {
         None => {
             let squeezed = squeeze(alloc, sprites, options, random, tries)?;
             Ok(squeezed)
         }
-        Some(packing) => {
-            let first = arrangement_of(alloc, sprites, options, packing)?;
-            Ok(Some(first))
-        }
+        Some(first) => Ok(Some(first)),
     }
 }
 
@@ -200,13 +298,13 @@ pub fn packed<A: Allocator + Copy, F: FnMut(Size)>(
         sprites.now a.choice a.lying.items a.order.items a.places.items)) }
     ensures allowed { IfOk result (λ found. IfSome found (λ a. IsAllowed options.now.allowed (sides_of a.size))) }
     ensures whole { IfOk result (λ found. IfSome found (λ a. All IsSome a.places.items)) }
-    ensures first { options.now.effort ≡ 0 → IfOk result (λ found. IfSome found (λ a. IsFirstFound WAYS
-        options.now.allowed (spacing_of options.now) sprites.now (sides_of a.size) (map (λ s. s.0) a.order.items)
-        a.places.items)) }
-    ensures larger { IfOk result (λ found. IfSome found (λ a. IsNoLarger WAYS options.now.allowed
-        (spacing_of options.now) sprites.now (sides_of a.size))) }
-    ensures none { IfOk result (λ found. IfNone found
-        (NoneIsFound WAYS options.now.allowed (spacing_of options.now) sprites.now)) }
+    ensures first { options.now.effort ≡ 0 → IfOk result (λ found. IfSome found (λ a. InOne options.now sprites.now
+        (λ lying. IsFirstFound WAYS options.now.allowed (spacing_of options.now) lying (sides_of a.size)
+        (map (λ s. s.0) a.order.items) a.places.items))) }
+    ensures larger { IfOk result (λ found. IfSome found (λ a. InEach options.now sprites.now (λ lying. IsNoLarger WAYS
+        options.now.allowed (spacing_of options.now) lying (sides_of a.size)))) }
+    ensures none { IfOk result (λ found. IfNone found (InEach options.now sprites.now (λ lying.
+        NoneIsFound WAYS options.now.allowed (spacing_of options.now) lying))) }
     ensures told { IfOk result (λ found. IfSome found (λ a. IsToldLast (λ p size q. F.step p size tt q) told a.size)) }
     ensures unless { IsOkUnless result Memory }
 {

@@ -14,6 +14,7 @@ ghost use Rattle.atlas_sheet.specs.Paging.{AreApart, AreGreatest, ArePages, AreU
 ghost use Rattle.atlas_sheet.specs.Paging.{found_on, holes, put_on, sprites_left};
 ghost use Rattle.atlas_sheet.specs.Settings.{IsSheetFault, spacing_of};
 ghost use Rattle.atlas_sheet.specs.Sheets.{IsPackable, used_area};
+ghost use Rattle.atlas_sheet.specs.Turnings.{InEach};
 
 use crate::arrangement::Arrangement;
 use crate::climbing::is_whole;
@@ -63,10 +64,12 @@ fn next_page<A: Allocator + Copy>(
         left.now a.choice a.lying.items a.order.items a.places.items) }
     ensures allowed { IfOk result (λ a. IsAllowed options.now.allowed (sides_of a.size)) }
     ensures kind { IfOk result (λ a.
-        (All IsSome a.places.items × IsNoLarger WAYS options.now.allowed (spacing_of options.now) left.now (sides_of a.size))
+        (All IsSome a.places.items × InEach options.now left.now (λ lying. IsNoLarger WAYS options.now.allowed
+        (spacing_of options.now) lying (sides_of a.size)))
         ⊎ (IsGreatest options.now.allowed (sides_of a.size)
-        × All (IsNoBetter (sides_of a.size) (spacing_of options.now) left.now (used_area a.places.items))
-        (take (ways_tried (length left.now)) WAYS)
+        × InEach options.now left.now (λ lying. All
+        (IsNoBetter (sides_of a.size) (spacing_of options.now) lying (used_area a.places.items))
+        (take (ways_tried (length left.now)) WAYS))
         × (All IsSome a.places.items → ⊥))) }
     ensures unless { IsOkUnless result Memory }
 {
@@ -184,7 +187,7 @@ fn paged<A: Allocator + Copy>(
 /// Places all sprites on as few sheets as are found: on each what `fill` places there of the sprites that are left, and
 /// the last sprites in as small a sheet as `pack` finds. Each sheet but the last is the greatest that is allowed. A
 /// sprite on a later sheet asked for a place on each earlier one, and found no room there; no sheet is empty. No sprites
-/// have no sheets. With effort so many changes of the order are tried for each sheet. None only where a sprite, in one
+/// have no sheets. With effort so many changes of the order are tried for each sheet. None only where a sprite, in each
 /// of the ways that it may lie, is too large for an empty sheet; then nothing is packed.
 ///
 /// `EmptySheet` if the least allowed side is below 1, `EmptyRange` if the greatest is less than the least,

@@ -35,8 +35,8 @@ fn inner_side(side: i32, padding: u16) -> i32
     (side as u32).saturating_sub(u32::from(padding)).max(1) as i32
 }
 
-// What is left of a sheet without the padding at its right and below.
-fn inner(sheet: Size, spacing: Spacing) -> Size
+/// What is left of a sheet without the padding at its right and below.
+pub fn inner(sheet: Size, spacing: Spacing) -> Size
     requires { IsPositive (sides_of sheet) }
     ensures sides { sides_of result ≡ inner_sides spacing (sides_of sheet) }
     ensures positive { IsPositive (sides_of result) }

@@ -1,6 +1,6 @@
 //! Sheets as callers see them.
 ghost use Rattle.std.specs.List.{AllZip};
-ghost use Rattle.std.specs.Prelude.{◌≡◌, false, length, map, take, All, IfErr, IfNone, IfOk, IfSome, IsOkUnless};
+ghost use Rattle.std.specs.Prelude.{◌≡◌, ◌≤◌, ◌⊎◌, false, length, map, take, All, IfErr, IfNone, IfOk, IfSome, IsOkUnless};
 ghost use Rattle.std.specs.Prelude.{IsSome, OnOk, Some};
 ghost use Rattle.guillotiere.specs.Boxes.{AreDisjoint, IsPositive, IsWithin, box_sides};
 ghost use Rattle.guillotiere.specs.Pixels.{box_of, sides_of};
@@ -12,6 +12,7 @@ ghost use Rattle.atlas_sheet.specs.Lying.{IsArrangement, IsShown, areas_of};
 ghost use Rattle.atlas_sheet.specs.Packings.{IsFirstFound, IsNoLarger, IsToldLast, NoneIsFound};
 ghost use Rattle.atlas_sheet.specs.Settings.{IsSheetFault, spacing_of};
 ghost use Rattle.atlas_sheet.specs.Sheets.{IsPackable, used_area};
+ghost use Rattle.atlas_sheet.specs.Turnings.{AreLaid, InEach, InOne};
 
 use crate::allowed::check_allowed;
 use crate::arrangement::Arrangement;
@@ -23,6 +24,7 @@ use crate::packing::packed;
 use crate::placed::{Placed, placed_all, whole};
 use crate::random::Random;
 use crate::search::greatest_sheet;
+use crate::turnings::{Turning, laid};
 use crate::ways::{WAYS, ways_tried};
 use guillotiere::Size;
 use std::alloc::{Allocator, Global};
@@ -105,7 +107,52 @@ pub fn filled_of<A: Allocator + Copy>(
     })
 }
 
-// What the best of the first ways finds.
+// What the best of the first ways finds for the sprites as they are laid.
+fn filled_so<A: Allocator + Copy>(
+    alloc: A,
+    sprites: &[Size],
+    options: &SheetOptions,
+    size: Size,
+    how: Turning,
+) -> Result<Arrangement<A>, SheetError>
+    requires usable { IsUsable options.now.allowed }
+    requires aligned { IsPositive (sides_of options.now.alignment) }
+    requires packable { All (IsPackable (spacing_of options.now)) sprites.now }
+    requires greatest { IsGreatest options.now.allowed (sides_of size) }
+    ensures arranged { IfOk result (λ a. IsArrangement (sides_of size) (spacing_of options.now) options.now.turn
+        sprites.now a.choice a.lying.items a.order.items a.places.items) }
+    ensures size { IfOk result (λ a. a.size ≡ size) }
+    ensures laid { IfOk result (λ a. AreLaid options.now how sprites.now a.lying.items) }
+    ensures found { IfOk result (λ a. IsBestFound
+        (take (ways_tried (length sprites.now)) WAYS) (sides_of size) (spacing_of options.now) a.lying.items
+        (map (λ s. s.0) a.order.items) a.places.items) }
+    ensures unless { IsOkUnless result Memory }
+{
+    let lying = laid(alloc, sprites, options, how)?;
+    let ways = ways_tried(sprites.len());
+    let filling = fill_by(alloc, &lying, size, options.spacing(), &WAYS[..ways])?;
+    Ok(Arrangement {
+        size,
+        choice: filling.way.choice,
+        lying,
+        order: filling.found.order,
+        places: filling.found.places,
+    })
+}
+
+// The arrangement with more pixels of sprites; of two with as many the first.
+fn fuller<A: Allocator>(one: Arrangement<A>, other: Arrangement<A>) -> Arrangement<A>
+    ensures { ((result ≡ one) × (used_area other.places.items ≤ used_area one.places.items))
+        ⊎ ((result ≡ other) × (used_area one.places.items ≤ used_area other.places.items)) }
+{
+    if used_area(&one.places) < used_area(&other.places) {
+        other
+    } else {
+        one
+    }
+}
+
+// What the best of the first ways finds, however the sprites are laid.
 fn first_filled<A: Allocator + Copy>(
     alloc: A,
     sprites: &[Size],
@@ -117,23 +164,22 @@ fn first_filled<A: Allocator + Copy>(
     ensures arranged { IfOk result (λ a. IsArrangement (sides_of a.size) (spacing_of options.now) options.now.turn
         sprites.now a.choice a.lying.items a.order.items a.places.items) }
     ensures size { IfOk result (λ a. IsGreatest options.now.allowed (sides_of a.size)) }
-    ensures lying { IfOk result (λ a. a.lying.items ≡ sprites.now) }
-    ensures found { IfOk result (λ a. IsBestFound
-        (take (ways_tried (length sprites.now)) WAYS) (sides_of a.size) (spacing_of options.now) sprites.now
-        (map (λ s. s.0) a.order.items) a.places.items) }
+    ensures best { IfOk result (λ a. InEach options.now sprites.now (λ lying. All
+        (IsNoBetter (sides_of a.size) (spacing_of options.now) lying (used_area a.places.items))
+        (take (ways_tried (length sprites.now)) WAYS))) }
+    ensures found { IfOk result (λ a. InOne options.now sprites.now (λ lying. IsBestFound
+        (take (ways_tried (length sprites.now)) WAYS) (sides_of a.size) (spacing_of options.now) lying
+        (map (λ s. s.0) a.order.items) a.places.items)) }
     ensures unless { IsOkUnless result Memory }
 {
     let size = greatest_sheet(options.allowed);
-    let ways = ways_tried(sprites.len());
-    let filling = fill_by(alloc, sprites, size, options.spacing(), &WAYS[..ways])?;
-    let lying = Vec::from_slice(alloc, sprites)?;
-    Ok(Arrangement {
-        size,
-        choice: filling.way.choice,
-        lying,
-        order: filling.found.order,
-        places: filling.found.places,
-    })
+    let given = filled_so(alloc, sprites, options, size, Turning::AsGiven)?;
+    if !options.turn {
+        return Ok(given);
+    }
+    let wide = filled_so(alloc, sprites, options, size, Turning::Wide)?;
+    let high = filled_so(alloc, sprites, options, size, Turning::High)?;
+    Ok(fuller(given, fuller(wide, high)))
 }
 
 // What the first ways find, and no fewer pixels by changes of the order.
@@ -148,12 +194,12 @@ pub fn best_filled<A: Allocator + Copy>(
     ensures arranged { IfOk result (λ a. IsArrangement (sides_of a.size) (spacing_of options.now) options.now.turn
         sprites.now a.choice a.lying.items a.order.items a.places.items) }
     ensures size { IfOk result (λ a. IsGreatest options.now.allowed (sides_of a.size)) }
-    ensures best { IfOk result (λ a. All
-        (IsNoBetter (sides_of a.size) (spacing_of options.now) sprites.now (used_area a.places.items))
-        (take (ways_tried (length sprites.now)) WAYS)) }
-    ensures plain { options.now.effort ≡ 0 → IfOk result (λ a. IsBestFound
-        (take (ways_tried (length sprites.now)) WAYS) (sides_of a.size) (spacing_of options.now) sprites.now
-        (map (λ s. s.0) a.order.items) a.places.items) }
+    ensures best { IfOk result (λ a. InEach options.now sprites.now (λ lying. All
+        (IsNoBetter (sides_of a.size) (spacing_of options.now) lying (used_area a.places.items))
+        (take (ways_tried (length sprites.now)) WAYS))) }
+    ensures plain { options.now.effort ≡ 0 → IfOk result (λ a. InOne options.now sprites.now (λ lying. IsBestFound
+        (take (ways_tried (length sprites.now)) WAYS) (sides_of a.size) (spacing_of options.now) lying
+        (map (λ s. s.0) a.order.items) a.places.items)) }
     ensures unless { IsOkUnless result Memory }
 {
     let first = first_filled(alloc, sprites, options)?;
@@ -167,9 +213,9 @@ pub fn best_filled<A: Allocator + Copy>(
 }
 
 /// Places sprites in the greatest sheet that is allowed. The places have no fewer pixels than those that any of the
-/// first `ways_tried` of `WAYS` finds; without effort they are those of the best of these ways. With effort the order
-/// is changed so many times, and a change stays if it leaves no more pixels of sprites without a place. A sprite that
-/// found no room has no place.
+/// first `ways_tried` of `WAYS` finds; without effort they are those of the best of these ways. Where sprites may be
+/// turned, this holds with each `Turning`. With effort the order is changed so many times, and a change stays if it
+/// leaves no more pixels of sprites without a place. A sprite that found no room has no place.
 ///
 /// `EmptySheet` if the least allowed side is below 1, `EmptyRange` if the greatest is less than the least,
 /// `EmptyAlignment` if a side of the alignment is below 1; `EmptySprite` and `GreatSprite` name a sprite that can't be
@@ -183,12 +229,12 @@ pub fn fill<A: Allocator + Copy>(
     ensures shown { IfOk result (λ filled. IsShown (sides_of filled.size) (spacing_of options.now) options.now.turn
         sprites.now filled.order.items filled.places.items) }
     ensures area { IfOk result (λ filled. filled.used_area ≡ used_area (areas_of filled.places.items)) }
-    ensures best { IfOk result (λ filled. All
-        (IsNoBetter (sides_of filled.size) (spacing_of options.now) sprites.now filled.used_area)
-        (take (ways_tried (length sprites.now)) WAYS)) }
-    ensures plain { options.now.effort ≡ 0 → IfOk result (λ filled. IsBestFound
-        (take (ways_tried (length sprites.now)) WAYS) (sides_of filled.size) (spacing_of options.now) sprites.now
-        filled.order.items (areas_of filled.places.items)) }
+    ensures best { IfOk result (λ filled. InEach options.now sprites.now (λ lying. All
+        (IsNoBetter (sides_of filled.size) (spacing_of options.now) lying filled.used_area)
+        (take (ways_tried (length sprites.now)) WAYS))) }
+    ensures plain { options.now.effort ≡ 0 → IfOk result (λ filled. InOne options.now sprites.now (λ lying. IsBestFound
+        (take (ways_tried (length sprites.now)) WAYS) (sides_of filled.size) (spacing_of options.now) lying
+        filled.order.items (areas_of filled.places.items))) }
     ensures fault { IfErr result (λ e. IsSheetFault options.now sprites.now e) }
 {
     check_all(sprites, options)?;
@@ -215,10 +261,11 @@ fn sheet_of<A: Allocator + Copy>(alloc: A, filled: Filled<A>) -> Result<Sheet<A>
 }
 
 /// Places all sprites in a sheet that is as small as the search finds. Without effort one of `WAYS` packs them into it,
-/// and none does into the allowed sheet that is a pixel lower (among powers of two: into any with fewer pixels). With
-/// effort so many more orders are tried, each a small change of the one before, on a sheet that is one step smaller
-/// than the best; the sheet is never larger than without effort. None only where no way, and no order that was tried,
-/// packs all sprites into the greatest sheet that is allowed.
+/// and none does into the allowed sheet that is a pixel lower (among powers of two: into any with fewer pixels). Where
+/// sprites may be turned, this is the smallest of the sheets that are found so with each `Turning`. With effort so many
+/// more orders are tried, each a small change of the one before, on a sheet that is one step smaller than the best; the
+/// sheet is never larger than without effort. None only where no way, and no order that was tried, packs all sprites
+/// into the greatest sheet that is allowed.
 ///
 /// `EmptySheet` if the least allowed side is below 1, `EmptyRange` if the greatest is less than the least,
 /// `EmptyAlignment` if a side of the alignment is below 1; `EmptySprite` and `GreatSprite` name a sprite that can't be
@@ -240,13 +287,13 @@ pub fn pack<A: Allocator + Copy>(
         AllZip (λ sprite placed. box_sides (box_of placed.area) ≡ sides_of sprite) sprites.now sheet.places.items)) }
     ensures area { IfOk result (λ found. IfSome found (λ sheet.
         sheet.used_area ≡ used_area (areas_of (map Some sheet.places.items)))) }
-    ensures first { options.now.effort ≡ 0 → IfOk result (λ found. IfSome found (λ sheet. IsFirstFound WAYS
-        options.now.allowed (spacing_of options.now) sprites.now (sides_of sheet.size) sheet.order.items
-        (areas_of (map Some sheet.places.items)))) }
-    ensures larger { IfOk result (λ found. IfSome found (λ sheet. IsNoLarger WAYS options.now.allowed
-        (spacing_of options.now) sprites.now (sides_of sheet.size))) }
-    ensures none { IfOk result (λ found. IfNone found
-        (NoneIsFound WAYS options.now.allowed (spacing_of options.now) sprites.now)) }
+    ensures first { options.now.effort ≡ 0 → IfOk result (λ found. IfSome found (λ sheet.
+        InOne options.now sprites.now (λ lying. IsFirstFound WAYS options.now.allowed (spacing_of options.now) lying
+        (sides_of sheet.size) sheet.order.items (areas_of (map Some sheet.places.items))))) }
+    ensures larger { IfOk result (λ found. IfSome found (λ sheet. InEach options.now sprites.now (λ lying.
+        IsNoLarger WAYS options.now.allowed (spacing_of options.now) lying (sides_of sheet.size)))) }
+    ensures none { IfOk result (λ found. IfNone found (InEach options.now sprites.now (λ lying.
+        NoneIsFound WAYS options.now.allowed (spacing_of options.now) lying))) }
     ensures fault { IfErr result (λ e. IsSheetFault options.now sprites.now e) }
 {
     pack_telling(alloc, sprites, options, |_| {})
@@ -273,13 +320,13 @@ pub fn pack_telling<A: Allocator + Copy, F: FnMut(Size)>(
         AllZip (λ sprite placed. box_sides (box_of placed.area) ≡ sides_of sprite) sprites.now sheet.places.items)) }
     ensures area { IfOk result (λ found. IfSome found (λ sheet.
         sheet.used_area ≡ used_area (areas_of (map Some sheet.places.items)))) }
-    ensures first { options.now.effort ≡ 0 → IfOk result (λ found. IfSome found (λ sheet. IsFirstFound WAYS
-        options.now.allowed (spacing_of options.now) sprites.now (sides_of sheet.size) sheet.order.items
-        (areas_of (map Some sheet.places.items)))) }
-    ensures larger { IfOk result (λ found. IfSome found (λ sheet. IsNoLarger WAYS options.now.allowed
-        (spacing_of options.now) sprites.now (sides_of sheet.size))) }
-    ensures none { IfOk result (λ found. IfNone found
-        (NoneIsFound WAYS options.now.allowed (spacing_of options.now) sprites.now)) }
+    ensures first { options.now.effort ≡ 0 → IfOk result (λ found. IfSome found (λ sheet.
+        InOne options.now sprites.now (λ lying. IsFirstFound WAYS options.now.allowed (spacing_of options.now) lying
+        (sides_of sheet.size) sheet.order.items (areas_of (map Some sheet.places.items))))) }
+    ensures larger { IfOk result (λ found. IfSome found (λ sheet. InEach options.now sprites.now (λ lying.
+        IsNoLarger WAYS options.now.allowed (spacing_of options.now) lying (sides_of sheet.size)))) }
+    ensures none { IfOk result (λ found. IfNone found (InEach options.now sprites.now (λ lying.
+        NoneIsFound WAYS options.now.allowed (spacing_of options.now) lying))) }
     ensures told { IfOk result (λ found. IfSome found (λ sheet. IsToldLast
         (λ p size q. F.step p size tt q) told sheet.size)) }
     ensures fault { IfErr result (λ e. IsSheetFault options.now sprites.now e) }

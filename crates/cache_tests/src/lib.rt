@@ -20,6 +20,8 @@ mod recency;
 #[cfg(test)]
 mod repacking;
 #[cfg(test)]
+mod reserving;
+#[cfg(test)]
 mod rooms;
 #[cfg(test)]
 mod traces;

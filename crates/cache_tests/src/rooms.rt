@@ -1,9 +1,11 @@
 //! Pages of a cache, worked by hand.
+ghost use Rattle.std.specs.Prelude.{All, IfOk};
+ghost use Rattle.guillotiere.specs.Refits.Refitted.{HasExactRectangle};
 ghost use Rattle.atlas_cache.specs.Asking.{AreUsable};
 
 use atlas_cache::rooms::Rooms;
 use atlas_cache::{CacheError, CacheOptions};
-use guillotiere::{DEFAULT_OPTIONS, Rectangle, Size, point2, size2};
+use guillotiere::{Allocation, DEFAULT_OPTIONS, Rectangle, Size, point2, size2};
 use std::alloc::Allocator;
 use std::test::Fail;
 use test_memory::Refusing;
@@ -52,14 +54,36 @@ fn place_and_free<A: Allocator + Copy>(
     Ok(true)
 }
 
+// What two requests are granted.
+fn place_two<A: Allocator + Copy>(
+    alloc: A,
+    rooms: &mut Rooms<A>,
+    first: Size,
+    second: Size,
+) -> Result<Vec<Allocation, A>, CacheError>
+    ensures { IfOk result (λ held. All HasExactRectangle held.items) }
+{
+    let mut held = Vec::new(alloc);
+    if let Some((_, granted)) = rooms.place(first)? {
+        held.push(granted)?;
+    }
+    if let Some((_, granted)) = rooms.place(second)? {
+        held.push(granted)?;
+    }
+    Ok(held)
+}
+
 // How many rectangles of the first page a repacking moves, where to the first of them, and how many it gives up.
 fn repack_first<A: Allocator + Copy>(
     rooms: &mut Rooms<A>,
-) -> Result<(usize, Option<Rectangle>, usize), CacheError> {
+    held: Vec<Allocation, A>,
+) -> Result<(usize, Option<Rectangle>, usize), CacheError>
+    requires { All HasExactRectangle held.items }
+{
     if rooms.len() == 0 {
         return Ok((0, None, 0));
     }
-    let list = rooms.repack(0)?;
+    let list = rooms.repack(0, held)?;
     let first = list.changes.first().map(|change| change.new.rectangle);
     Ok((list.changes.len(), first, list.failures.len()))
 }
@@ -155,16 +179,14 @@ fn a_cleared_page_has_room(rt: HostRuntime) -> Result<(), Fail> {
 #[test]
 fn the_largest_is_packed_first(rt: HostRuntime) -> Result<(), Fail> {
     let mut rooms = two_pages(rt.alloc())?;
-    assert_eq!(rt;
-        place(&mut rooms, size2(12, 16))?,
-        Some((0, at(0, 0, 12, 16)))
-    );
-    assert_eq!(rt;
-        place(&mut rooms, size2(16, 16))?,
-        Some((0, at(12, 0, 28, 16)))
-    );
+    let held = place_two(rt.alloc(), &mut rooms, size2(12, 16), size2(16, 16))?;
+    assert!(rt; held.first().map(|it| it.rectangle) == Some(at(0, 0, 12, 16)));
+    assert!(rt; held.last().map(|it| it.rectangle) == Some(at(12, 0, 28, 16)));
     assert_eq!(rt; areas_of_first(&rooms), (448, 64));
-    assert_eq!(rt; repack_first(&mut rooms)?, (2, Some(at(0, 0, 16, 16)), 0));
+    assert_eq!(rt;
+        repack_first(&mut rooms, held)?,
+        (2, Some(at(0, 0, 16, 16)), 0)
+    );
     assert_eq!(rt; areas_of_first(&rooms), (448, 64));
     Ok(())
 }

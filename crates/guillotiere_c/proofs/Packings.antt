@@ -1,15 +1,23 @@
 -- What a packing answered, put together.
-use Rattle.std.proofs.Common.{◌≡◌, ℕ, List, map, Option, Some, None, IfSome, subst}
+use Rattle.std.proofs.Common.{◌≡◌, ℕ, List, length, map, take, All, Option, Some, None, IfSome, subst}
+use Rattle.std.specs.List.{AllZip}
 use Rattle.guillotiere.specs.declared.Size.{Size}
 use Rattle.guillotiere.specs.Pixels.{sides_of}
 use Rattle.atlas_sheet.specs.declared.options.SheetOptions.{SheetOptions}
+use Rattle.atlas_sheet.specs.declared.paging.OnPage.{OnPage}
 use Rattle.atlas_sheet.specs.declared.placed.Placed.{Placed}
 use Rattle.atlas_sheet.specs.declared.ways.TheConstants.{WAYS}
-use Rattle.atlas_sheet.specs.Allowances.{IsAllowed}
+use Rattle.atlas_sheet.specs.Allowances.{IsAllowed, IsGreatest}
+use Rattle.atlas_sheet.specs.Fillings.{IsBestFound, IsNoBetter, ways_tried}
 use Rattle.atlas_sheet.specs.Lying.{IsShown, areas_of}
 use Rattle.atlas_sheet.specs.Packings.{IsFirstFound, IsNoLarger}
+use Rattle.atlas_sheet.specs.Paging.{AreApart, AreGreatest, ArePages, AreUsed, IsOnPage}
 use Rattle.atlas_sheet.specs.Settings.{spacing_of}
+use Rattle.atlas_sheet.specs.Sheets.{used_area}
+use Rattle.atlas_sheet.specs.Turnings.{InEach, InOne}
+use Rattle.guillotiere_c.specs.Filling.{IsFilledSheet}
 use Rattle.guillotiere_c.specs.Packing.{IsPackedSheet}
+use Rattle.guillotiere_c.specs.SheetPages.{ArePackedPages}
 
 -- The facts of a sheet that was found, if one was.
 pub packed :
@@ -18,11 +26,46 @@ pub packed :
     → asked ≡ sprites
     → IfSome found (λ s. IsAllowed o.allowed (sides_of (size s)))
     → IfSome found (λ s. IsShown (sides_of (size s)) (spacing_of o) o.turn asked (order s) (map Some (placed s)))
-    → (o.effort ≡ 0 → IfSome found (λ s. IsFirstFound WAYS o.allowed (spacing_of o) asked (sides_of (size s))
-    (order s) (areas_of (map Some (placed s)))))
-    → IfSome found (λ s. IsNoLarger WAYS o.allowed (spacing_of o) asked (sides_of (size s)))
+    → (o.effort ≡ 0 → IfSome found (λ s. InOne o asked (λ lying. IsFirstFound WAYS o.allowed (spacing_of o) lying (sides_of (size s))
+    (order s) (areas_of (map Some (placed s))))))
+    → IfSome found (λ s. InEach o asked (λ lying. IsNoLarger WAYS o.allowed (spacing_of o) lying (sides_of (size s))))
     → IfSome found (λ s. IsPackedSheet o sprites (size s) (placed s))
 packed o asked sprites size order placed None same allowed shown first larger = allowed
 packed o asked sprites size order placed (Some s) same allowed shown first larger =
     let P : List Size → Type 0 = λ l. IsPackedSheet o l (size s) (placed s) in
     subst P same (record { order = order s; allowed = allowed; shown = shown; first = first; larger = larger })
+
+-- The facts of several sheets that were found, if they were.
+pub packed_pages :
+    {S : Type 0} (o : SheetOptions) (asked sprites : List Size)
+    (sizes : S → List Size) (placed : S → List OnPage) (found : Option S)
+    → asked ≡ sprites
+    → IfSome found (λ p. AllZip (IsOnPage o (sizes p)) asked (placed p))
+    → IfSome found (λ p. AreApart (sizes p) (placed p))
+    → IfSome found (λ p. AreUsed (sizes p) (placed p))
+    → IfSome found (λ p. AreGreatest o (sizes p))
+    → IfSome found (λ p. ArePages WAYS o asked (sizes p) (map Some (placed p)))
+    → IfSome found (λ p. ArePackedPages o sprites (sizes p) (placed p))
+packed_pages o asked sprites sizes placed None same each apart used greatest pages = each
+packed_pages o asked sprites sizes placed (Some p) same each apart used greatest pages =
+    let P : List Size → Type 0 = λ l. ArePackedPages o l (sizes p) (placed p) in
+    subst P same (record { each = each; apart = apart; used = used; greatest = greatest; pages = pages })
+
+-- The facts of a sheet that was filled.
+pub filled_sheet :
+    (o : SheetOptions) (asked sprites : List Size) (sheet : Size) (order : List ℕ) (placed : List (Option Placed)) (area : ℕ)
+    → asked ≡ sprites
+    → IsGreatest o.allowed (sides_of sheet)
+    → IsShown (sides_of sheet) (spacing_of o) o.turn asked order placed
+    → area ≡ used_area (areas_of placed)
+    → InEach o asked (λ lying. All (IsNoBetter (sides_of sheet) (spacing_of o) lying area)
+    (take (ways_tried (length asked)) WAYS))
+    → (o.effort ≡ 0 → InOne o asked (λ lying. IsBestFound (take (ways_tried (length asked)) WAYS) (sides_of sheet)
+    (spacing_of o) lying order (areas_of placed)))
+    → IsFilledSheet o sprites sheet placed
+filled_sheet o asked sprites sheet order placed area same greatest shown used best plain =
+    let P : List Size → Type 0 = λ l. IsFilledSheet o l sheet placed in
+    let Q : ℕ → Type 0 = λ n. InEach o asked (λ lying. All (IsNoBetter (sides_of sheet) (spacing_of o) lying n)
+        (take (ways_tried (length asked)) WAYS)) in
+    let best' : Q (used_area (areas_of placed)) = subst Q used best in
+    subst P same (record { order = order; greatest = greatest; shown = shown; best = best'; plain = plain })

@@ -1,12 +1,14 @@
 pub mod CacheCalls
 pub mod CacheNumbers
 pub mod Calls
+pub mod Filling
 pub mod Following
 pub mod Keeping
 pub mod Numbers
 pub mod Packing
 pub mod Rearrangings
 pub mod SheetNumbers
+pub mod SheetPages
 pub mod SimpleCalls
 pub mod SimpleStatuses
 pub mod Statuses

@@ -9,6 +9,7 @@ use Rattle.atlas_sheet.specs.Allowances.{IsAllowed}
 use Rattle.atlas_sheet.specs.Lying.{IsShown, areas_of}
 use Rattle.atlas_sheet.specs.Packings.{IsFirstFound, IsNoLarger, NoneIsFound}
 use Rattle.atlas_sheet.specs.Settings.{spacing_of}
+use Rattle.atlas_sheet.specs.Turnings.{InEach, InOne}
 use Rattle.guillotiere_c.specs.declared.plain_sheet.PlainPlaced.{PlainPlaced}
 use Rattle.guillotiere_c.specs.SheetNumbers.{placed_in}
 use Rattle.guillotiere_c.specs.Writing.{IsWritten}
@@ -18,9 +19,9 @@ pub record IsPackedSheet (o : SheetOptions) (sprites : List Size) (sheet : Size)
   pub order : List ℕ
   pub allowed : IsAllowed o.allowed (sides_of sheet)
   pub shown : IsShown (sides_of sheet) (spacing_of o) o.turn sprites order (map Some placed)
-  pub first : o.effort ≡ 0
-      → IsFirstFound WAYS o.allowed (spacing_of o) sprites (sides_of sheet) order (areas_of (map Some placed))
-  pub larger : IsNoLarger WAYS o.allowed (spacing_of o) sprites (sides_of sheet)
+  pub first : o.effort ≡ 0 → InOne o sprites (λ lying.
+      IsFirstFound WAYS o.allowed (spacing_of o) lying (sides_of sheet) order (areas_of (map Some placed)))
+  pub larger : InEach o sprites (λ lying. IsNoLarger WAYS o.allowed (spacing_of o) lying (sides_of sheet))
 
 -- The places of such a sheet stand at the start of an array, which has room for them.
 pub record IsSheetWritten (o : SheetOptions) (sprites : List Size) (sheet : Size) (old new : List PlainPlaced)
@@ -32,4 +33,4 @@ pub record IsSheetWritten (o : SheetOptions) (sprites : List Size) (sheet : Size
 
 -- No way packs these sprites into the greatest sheet that is allowed.
 abbrev pub HasNoSheet : SheetOptions → List Size → Type 0
-HasNoSheet o sprites = NoneIsFound WAYS o.allowed (spacing_of o) sprites
+HasNoSheet o sprites = InEach o sprites (λ lying. NoneIsFound WAYS o.allowed (spacing_of o) lying)

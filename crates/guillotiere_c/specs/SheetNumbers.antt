@@ -3,6 +3,8 @@ use Rattle.std.specs.Prelude.{ℕ, Bool, true, false, ◌==◌, nat_le, if◌the
 use Rattle.guillotiere_c.specs.declared.plain.TheConstants.{MEMORY, EMPTY_SHEET, EMPTY_RANGE, EMPTY_ALIGNMENT}
 use Rattle.guillotiere_c.specs.declared.plain.TheConstants.{EMPTY_SPRITE, GREAT_SPRITE, ONE_SIZE, SQUARES, POWERS}
 use Rattle.guillotiere_c.specs.declared.plain.TheConstants.{HEIGHTS}
+use Rattle.guillotiere_c.specs.declared.plain_sheet.PlainMaybePlaced.{PlainMaybePlaced}
+use Rattle.guillotiere_c.specs.declared.plain_sheet.PlainOnPage.{PlainOnPage}
 use Rattle.guillotiere_c.specs.declared.plain_sheet.PlainPlaced.{PlainPlaced}
 use Rattle.guillotiere_c.specs.declared.plain_sheet.PlainSheetOptions.{PlainSheetOptions}
 use Rattle.guillotiere_c.specs.Numbers.{corners_in}
@@ -11,6 +13,7 @@ use Rattle.atlas_sheet.specs.declared.allowed.Allowed.TheVariants as allowed
 use Rattle.atlas_sheet.specs.declared.error.SheetError.{SheetError}
 use Rattle.atlas_sheet.specs.declared.error.SheetError.TheVariants as error
 use Rattle.atlas_sheet.specs.declared.options.SheetOptions.{SheetOptions}
+use Rattle.atlas_sheet.specs.declared.paging.OnPage.{OnPage}
 use Rattle.atlas_sheet.specs.declared.placed.Placed.{Placed}
 
 -- Every number but 0 stands for yes.
@@ -19,6 +22,12 @@ truth_in n = if n == 0 then false else true
 
 abbrev pub placed_in : PlainPlaced → Placed
 placed_in p = record { area = corners_in p.area; turned = truth_in p.turned }
+
+abbrev pub maybe_placed_in : PlainMaybePlaced → Option Placed
+maybe_placed_in p = if truth_in p.is_placed then Some (placed_in p.placed) else None
+
+abbrev pub on_page_in : PlainOnPage → OnPage
+on_page_in p = record { page = p.page; placed = placed_in p.placed }
 
 -- The sheets that are allowed, if they are of one of the four kinds.
 abbrev pub allowed_in : PlainSheetOptions → Option Allowed

@@ -2,13 +2,15 @@
 ghost use Rattle.std.specs.Prelude.{◌≡◌, ◌≢◌, ◌⊎◌, Some, None, IsNone, IsSome, length, slice_get};
 ghost use Rattle.atlas_cache.specs.Repacking.{free_by_page, live_by_page};
 ghost use Rattle.atlas_cache.specs.Rooms.{page_sizes};
+ghost use Rattle.atlas_cache.specs.Usable.{unusable_by_page};
 ghost use Rattle.guillotiere_c.specs.CacheNumbers.{cache_options_in, counts_in};
 ghost use Rattle.guillotiere_c.specs.Following.{HoldsCache};
 ghost use Rattle.guillotiere_c.specs.Numbers.{size_in};
 
 use crate::cache_handle::CacheHandle;
-use crate::plain::{DONE, EMPTY, NO_PAGE, PlainAreas, PlainSize, plain_size};
+use crate::plain::{DONE, EMPTY, MEMORY, NO_PAGE, PlainAreas, PlainSize, plain_size};
 use crate::plain_cache::{PlainCacheOptions, PlainCounts, plain_cache_options, plain_counts};
+use guillotiere::size2;
 use std::alloc::Global;
 
 /// How many keys are held. `DONE`.
@@ -142,6 +144,43 @@ pub extern "C" fn guillotiere_cache_areas(
     };
     *areas = PlainAreas { allocated, free };
     DONE
+}
+
+/// The area of a page, in pixels, that is free in rectangles which have no room for an entry of this size, with its padding
+/// and rounded up to the alignment. Pages are counted from 0. `DONE`; `NO_PAGE`; `MEMORY`.
+#[unsafe(no_mangle)]
+pub extern "C" fn guillotiere_cache_unusable_area(
+    alloc: Global,
+    cache: &mut CacheHandle,
+    page: u32,
+    width: i32,
+    height: i32,
+    area: &mut u64,
+) -> u32
+    ensures area { result ≡ DONE → HoldsCache cache.old.kept (λ f. slice_get
+        (unusable_by_page f.cache.options (record { width = width; height = height }) f.cache.pages) page
+        ≡ Some area.new) }
+    ensures none { result ≡ NO_PAGE → HoldsCache cache.old.kept (λ f. slice_get
+        (unusable_by_page f.cache.options (record { width = width; height = height }) f.cache.pages) page ≡ None) }
+    ensures unless { IsSome cache.old.kept → result ≢ DONE → result ≢ NO_PAGE → result ≡ MEMORY }
+    ensures same { cache.new.kept ≡ cache.old.kept }
+    ensures unwritten { result ≢ DONE → area.new ≡ area.old }
+    ensures empty { IsNone cache.old.kept → result ≡ EMPTY }
+{
+    if !cache.holds() {
+        return EMPTY;
+    }
+    let held = cache.take(alloc);
+    let found = held.unusable_area(page, size2(width, height));
+    cache.put(held);
+    match found {
+        Ok(Some(found)) => {
+            *area = found;
+            DONE
+        }
+        Ok(None) => NO_PAGE,
+        Err(_) => MEMORY,
+    }
 }
 
 /// The options with which the cache was made. `DONE`.

@@ -8,6 +8,7 @@ ghost use Rattle.atlas_cache.specs.Clearing.{Clears};
 ghost use Rattle.atlas_cache.specs.Counting.{one_more};
 ghost use Rattle.atlas_cache.specs.Repacking.{free_by_page, live_by_page};
 ghost use Rattle.atlas_cache.specs.Rooms.{page_sizes, IsRefusal};
+ghost use Rattle.atlas_cache.specs.Usable.{unusable_by_page};
 ghost use Rattle.atlas_cache.specs.Walking.{first_entry, keyed, last_entry};
 ghost use Rattle.guillotiere_c.specs.CacheCalls.{IsGet, IsInsert, IsOlder, IsRemoval, IsRepacking};
 ghost use Rattle.guillotiere_c.specs.CacheCalls.{IsShrinking, IsTrim};
@@ -223,6 +224,15 @@ impl FollowedCache {
         ensures { result ≡ slice_get (free_by_page self.now.cache.pages) page }
     {
         self.cache.free_area(page)
+    }
+
+    /// As `TextureCache::unusable_area`.
+    pub fn unusable_area(&self, page: u32, size: Size) -> Result<Option<u64>, CacheError>
+        ensures area { IfOk result (λ lost. lost
+            ≡ slice_get (unusable_by_page self.now.cache.options size self.now.cache.pages) page) }
+        ensures unless { IsOkUnless result Memory }
+    {
+        self.cache.unusable_area(page, size)
     }
 
     /// As `TextureCache::newest`.

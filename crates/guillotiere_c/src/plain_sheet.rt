@@ -1,12 +1,13 @@
 //! What crosses to C of sheets: options and places. All lengths are in pixels.
 ghost use Rattle.std.specs.Prelude.{◌≡◌, ◌≢◌, Some};
-ghost use Rattle.guillotiere_c.specs.SheetNumbers.{allowed_in, options_over, placed_in, sheet_error, sheet_options_in};
+ghost use Rattle.guillotiere_c.specs.SheetNumbers.{allowed_in, maybe_placed_in, on_page_in, options_over, placed_in};
+ghost use Rattle.guillotiere_c.specs.SheetNumbers.{sheet_error, sheet_options_in};
 
 use crate::plain::{
     BAD_CALL, DONE, EMPTY_ALIGNMENT, EMPTY_RANGE, EMPTY_SHEET, EMPTY_SPRITE, GREAT_SPRITE, HEIGHTS,
     MEMORY, NO_ROOM, ONE_SIZE, POWERS, PlainRectangle, SHORT, SQUARES, plain_rectangle,
 };
-use atlas_sheet::{Allowed, Placed, SheetError, SheetOptions};
+use atlas_sheet::{Allowed, OnPage, Placed, SheetError, SheetOptions};
 use guillotiere::size2;
 
 /// As `SheetOptions`. What a kind of sheets doesn't name isn't looked at.
@@ -34,6 +35,36 @@ pub struct PlainPlaced {
     pub turned: u32,
 }
 
+/// A place or none: `is_placed` is 1 or 0. Where there is none the place has no meaning.
+#[repr(C)]
+#[derive(Clone, Copy)]
+pub struct PlainMaybePlaced {
+    pub is_placed: u32,
+    pub placed: PlainPlaced,
+}
+
+/// As `OnPage`.
+#[repr(C)]
+#[derive(Clone, Copy)]
+pub struct PlainOnPage {
+    pub page: usize,
+    pub placed: PlainPlaced,
+}
+
+// No place.
+const NO_PLACE: PlainMaybePlaced = PlainMaybePlaced {
+    is_placed: 0,
+    placed: PlainPlaced {
+        area: PlainRectangle {
+            min_x: 0,
+            min_y: 0,
+            max_x: 0,
+            max_y: 0,
+        },
+        turned: 0,
+    },
+};
+
 /// The same for C.
 pub fn plain_placed(placed: Placed) -> PlainPlaced
     ensures { placed_in result ≡ placed }
@@ -41,6 +72,29 @@ pub fn plain_placed(placed: Placed) -> PlainPlaced
     PlainPlaced {
         area: plain_rectangle(placed.area),
         turned: if placed.turned { 1 } else { 0 },
+    }
+}
+
+/// The same for C.
+pub fn plain_maybe_placed(place: Option<Placed>) -> PlainMaybePlaced
+    ensures { maybe_placed_in result ≡ place }
+{
+    match place {
+        Some(placed) => PlainMaybePlaced {
+            is_placed: 1,
+            placed: plain_placed(placed),
+        },
+        None => NO_PLACE,
+    }
+}
+
+/// The same for C.
+pub fn plain_on_page(place: OnPage) -> PlainOnPage
+    ensures { on_page_in result ≡ place }
+{
+    PlainOnPage {
+        page: place.page,
+        placed: plain_placed(place.placed),
     }
 }
 

@@ -18,8 +18,8 @@ use atlas_sheet::{Sheet, SheetError, SheetOptions, pack};
 use guillotiere::{Size, size2};
 use std::alloc::Global;
 
-// The sizes of these numbers.
-fn sizes_of(alloc: Global, numbers: &[PlainSize]) -> Result<Vec<Size>, SheetError>
+/// The sizes of these numbers.
+pub fn sizes_of(alloc: Global, numbers: &[PlainSize]) -> Result<Vec<Size>, SheetError>
     ensures sizes { IfOk result (λ sizes. sizes.items ≡ map size_in numbers.now) }
     ensures unless { IsOkUnless result Memory }
 {

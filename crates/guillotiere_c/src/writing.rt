@@ -1,14 +1,17 @@
 //! Lists, written into arrays of the caller's: as much as there is room for.
-ghost use Rattle.guillotiere_c.specs.Numbers.{allocation_in, change_in, corners_in};
-ghost use Rattle.guillotiere_c.specs.SheetNumbers.{placed_in};
+ghost use Rattle.guillotiere_c.specs.Numbers.{allocation_in, change_in, corners_in, size_in};
+ghost use Rattle.guillotiere_c.specs.SheetNumbers.{maybe_placed_in, on_page_in, placed_in};
 ghost use Rattle.guillotiere_c.specs.Writing.{IsWritten};
 
 use crate::plain::{
-    PlainAllocation, PlainChange, PlainRectangle, plain_allocation, plain_change, plain_rectangle,
+    PlainAllocation, PlainChange, PlainRectangle, PlainSize, plain_allocation, plain_change,
+    plain_rectangle, plain_size,
 };
-use crate::plain_sheet::{PlainPlaced, plain_placed};
-use atlas_sheet::Placed;
-use guillotiere::{Allocation, Change, Rectangle};
+use crate::plain_sheet::{
+    PlainMaybePlaced, PlainOnPage, PlainPlaced, plain_maybe_placed, plain_on_page, plain_placed,
+};
+use atlas_sheet::{OnPage, Placed};
+use guillotiere::{Allocation, Change, Rectangle, Size};
 
 /// Writes ids with their rectangles.
 pub fn write_allocations(list: &[Allocation], array: &mut [PlainAllocation])
@@ -43,5 +46,32 @@ pub fn write_placed(list: &[Placed], array: &mut [PlainPlaced])
 {
     for i in 0..list.len().min(array.len()) {
         array[i] = plain_placed(list[i]);
+    }
+}
+
+/// Writes the places of sprites that have one.
+pub fn write_maybe_placed(list: &[Option<Placed>], array: &mut [PlainMaybePlaced])
+    ensures { IsWritten maybe_placed_in list.now array.old array.new }
+{
+    for i in 0..list.len().min(array.len()) {
+        array[i] = plain_maybe_placed(list[i]);
+    }
+}
+
+/// Writes the places of sprites on several sheets.
+pub fn write_on_pages(list: &[OnPage], array: &mut [PlainOnPage])
+    ensures { IsWritten on_page_in list.now array.old array.new }
+{
+    for i in 0..list.len().min(array.len()) {
+        array[i] = plain_on_page(list[i]);
+    }
+}
+
+/// Writes sizes.
+pub fn write_sizes(list: &[Size], array: &mut [PlainSize])
+    ensures { IsWritten size_in list.now array.old array.new }
+{
+    for i in 0..list.len().min(array.len()) {
+        array[i] = plain_size(list[i]);
     }
 }

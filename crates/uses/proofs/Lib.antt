@@ -4,3 +4,4 @@ pub mod Recordings
 pub mod Repacking
 pub mod Sorting
 pub mod Texturing
+pub mod UprightSheets

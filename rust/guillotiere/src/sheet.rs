@@ -1,5 +1,5 @@
-//! Sheets of sprites that are known beforehand: all of them in the smallest sheet, or as many as one sheet takes. The
-//! crate `guillotiere` has nothing of the kind.
+//! Sheets of sprites that are known beforehand: all of them in the smallest sheet or in several, or as many as one sheet takes.
+//! The crate `guillotiere` has nothing of the kind.
 //!
 //! ```
 //! use guillotiere::sheet::{pack, Allowed, SheetOptions};
@@ -104,6 +104,24 @@ pub struct Filled {
     pub places: Vec<Option<Placed>>,
     /// How many pixels these places have together.
     pub used_area: u128,
+}
+
+/// A place on one of several sheets.
+#[derive(Copy, Clone, Debug, PartialEq)]
+pub struct OnPage {
+    /// The number of the sheet, counted from 0.
+    pub page: usize,
+    /// The place on this sheet.
+    pub placed: Placed,
+}
+
+/// Sheets that take all sprites together.
+#[derive(Clone, Debug, PartialEq)]
+pub struct Pages {
+    /// The size of each sheet, in pixels. Each but the last is the greatest that is allowed.
+    pub sizes: Vec<Size>,
+    /// A place for each sprite, in the order of the sprites.
+    pub places: Vec<OnPage>,
 }
 
 /// Why there is no sheet.
@@ -225,4 +243,22 @@ pub fn fill(sprites: &[Size], options: &SheetOptions) -> Result<Filled, SheetErr
         places: listed(filled.places.as_slice(), |place| place.as_ref().map(placed))?,
         used_area: filled.used_area,
     })
+}
+
+/// Packs all sprites into as few sheets as are found: on each what `fill` places there of the sprites that are left, and the
+/// last of them in as small a sheet as `pack` finds. No sheet is empty, and no sprites have no sheets. None only where a sprite
+/// is too large for an empty sheet.
+pub fn pack_pages(sprites: &[Size], options: &SheetOptions) -> Result<Option<Pages>, SheetError> {
+    let sprites = library_sizes(sprites)?;
+    let pages = match library::pack_pages(Global, &sprites, &library_options(options))? {
+        Some(pages) => pages,
+        None => return Ok(None),
+    };
+    Ok(Some(Pages {
+        sizes: listed(pages.sizes.as_slice(), |size| convert::size(*size))?,
+        places: listed(pages.places.as_slice(), |place| OnPage {
+            page: place.page,
+            placed: placed(&place.placed),
+        })?,
+    }))
 }

@@ -140,6 +140,34 @@ fn places_are_apart() {
 }
 
 #[test]
+fn several_sheets_and_a_filled_one() {
+    let sprites = [size2(4, 4); 5];
+    let pages = pack_pages(&sprites, &squares(8)).unwrap().unwrap();
+    assert_eq!(pages.sizes, [size2(8, 8), size2(4, 4)]);
+    let on = |page| pages.places.iter().filter(move |place| place.page == page);
+    assert_eq!((on(0).count(), on(1).count()), (4, 1));
+    assert_eq!(on(1).next().unwrap().placed.area, area(0, 0, 4, 4));
+    let mut corners: Vec<_> = on(0).map(|place| place.placed.area.min).collect();
+    corners.sort_by_key(|corner| (corner.y, corner.x));
+    assert_eq!(
+        corners,
+        [point2(0, 0), point2(4, 0), point2(0, 4), point2(4, 4)]
+    );
+    let filled = fill(&sprites, &squares(8)).unwrap();
+    assert_eq!((filled.size, filled.used_area), (size2(8, 8), 64));
+    assert_eq!(filled.places.iter().flatten().count(), 4);
+    let wide = [size2(4, 4), size2(9, 1)];
+    assert_eq!(pack_pages(&wide, &squares(8)), Ok(None));
+    let none = pack_pages(&[], &squares(8)).unwrap().unwrap();
+    assert!(none.sizes.is_empty() && none.places.is_empty());
+    let empty = [size2(4, 4), size2(1, 0)];
+    assert_eq!(
+        pack_pages(&empty, &squares(8)),
+        Err(SheetError::EmptySprite(1))
+    );
+}
+
+#[test]
 fn no_sprites() {
     let sheet = pack(
         &[],

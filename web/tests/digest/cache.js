@@ -117,6 +117,10 @@ export class Cache {
     const areas = this.call((cache) => cache.areas(page));
     this.sum.add(areas.status);
     for (const area of Object.values(areas.value ?? SEVENS.areas)) this.sum.wide(area);
+    const [other, width, height] = [this.draw.below(4), this.draw.side(60), this.draw.side(60)];
+    const unusable = this.call((cache) => cache.unusableArea(other, width, height));
+    this.sum.add(unusable.status);
+    this.sum.wide(unusable.value ?? areas.value?.free ?? 7);
     const options = this.call((cache) => cache.options);
     this.sum.add(options.status);
     const told = options.value ?? { page: SEVENS.size, largestPage: SEVENS.size, pages: 7, padding: 7, atlas: SEVENS.options };

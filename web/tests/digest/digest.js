@@ -6,38 +6,72 @@ import { Draw, SEVENS, Sum, answered, numberOf } from './sum.js';
 
 const SPRITES = 24;
 
-function sheets(kind, side, least) {
-  return [{ kind: 'size', width: side, height: side }, { kind: 'squares', least, greatest: 256 }, { kind: 'powers', greatest: 256 },
-    { kind: 'heights', width: side, greatest: 256 }][kind];
+function sheets(kind, side, least, greatest) {
+  return [{ kind: 'size', width: side, height: side }, { kind: 'squares', least, greatest }, { kind: 'powers', greatest },
+    { kind: 'heights', width: side, greatest }][kind];
 }
 
-/** C tells first that it knows no such kind of sheets or no such padding, and then that there is too little room. */
-function packed(api, sprites, kind, options, room) {
-  if (kind > 3 || options.padding > 65535) return { value: null, status: numberOf('BAD_CALL') };
-  if (room < sprites.length) return { value: null, status: numberOf('SHORT') };
-  return answered(() => api.pack(sprites, options));
-}
-
-function pack(api, draw, sum) {
+/** Sprites and options as C draws them. */
+function drawn(draw) {
   const many = draw.below(SPRITES + 1);
   const sprites = Array.from({ length: SPRITES }, () => (
-    { width: draw.oneIn(10) ? draw.side(40) : 1 + draw.below(40), height: 1 + draw.below(40) }));
+    { width: draw.oneIn(10) ? draw.side(40) : 1 + draw.below(40), height: 1 + draw.below(40) })).slice(0, many);
   const kind = draw.below(draw.oneIn(10) ? 6 : 4);
   const side = 40 + draw.below(200);
   const least = draw.oneIn(10) ? draw.side(300) : 1;
   const padding = draw.oneIn(10) ? draw.below(70000) : draw.below(3);
   const alignment = { width: draw.oneIn(10) ? draw.side(9) : 1, height: 1 };
-  const [turn, effort] = [draw.below(2) === 1, draw.below(20)];
-  const options = { sheets: sheets(kind, side, least), padding, alignment, turn, effort, seed: draw.state };
+  const [turn, effort, seed] = [draw.below(2) === 1, draw.below(20), draw.state];
   const room = draw.oneIn(10) ? Math.floor(many / 2) : SPRITES;
-  const { value, status, sprite } = packed(api, sprites.slice(0, many), kind, options, room);
+  return { sprites, kind, side, least, room, options: { padding, alignment, turn, effort, seed } };
+}
+
+/** C tells first that it knows no such kind of sheets or no such padding, and then that there is too little room. */
+function asked({ sprites, kind, side, least, room, options }, greatest, call) {
+  if (kind > 3 || options.padding > 65535) return { value: null, status: numberOf('BAD_CALL') };
+  if (room < sprites.length) return { value: null, status: numberOf('SHORT') };
+  return answered(() => call(sprites, { ...options, sheets: sheets(kind, side, least, greatest) }));
+}
+
+function addPlaced(sum, place) {
+  sum.box(place);
+  sum.add(place === null ? 7 : place.turned);
+}
+
+function pack(api, draw, sum) {
+  const { value, status, sprite } = asked(drawn(draw), 256, api.pack);
   sum.add(status === 0 && value === null ? numberOf('NO_ROOM') : status);
   sum.size(value ?? SEVENS.size);
   sum.wide(sprite ?? 7);
+  for (let i = 0; i < SPRITES; i++) addPlaced(sum, value?.places[i] ?? null);
+}
+
+function packPages(api, draw, sum) {
+  const it = drawn(draw);
+  it.side = 40 + draw.below(40);
+  const { value, status, sprite } = asked(it, it.side, api.packPages);
+  sum.add(status === 0 && value === null ? numberOf('NO_ROOM') : status);
+  sum.wide(value?.sizes.length ?? 7);
+  sum.wide(sprite ?? 7);
   for (let i = 0; i < SPRITES; i++) {
-    const place = value?.places[i] ?? null;
-    sum.box(place);
-    sum.add(place === null ? 7 : place.turned);
+    sum.size(value?.sizes[i] ?? SEVENS.size);
+    sum.wide(value?.places[i]?.page ?? 7);
+    addPlaced(sum, value?.places[i] ?? null);
+  }
+}
+
+function fill(api, draw, sum) {
+  const it = drawn(draw);
+  it.side = 40 + draw.below(40);
+  const { value, status, sprite } = asked(it, it.side, api.fill);
+  sum.add(status);
+  sum.wide(value?.left ?? 7);
+  sum.size(value ?? SEVENS.size);
+  sum.wide(sprite ?? 7);
+  for (let i = 0; i < SPRITES; i++) {
+    const place = value?.places[i];
+    sum.add(place === undefined ? 7 : place === null ? 0 : 1);
+    if (place) addPlaced(sum, place);
   }
 }
 
@@ -54,7 +88,7 @@ function kinds(api, draw, sum, hasNames) {
     [10, () => simple.make()], [20, () => simple.startAgain()], [40, () => simple.grow()], [100, () => simple.describe()],
     [900, () => cache.insert()], [700, () => cache.ask()], [80, () => cache.letGo()], [100, () => cache.nextFrame()],
     [80, () => cache.describe()], [6, () => cache.make()], [8, () => pack(api, draw, sum)],
-    [30, () => cache.know()],
+    [30, () => cache.know()], [4, () => packPages(api, draw, sum)], [4, () => fill(api, draw, sum)],
   ];
 }
 

@@ -1,12 +1,12 @@
 //! A page's entries placed anew.
 ghost use Rattle.std.specs.Prelude.{◌≡◌, ◌==◌, ◌↔◌, ◌+◌, ◌≤◌, ◌<◌, ◌++◌, [], ◌∷◌, ℕ, List, true, false, find, length};
-ghost use Rattle.std.specs.Prelude.{IfErr, IfOk, IsTrue, OnErr, Ok, Some};
+ghost use Rattle.std.specs.Prelude.{IfErr, IfOk, IsOkUnless, IsTrue, OnErr, Ok, Some};
 ghost use Rattle.std.specs.Prelude.{vec_capacity, vec_len};
 ghost use Rattle.std.specs.List.{cons_option, filter_map};
 ghost use Rattle.atlas_cache.specs.Caches.{entries_of, AreBordered, IsBordered};
 ghost use Rattle.atlas_cache.specs.Clearing.{TellsChanges};
 ghost use Rattle.atlas_cache.specs.Entries.{entry_at};
-ghost use Rattle.atlas_cache.specs.Relocating.{become, numbered_as, renewed_by, told_as, told_of, Repacks};
+ghost use Rattle.atlas_cache.specs.Relocating.{become, held_on, numbered_as, renewed_by, told_as, told_of, Repacks};
 ghost use Rattle.atlas_cache.specs.Rooms.{IsRefusal};
 
 use crate::cache::TextureCache;
@@ -15,9 +15,37 @@ use crate::changes::{CacheChange, Changes};
 use crate::entries::{Entries, Entry};
 use crate::error::CacheError;
 use crate::options::CacheOptions;
-use guillotiere::{AllocId, Change};
+use guillotiere::{AllocId, Allocation, Change};
 use std::alloc::Allocator;
 use std::hash::{BuildHasher, Hash};
+
+// The rectangles of the entries of a page, the most recently used first.
+fn rectangles_of<K: Copy + Eq + Hash, S: BuildHasher, A: Allocator + Copy>(
+    entries: &Entries<K, S, A>,
+    page: u32,
+    alloc: A,
+) -> Result<Vec<Allocation, A>, CacheError>
+    ensures held { IfOk result (λ held. held.items ≡ held_on page (entries_of entries.now.entries)) }
+    ensures unless { IsOkUnless result CacheError.Memory }
+{
+    let mut held = Vec::new(alloc);
+    let mut next = entries.newest();
+    for _ in 0..entries.len() {
+        let Some(number) = next else {
+            return Ok(held);
+        };
+        entries.prove_kept();
+        let found = entries.entry(number);
+        next = entries.older(number);
+        if found.page == page {
+            held.push(Allocation {
+                id: found.id,
+                rectangle: found.rectangle,
+            })?;
+        }
+    }
+    Ok(held)
+}
 
 // The change of an id, if there is one.
 fn change_for(changes: &[Change], id: AllocId) -> Option<Change>
@@ -102,10 +130,11 @@ fn settle_all<K: Copy + Eq + Hash, S: BuildHasher, A: Allocator + Copy>(
 }
 
 impl<K: Copy + Eq + Hash, S: BuildHasher, A: Allocator + Copy> TextureCache<K, S, A> {
-    /// Places the rectangles of a page anew, the largest first, so that what is free comes together; the page doesn't
-    /// grow. Whether there is such a page; if not, nothing changes. Each entry of the page is added to the changes
-    /// once, the most recently used first: as `Moved`, also where it stays in its place, or as `Evicted`, which is
-    /// counted, where it found no room. Every other entry stays, and so do the order of use, the frame and the options.
+    /// Places the entries of a page anew, so that what is free comes together: the largest first, by the area of
+    /// `rectangle`, and of one area the one that was used last; the page doesn't grow. Whether there is such a page; if
+    /// not, nothing changes. Each entry of the page is added to the changes once, the most recently used first: as
+    /// `Moved`, also where it stays in its place, or as `Evicted`, which is counted, where it found no room when its
+    /// turn came. Every other entry stays, and so do the order of use, the frame and the options.
     ///
     /// A place that an entry moves to can overlap one that a later change moves from: copy all pixels from the page as
     /// it was before the call. `Slots` if the page has too few of them, `Memory` if memory is refused; then nothing
@@ -125,7 +154,8 @@ impl<K: Copy + Eq + Hash, S: BuildHasher, A: Allocator + Copy> TextureCache<K, S
         self.entries.prove_kept();
         let before = self.entries.len();
         changes.reserve(before)?;
-        let list = self.rooms.repack(page)?;
+        let held = rectangles_of(&self.entries, page, *changes.allocator())?;
+        let list = self.rooms.repack(page, held)?;
         let options = self.rooms.options();
         settle_all(&mut self.entries, &options, &list.changes, page, changes);
         let gone = (before - self.entries.len()) as u64;

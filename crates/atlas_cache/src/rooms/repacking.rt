@@ -1,76 +1,153 @@
 //! A page's rectangles placed anew, and the areas of a page.
-ghost use Rattle.std.specs.Prelude.{◌≡◌, ◌<◌, length, slice_get, IfErr, IfOk, OnErr, Some};
-ghost use Rattle.guillotiere.specs.Callers.{rectangle_in, KeepsFrame};
-ghost use Rattle.guillotiere.specs.Rearranging.{rearrangement_of};
-ghost use Rattle.guillotiere.specs.States.{IsSound};
+ghost use Rattle.std.specs.Prelude.{◌≡◌, ◌-◌, ◌<◌, All, IsPermutation, length, map, slice_get, IfErr, IfOk, IfSome};
+ghost use Rattle.std.specs.Prelude.{IsOkUnless, Ok, OnErr, OnOk, Some};
+ghost use Rattle.guillotiere.specs.Boxes.{area, box_sides};
+ghost use Rattle.guillotiere.specs.Pixels.{box_of, sides_of};
+ghost use Rattle.guillotiere.specs.Rearranging.{rearrangement_of, AreExactChanges};
+ghost use Rattle.guillotiere.specs.Refits.Refitted.{HasExactRectangle, IsRefitOf};
+ghost use Rattle.guillotiere.specs.Replies.{allocate_reply, grant_of, IsExact};
 ghost use Rattle.guillotiere.specs.Steps.{Step};
-ghost use Rattle.guillotiere.specs.Steps.AtlasCall.{Rearrange};
-ghost use Rattle.guillotiere.specs.Steps.AtlasReply.{Changed};
+ghost use Rattle.guillotiere.specs.Steps.AtlasCall.{Allocate};
 ghost use Rattle.guillotiere.specs.Stored.{state_of};
 ghost use Rattle.atlas_cache.specs.declared.options.CacheOptions.{CacheOptions};
-ghost use Rattle.atlas_cache.specs.Repacking.{free_by_page, live_by_page, RearrangesPage, RepacksPage, TellsMoves};
+ghost use Rattle.atlas_cache.specs.Repacking.{free_by_page, live_by_page, IsLargestFirst, NamesPage, PlacesAnew};
+ghost use Rattle.atlas_cache.specs.Repacking.{PlacesInOrder, RepacksPage};
 ghost use Rattle.atlas_cache.specs.Rooms.{page_sizes, rooms_of, IsRefusal, KeepsRooms};
 
 use crate::error::CacheError;
+use crate::options::CacheOptions;
+use crate::rooms::usable::extent;
 use crate::rooms::{Rooms, refusal};
-use guillotiere::{AtlasAllocator, ChangeList};
+use guillotiere::{Allocation, AtlasAllocator, Change, ChangeList, Rectangle, Size};
 use std::alloc::Allocator;
+use std::cmp::Reverse;
 
-// Places the rectangles of an atlas anew: what moved, in plain words.
-fn rearrange<A: Allocator + Copy>(
+// How many pixels a rectangle has. A coordinate below 0 counts as 0.
+fn area_of(rectangle: Rectangle) -> u64
+    ensures { result ≡ area (box_of rectangle) }
+{
+    extent(rectangle.min.x, rectangle.max.x) * extent(rectangle.min.y, rectangle.max.y)
+}
+
+// Puts rectangles into the order in which they are placed: the largest first. Those of one area keep their order.
+fn sort_by_area<A: Allocator>(held: &mut Vec<Allocation, A>) -> Result<(), CacheError>
+    ensures permuted { IsPermutation held.old.items held.new.items }
+    ensures ordered { OnOk result (IsLargestFirst held.old.items held.new.items) }
+    ensures unless { IsOkUnless result CacheError.Memory }
+{
+    held.sort_by_key(|held| Reverse(area_of(held.rectangle)))?;
+    Ok(())
+}
+
+// The size of a rectangle.
+fn size_of_box(rectangle: Rectangle) -> Size
+    requires { IsExact rectangle }
+    ensures { sides_of result ≡ box_sides (box_of rectangle) }
+{
+    rectangle.size()
+}
+
+// Asks an atlas for a rectangle of the same sides.
+fn request<A: Allocator + Copy>(
     atlas: &mut AtlasAllocator<A>,
-) -> Result<ChangeList<A>, CacheError>
-    ensures tells { IfOk result (λ list.
-        TellsMoves list (rectangle_in (state_of atlas.old)) (rectangle_in (state_of atlas.new))) }
-    ensures step { IfOk result (λ list.
-        Step (state_of atlas.old) Rearrange (Changed (rearrangement_of list)) (state_of atlas.new)) }
-    ensures sound { IsSound (state_of atlas.new) }
-    ensures frame { KeepsFrame (state_of atlas.old) (state_of atlas.new) }
-    ensures refused { OnErr result (atlas.new ≡ atlas.old) }
+    rectangle: Rectangle,
+) -> Result<Option<Allocation>, CacheError>
+    requires { IsExact rectangle }
+    ensures step { IfOk result (λ granted. Step (state_of atlas.old) (Allocate (box_sides (box_of rectangle)))
+        (allocate_reply (Ok granted)) (state_of atlas.new)) }
+    ensures exact { IfOk result (λ granted. IfSome granted HasExactRectangle) }
     ensures errors { IfErr result IsRefusal }
 {
-    atlas.prove_sound();
-    match atlas.rearrange() {
-        Ok(list) => Ok(list),
+    match atlas.allocate(size_of_box(rectangle)) {
+        Ok(granted) => Ok(granted),
         Err(error) => Err(refusal(error)),
     }
 }
 
-// The same of one page.
-fn rearrange_on<A: Allocator + Copy>(
+// Places rectangles in an atlas, in this order: what was granted, and what found no room, in the room of the order.
+fn place_all<A: Allocator + Copy>(
+    atlas: &mut AtlasAllocator<A>,
+    order: Vec<Allocation, A>,
+) -> Result<ChangeList<A>, CacheError>
+    requires exact { All HasExactRectangle order.items }
+    ensures refits { IfOk result (λ list. IsRefitOf (state_of atlas.old) (map grant_of order.items)
+        (rearrangement_of list) (state_of atlas.new)) }
+    ensures exact { IfOk result AreExactChanges }
+    ensures errors { IfErr result IsRefusal }
+{
+    let mut failures = order;
+    let mut changes = Vec::new(*failures.allocator());
+    let mut failed = 0;
+    for at in 0..failures.len() {
+        let old = failures[at];
+        match request(atlas, old.rectangle)? {
+            Some(new) => changes.push(Change { old, new })?,
+            None => {
+                failures[failed] = old;
+                failed += 1;
+            }
+        }
+    }
+    failures.truncate(failed);
+    Ok(ChangeList { changes, failures })
+}
+
+// A page becomes an empty one of its size, in which these rectangles are placed.
+fn replace_on<A: Allocator + Copy>(
     pages: &mut Vec<AtlasAllocator<A>, A>,
     page: usize,
+    options: &CacheOptions,
+    order: Vec<Allocation, A>,
 ) -> Result<ChangeList<A>, CacheError>
-    requires { page < length pages.old.items }
-    ensures repacks { IfOk result (RepacksPage pages.old.items pages.new.items page) }
-    ensures step { IfOk result (λ list.
-        RearrangesPage pages.old.items pages.new.items page list.changes.items list.failures.items) }
+    requires page { page < length pages.old.items }
+    requires kept { KeepsRooms (rooms_of options.now pages.old.items) }
+    requires exact { All HasExactRectangle order.items }
+    ensures repacks { NamesPage pages.old.items page order.items
+        → IfOk result (RepacksPage pages.old.items pages.new.items page) }
+    ensures placed { IfOk result (λ list. PlacesInOrder pages.old.items pages.new.items page order.items
+        list.changes.items list.failures.items) }
     ensures sizes { page_sizes pages.new.items ≡ page_sizes pages.old.items }
-    ensures kept { (o : CacheOptions) → KeepsRooms (rooms_of o pages.old.items)
-        → KeepsRooms (rooms_of o pages.new.items) }
+    ensures kept { KeepsRooms (rooms_of options.now pages.new.items) }
     ensures refused { OnErr result (pages.new.items ≡ pages.old.items) }
     ensures errors { IfErr result IsRefusal }
 {
-    rearrange(&mut pages[page])
+    let alloc = *pages.allocator();
+    let size = pages[page].size();
+    let Ok(mut placed) = AtlasAllocator::with_options(alloc, size, &options.atlas) else {
+        return Err(CacheError::Memory);
+    };
+    let list = place_all(&mut placed, order)?;
+    placed.prove_sound();
+    pages[page] = placed;
+    Ok(list)
 }
 
 impl<A: Allocator + Copy> Rooms<A> {
-    /// Places the rectangles of a page anew, the largest first, as `rearrange` of its atlas does; the page doesn't
-    /// grow. Asks that there is such a page. The list tells each rectangle of the page once: those that were placed
-    /// anew, with their former and their new ids, and those that found no room, whose ids are live no more. All former
-    /// ids of the page are void. Other pages stay as they are. `Slots` if the page has too few of them, `Memory` if
-    /// memory is refused; then nothing changes.
-    pub fn repack(&mut self, page: u32) -> Result<ChangeList<A>, CacheError>
-        requires { page < length self.old.pages }
-        ensures repacks { IfOk result (RepacksPage self.old.pages self.new.pages page) }
-        ensures step { IfOk result (λ list.
-            RearrangesPage self.old.pages self.new.pages page list.changes.items list.failures.items) }
+    /// Places rectangles in an empty page of the size of this one, which becomes this page: the largest first, and those
+    /// of one area in the order of the list. Asks that there is such a page, and rectangles with the coordinates of
+    /// boxes. If the list names what is live on the page, each once, then the answer tells each rectangle of the page
+    /// once: those that were placed anew, with their former and their new ids, and those that found no room when their
+    /// turn came, whose ids are live no more. All former ids of the page are void. Other pages stay as they are. `Slots`
+    /// if the page has too few of them, `Memory` if memory is refused; then nothing changes.
+    pub fn repack(
+        &mut self,
+        page: u32,
+        held: Vec<Allocation, A>,
+    ) -> Result<ChangeList<A>, CacheError>
+        requires page { page < length self.old.pages }
+        requires exact { All HasExactRectangle held.items }
+        ensures repacks { NamesPage self.old.pages page held.items
+            → IfOk result (RepacksPage self.old.pages self.new.pages page) }
+        ensures placed { IfOk result (λ list. PlacesAnew self.old.pages self.new.pages page held.items
+            list.changes.items list.failures.items) }
         ensures sizes { page_sizes self.new.pages ≡ page_sizes self.old.pages }
         ensures options { self.new.options ≡ self.old.options }
         ensures refused { OnErr result (self.new ≡ self.old) }
         ensures errors { IfErr result IsRefusal }
     {
-        rearrange_on(&mut self.pages, page as usize)
+        let mut order = held;
+        sort_by_area(&mut order)?;
+        replace_on(&mut self.pages, page as usize, &self.options, order)
     }
 
     /// The area of all live rectangles of a page together, in unit squares. Asks that there is such a page. Takes no

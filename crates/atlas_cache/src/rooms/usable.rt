@@ -24,8 +24,8 @@ fn taken_side(side: i32, padding: i32, alignment: i32) -> u64
     (asked + (step - 1)) / step * step
 }
 
-// How far `to` lies beyond `from`, where a position below 0 counts as 0.
-fn extent(from: i32, to: i32) -> u64
+/// How far `to` lies beyond `from`, where a position below 0 counts as 0.
+pub fn extent(from: i32, to: i32) -> u64
     ensures { result ≡ natural to - natural from }
 {
     (to.max(0) as u64).saturating_sub(from.max(0) as u64)

@@ -35,9 +35,9 @@ fn turn_run(random: &mut Random, order: &mut [(usize, Size)]) {
     order[first..end].reverse();
 }
 
-// The sides of a sprite that is turned.
+/// The sides of a sprite that is turned.
 #[inline]
-fn flipped(size: Size) -> Size {
+pub fn flipped(size: Size) -> Size {
     size2(size.height, size.width)
 }
 

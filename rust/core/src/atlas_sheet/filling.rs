@@ -45,9 +45,9 @@ pub fn check(sprites: &[Size], spacing: Spacing) -> Result<(), SheetError> {
     Ok(())
 }
 
-// A coordinate, or 0 for one below 0.
+/// A coordinate or a side, or 0 for one below 0.
 #[inline]
-fn from_zero(coordinate: i32) -> u64 {
+pub fn from_zero(coordinate: i32) -> u64 {
     coordinate.max(0) as u64
 }
 

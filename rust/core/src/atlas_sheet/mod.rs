@@ -17,6 +17,7 @@ mod random;
 mod search;
 mod sheets;
 mod trials;
+mod turnings;
 mod ways;
 
 pub use allowed::Allowed;
@@ -26,4 +27,5 @@ pub use orders::Key;
 pub use paging::{pack_pages, OnPage, Pages};
 pub use placed::Placed;
 pub use sheets::{fill, pack, pack_telling, Filled, Sheet};
+pub use turnings::Turning;
 pub use ways::{prove_ways, ways_tried, Choice, Way, WAYS};

@@ -23,7 +23,7 @@ pub struct SheetOptions {
     /// Each sprite's place, with the padding at its left and above, begins on multiples of these sides, in pixels. Each
     /// side is at least 1.
     pub alignment: Size,
-    /// Whether a sprite may lie turned by 90 degrees.
+    /// Whether a sprite may lie turned by 90 degrees. The ways are then tried with each `Turning`.
     pub turn: bool,
     /// How many changes of the order are tried.
     pub effort: u32,

@@ -4,11 +4,13 @@
 use crate::atlas_sheet::arrangement::Arrangement;
 use crate::atlas_sheet::climbing::{asked_in, improve, is_whole};
 use crate::atlas_sheet::error::SheetError;
+use crate::atlas_sheet::filling::from_zero;
 use crate::atlas_sheet::options::SheetOptions;
 use crate::atlas_sheet::orders::greatest_first;
 use crate::atlas_sheet::random::Random;
 use crate::atlas_sheet::search::{greatest_sheet, smaller_sheet, smallest};
 use crate::atlas_sheet::trials::{trials_of, Packing};
+use crate::atlas_sheet::turnings::{laid, Turning};
 use crate::atlas_sheet::ways::WAYS;
 use crate::guillotiere::{Rectangle, Size};
 use wollemigo_support::alloc::Allocator;
@@ -29,11 +31,10 @@ fn somes<A: Allocator + Copy>(
 #[inline]
 fn arrangement_of<A: Allocator + Copy>(
     alloc: A,
-    sprites: &[Size],
     options: &SheetOptions,
+    lying: Vec<Size, A>,
     packing: Packing<A>,
 ) -> Result<Arrangement<A>, SheetError> {
-    let lying = Vec::from_slice(alloc, sprites)?;
     let places = somes(alloc, &packing.places)?;
     Ok(Arrangement {
         size: packing.size,
@@ -42,6 +43,73 @@ fn arrangement_of<A: Allocator + Copy>(
         order: packing.order,
         places,
     })
+}
+
+// The sprites as they are laid, in the smallest sheet into which a way packs them.
+#[inline]
+fn first_so<A: Allocator + Copy>(
+    alloc: A,
+    sprites: &[Size],
+    options: &SheetOptions,
+    how: Turning,
+) -> Result<Option<Arrangement<A>>, SheetError> {
+    let lying = laid(alloc, sprites, options, how)?;
+    let trials = trials_of(alloc, &lying, &WAYS)?;
+    let found = smallest(alloc, &lying, &trials, options.allowed, options.spacing())?;
+    match found {
+        None => Ok(None),
+        Some(packing) => {
+            let first = arrangement_of(alloc, options, lying, packing)?;
+            Ok(Some(first))
+        }
+    }
+}
+
+// How many pixels a sheet has.
+#[inline]
+fn pixels(size: Size) -> u64 {
+    from_zero(size.width) * from_zero(size.height)
+}
+
+// The arrangement in the smaller sheet, if there is one; of two with as many pixels the first.
+#[inline]
+fn smaller_of<A: Allocator>(
+    one: Option<Arrangement<A>>,
+    other: Option<Arrangement<A>>,
+) -> Option<Arrangement<A>> {
+    let first = match one {
+        Some(first) => first,
+        _ => {
+            return other;
+        }
+    };
+    let second = match other {
+        Some(second) => second,
+        _ => {
+            return Some(first);
+        }
+    };
+    if pixels(second.size) < pixels(first.size) {
+        Some(second)
+    } else {
+        Some(first)
+    }
+}
+
+// The smallest sheet into which a way packs all sprites, however they are laid.
+#[inline]
+fn first_found<A: Allocator + Copy>(
+    alloc: A,
+    sprites: &[Size],
+    options: &SheetOptions,
+) -> Result<Option<Arrangement<A>>, SheetError> {
+    let given = first_so(alloc, sprites, options, Turning::AsGiven)?;
+    if !options.turn {
+        return Ok(given);
+    }
+    let wide = first_so(alloc, sprites, options, Turning::Wide)?;
+    let high = first_so(alloc, sprites, options, Turning::High)?;
+    Ok(smaller_of(given, smaller_of(wide, high)))
 }
 
 // Sprites in smaller and smaller sheets, as long as there are tries: the last one that took all. `told` is called with
@@ -90,8 +158,9 @@ fn squeeze<A: Allocator + Copy>(
     }
     let size = greatest_sheet(options.allowed);
     let way = WAYS[0];
-    let order = greatest_first(alloc, sprites, way.key)?;
-    let asked = asked_in(alloc, options, size, way.choice, sprites, &order)?;
+    let lying = laid(alloc, sprites, options, Turning::AsGiven)?;
+    let order = greatest_first(alloc, &lying, way.key)?;
+    let asked = asked_in(alloc, options, size, way.choice, &lying, &order)?;
     let found = improve(alloc, options, random, tries, asked)?;
     if !is_whole(&found) {
         return Ok(None);
@@ -108,17 +177,13 @@ fn first_whole<A: Allocator + Copy>(
     random: &mut Random,
     tries: &mut u32,
 ) -> Result<Option<Arrangement<A>>, SheetError> {
-    let trials = trials_of(alloc, sprites, &WAYS)?;
-    let found = smallest(alloc, sprites, &trials, options.allowed, options.spacing())?;
+    let found = first_found(alloc, sprites, options)?;
     match found {
         None => {
             let squeezed = squeeze(alloc, sprites, options, random, tries)?;
             Ok(squeezed)
         }
-        Some(packing) => {
-            let first = arrangement_of(alloc, sprites, options, packing)?;
-            Ok(Some(first))
-        }
+        Some(first) => Ok(Some(first)),
     }
 }
 

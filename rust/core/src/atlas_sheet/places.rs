@@ -21,9 +21,9 @@ fn inner_side(side: i32, padding: u16) -> i32 {
     (side as u32).saturating_sub(u32::from(padding)).max(1) as i32
 }
 
-// What is left of a sheet without the padding at its right and below.
+/// What is left of a sheet without the padding at its right and below.
 #[inline]
-fn inner(sheet: Size, spacing: Spacing) -> Size {
+pub fn inner(sheet: Size, spacing: Spacing) -> Size {
     size2(
         inner_side(sheet.width, spacing.padding),
         inner_side(sheet.height, spacing.padding),

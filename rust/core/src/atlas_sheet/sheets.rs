@@ -11,6 +11,7 @@ use crate::atlas_sheet::packing::packed;
 use crate::atlas_sheet::placed::{placed_all, whole, Placed};
 use crate::atlas_sheet::random::Random;
 use crate::atlas_sheet::search::greatest_sheet;
+use crate::atlas_sheet::turnings::{laid, Turning};
 use crate::atlas_sheet::ways::{ways_tried, WAYS};
 use crate::guillotiere::Size;
 use wollemigo_support::alloc::{Allocator, Global};
@@ -82,17 +83,18 @@ pub fn filled_of<A: Allocator + Copy>(
     })
 }
 
-// What the best of the first ways finds.
+// What the best of the first ways finds for the sprites as they are laid.
 #[inline]
-fn first_filled<A: Allocator + Copy>(
+fn filled_so<A: Allocator + Copy>(
     alloc: A,
     sprites: &[Size],
     options: &SheetOptions,
+    size: Size,
+    how: Turning,
 ) -> Result<Arrangement<A>, SheetError> {
-    let size = greatest_sheet(options.allowed);
+    let lying = laid(alloc, sprites, options, how)?;
     let ways = ways_tried(sprites.len());
-    let filling = fill_by(alloc, sprites, size, options.spacing(), &WAYS[..ways])?;
-    let lying = Vec::from_slice(alloc, sprites)?;
+    let filling = fill_by(alloc, &lying, size, options.spacing(), &WAYS[..ways])?;
     Ok(Arrangement {
         size,
         choice: filling.way.choice,
@@ -100,6 +102,33 @@ fn first_filled<A: Allocator + Copy>(
         order: filling.found.order,
         places: filling.found.places,
     })
+}
+
+// The arrangement with more pixels of sprites; of two with as many the first.
+#[inline]
+fn fuller<A: Allocator>(one: Arrangement<A>, other: Arrangement<A>) -> Arrangement<A> {
+    if used_area(&one.places) < used_area(&other.places) {
+        other
+    } else {
+        one
+    }
+}
+
+// What the best of the first ways finds, however the sprites are laid.
+#[inline]
+fn first_filled<A: Allocator + Copy>(
+    alloc: A,
+    sprites: &[Size],
+    options: &SheetOptions,
+) -> Result<Arrangement<A>, SheetError> {
+    let size = greatest_sheet(options.allowed);
+    let given = filled_so(alloc, sprites, options, size, Turning::AsGiven)?;
+    if !options.turn {
+        return Ok(given);
+    }
+    let wide = filled_so(alloc, sprites, options, size, Turning::Wide)?;
+    let high = filled_so(alloc, sprites, options, size, Turning::High)?;
+    Ok(fuller(given, fuller(wide, high)))
 }
 
 // What the first ways find, and no fewer pixels by changes of the order.
@@ -120,9 +149,9 @@ pub fn best_filled<A: Allocator + Copy>(
 }
 
 /// Places sprites in the greatest sheet that is allowed. The places have no fewer pixels than those that any of the
-/// first `ways_tried` of `WAYS` finds; without effort they are those of the best of these ways. With effort the order
-/// is changed so many times, and a change stays if it leaves no more pixels of sprites without a place. A sprite that
-/// found no room has no place.
+/// first `ways_tried` of `WAYS` finds; without effort they are those of the best of these ways. Where sprites may be
+/// turned, this holds with each `Turning`. With effort the order is changed so many times, and a change stays if it
+/// leaves no more pixels of sprites without a place. A sprite that found no room has no place.
 ///
 /// `EmptySheet` if the least allowed side is below 1, `EmptyRange` if the greatest is less than the least,
 /// `EmptyAlignment` if a side of the alignment is below 1; `EmptySprite` and `GreatSprite` name a sprite that can't be
@@ -151,10 +180,11 @@ fn sheet_of<A: Allocator + Copy>(alloc: A, filled: Filled<A>) -> Result<Sheet<A>
 }
 
 /// Places all sprites in a sheet that is as small as the search finds. Without effort one of `WAYS` packs them into it,
-/// and none does into the allowed sheet that is a pixel lower (among powers of two: into any with fewer pixels). With
-/// effort so many more orders are tried, each a small change of the one before, on a sheet that is one step smaller
-/// than the best; the sheet is never larger than without effort. None only where no way, and no order that was tried,
-/// packs all sprites into the greatest sheet that is allowed.
+/// and none does into the allowed sheet that is a pixel lower (among powers of two: into any with fewer pixels). Where
+/// sprites may be turned, this is the smallest of the sheets that are found so with each `Turning`. With effort so many
+/// more orders are tried, each a small change of the one before, on a sheet that is one step smaller than the best; the
+/// sheet is never larger than without effort. None only where no way, and no order that was tried, packs all sprites
+/// into the greatest sheet that is allowed.
 ///
 /// `EmptySheet` if the least allowed side is below 1, `EmptyRange` if the greatest is less than the least,
 /// `EmptyAlignment` if a side of the alignment is below 1; `EmptySprite` and `GreatSprite` name a sprite that can't be

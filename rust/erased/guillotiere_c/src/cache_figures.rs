@@ -2,8 +2,9 @@
 //! The exports that tell of a cache: how many keys and pages it has, and how it was used.
 
 use crate::cache_handle::CacheHandle;
-use crate::plain::{plain_size, PlainAreas, PlainSize, DONE, EMPTY, NO_PAGE};
+use crate::plain::{plain_size, PlainAreas, PlainSize, DONE, EMPTY, MEMORY, NO_PAGE};
 use crate::plain_cache::{plain_cache_options, plain_counts, PlainCacheOptions, PlainCounts};
+use wollemigo_core::guillotiere::size2;
 use wollemigo_support::alloc::Global;
 
 /// How many keys are held. `DONE`.
@@ -98,6 +99,33 @@ pub extern "C" fn guillotiere_cache_areas(
     };
     *areas = PlainAreas { allocated, free };
     DONE
+}
+
+/// The area of a page, in pixels, that is free in rectangles which have no room for an entry of this size, with its padding
+/// and rounded up to the alignment. Pages are counted from 0. `DONE`; `NO_PAGE`; `MEMORY`.
+#[no_mangle]
+pub extern "C" fn guillotiere_cache_unusable_area(
+    cache: &mut CacheHandle,
+    page: u32,
+    width: i32,
+    height: i32,
+    area: &mut u64,
+) -> u32 {
+    let alloc = Global;
+    if !cache.holds() {
+        return EMPTY;
+    }
+    let held = cache.take(alloc);
+    let found = held.unusable_area(page, size2(width, height));
+    cache.put(held);
+    match found {
+        Ok(Some(found)) => {
+            *area = found;
+            DONE
+        }
+        Ok(None) => NO_PAGE,
+        Err(_) => MEMORY,
+    }
 }
 
 /// The options with which the cache was made. `DONE`.

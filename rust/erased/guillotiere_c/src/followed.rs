@@ -139,6 +139,11 @@ impl FollowedCache {
         self.cache.free_area(page)
     }
 
+    /// As `TextureCache::unusable_area`.
+    pub fn unusable_area(&self, page: u32, size: Size) -> Result<Option<u64>, CacheError> {
+        self.cache.unusable_area(page, size)
+    }
+
     /// As `TextureCache::newest`.
     pub fn newest(&self) -> Option<(u64, Place)> {
         self.cache.newest()

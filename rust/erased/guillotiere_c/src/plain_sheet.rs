@@ -5,7 +5,7 @@ use crate::plain::{
     plain_rectangle, PlainRectangle, BAD_CALL, DONE, EMPTY_ALIGNMENT, EMPTY_RANGE, EMPTY_SHEET,
     EMPTY_SPRITE, GREAT_SPRITE, HEIGHTS, MEMORY, NO_ROOM, ONE_SIZE, POWERS, SHORT, SQUARES,
 };
-use wollemigo_core::atlas_sheet::{Allowed, Placed, SheetError, SheetOptions};
+use wollemigo_core::atlas_sheet::{Allowed, OnPage, Placed, SheetError, SheetOptions};
 use wollemigo_core::guillotiere::size2;
 
 /// As `SheetOptions`. What a kind of sheets doesn't name isn't looked at.
@@ -33,11 +33,60 @@ pub struct PlainPlaced {
     pub turned: u32,
 }
 
+/// A place or none: `is_placed` is 1 or 0. Where there is none the place has no meaning.
+#[repr(C)]
+#[derive(Clone, Copy)]
+pub struct PlainMaybePlaced {
+    pub is_placed: u32,
+    pub placed: PlainPlaced,
+}
+
+/// As `OnPage`.
+#[repr(C)]
+#[derive(Clone, Copy)]
+pub struct PlainOnPage {
+    pub page: usize,
+    pub placed: PlainPlaced,
+}
+
+// No place.
+const NO_PLACE: PlainMaybePlaced = PlainMaybePlaced {
+    is_placed: 0,
+    placed: PlainPlaced {
+        area: PlainRectangle {
+            min_x: 0,
+            min_y: 0,
+            max_x: 0,
+            max_y: 0,
+        },
+        turned: 0,
+    },
+};
+
 /// The same for C.
 pub fn plain_placed(placed: Placed) -> PlainPlaced {
     PlainPlaced {
         area: plain_rectangle(placed.area),
         turned: if placed.turned { 1 } else { 0 },
+    }
+}
+
+/// The same for C.
+pub fn plain_maybe_placed(place: Option<Placed>) -> PlainMaybePlaced {
+    match place {
+        Some(placed) => PlainMaybePlaced {
+            is_placed: 1,
+            placed: plain_placed(placed),
+        },
+        None => NO_PLACE,
+    }
+}
+
+/// The same for C.
+pub fn plain_on_page(place: OnPage) -> PlainOnPage {
+    PlainOnPage {
+        page: place.page,
+        placed: plain_placed(place.placed),
     }
 }
 

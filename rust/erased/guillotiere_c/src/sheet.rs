@@ -14,8 +14,8 @@ use wollemigo_support::alloc::Global;
 use wollemigo_support::prelude::{CollectIn, Vec};
 use wollemigo_support::raw::{slice, slice_mut};
 
-// The sizes of these numbers.
-fn sizes_of(alloc: Global, numbers: &[PlainSize]) -> Result<Vec<Size>, SheetError> {
+/// The sizes of these numbers.
+pub fn sizes_of(alloc: Global, numbers: &[PlainSize]) -> Result<Vec<Size>, SheetError> {
     let sizes = numbers.iter().map(|size| size2(size.width, size.height));
     Ok(sizes.collect_in(alloc)?)
 }

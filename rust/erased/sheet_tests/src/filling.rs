@@ -254,3 +254,18 @@ fn random_sprites() {
         assert!(&rt; again.places == first.places && again.used_area == first.used_area);
     }
 }
+
+// A sheet of 4 x 2 takes 4 x 1 and 1 x 4 where they may be turned: both lie wide.
+#[test]
+fn turned_to_fill() {
+    let rt = HostRuntime;
+    for (turn, area) in [(false, 4), (true, 8)] {
+        let options = SheetOptions {
+            turn,
+            ..sheet_options(size2(4, 2), 0)
+        };
+        let filled =
+            fill(rt.alloc(), &[size2(4, 1), size2(1, 4)], &options).expect_in(&rt, "memory");
+        assert!(&rt; filled.used_area == area);
+    }
+}

@@ -4,6 +4,7 @@
 use crate::filling::{are_apart, is_good, sprites_of, upright};
 use wollemigo_core::atlas_sheet::{pack, Allowed, Placed, SheetError, SheetOptions};
 use wollemigo_core::guillotiere::{size2, Size};
+use wollemigo_support::alloc::Global;
 use wollemigo_support::prelude::{assert, ExpectIn, HostRuntime};
 use wollemigo_support::process::Abort;
 
@@ -85,19 +86,45 @@ fn order_of_places() {
     assert!(&rt; sheet.places.get(1).copied() == Some(upright(0, 0, 6, 6)));
 }
 
-// Only changes of the order turn a sprite: one of 2 x 1 has no room in 1 x 2 without effort.
+// Where sprites may be turned one of 2 x 1 has room in 1 x 2, without effort too.
 #[test]
-fn turned_with_effort() {
+fn turned_without_effort() {
     let rt = HostRuntime;
-    for (effort, found) in [(0, false), (1, true)] {
+    for (turn, found) in [(false, false), (true, true)] {
         let options = SheetOptions {
-            turn: true,
-            effort,
+            turn,
             ..SheetOptions::new(Allowed::One(size2(1, 2)))
         };
         let sheet = pack(rt.alloc(), &[size2(2, 1)], &options).expect_in(&rt, "memory");
-        assert!(&rt; sheet.is_some() == found, "effort {effort}");
+        assert!(&rt; sheet.is_some() == found);
     }
+}
+
+// How many sprites lie turned in the lowest sheet of this width, and how high it is.
+fn lowest(alloc: Global, width: i32, sprites: &[Size]) -> Option<(i32, usize)> {
+    let options = SheetOptions {
+        turn: true,
+        ..SheetOptions::new(Allowed::Heights { width, greatest: 9 })
+    };
+    let sheet = match pack(alloc, sprites, &options) {
+        Ok(Some(sheet)) => sheet,
+        _ => {
+            return None;
+        }
+    };
+    let turned = sheet.places.iter().filter(|placed| placed.turned).count();
+    Some((sheet.size.height, turned))
+}
+
+// As they are given two sprites of 4 x 1 and 1 x 4 lie 5 high in a width of 4, both high 4, and both wide 2. Three of 2 x 1,
+// 1 x 2 and 1 x 2 lie 3 high in a width of 3, and all high 2.
+#[test]
+fn all_wide_or_all_high() {
+    let rt = HostRuntime;
+    let wide = lowest(rt.alloc(), 4, &[size2(4, 1), size2(1, 4)]);
+    assert!(&rt; wide == Some((2, 1)));
+    let high = lowest(rt.alloc(), 3, &[size2(2, 1), size2(1, 2), size2(1, 2)]);
+    assert!(&rt; high == Some((2, 1)));
 }
 
 // A place takes multiples of the alignment at the right and the lower border too: 33 pixels take 48 at alignment 16.

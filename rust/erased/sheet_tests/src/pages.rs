@@ -77,6 +77,24 @@ fn none_and_refused() {
     assert!(&rt; empty.err() == Some(SheetError::EmptySprite(1)));
 }
 
+// Where sprites may be turned, None says that one is too large both ways: 8 x 2 fits 2 x 8, and 3 x 3 doesn't.
+#[test]
+fn too_large_both_ways() {
+    let rt = HostRuntime;
+    for (turn, sprite, found) in [
+        (false, size2(8, 2), false),
+        (true, size2(8, 2), true),
+        (true, size2(3, 3), false),
+    ] {
+        let options = SheetOptions {
+            turn,
+            ..sheet_options(size2(2, 8), 0)
+        };
+        let pages = pack_pages(rt.alloc(), &[sprite], &options).expect_in(&rt, "memory");
+        assert!(&rt; pages.is_some() == found);
+    }
+}
+
 // Random sprites: each lies on a sheet, and apart from those on the same one; no sheet is empty.
 #[test]
 fn random_sprites() {

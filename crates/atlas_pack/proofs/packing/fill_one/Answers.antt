@@ -3,6 +3,7 @@ use Rattle.atlas_model.specs.Pixels.{sides_of}
 use Rattle.atlas_sheet.specs.declared.ways.TheConstants.{WAYS}
 use Rattle.atlas_sheet.specs.Fillings.{IsNoBetter, ways_tried}
 use Rattle.atlas_sheet.specs.Settings.{spacing_of}
+use Rattle.atlas_sheet.specs.Turnings.{InEach}
 use Rattle.atlas_pack.proofs.packing.fill_one.Goals as goal
 
 pub returns-in-Ok-clause-filled : goal.returns-in-Ok-clause-filled
@@ -13,8 +14,9 @@ returns-in-Ok-clause-filled c =
       greatest = c.in-Ok.ensures.size;
       order = filled.order.items;
       shown = c.in-Ok.ensures.shown;
-      best = subst (λ (area : ℕ). All (IsNoBetter (sides_of filled.size) (spacing_of c.args.options.now) sizes area)
-          (take (ways_tried (length sizes)) WAYS)) c.in-Ok.ensures.area c.in-Ok.ensures.best;
+      best = subst (λ (area : ℕ). InEach c.args.options.now sizes (λ lying.
+          All (IsNoBetter (sides_of filled.size) (spacing_of c.args.options.now) lying area) (take (ways_tried (length sizes)) WAYS)))
+          c.in-Ok.ensures.area c.in-Ok.ensures.best;
       plain = c.in-Ok.ensures.plain;
     }
 

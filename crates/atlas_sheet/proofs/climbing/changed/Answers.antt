@@ -1,7 +1,7 @@
 use Rattle.guillotiere.specs.Pixels.{sides_of}
 use Rattle.atlas_sheet.specs.Settings.{spacing_of}
 use Rattle.atlas_sheet.proofs.Arranging.{rebased}
-use Rattle.atlas_sheet.proofs.Turning.{lie_packable}
+use Rattle.atlas_sheet.proofs.Flipping.{lie_packable}
 use Rattle.atlas_sheet.proofs.climbing.changed.Goals as goal
 
 pub asked_in-requires-clause-packable : goal.asked_in-requires-clause-packable

@@ -3,7 +3,7 @@ use Rattle.guillotiere.specs.Pixels.{sides_of}
 use Rattle.atlas_sheet.specs.Settings.{spacing_of}
 use Rattle.atlas_sheet.specs.Sheets.{used_area}
 use Rattle.atlas_sheet.proofs.Arranging.{rebased}
-use Rattle.atlas_sheet.proofs.Turning.{lie_packable}
+use Rattle.atlas_sheet.proofs.Flipping.{lie_packable}
 use Rattle.atlas_sheet.proofs.climbing.improve.Goals as goal
 
 pub changed-requires-clause-packable : goal.changed-requires-clause-packable

@@ -1,4 +1,4 @@
-use Rattle.std.proofs.Common.{◌≡◌, ◌∙◌, map, ap, refl, subst, sym, All, IsSome, Some, inr, arith}
+use Rattle.std.proofs.Common.{◌≡◌, ◌∙◌, map, ap, refl, subst, sym, All, IsSome, Some}
 use Rattle.guillotiere.specs.Pixels.{sides_of}
 use Rattle.atlas_sheet.specs.declared.ways.TheConstants.{WAYS}
 use Rattle.atlas_sheet.specs.Settings.{spacing_of}
@@ -7,11 +7,10 @@ use Rattle.atlas_sheet.proofs.packing.arrangement_of.Goals as goal
 
 pub returns-clause-arranged : goal.returns-clause-arranged
 returns-clause-arranged g c =
-    let lying : c.in_ok-lying.lying.items ≡ c.args.sprites.now = c.in_ok-lying.ensures.items in
     let places : c.in_ok-places.places.items ≡ map Some c.args.packing.places.items =
     c.in_ok-places.ensures.places ∙ ap (map Some) c.deref.ensures.value in
-    rw (lying, places)
-    (packed_arranged WAYS (sides_of c.args.packing.size) (spacing_of c.args.options.now) c.args.options.now.turn c.args.sprites.now
+    rw places
+    (packed_arranged WAYS (sides_of c.args.packing.size) (spacing_of c.args.options.now) c.args.options.now.turn c.args.lying.items
     (record { way = c.args.packing.way; order = c.args.packing.order.items; places = c.args.packing.places.items }) c.requires.good)
 
 pub returns-clause-whole : goal.returns-clause-whole
@@ -28,13 +27,4 @@ returns-clause-first g c =
       c.requires,
       refl,
       sym places,
-    )
-
-pub returns-clause-larger : goal.returns-clause-larger
-returns-clause-larger g c =
-    inr (
-      sides_of c.args.packing.size,
-      record { way = c.args.packing.way; order = c.args.packing.order.items; places = c.args.packing.places.items },
-      c.requires,
-      omega arith,
     )

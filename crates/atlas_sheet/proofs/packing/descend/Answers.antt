@@ -5,7 +5,7 @@ use Rattle.guillotiere.specs.Pixels.{sides_of}
 use Rattle.atlas_sheet.specs.Allowances.{IsAllowed, pixels}
 use Rattle.atlas_sheet.specs.Settings.{spacing_of}
 use Rattle.atlas_sheet.proofs.Arranging.{own, rebased}
-use Rattle.atlas_sheet.proofs.Turning.{lie_packable}
+use Rattle.atlas_sheet.proofs.Flipping.{lie_packable}
 use Rattle.atlas_sheet.proofs.packing.descend.Goals as goal
 
 pub asked_in-requires-clause-packable : goal.asked_in-requires-clause-packable

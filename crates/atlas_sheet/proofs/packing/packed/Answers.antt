@@ -1,10 +1,12 @@
 use Rattle.std.proofs.Common.{[], refl, rules}
 use Rattle.std.proofs.lemmas.Fn.{FoldsTo-push}
 use Rattle.guillotiere.specs.Pixels.{sides_of}
+use Rattle.atlas_sheet.specs.Packings.{IsNoLarger}
 use Rattle.atlas_sheet.specs.Settings.{spacing_of}
 use Rattle.atlas_sheet.specs.declared.ways.TheConstants.{WAYS}
 use Rattle.atlas_sheet.proofs.Arranging.{no_larger, own, rebased}
-use Rattle.atlas_sheet.proofs.Turning.{lie_packable}
+use Rattle.atlas_sheet.proofs.Flipping.{lie_packable}
+use Rattle.atlas_sheet.proofs.Laying.{each_weaker}
 use Rattle.atlas_sheet.proofs.packing.packed.Goals as goal
 
 pub descend-requires-clause-packable : goal.descend-requires-clause-packable
@@ -28,8 +30,12 @@ returns-clause-arranged g c =
 
 pub returns-clause-larger : goal.returns-clause-larger
 returns-clause-larger g c =
-    no_larger WAYS c.args.options.now.allowed (spacing_of c.args.options.now) c.args.sprites.now (sides_of c.in-Some.first.size)
-    (sides_of c.in_ok-best.best.size) c.in_ok-best.ensures.smaller (rw c.in-Some.is at c.in_ok-found.ensures.larger)
+    each_weaker c.args.options.now c.args.sprites.now
+    (λ lying. IsNoLarger WAYS c.args.options.now.allowed (spacing_of c.args.options.now) lying (sides_of c.in-Some.first.size))
+    (λ lying. IsNoLarger WAYS c.args.options.now.allowed (spacing_of c.args.options.now) lying (sides_of c.in_ok-best.best.size))
+    (λ lying is. no_larger WAYS c.args.options.now.allowed (spacing_of c.args.options.now) lying (sides_of c.in-Some.first.size)
+    (sides_of c.in_ok-best.best.size) c.in_ok-best.ensures.smaller is)
+    (rw c.in-Some.is at c.in_ok-found.ensures.larger)
 
 pub returns-then-options-eq0-clause-told : goal.returns-then-options-eq0-clause-told
 returns-then-options-eq0-clause-told g c = (

@@ -1,4 +1,4 @@
-use Rattle.std.proofs.Common.{rules, ◌≡◌, ◌∙◌, length, replicate, All, IsNone, IsSome, None, ap, subst, sym}
+use Rattle.std.proofs.Common.{arith, rules, ◌≡◌, ◌∙◌, length, replicate, All, IsNone, IsSome, None, ap, subst, sym}
 use Rattle.atlas_sheet.specs.declared.ways.TheConstants.{WAYS}
 use Rattle.atlas_sheet.specs.Paging.{holes, put_on, sprites_left}
 use Rattle.atlas_sheet.specs.Settings.{spacing_of}
@@ -32,7 +32,7 @@ returns-then-is_bare-clause-none g c =
     let bare : All IsNone c.deref-in-loop-left-2.result.now = search (rules, c.is_bare.ensures, c.if-is_bare.true) in
     none_as_given WAYS c.args.options.now left.items c.deref.result.now c.deref-in-loop-left.result.now c.deref.ensures.value
     c.deref-in-loop-left.ensures.value p.size a.size c.in_ok-page.ensures.size p.order.items p.places.items a.places.items
-    c.in_ok-page.ensures.shown c.in_ok-page.ensures.areas c.in_ok-next.ensures.kind sprites c.loop-left.places.items before.left
+    c.in_ok-page.ensures.shown c.in_ok-page.ensures.areas c.in_ok-next.ensures.kind sprites c.loop-left.places.items (omega arith) before.left
     (some_left left.len left.items c.is_empty.result left.ok.0 c.is_empty.ensures c.loop-left-test.true)
     (left_packable sprites left.items c.loop-left.places.items before.are.long before.left (IsPackable (spacing_of c.args.options.now)) c.requires.packable)
     (subst (All IsNone) c.deref-in-loop-left-2.ensures.value bare)

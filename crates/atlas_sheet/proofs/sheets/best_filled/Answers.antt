@@ -5,7 +5,11 @@ use Rattle.atlas_sheet.specs.declared.ways.TheConstants.{WAYS}
 use Rattle.atlas_sheet.specs.Fillings.{IsNoBetter, ways_tried}
 use Rattle.atlas_sheet.specs.Settings.{spacing_of}
 use Rattle.atlas_sheet.specs.Sheets.{used_area}
+use Rattle.atlas_sheet.specs.Turnings.{InEach}
+use Rattle.atlas_sheet.proofs.Arranging.{own, rebased}
 use Rattle.atlas_sheet.proofs.BestWays.{still_best}
+use Rattle.atlas_sheet.proofs.Flipping.{lie_packable}
+use Rattle.atlas_sheet.proofs.Laying.{each_weaker}
 use Rattle.atlas_sheet.proofs.sheets.best_filled.Goals as goal
 
 pub returns-clause-best : goal.returns-clause-best
@@ -13,7 +17,29 @@ returns-clause-best g c =
     let first = c.in_ok-first.first in
     let best = c.in_ok-best.best in
     let ways = take (ways_tried (length c.args.sprites.now)) WAYS in
-    subst (λ (s : Size). All (IsNoBetter (sides_of s) (spacing_of c.args.options.now) c.args.sprites.now (used_area best.places.items)) ways)
-    (sym c.in_ok-best.ensures.size)
-    (still_best (sides_of first.size) (spacing_of c.args.options.now) c.args.sprites.now ways (used_area first.places.items)
-    (used_area best.places.items) c.in_ok-best.ensures.more c.in_ok-first.ensures.found.2.best)
+    subst (λ (s : Size). InEach c.args.options.now c.args.sprites.now
+    (λ lying. All (IsNoBetter (sides_of s) (spacing_of c.args.options.now) lying (used_area best.places.items)) ways)) (sym c.in_ok-best.ensures.size)
+    (each_weaker c.args.options.now c.args.sprites.now
+    (λ lying. All (IsNoBetter (sides_of first.size) (spacing_of c.args.options.now) lying (used_area first.places.items)) ways)
+    (λ lying. All (IsNoBetter (sides_of first.size) (spacing_of c.args.options.now) lying (used_area best.places.items)) ways)
+    (λ lying is. still_best (sides_of first.size) (spacing_of c.args.options.now) lying ways (used_area first.places.items)
+    (used_area best.places.items) c.in_ok-best.ensures.more is)
+    c.in_ok-first.ensures.best)
+
+pub improve-requires-clause-packable : goal.improve-requires-clause-packable
+improve-requires-clause-packable g c =
+    lie_packable (spacing_of c.args.options.now) c.args.options.now.turn c.args.sprites.now c.in_ok-first.first.lying.items
+    c.in_ok-first.ensures.arranged.lies c.requires.packable
+
+pub improve-requires-clause-arranged : goal.improve-requires-clause-arranged
+improve-requires-clause-arranged g c =
+    let a = c.in_ok-first.first in
+    own (sides_of a.size) (spacing_of c.args.options.now) c.args.options.now.turn c.args.sprites.now a.lying.items a.choice a.order.items
+    a.places.items c.in_ok-first.ensures.arranged
+
+pub returns-clause-arranged : goal.returns-clause-arranged
+returns-clause-arranged g c =
+    let a = c.in_ok-first.first in
+    let b = c.in_ok-best.best in
+    rebased (sides_of b.size) (spacing_of c.args.options.now) c.args.options.now.turn c.args.sprites.now a.lying.items b.lying.items
+    b.choice b.order.items b.places.items c.in_ok-first.ensures.arranged.lies c.in_ok-best.ensures.arranged

@@ -5,6 +5,7 @@ use Rattle.atlas_sheet.specs.declared.ways.TheConstants.{WAYS}
 use Rattle.atlas_sheet.specs.Fillings.{IsNoBetter, ways_tried}
 use Rattle.atlas_sheet.specs.Settings.{spacing_of}
 use Rattle.atlas_sheet.specs.Sheets.{used_area}
+use Rattle.atlas_sheet.specs.Turnings.{InEach}
 use Rattle.atlas_sheet.proofs.sheets.fill.Goals as goal
 
 pub returns-clause-best : goal.returns-clause-best
@@ -13,6 +14,11 @@ returns-clause-best g c =
     let filled = c.in_ok-filled.filled in
     let ways = take (ways_tried (length c.args.sprites.now)) WAYS in
     let used : filled.used_area ≡ used_area best.places.items = c.in_ok-filled.ensures.area ∙ ap used_area c.in_ok-filled.ensures.areas in
-    subst (λ (s : Size). All (IsNoBetter (sides_of s) (spacing_of c.args.options.now) c.args.sprites.now filled.used_area) ways)
-    (sym c.in_ok-filled.ensures.size)
-    (subst (λ n. All (IsNoBetter (sides_of best.size) (spacing_of c.args.options.now) c.args.sprites.now n) ways) (sym used) c.in_ok-best.ensures.best)
+    subst (λ (s : Size). InEach c.args.options.now c.args.sprites.now
+    (λ lying. All (IsNoBetter (sides_of s) (spacing_of c.args.options.now) lying filled.used_area) ways)) (sym c.in_ok-filled.ensures.size)
+    (subst (λ n. InEach c.args.options.now c.args.sprites.now
+    (λ lying. All (IsNoBetter (sides_of best.size) (spacing_of c.args.options.now) lying n) ways)) (sym used) c.in_ok-best.ensures.best)
+
+pub returns-clause-plain : goal.returns-clause-plain
+returns-clause-plain g c e =
+    rw (c.in_ok-filled.ensures.size, c.in_ok-filled.ensures.order, c.in_ok-filled.ensures.areas) (c.in_ok-best.ensures.plain e)

@@ -1,11 +1,12 @@
-use Rattle.std.proofs.Common.{◌≡◌, ◌∙◌, [], ◌∷◌, ◌++◌, map, subst, sym, Some, rules}
+use Rattle.std.proofs.Common.{◌≡◌, ◌∙◌, [], ◌∷◌, ◌++◌, ap, map, subst, sym, Some, rules}
 use Rattle.std.specs.List.{FoldsTo}
 use Rattle.guillotiere.specs.declared.Size.{Size}
 use Rattle.guillotiere.specs.Pixels.{sides_of}
 use Rattle.atlas_sheet.specs.declared.ways.TheConstants.{WAYS}
-use Rattle.atlas_sheet.specs.Lying.{IsShown}
+use Rattle.atlas_sheet.specs.Lying.{IsShown, areas_of}
 use Rattle.atlas_sheet.specs.Settings.{spacing_of}
 use Rattle.atlas_sheet.specs.Packings.{IsNoLarger}
+use Rattle.atlas_sheet.specs.Turnings.{InEach}
 use Rattle.atlas_sheet.proofs.Arranging.{shown_whole}
 use Rattle.atlas_sheet.proofs.Showing.{shows_apart, shows_inside, shows_upright}
 use Rattle.atlas_sheet.proofs.sheets.pack_telling.Goals as goal
@@ -18,8 +19,20 @@ sheet_of-requires g c =
 pub returns-clause-larger : goal.returns-clause-larger
 returns-clause-larger g c =
     let size : c.in_ok-sheet.sheet.size ≡ c.in-Some.best.size = c.in_ok-sheet.ensures.size ∙ c.in_ok-filled.ensures.size in
-    subst (λ (s : Size). IsNoLarger WAYS c.args.options.now.allowed (spacing_of c.args.options.now) c.args.sprites.now (sides_of s)) (sym size)
+    subst (λ (s : Size). InEach c.args.options.now c.args.sprites.now
+    (λ lying. IsNoLarger WAYS c.args.options.now.allowed (spacing_of c.args.options.now) lying (sides_of s))) (sym size)
     (rw c.in-Some.is at c.in_ok-found.ensures.larger)
+
+pub returns-clause-first : goal.returns-clause-first
+returns-clause-first g c e =
+    let best = c.in-Some.best in
+    let sheet = c.in_ok-sheet.sheet in
+    let size : sheet.size ≡ best.size = c.in_ok-sheet.ensures.size ∙ c.in_ok-filled.ensures.size in
+    let order : sheet.order.items ≡ map (λ s. s.0) best.order.items = c.in_ok-sheet.ensures.order ∙ c.in_ok-filled.ensures.order in
+    let areas : areas_of (map Some sheet.places.items) ≡ best.places.items =
+    ap areas_of c.in_ok-sheet.ensures.places ∙ c.in_ok-filled.ensures.areas in
+    let found = c.in_ok-found.ensures.first e in
+    rw (size, order, areas) (rw c.in-Some.is at found)
 
 pub returns-clause-inside : goal.returns-clause-inside
 returns-clause-inside g c =

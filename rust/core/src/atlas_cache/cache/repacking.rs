@@ -7,9 +7,39 @@ use crate::atlas_cache::changes::{CacheChange, Changes};
 use crate::atlas_cache::entries::{Entries, Entry};
 use crate::atlas_cache::error::CacheError;
 use crate::atlas_cache::options::CacheOptions;
-use crate::guillotiere::{AllocId, Change};
+use crate::guillotiere::{AllocId, Allocation, Change};
 use wollemigo_support::alloc::Allocator;
 use wollemigo_support::hash::{BuildHasher, Hash};
+use wollemigo_support::prelude::Vec;
+
+// The rectangles of the entries of a page, the most recently used first.
+#[inline]
+fn rectangles_of<K: Copy + Eq + Hash, S: BuildHasher, A: Allocator + Copy>(
+    entries: &Entries<K, S, A>,
+    page: u32,
+    alloc: A,
+) -> Result<Vec<Allocation, A>, CacheError> {
+    let mut held = Vec::new(alloc);
+    let mut next = entries.newest();
+    for _ in 0..entries.len() {
+        let number = match next {
+            Some(number) => number,
+            _ => {
+                return Ok(held);
+            }
+        };
+        entries.prove_kept();
+        let found = entries.entry(number);
+        next = entries.older(number);
+        if found.page == page {
+            held.push(Allocation {
+                id: found.id,
+                rectangle: found.rectangle,
+            })?;
+        }
+    }
+    Ok(held)
+}
 
 // The change of an id, if there is one.
 #[inline]
@@ -75,10 +105,11 @@ fn settle_all<K: Copy + Eq + Hash, S: BuildHasher, A: Allocator + Copy>(
 }
 
 impl<K: Copy + Eq + Hash, S: BuildHasher, A: Allocator + Copy> TextureCache<K, S, A> {
-    /// Places the rectangles of a page anew, the largest first, so that what is free comes together; the page doesn't
-    /// grow. Whether there is such a page; if not, nothing changes. Each entry of the page is added to the changes
-    /// once, the most recently used first: as `Moved`, also where it stays in its place, or as `Evicted`, which is
-    /// counted, where it found no room. Every other entry stays, and so do the order of use, the frame and the options.
+    /// Places the entries of a page anew, so that what is free comes together: the largest first, by the area of
+    /// `rectangle`, and of one area the one that was used last; the page doesn't grow. Whether there is such a page; if
+    /// not, nothing changes. Each entry of the page is added to the changes once, the most recently used first: as
+    /// `Moved`, also where it stays in its place, or as `Evicted`, which is counted, where it found no room when its
+    /// turn came. Every other entry stays, and so do the order of use, the frame and the options.
     ///
     /// A place that an entry moves to can overlap one that a later change moves from: copy all pixels from the page as
     /// it was before the call. `Slots` if the page has too few of them, `Memory` if memory is refused; then nothing
@@ -91,7 +122,8 @@ impl<K: Copy + Eq + Hash, S: BuildHasher, A: Allocator + Copy> TextureCache<K, S
         self.entries.prove_kept();
         let before = self.entries.len();
         changes.reserve(before)?;
-        let list = self.rooms.repack(page)?;
+        let held = rectangles_of(&self.entries, page, *changes.allocator())?;
+        let list = self.rooms.repack(page, held)?;
         let options = self.rooms.options();
         settle_all(&mut self.entries, &options, &list.changes, page, changes);
         let gone = (before - self.entries.len()) as u64;

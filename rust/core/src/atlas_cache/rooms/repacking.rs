@@ -2,41 +2,106 @@
 //! A page's rectangles placed anew, and the areas of a page.
 
 use crate::atlas_cache::error::CacheError;
+use crate::atlas_cache::options::CacheOptions;
+use crate::atlas_cache::rooms::usable::extent;
 use crate::atlas_cache::rooms::{refusal, Rooms};
-use crate::guillotiere::{AtlasAllocator, ChangeList};
+use crate::guillotiere::{Allocation, AtlasAllocator, Change, ChangeList, Rectangle, Size};
+use core::cmp::Reverse;
 use wollemigo_support::alloc::Allocator;
 use wollemigo_support::prelude::Vec;
 
-// Places the rectangles of an atlas anew: what moved, in plain words.
+// How many pixels a rectangle has. A coordinate below 0 counts as 0.
 #[inline]
-fn rearrange<A: Allocator + Copy>(
+fn area_of(rectangle: Rectangle) -> u64 {
+    extent(rectangle.min.x, rectangle.max.x) * extent(rectangle.min.y, rectangle.max.y)
+}
+
+// Puts rectangles into the order in which they are placed: the largest first. Those of one area keep their order.
+#[inline]
+fn sort_by_area<A: Allocator>(held: &mut Vec<Allocation, A>) -> Result<(), CacheError> {
+    held.sort_by_key(|held| Reverse(area_of(held.rectangle)))?;
+    Ok(())
+}
+
+// The size of a rectangle.
+#[inline]
+fn size_of_box(rectangle: Rectangle) -> Size {
+    rectangle.size()
+}
+
+// Asks an atlas for a rectangle of the same sides.
+#[inline]
+fn request<A: Allocator + Copy>(
     atlas: &mut AtlasAllocator<A>,
-) -> Result<ChangeList<A>, CacheError> {
-    atlas.prove_sound();
-    match atlas.rearrange() {
-        Ok(list) => Ok(list),
+    rectangle: Rectangle,
+) -> Result<Option<Allocation>, CacheError> {
+    match atlas.allocate(size_of_box(rectangle)) {
+        Ok(granted) => Ok(granted),
         Err(error) => Err(refusal(error)),
     }
 }
 
-// The same of one page.
+// Places rectangles in an atlas, in this order: what was granted, and what found no room, in the room of the order.
 #[inline]
-fn rearrange_on<A: Allocator + Copy>(
+fn place_all<A: Allocator + Copy>(
+    atlas: &mut AtlasAllocator<A>,
+    order: Vec<Allocation, A>,
+) -> Result<ChangeList<A>, CacheError> {
+    let mut failures = order;
+    let mut changes = Vec::new(*failures.allocator());
+    let mut failed = 0;
+    for at in 0..failures.len() {
+        let old = failures[at];
+        match request(atlas, old.rectangle)? {
+            Some(new) => changes.push(Change { old, new })?,
+            None => {
+                failures[failed] = old;
+                failed += 1;
+            }
+        }
+    }
+    failures.truncate(failed);
+    Ok(ChangeList { changes, failures })
+}
+
+// A page becomes an empty one of its size, in which these rectangles are placed.
+#[inline]
+fn replace_on<A: Allocator + Copy>(
     pages: &mut Vec<AtlasAllocator<A>, A>,
     page: usize,
+    options: &CacheOptions,
+    order: Vec<Allocation, A>,
 ) -> Result<ChangeList<A>, CacheError> {
-    rearrange(&mut pages[page])
+    let alloc = *pages.allocator();
+    let size = pages[page].size();
+    let mut placed = match AtlasAllocator::with_options(alloc, size, &options.atlas) {
+        Ok(placed) => placed,
+        _ => {
+            return Err(CacheError::Memory);
+        }
+    };
+    let list = place_all(&mut placed, order)?;
+    placed.prove_sound();
+    pages[page] = placed;
+    Ok(list)
 }
 
 impl<A: Allocator + Copy> Rooms<A> {
-    /// Places the rectangles of a page anew, the largest first, as `rearrange` of its atlas does; the page doesn't
-    /// grow. Asks that there is such a page. The list tells each rectangle of the page once: those that were placed
-    /// anew, with their former and their new ids, and those that found no room, whose ids are live no more. All former
-    /// ids of the page are void. Other pages stay as they are. `Slots` if the page has too few of them, `Memory` if
-    /// memory is refused; then nothing changes.
+    /// Places rectangles in an empty page of the size of this one, which becomes this page: the largest first, and those
+    /// of one area in the order of the list. Asks that there is such a page, and rectangles with the coordinates of
+    /// boxes. If the list names what is live on the page, each once, then the answer tells each rectangle of the page
+    /// once: those that were placed anew, with their former and their new ids, and those that found no room when their
+    /// turn came, whose ids are live no more. All former ids of the page are void. Other pages stay as they are. `Slots`
+    /// if the page has too few of them, `Memory` if memory is refused; then nothing changes.
     #[inline]
-    pub fn repack(&mut self, page: u32) -> Result<ChangeList<A>, CacheError> {
-        rearrange_on(&mut self.pages, page as usize)
+    pub fn repack(
+        &mut self,
+        page: u32,
+        held: Vec<Allocation, A>,
+    ) -> Result<ChangeList<A>, CacheError> {
+        let mut order = held;
+        sort_by_area(&mut order)?;
+        replace_on(&mut self.pages, page as usize, &self.options, order)
     }
 
     /// The area of all live rectangles of a page together, in unit squares. Asks that there is such a page. Takes no

@@ -1,0 +1,3 @@
+pub mod BestCorners
+pub mod Leaving
+pub mod Storing

@@ -1,0 +1,5 @@
+use Rattle.atlas_maxrects.proofs.Leaving.{AreLeaving}
+use Rattle.atlas_maxrects.proofs.free.left_over.Given as goal
+
+abbrev pub invariant-loop-whole : goal.invariant-loop-whole
+invariant-loop-whole g l = AreLeaving l.free l.taken l.whole-index l.left.items l.near.items

@@ -1,0 +1,38 @@
+-- What a packing into several sheets answers, and what it writes.
+use Rattle.std.specs.Prelude.{◌≡◌, ◌≤◌, ℕ, List, length, map, Some}
+use Rattle.std.specs.List.{AllZip}
+use Rattle.guillotiere.specs.declared.Size.{Size}
+use Rattle.atlas_sheet.specs.declared.options.SheetOptions.{SheetOptions}
+use Rattle.atlas_sheet.specs.declared.paging.OnPage.{OnPage}
+use Rattle.atlas_sheet.specs.declared.ways.TheConstants.{WAYS}
+use Rattle.atlas_sheet.specs.Paging.{AreApart, AreGreatest, ArePages, AreUsed, IsOnPage}
+use Rattle.guillotiere_c.specs.declared.plain.PlainSize.{PlainSize}
+use Rattle.guillotiere_c.specs.declared.plain_sheet.PlainOnPage.{PlainOnPage}
+use Rattle.guillotiere_c.specs.Numbers.{size_in}
+use Rattle.guillotiere_c.specs.SheetNumbers.{on_page_in}
+use Rattle.guillotiere_c.specs.Writing.{IsWritten}
+
+-- Sheets that take all sprites together, as `atlas_sheet::pack_pages` finds them, with the places in the order of the
+-- sprites.
+pub record ArePackedPages (o : SheetOptions) (sprites sizes : List Size) (placed : List OnPage) : Type 0 where
+  pub each : AllZip (IsOnPage o sizes) sprites placed
+  pub apart : AreApart sizes placed
+  pub used : AreUsed sizes placed
+  pub greatest : AreGreatest o sizes
+  pub pages : ArePages WAYS o sprites sizes (map Some placed)
+
+-- Two arrays of the caller's.
+pub record PageArrays : Type 0 where
+  pub places : List PlainOnPage
+  pub sizes : List PlainSize
+
+-- The places stand at the start of their array, which has room for them; the sizes in theirs, as far as there is room;
+-- and the sheets are counted.
+pub record ArePagesWritten (o : SheetOptions) (sprites : List Size) (count : ℕ) (old new : PageArrays) : Type 0 where
+  pub sizes : List Size
+  pub placed : List OnPage
+  pub room : length sprites ≤ length old.places
+  pub packed : ArePackedPages o sprites sizes placed
+  pub places_written : IsWritten on_page_in placed old.places new.places
+  pub sizes_written : IsWritten size_in sizes old.sizes new.sizes
+  pub counted : count ≡ length sizes

@@ -1,0 +1,79 @@
+//! The export that packs sprites known beforehand into several sheets.
+ghost use Rattle.std.specs.Prelude.{◌≡◌, ◌≢◌, ◌≤◌, length, map, IfErr, IfNone, IfOk, IfSome, IsSomeAnd, None};
+ghost use Rattle.atlas_sheet.specs.Paging.{OneIsTooLarge};
+ghost use Rattle.atlas_sheet.specs.Settings.{IsSheetFault};
+ghost use Rattle.guillotiere_c.specs.Numbers.{size_in};
+ghost use Rattle.guillotiere_c.specs.SheetNumbers.{sheet_error, sheet_options_in};
+ghost use Rattle.guillotiere_c.specs.SheetPages.{ArePackedPages, ArePagesWritten};
+
+use crate::plain::{BAD_CALL, DONE, EMPTY_SPRITE, GREAT_SPRITE, NO_ROOM, PlainSize, SHORT};
+use crate::plain_sheet::{
+    PlainOnPage, PlainSheetOptions, sheet_options_for, status_of_sheet_error,
+};
+use crate::sheet::sizes_of;
+use crate::writing::{write_on_pages, write_sizes};
+use atlas_sheet::{Pages, SheetError, SheetOptions, pack_pages};
+use std::alloc::Global;
+
+// The sheets that the library finds.
+fn found(
+    alloc: Global,
+    sprites: &[PlainSize],
+    options: &SheetOptions,
+) -> Result<Option<Pages>, SheetError>
+    ensures packed { IfOk result (λ found. IfSome found (λ pages.
+        ArePackedPages options.now (map size_in sprites.now) pages.sizes.items pages.places.items)) }
+    ensures none { IfOk result (λ found. IfNone found (OneIsTooLarge options.now (map size_in sprites.now))) }
+    ensures fault { IfErr result (λ e. IsSheetFault options.now (map size_in sprites.now) e) }
+{
+    let sizes = sizes_of(alloc, sprites)?;
+    let pages = pack_pages(alloc, &sizes, options)?;
+    Ok(pages)
+}
+
+/// Packs all sprites into as few sheets as `atlas_sheet::pack_pages` finds. Writes where each of them lies, in the order of
+/// the sprites; the sizes of the sheets, as many as there is room for; and into `count` how many sheets there are, at most
+/// as many as sprites. `DONE`; `NO_ROOM` if a sprite is too large for an empty sheet; `BAD_CALL` if the sheets are of no
+/// kind, or the padding is above 65535; `SHORT` if there is room for fewer places than sprites; `EMPTY_SHEET`,
+/// `EMPTY_RANGE`, `EMPTY_ALIGNMENT`; `EMPTY_SPRITE` and `GREAT_SPRITE` of the sprite whose number is written then; `MEMORY`.
+#[unsafe(no_mangle)]
+pub extern "C" fn guillotiere_pack_pages(
+    alloc: Global,
+    sprites: &[PlainSize],
+    options: &PlainSheetOptions,
+    places: &mut [PlainOnPage],
+    sizes: &mut [PlainSize],
+    count: &mut usize,
+    sprite: &mut usize,
+) -> u32
+    ensures done { result ≡ DONE → IsSomeAnd (sheet_options_in options.now) (λ o. ArePagesWritten o
+        (map size_in sprites.now) count.new (record { places = places.old; sizes = sizes.old })
+        (record { places = places.new; sizes = sizes.new })) }
+    ensures none { result ≡ NO_ROOM → IsSomeAnd (sheet_options_in options.now)
+        (λ o. OneIsTooLarge o (map size_in sprites.now)) }
+    ensures bad { result ≡ BAD_CALL → sheet_options_in options.now ≡ None }
+    ensures short { result ≡ SHORT → length sprites.now ≤ length places.old → ⊥ }
+    ensures fault { result ≢ DONE → result ≢ NO_ROOM → result ≢ BAD_CALL → result ≢ SHORT
+        → IsSomeAnd (sheet_options_in options.now) (λ o. IsSomeAnd (sheet_error result sprite.new)
+        (λ e. IsSheetFault o (map size_in sprites.now) e)) }
+    ensures unwritten { result ≢ DONE
+        → (places.new ≡ places.old) × (sizes.new ≡ sizes.old) × (count.new ≡ count.old) }
+    ensures number { result ≢ EMPTY_SPRITE → result ≢ GREAT_SPRITE → sprite.new ≡ sprite.old }
+{
+    let Some(options) = sheet_options_for(options) else {
+        return BAD_CALL;
+    };
+    if places.len() < sprites.len() {
+        return SHORT;
+    }
+    match found(alloc, sprites, &options) {
+        Ok(Some(pages)) => {
+            write_on_pages(&pages.places, places);
+            write_sizes(&pages.sizes, sizes);
+            *count = pages.sizes.len();
+            DONE
+        }
+        Ok(None) => NO_ROOM,
+        Err(error) => status_of_sheet_error(error, sprite),
+    }
+}

@@ -1,0 +1,28 @@
+/** Sprites on several sheets, and on one that doesn't take them all. */
+import { DONE, NO_ROOM } from './errors.js';
+import * as reading from './reading.js';
+import { placed, refused, written } from './sheet.js';
+
+export function packPages(sprites, given) {
+  const { runtime, many, at, places, told, bad } = written(sprites, given, 8);
+  const sizes = places + 24 * many;
+  const status = runtime.calls.pack_pages(at, many, runtime.at, places, many, sizes, many, told, bad);
+  const words = runtime.words();
+  if (status === NO_ROOM) return null;
+  if (status !== DONE) throw refused(status, words, bad);
+  return {
+    sizes: reading.list(words, sizes >>> 2, words[told >>> 2], 2, reading.size),
+    places: reading.list(words, places >>> 2, many, 6, (_, each) => ({ page: words[each] >>> 0, ...placed(words, each + 1) })),
+  };
+}
+
+export function fill(sprites, given) {
+  const { runtime, many, at, places, told, bad } = written(sprites, given, 6);
+  const status = runtime.calls.fill(at, many, runtime.at, places, many, told, told + 16, bad);
+  const words = runtime.words();
+  if (status !== DONE) throw refused(status, words, bad);
+  return {
+    ...reading.size(words, (told >>> 2) + 4), left: words[told >>> 2] >>> 0,
+    places: reading.list(words, places >>> 2, many, 6, (_, each) => (words[each] === 0 ? null : placed(words, each + 1))),
+  };
+}
