@@ -277,7 +277,7 @@ impl<K: Copy + Eq + Hash, S: BuildHasher, A: Allocator + Copy> Entries<K, S, A> 
         Ok(())
     }
 
-    /// All entries go. Keeps its memory.
+    /// All entries go. Keeps its memory, which is tested.
     pub fn clear(&mut self)
         ensures entries { self.new.entries ≡ [] }
         ensures made { self.new.made ≡ 0 }

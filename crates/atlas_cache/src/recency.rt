@@ -235,7 +235,7 @@ impl<A: Allocator> Recency<A> {
         Ok(())
     }
 
-    /// All entries go, and the numbers begin again at 0. Keeps its memory.
+    /// All entries go, and the numbers begin again at 0. Keeps its memory, which is tested.
     pub fn clear(&mut self)
         ensures entries { self.new.entries ≡ [] }
         ensures made { self.new.made ≡ 0 }

@@ -201,7 +201,7 @@ impl<K: Copy + Eq + Hash, S: BuildHasher, A: Allocator + Copy> Entries<K, S, A> 
         Ok(())
     }
 
-    /// All entries go. Keeps its memory.
+    /// All entries go. Keeps its memory, which is tested.
     #[inline]
     pub fn clear(&mut self) {
         self.map.clear();

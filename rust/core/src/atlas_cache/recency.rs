@@ -165,7 +165,7 @@ impl<A: Allocator> Recency<A> {
         Ok(())
     }
 
-    /// All entries go, and the numbers begin again at 0. Keeps its memory.
+    /// All entries go, and the numbers begin again at 0. Keeps its memory, which is tested.
     #[inline]
     pub fn clear(&mut self) {
         self.links.clear();

@@ -29,8 +29,9 @@ impl<K: Copy + Eq + Hash, S: BuildHasher, A: Allocator + Copy> TextureCache<K, S
         Ok(())
     }
 
-    /// Asks for room for so many more entries: until there are so many more, an insert asks for no memory for them, but
-    /// only for pages and for changes. Nothing that a caller sees changes. `Memory` if memory is refused.
+    /// Asks for room for so many more entries, so that the insertions that follow need to ask for memory only for pages
+    /// and for changes; that is tested, and no clause says it. Nothing that a caller sees changes. `Memory` if memory is
+    /// refused.
     #[inline]
     pub fn reserve(&mut self, additional: usize) -> Result<(), CacheError> {
         self.entries.reserve(additional)

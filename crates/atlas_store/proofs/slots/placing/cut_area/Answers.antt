@@ -7,7 +7,7 @@ use Rattle.atlas_model.specs.Boxes.{box_sides, side}
 use Rattle.atlas_model.specs.Pixels.{box_of}
 use Rattle.atlas_store.specs.Slots.{axis_of}
 use Rattle.atlas_store.proofs.StoreLemmas.Sizes.{natural-fits}
-use Rattle.atlas_store.proofs.slots.placing.parts.Goals as goal
+use Rattle.atlas_store.proofs.slots.placing.cut_area.Goals as goal
 
 -- A side of a rectangle's box is what an `i32` holds.
 side-fits : (o : Orientation) (r : Rectangle) → FitsSigned w32 r.max.x → FitsSigned w32 r.max.y
