@@ -78,8 +78,6 @@ export type ErrorCode =
   | 'NO_PAGE'
   /** A size passes the largest page of a cache, with the padding and rounded up to the alignment. */
   | 'NEVER_FITS'
-  /** A side of what is to be put in a cache is below 1. */
-  | 'EMPTY_SIZE'
   /** With the padding and rounded up, not even 1 by 1 fits the largest page of a cache. */
   | 'NOTHING_FITS';
 
@@ -339,7 +337,10 @@ export class TextureCache {
    * is used, also where the call throws. Null where this frame uses all that the pages have room for: draw what is batched,
    * call `beginFrame`, and insert again.
    *
-   * Throws `OTHER_SIZE`, `NEVER_FITS`, `EMPTY_SIZE`, and then nothing changed; `NUMBERS`, `SLOTS`, `MEMORY`.
+   * A key with an empty size, of which a side is below 1, takes no room and never goes for another key's. Both rectangles of
+   * its place are empty, on page 0, also where there is no page yet: there is nothing to write or to draw.
+   *
+   * Throws `OTHER_SIZE`, `NEVER_FITS`, and then nothing changed; `NUMBERS`, `SLOTS`, `MEMORY`.
    */
   insert(key: Key, width: number, height: number): Entry | null;
   /** A key goes. Gives the place that it had; null where it wasn't held. No change tells it. */

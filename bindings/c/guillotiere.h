@@ -72,8 +72,7 @@ enum {
     GUILLOTIERE_HELD = 23,            /* a key that is inserted was held already; its place was written */
     GUILLOTIERE_FRAME_FULL = 24,      /* this frame uses all that the pages of a cache have room for */
     GUILLOTIERE_NEVER_FITS = 25,      /* a size passes the largest page, with the padding and rounded up to the alignment */
-    GUILLOTIERE_EMPTY_SIZE = 26,      /* a side of a size is below 1 */
-    GUILLOTIERE_NOTHING_FITS = 27     /* with the padding and rounded up, not even 1 by 1 fits the largest page */
+    GUILLOTIERE_NOTHING_FITS = 27     /* with the padding and rounded up, not even 1 by 1 fits the largest page; 26 isn't used */
 };
 
 /* What a status means, in a few words of English; "no status" of another number. */
@@ -105,7 +104,6 @@ static inline const char *guillotiere_status_text(uint32_t status) {
     case GUILLOTIERE_HELD: return "the key was held already";
     case GUILLOTIERE_FRAME_FULL: return "this frame uses all the room";
     case GUILLOTIERE_NEVER_FITS: return "the size passes the largest page";
-    case GUILLOTIERE_EMPTY_SIZE: return "a side of the size is below 1";
     case GUILLOTIERE_NOTHING_FITS: return "nothing fits the largest page with its padding";
     default: return "no status";
     }
@@ -470,15 +468,17 @@ uint32_t guillotiere_cache_peek(const guillotiere_cache *cache, uint64_t key, gu
 
 /* A place for a key, which is used in this frame. A key that is held keeps its place, and is the most recently used; that
  * counts as no hit. A new key comes on the first page with room for its size with the padding. Where none has room a page
- * grows; where none can grow one is added; and where all are there, the least recently used key goes that this frame
- * didn't use; and so on. What was done is handed over by guillotiere_cache_next_change, also after FRAME_FULL and after an
+ * grows; where none can grow one is added; and where all are there, of the keys on a page the least recently used one goes
+ * that this frame didn't use; and so on. What was done is handed over by guillotiere_cache_next_change, also after FRAME_FULL and after an
  * error: follow it before the place is used.
  * DONE: the key is new, and its place was written: its pixels are to be written to the texture. HELD: it was held, and its
- * place was written, where its pixels are. FRAME_FULL: every page is there and at its largest, this frame uses all keys and
- * no page has room: draw what is batched, call guillotiere_cache_begin_frame and insert again; as long as a frame has used
+ * place was written, where its pixels are. FRAME_FULL: every page is there and at its largest, this frame uses all keys on
+ * them and no page has room: draw what is batched, call guillotiere_cache_begin_frame and insert again; as long as a frame has used
  * nothing this isn't answered. NEVER_FITS if the size, with the padding on all sides and rounded up to the alignment, passes
- * the largest page, EMPTY_SIZE if a side is below 1, OTHER_SIZE if the key is held with another size, also with one of
- * those: then nothing changed. NUMBERS if 4294967295 keys are left; SLOTS if those of a page don't suffice; MEMORY; EMPTY. */
+ * the largest page, OTHER_SIZE if the key is held with another size, also with an empty one or with one of those: then nothing
+ * changed. NUMBERS if 4294967295 keys are left; SLOTS if those of a page don't suffice; MEMORY; EMPTY.
+ * A key with an empty size, of which a side is below 1, takes no room, and never goes for another key's. Both rectangles of its
+ * place are empty, and its page is 0, also where there is no page yet: nothing is to be written or drawn. */
 uint32_t guillotiere_cache_insert(guillotiere_cache *cache, uint64_t key, int32_t width, int32_t height,
                                   guillotiere_place *place);
 

@@ -46,7 +46,6 @@ enum class status : std::uint32_t {
     held = GUILLOTIERE_HELD,
     frame_full = GUILLOTIERE_FRAME_FULL,
     never_fits = GUILLOTIERE_NEVER_FITS,
-    empty_size = GUILLOTIERE_EMPTY_SIZE,
     nothing_fits = GUILLOTIERE_NOTHING_FITS,
 };
 
@@ -108,11 +107,10 @@ inline constexpr options default_options = GUILLOTIERE_DEFAULT_OPTIONS;
 
 // What an insertion into a cache answers.
 enum class insertion : std::uint32_t {
-    fresh = GUILLOTIERE_DONE,            // the key is new: its pixels are to be written to its place
+    fresh = GUILLOTIERE_DONE,            // the key is new: its pixels are to be written to its place, which is empty if it has none
     held = GUILLOTIERE_HELD,             // the key was held, and its pixels are in its place
     frame_full = GUILLOTIERE_FRAME_FULL, // draw what is batched, begin a frame, and insert again
     never_fits = GUILLOTIERE_NEVER_FITS, // the size passes the largest page
-    empty_size = GUILLOTIERE_EMPTY_SIZE, // a side of the size is below 1
 };
 
 // The answer of an insertion, and the place of a key that is new or was held.
@@ -457,8 +455,7 @@ public:
         case GUILLOTIERE_DONE:
         case GUILLOTIERE_HELD: return inserted{static_cast<insertion>(answer), at};
         case GUILLOTIERE_FRAME_FULL:
-        case GUILLOTIERE_NEVER_FITS:
-        case GUILLOTIERE_EMPTY_SIZE: return inserted{static_cast<insertion>(answer), std::nullopt};
+        case GUILLOTIERE_NEVER_FITS: return inserted{static_cast<insertion>(answer), std::nullopt};
         default: return static_cast<status>(answer);
         }
     }

@@ -149,6 +149,28 @@ static void a_key_moves(void) {
     guillotiere_cache_free(&cache);
 }
 
+/* A blank key needs no page, takes no room, gives way to none, and goes by a trim. */
+static void a_blank_key(void) {
+    guillotiere_cache cache = GUILLOTIERE_NONE;
+    make(&two_pages, &cache);
+    const guillotiere_place nothing = {0, 0, {0, 0, 0, 0}, {0, 0, 0, 0}};
+    guillotiere_place place;
+    uint32_t pages = 7;
+    CHECK(guillotiere_cache_insert(&cache, 7, 17, 0, &place) == GUILLOTIERE_DONE && same_place(&place, &nothing));
+    told_nothing(&cache);
+    CHECK(guillotiere_cache_page_count(&cache, &pages) == GUILLOTIERE_DONE && pages == 0);
+    CHECK(guillotiere_cache_insert(&cache, 7, 17, 0, &place) == GUILLOTIERE_HELD && same_place(&place, &nothing));
+    CHECK(guillotiere_cache_insert(&cache, 7, 17, -1, &place) == GUILLOTIERE_OTHER_SIZE);
+    for (uint64_t key = 10; key < 12; key++) inserted(&cache, key, 16, 32);
+    CHECK(guillotiere_cache_begin_frame(&cache) == GUILLOTIERE_DONE);
+    inserted(&cache, 12, 16, 32);
+    CHECK(guillotiere_cache_peek(&cache, 10, &place) == GUILLOTIERE_NOT_HELD);
+    CHECK(guillotiere_cache_peek(&cache, 7, &place) == GUILLOTIERE_DONE && same_place(&place, &nothing));
+    CHECK(guillotiere_cache_trim(&cache, 1) == GUILLOTIERE_DONE);
+    CHECK(guillotiere_cache_peek(&cache, 7, &place) == GUILLOTIERE_NOT_HELD);
+    guillotiere_cache_free(&cache);
+}
+
 /* Pages come and grow; the key that was used longest ago gives way; then what is left goes by a trim. */
 static void a_life(void) {
     guillotiere_cache cache = GUILLOTIERE_NONE;
@@ -170,7 +192,6 @@ static void a_life(void) {
     /* This frame uses all of them, and so nothing gives way. */
     CHECK(guillotiere_cache_insert(&cache, 10, 1, 1, &place) == GUILLOTIERE_FRAME_FULL && same_place(&place, &none));
     CHECK(guillotiere_cache_insert(&cache, 10, 17, 1, &place) == GUILLOTIERE_NEVER_FITS && same_place(&place, &none));
-    CHECK(guillotiere_cache_insert(&cache, 10, 17, 0, &place) == GUILLOTIERE_EMPTY_SIZE && same_place(&place, &none));
     CHECK(guillotiere_cache_insert(&cache, 7, 16, 15, &place) == GUILLOTIERE_OTHER_SIZE && same_place(&place, &none));
     CHECK(guillotiere_cache_insert(&cache, 7, 16, 0, &place) == GUILLOTIERE_OTHER_SIZE && same_place(&place, &none));
     CHECK(guillotiere_cache_insert(&cache, 7, 16, 16, &place) == GUILLOTIERE_HELD && same_place(&place, &seven));
@@ -390,11 +411,11 @@ static void random_session(void) {
     guillotiere_cache_free(&cache);
 }
 
-/* Each status has a text. */
+/* Each status has a text; 26 is none. */
 static void texts(void) {
     const char *const none = guillotiere_status_text(GUILLOTIERE_NOTHING_FITS + 1);
     for (uint32_t status = GUILLOTIERE_DONE; status <= GUILLOTIERE_NOTHING_FITS; status++)
-        CHECK(strcmp(guillotiere_status_text(status), none) != 0);
+        CHECK((strcmp(guillotiere_status_text(status), none) != 0) == (status != 26));
 }
 
 /* The header is that of the library. */
@@ -408,6 +429,7 @@ int main(void) {
     versions();
     bad_options();
     empty_handles();
+    a_blank_key();
     a_life();
     a_key_moves();
     what_it_knows();

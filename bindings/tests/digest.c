@@ -343,7 +343,8 @@ static void insert(void) {
     const uint64_t key = some_key();
     const uint32_t number = (uint32_t)key;
     guillotiere_place place = nowhere;
-    const int32_t width = one_in(40) ? side(500) : 4 + (int32_t)(number * 7 % 60);
+    const int32_t usual = number % 10 == 3 ? 0 : 4 + (int32_t)(number * 7 % 60);
+    const int32_t width = one_in(40) ? side(500) : usual;
     add(guillotiere_cache_insert(&cache, key, width, 4 + (int32_t)(number * 11 % 50), &place));
     if (!one_in(3)) follow();
     add_place(&place);

@@ -145,6 +145,16 @@ static std::uint64_t evicted(cache &of) {
     return change->key;
 }
 
+// A blank key has a place, which is empty, and needs no page.
+static void blank_keys() {
+    auto made = cache::make({{16, 16}, {16, 32}, 1, 0, default_options});
+    const auto space = made->insert(9, {0, 5});
+    CHECK(space && space->answer == insertion::fresh && space->at->inner.max_y == 0 && space->at->page == 0);
+    CHECK(!made->next_change() && made->page_count() == 0 && made->len() == 1);
+    CHECK(made->insert(9, {0, 5})->answer == insertion::held && made->get(9)->number == 0);
+    CHECK(made->insert(9, {5, 5}).error() == status::other_size && made->remove(9));
+}
+
 static void caches() {
     cache_options with{{16, 16}, {16, 32}, 1, 0, default_options};
     auto made = cache::make(with);
@@ -160,7 +170,6 @@ static void caches() {
     CHECK(!made->next_change() && !made->insert(8, {1, 1})->at);
     CHECK(made->insert(8, {1, 1})->answer == insertion::frame_full);
     CHECK(made->insert(8, {17, 1})->answer == insertion::never_fits);
-    CHECK(made->insert(8, {17, 0})->answer == insertion::empty_size);
     CHECK(made->insert(7, {1, 1}).error() == status::other_size);
     CHECK(made->begin_frame() == status::done && made->insert(8, {1, 1})->at && evicted(*made) == 7);
     CHECK(made->get(8) && !made->get(7) && made->peek(8)->page == 0 && made->len() == 1);
@@ -185,6 +194,7 @@ static void caches() {
 }
 
 int main() {
+    blank_keys();
     caches();
     sheets_of_sprites();
     several_sheets();

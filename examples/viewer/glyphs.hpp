@@ -73,8 +73,7 @@ public:
         return made;
     }
 
-    // The glyphs of a line of UTF-8. Blank ones, as those of spaces, are left out: no size gives them pixels, and a cache
-    // has nothing to keep of them.
+    // The glyphs of a line of UTF-8, also blank ones, as those of spaces.
     line set(const std::string &text, std::uint32_t font) const {
         const FT_Face face = faces_[font];
         line made;
@@ -82,7 +81,7 @@ public:
         for (std::size_t at = 0; at < text.size();) {
             const auto index = FT_Get_Char_Index(face, next_character(text, at));
             if (FT_Load_Glyph(face, index, FT_LOAD_NO_SCALE) != 0) continue;
-            if (face->glyph->outline.n_contours > 0) made.push_back({font, index, x});
+            made.push_back({font, index, x});
             x += double(face->glyph->metrics.horiAdvance) / face->units_per_EM;
         }
         return made;

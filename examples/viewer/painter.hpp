@@ -149,14 +149,16 @@ private:
             case guillotiere::insertion::never_fits:
                 draw_alone(pixels, x, y);
                 return;
-            case guillotiere::insertion::empty_size: // nothing to draw
-                return;
             }
         }
     }
 
+    // Of a blank glyph, as that of a space, there is nothing to write and nothing to draw, and no border either.
+    static bool is_blank(const guillotiere::place &place) { return place.inner.max_x == place.inner.min_x; }
+
     // Writes a new entry: its pixels, and cleared ones around them, since what lay there before is still in the page.
     void keep(const guillotiere::place &place, const bitmap &pixels) {
+        if (is_blank(place)) return;
         if (place.number >= kept_.size()) kept_.resize(cache_.numbers());
         kept_[place.number] = {pixels.left, pixels.top};
         const SDL_Rect all = area_of(place.rectangle);
@@ -167,6 +169,7 @@ private:
 
     // Quads name a page by its number and texels by pixels, so that a page may grow before they are drawn.
     void add_quad(const guillotiere::place &place, int x, int y) {
+        if (is_blank(place)) return;
         const SDL_Rect inner = area_of(place.inner);
         const SDL_Rect from{inner.x - border, inner.y - border, inner.w + 2 * border, inner.h + 2 * border};
         const kept &it = kept_[place.number];

@@ -1,8 +1,8 @@
-/** What each status of the library is called, by its number (bindings/c/guillotiere.h). */
+/** What each status of the library is called, by its number (bindings/c/guillotiere.h). 26 isn't used. */
 export const STATUSES = [
   'DONE', 'NO_ROOM', 'BAD_CALL', 'NOT_LIVE', 'SLOTS', 'MEMORY', 'SHORT', 'DISPOSED', 'EMPTY_SHEET', 'EMPTY_RANGE',
   'EMPTY_ALIGNMENT', 'EMPTY_SPRITE', 'GREAT_SPRITE', 'OTHER_SIZE', 'NUMBERS', 'EMPTY_PAGE', 'LARGEST_PAGE', 'NO_PAGES',
-  'BAD_PADDING', 'BAD_ATLAS', 'NOT_HELD', 'NO_CHANGE', 'NO_PAGE', 'HELD', 'FRAME_FULL', 'NEVER_FITS', 'EMPTY_SIZE', 'NOTHING_FITS',
+  'BAD_PADDING', 'BAD_ATLAS', 'NOT_HELD', 'NO_CHANGE', 'NO_PAGE', 'HELD', 'FRAME_FULL', 'NEVER_FITS', '', 'NOTHING_FITS',
 ];
 
 export const DONE = 0;
@@ -32,7 +32,6 @@ const MESSAGES = {
   BAD_ATLAS: "the options of the pages' atlases aren't valid",
   NO_PAGE: 'there is no such page',
   NEVER_FITS: 'a size passes the largest page, with the padding and rounded up to the alignment',
-  EMPTY_SIZE: 'a side of a size is below 1',
   NOTHING_FITS: 'with the padding and rounded up, not even 1 by 1 fits the largest page',
   TRAPPED: 'the WebAssembly module has trapped, and is used no more',
   NOT_LOADED: "the module isn't there yet: await load() first",

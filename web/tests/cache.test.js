@@ -38,10 +38,25 @@ test('pages come, grow, and keys give way', () => {
   assert.deepEqual(cache.statistics, { hits: 1, misses: 0, evictions: 1 });
   refused(() => cache.pageSize(2), 'NO_PAGE', 'pageSize');
   refused(() => cache.repack(2), 'NO_PAGE', 'repack');
-  const cases = [['a', 15, 16, 'OTHER_SIZE'], ['f', 17, 16, 'NEVER_FITS'], ['f', 16, 33, 'NEVER_FITS'], ['f', 0, 5, 'EMPTY_SIZE'],
-    ['a', 16, -1, 'OTHER_SIZE']];
+  const cases = [['a', 15, 16, 'OTHER_SIZE'], ['f', 17, 16, 'NEVER_FITS'], ['f', 16, 33, 'NEVER_FITS'], ['a', 16, -1, 'OTHER_SIZE']];
   for (const [key, width, height, code] of cases) refused(() => cache.insert(key, width, height), code, `${key} ${width} ${height}`);
   assert.deepEqual([cache.length, cache.has('f'), [...cache.changes()]], [4, false, []]);
+});
+
+test('a blank key takes no room, and is found, listed and trimmed', () => {
+  const cache = new TextureCache({ page: SIDE, pages: 1 });
+  const nothing = { x: 0, y: 0, width: 0, height: 0 };
+  const place = { number: 0, page: 0, rectangle: nothing, inner: nothing };
+  assert.deepEqual(cache.insert('space', 0, 5), { ...place, isNew: true });
+  assert.deepEqual([[...cache.changes()], cache.pageCount, cache.length], [[], 0, 1]);
+  cache.insert('a', 16, 16);
+  cache.beginFrame();
+  cache.insert('b', 16, 16);
+  assert.deepEqual([cache.has('a'), cache.get('space'), cache.newest()], [false, place, { key: 'space', place }]);
+  assert.deepEqual(cache.insert('space', 0, 5), { ...place, isNew: false });
+  refused(() => cache.insert('space', 1, 5), 'OTHER_SIZE', 'space');
+  cache.trim(0);
+  assert.deepEqual([...cache.changes()].at(-1), { kind: 'evicted', key: 'space', from: place });
 });
 
 test('what is free on a page and of no use', () => {

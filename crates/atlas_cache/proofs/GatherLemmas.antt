@@ -1,8 +1,8 @@
 -- The rectangles of a page's entries, gathered in the order of use, name what is live on the page.
-use Rattle.std.proofs.Common.{ℕ, ℤ, ◌+◌, ◌≤◌, ◌≡◌, ◌==◌, inl, inr, Bool, true, false, cond, eqb, List, [], ◌∷◌, ◌++◌, All, Option, None, Some, option_map, refl, sym, ap, ◌∙◌, append_assoc, arith, length}
+use Rattle.std.proofs.Common.{ℕ, ℤ, ◌+◌, ◌≤◌, ◌≡◌, ◌==◌, inl, inr, Bool, true, false, cond, eqb, List, [], ◌∷◌, ◌++◌, All, Option, None, Some, option_map, refl, sym, ap, subst, ◌∙◌, append_assoc, arith, length}
 use Rattle.std.specs.List.{cons_option, count_by, filter_map, find, AllByRecursion, IsDistinct}
 use Rattle.std.proofs.lemmas.{Bool.Decides.{eqb_tells}}
-use Rattle.std.proofs.lemmas.Bool.{eq-eqb, ne_eqb}
+use Rattle.std.proofs.lemmas.Bool.{cases_Bool, eq-eqb, eqb-true, ne_eqb}
 use Rattle.std.proofs.lemmas.List.Elements.{All-cons, All-nil}
 use Rattle.std.proofs.lemmas.Option.{same_Some}
 use Rattle.guillotiere.specs.declared.Allocation.{Allocation}
@@ -14,7 +14,7 @@ use Rattle.guillotiere.proofs.ListLemmas.CallerLemmas.{uncounted-find}
 use Rattle.guillotiere.proofs.ListLemmas.Counting.{count_by-cons}
 use Rattle.atlas_cache.specs.declared.entries.Entry.{Entry}
 use Rattle.atlas_cache.specs.Caches.{entries_of, holders, AreBordered, HoldsEntries}
-use Rattle.atlas_cache.specs.Entries.{entry_at, numbers, IsNumber}
+use Rattle.atlas_cache.specs.Entries.{entry_at, is_blank, lying, no_page, numbers, IsNumber}
 use Rattle.atlas_cache.specs.Orders.{newest_of}
 use Rattle.atlas_cache.specs.Relocating.{held_of, held_on}
 use Rattle.atlas_cache.specs.Repacking.{NamesPage}
@@ -152,8 +152,8 @@ module _ {K : Type 0} (page : ℕ) where
           rw is (omega (arith, rest, one))
 
   -- The gathered rectangles name what is live on the page.
-  pub entries-name : (pages : List AtlasValue) (es : List (Entry K)) → HoldsEntries pages es → NamesPage pages page (held_on page es)
-  entries-name pages es held = record {
+  all-name : (pages : List AtlasValue) (es : List (Entry K)) → HoldsEntries pages es → NamesPage pages page (held_on page es)
+  all-name pages es held = record {
     told = λ id. by_found id (find (λ a. a.id == id) (held_on page es)) refl (rectangle_on pages page id) refl;
     once = λ id. omega (arith, counted-held id es, held.once page id);
   }
@@ -170,10 +170,27 @@ module _ {K : Type 0} (page : ℕ) where
             uncounted-find (λ (a : Allocation). a.id == id) (held_on page es) found,
           ))
 
+  -- Blank entries lie on no page.
+  held-lying : (page ≡ no_page → ⊥) → (es : List (Entry K)) → held_on page (lying es) ≡ held_on page es
+  held-lying off [] = refl
+  held-lying off (e ∷ es) = elim (cases_Bool (is_blank e)) [
+    | inl blank ↦
+        let past : (e.page == page) ≡ false = ne_eqb e.page page (λ q. off (sym q ∙ eqb-true e.page no_page blank)) in
+        rw (blank, past) (held-lying off es)
+    | inr lies ↦ rw lies (ap (cons_option (held_of page e)) (held-lying off es))
+  ]
+
+  pub entries-name : (pages : List AtlasValue) (es : List (Entry K)) → (page ≡ no_page → ⊥) → HoldsEntries pages (lying es)
+      → NamesPage pages page (held_on page es)
+  entries-name pages es off held = subst (λ hs. NamesPage pages page hs) (held-lying off es) (all-name pages (lying es) held)
+
   -- And each has the coordinates of a box.
-  pub entries-exact : (padding : ℤ) (es : List (Entry K)) → AreBordered padding es → All HasExactRectangle (held_on page es)
-  entries-exact padding [] all = All-nil HasExactRectangle
-  entries-exact padding (e ∷ es) all = elim (eqb_tells e.page page) [
-    | inl here ↦ rw here.0 (All-cons HasExactRectangle (as_held e) (held_on page es) all.0.exact (entries-exact padding es all.1))
-    | inr other ↦ rw other.0 (entries-exact padding es all.1)
+  pub entries-exact : (padding : ℤ) (es : List (Entry K)) → (page ≡ no_page → ⊥) → AreBordered padding es
+      → All HasExactRectangle (held_on page es)
+  entries-exact padding [] off all = All-nil HasExactRectangle
+  entries-exact padding (e ∷ es) off all = elim (eqb_tells e.page page) [
+    | inl here ↦
+        let lies : is_blank e ≡ false = ne_eqb e.page no_page (λ q. off (sym here.1 ∙ q)) in
+        rw here.0 (All-cons HasExactRectangle (as_held e) (held_on page es) (all.0.large lies).exact (entries-exact padding es off all.1))
+    | inr other ↦ rw other.0 (entries-exact padding es off all.1)
   ]

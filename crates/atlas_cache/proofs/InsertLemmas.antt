@@ -7,7 +7,7 @@ use Rattle.atlas_cache.specs.declared.changes.CacheChange.TheVariants.{PageAdded
 use Rattle.atlas_cache.specs.declared.entries.Entry.{Entry}
 use Rattle.atlas_cache.specs.declared.error.CacheError.{CacheError}
 use Rattle.atlas_cache.specs.declared.inserted.Inserted.{Inserted}
-use Rattle.atlas_cache.specs.declared.inserted.Inserted.TheVariants.{Placed, Held, FrameFull, NeverFits, EmptySize}
+use Rattle.atlas_cache.specs.declared.inserted.Inserted.TheVariants.{Placed, Held, FrameFull, NeverFits}
 use Rattle.atlas_cache.specs.declared.places.Place.{Place}
 use Rattle.atlas_cache.specs.Caches.{CacheState, FramesFall}
 use Rattle.atlas_cache.specs.Changes.{Does, Inserts, Leads}
@@ -24,9 +24,6 @@ module _ {K : Type 0} where
 
     pub not_never : result ≡ Ok NeverFits → ⊥
     not_never is = (as_if (Ok NeverFits) is).ends
-
-    pub not_empty : result ≡ Ok EmptySize → ⊥
-    not_empty is = (as_if (Ok EmptySize) is).ends
 
   does_frame : (c : CacheChange K) (s t : CacheState K) → Does c s t → t.frame ≡ s.frame
   does_frame (PageAdded page size) s t does = does.keeps.frame
@@ -56,7 +53,6 @@ module _ {K : Type 0} where
         ap (λ (u : CacheState K). u.frame) (sym ins.ends.0) ∙ led.1,
       )
   inserts_stay asked key size (Ok NeverFits) before after s t ins = absurd ins.ends
-  inserts_stay asked key size (Ok EmptySize) before after s t ins = absurd ins.ends
   inserts_stay asked key size (Err error) before after s t ins =
       let led = led_stays asked ins.made s ins.done ins.leads in
       (ins.ends.keeps.options ∙ led.0, ins.ends.keeps.frame ∙ led.1)

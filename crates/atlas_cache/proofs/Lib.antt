@@ -1,3 +1,5 @@
+pub mod BlankLemmas
+pub mod PassLemmas
 pub mod EntryKeeping
 pub mod EntryLemmas
 pub mod GatherLemmas

@@ -1,5 +1,5 @@
 -- Lists of a cache's entries, with their numbers and without.
-use Rattle.std.proofs.Common.{ℕ, ◌+◌, ◌≤◌, ◌≡◌, inl, inr, Bool, false, eqb, List, [], ◌∷◌, ◌++◌, None, Some, refl, ap, arith, length}
+use Rattle.std.proofs.Common.{ℕ, ◌≤◌, ◌≡◌, inl, inr, Bool, false, eqb, List, [], ◌∷◌, ◌++◌, None, Some, refl, ap, arith, length}
 use Rattle.std.proofs.lemmas.{Bool.{cases_Bool}, Bool.Decides.{eqb_tells}}
 use Rattle.std.proofs.lemmas.Map.Keys.{IsDistinct-head, IsDistinct-tail}
 use Rattle.std.specs.List.{AllByRecursion, IsDistinct}
@@ -30,10 +30,6 @@ module _ {X : Type 0} (P : X → Type 0) where
 pub append-none : {X : Type 0} (xs : List X) → xs ++ [] ≡ xs
 append-none [] = refl
 append-none (x ∷ xs) = ap (λ ys. x ∷ ys) (append-none xs)
-
-pub length-last : {X : Type 0} (xs : List X) (e : X) → length (xs ++ e ∷ []) ≡ length xs + 1
-length-last [] e = refl
-length-last (x ∷ xs) e = omega (arith, length-last xs e)
 
 last-among : (m n : ℕ) (ns : List ℕ) → oldest_of ns ≡ Some n → AllByRecursion (λ y. eqb m y ≡ false) ns → eqb m n ≡ false
 last-among m n [] is all = cc

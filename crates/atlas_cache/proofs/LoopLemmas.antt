@@ -46,17 +46,21 @@ module _ {K : Type 0} where
   one_options before after s t one = does_options one.change s t one.does
 
   module _ (eq : K → K → Bool) (k : K) where
-    none_left : (xs ys : List (Entry K)) → entry_for eq k (xs ++ ys) ≡ None → entry_for eq k xs ≡ None
-    none_left [] ys none = refl
-    none_left (x ∷ xs) ys none = elim (cases_Bool (eq k x.key)) [
+    none_left : (xs : List (Entry K)) (e : Entry K) (ys : List (Entry K)) → entry_for eq k (xs ++ e ∷ ys) ≡ None
+        → entry_for eq k (xs ++ ys) ≡ None
+    none_left [] e ys none = elim (cases_Bool (eq k e.key)) [
+      | inl hit ↦ let found = rw hit at none in absurd (let some : Some e ≡ None = found in cc)
+      | inr miss ↦ rw miss at none
+    ]
+    none_left (x ∷ xs) e ys none = elim (cases_Bool (eq k x.key)) [
       | inl hit ↦ let found = rw hit at none in absurd (let some : Some x ≡ None = found in cc)
-      | inr miss ↦ let rest = rw miss at none in rw miss (none_left xs ys rest)
+      | inr miss ↦ let rest = rw miss at none in rw miss (none_left xs e ys rest)
     ]
 
     does_absent : (c : CacheChange K) (s t : CacheState K) → Does c s t → entry_for eq k s.entries ≡ None → entry_for eq k t.entries ≡ None
     does_absent (PageAdded page size) s t does none = rw does.keeps.entries none
     does_absent (PageGrown page size) s t does none = rw does.keeps.entries none
-    does_absent (Evicted key place) s t does none = none_left t.entries (does.entry ∷ []) (rw does.last at none)
+    does_absent (Evicted key place) s t does none = rw does.is (none_left does.newer does.entry does.older (rw does.was at none))
     does_absent (Moved key from to) s t does none = absurd does
     does_absent (PageRemoved page) s t does none = absurd does
 

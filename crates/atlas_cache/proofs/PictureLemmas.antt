@@ -9,10 +9,10 @@ use Rattle.atlas_cache.specs.declared.changes.CacheChange.TheVariants.{PageAdded
 use Rattle.atlas_cache.specs.declared.entries.Entry.{Entry}
 use Rattle.atlas_cache.specs.declared.error.CacheError.{CacheError}
 use Rattle.atlas_cache.specs.declared.inserted.Inserted.{Inserted}
-use Rattle.atlas_cache.specs.declared.inserted.Inserted.TheVariants.{Placed, Held, FrameFull, NeverFits, EmptySize}
+use Rattle.atlas_cache.specs.declared.inserted.Inserted.TheVariants.{Placed, Held, FrameFull, NeverFits}
 use Rattle.atlas_cache.specs.declared.places.Place.{Place}
 use Rattle.atlas_cache.specs.Caches.{CacheState, entry_for, place_for, shown, HaveOwnKeys}
-use Rattle.atlas_cache.specs.Changes.{Picture, all_changed, changed, picture_of, placed, Adds, Does, Inserts, Leads, LooksSame, Removes, ShowsSame, Uses}
+use Rattle.atlas_cache.specs.Changes.{Picture, all_changed, changed, picture_of, placed, Adds, Does, Inserts, InsertsBlank, Leads, LooksSame, Removes, ShowsSame, Uses}
 use Rattle.atlas_cache.specs.Telling.{Tells}
 use Rattle.atlas_cache.specs.Rooms.{page_sizes}
 use Rattle.atlas_cache.proofs.KeyLemmas.{first, fronted, gone, here, own_without}
@@ -58,14 +58,13 @@ module _ {K : Type 0} (eq : K → K → Bool) where
       record { places = places_stay s t does.keeps.entries does.keeps.options; pages = sym does.sizes },
       rw does.keeps.entries own,
     )
-    one_step (Evicted key place) s t own does =
-        let rest = sym (append-none t.entries) in (
-          record {
-            places = λ k. rw does.named (taken s t t.entries does.entry [] own does.last rest does.options k);
-            pages = sym does.sizes;
-          },
-          rw rest (own_without eq t.entries does.entry [] (rw does.last at own)),
-        )
+    one_step (Evicted key place) s t own does = (
+      record {
+        places = λ k. rw does.named (taken s t does.newer does.entry does.older own does.was does.is does.options k);
+        pages = sym does.sizes;
+      },
+      rw does.is (own_without eq does.newer does.entry does.older (rw does.was at own)),
+    )
     one_step (Moved key from to) s t own does = absurd does
     one_step (PageRemoved page) s t own does = absurd does
 
@@ -111,7 +110,6 @@ module _ {K : Type 0} (eq : K → K → Bool) where
         }
     inserts_tell asked key size (Ok (Held place)) before after s t own ins = absurd ins.ends
     inserts_tell asked key size (Ok NeverFits) before after s t own ins = absurd ins.ends
-    inserts_tell asked key size (Ok EmptySize) before after s t own ins = absurd ins.ends
     inserts_tell asked key size (Ok FrameFull) before after s t own ins =
         let so_far = (told laws asked ins.made s ins.done own ins.leads).0 in
         record {
@@ -126,6 +124,27 @@ module _ {K : Type 0} (eq : K → K → Bool) where
           listed = ins.listed;
           shows = same_both _ _ _ so_far (looks ins.done t ins.ends);
         }
+
+    -- A new key of an empty size.
+    pub blanks_tell : (key : K) (size : Size) (result : Result Inserted CacheError) (before : List (CacheChange K)) (s t : CacheState K)
+        → InsertsBlank key size result s t → Tells eq key result before before s t
+    blanks_tell key size (Ok (Placed place)) before s t ins = record {
+      made = [];
+      listed = sym (append-none before);
+      shows = record {
+        places = λ k. rw (ins.first, ins.options, first eq laws ins.entry s.entries k, ← ins.named, ins.shows)
+            (sym (map-cond (shown s.options.padding) (eq ins.entry.key k) (Some ins.entry) (entry_for eq k s.entries)));
+        pages = ap page_sizes (sym ins.pages);
+      };
+    }
+    blanks_tell key size (Ok (Held place)) before s t ins = absurd ins
+    blanks_tell key size (Ok NeverFits) before s t ins = absurd ins
+    blanks_tell key size (Ok FrameFull) before s t ins = absurd ins
+    blanks_tell key size (Err error) before s t ins = record {
+      made = [];
+      listed = sym (append-none before);
+      shows = subst (λ (u : CacheState K). ShowsSame (picture_of eq s) (picture_of eq u)) (sym ins.0) (same_shown s);
+    }
 
     -- Where an entry is used, each key keeps its place.
     places_kept : (entry : Entry K) (s t : CacheState K) → HaveOwnKeys eq s.entries → Uses entry s t → (q : K)

@@ -8,8 +8,7 @@ use Rattle.guillotiere.specs.declared.Change.{Change}
 use Rattle.guillotiere.specs.declared.Rectangle.{Rectangle}
 use Rattle.atlas_cache.specs.declared.changes.CacheChange.{CacheChange}
 use Rattle.atlas_cache.specs.declared.entries.Entry.{Entry}
-use Rattle.atlas_cache.specs.Caches.{entries_of, AreBordered}
-use Rattle.atlas_cache.specs.Asking.{IsBorderedBy}
+use Rattle.atlas_cache.specs.Caches.{entries_of, AreBordered, IsBordered}
 use Rattle.atlas_cache.specs.Entries.{entry_at, moved, numbers, without_number, IsNumber}
 use Rattle.atlas_cache.specs.Orders.{newest_of}
 use Rattle.atlas_cache.specs.Relocating.{become, numbered_as, renewed_by, told_as, told_of}
@@ -218,16 +217,16 @@ module _ {K : Type 0} where
           walked-on was now new n e next count before after later spare left a (rw is (new_is ∙ a.is)) (rw is (later_is ∙ sym (append-none after))) first room
 
     module _ (was now : List (ℕ × Entry K)) (n : ℕ) (e : Entry K) (count : ℕ) (before after : List (CacheChange K)) (spare : ℕ) (a : Ahead was now n e count before after spare) where
-      pub bordered-was : AreBordered padding (entries_of was) → IsBorderedBy padding e.size e.rectangle
+      pub bordered-was : AreBordered padding (entries_of was) → IsBordered padding e
       bordered-was all =
-          each-here (λ (f : Entry K). IsBorderedBy padding f.size f.rectangle) (entries_of a.done) e (entries_of a.rest)
+          each-here (IsBordered padding) (entries_of a.done) e (entries_of a.rest)
           (rw (a.was, entries-append a.done (n, e) a.rest) at all)
 
       pub bordered-is : e.page ≡ page → AreBordered padding (filter_map (become page (renewed_by cs)) (entries_of was))
-          → (f : Entry K) → renewed_by cs e ≡ Some f → IsBorderedBy padding f.size f.rectangle
+          → (f : Entry K) → renewed_by cs e ≡ Some f → IsBordered padding f
       bordered-is here all f is =
           let at = eq-eqb e.page page here in
-          filter_map-each (become page (renewed_by cs)) (λ (g : Entry K). IsBorderedBy padding g.size g.rectangle) (entries_of a.done) e
+          filter_map-each (become page (renewed_by cs)) (IsBordered padding) (entries_of a.done) e
           (entries_of a.rest) f (rw at is) (rw (a.was, entries-append a.done (n, e) a.rest) at all)
 
     pub next-number : (was now : List (ℕ × Entry K)) (n : ℕ) (count : ℕ) (before after : List (CacheChange K)) (spare : ℕ)

@@ -2,7 +2,7 @@
 use Rattle.std.proofs.Common.{ℕ, ℤ, ◌+◌, ◌<◌, ◌≤◌, ◌≡◌, ◌==◌, inl, inr, Bool, true, false, cond, List, [], ◌∷◌, ◌++◌, map, Option, None, Some, option_map, Contains, length, refl, sym, ap, ◌∙◌, arith}
 use Rattle.std.specs.List.{cons_option, count_by, filter_map, find, AllByRecursion}
 use Rattle.std.proofs.lemmas.{Bool.Decides.{eqb_tells}}
-use Rattle.std.proofs.lemmas.Bool.{eq-eqb, ne_eqb, eqb-true}
+use Rattle.std.proofs.lemmas.Bool.{cases_Bool, eq-eqb, ne_eqb, eqb-true}
 use Rattle.std.proofs.lemmas.List.Elements.{All-contains}
 use Rattle.std.proofs.lemmas.Option.{same_Some}
 use Rattle.std.specs.Option.{option_and_then}
@@ -20,6 +20,7 @@ use Rattle.guillotiere.proofs.ListLemmas.Counting.{count_by-append, counted_once
 use Rattle.atlas_cache.specs.declared.entries.Entry.{Entry}
 use Rattle.atlas_cache.specs.Asking.{IsBorderedBy}
 use Rattle.atlas_cache.specs.Caches.{entries_of, holders, AreBordered, FramesFall, HoldsEntries}
+use Rattle.atlas_cache.specs.Entries.{is_blank, lying, no_page}
 use Rattle.atlas_cache.specs.Relocating.{become, renewed_by}
 use Rattle.atlas_cache.specs.Repacking.{RepacksPage}
 use Rattle.atlas_cache.proofs.EntryLemmas.{option_is}
@@ -185,8 +186,8 @@ module _ {A : Type 0} (old new : List AtlasValue) (page : ℕ) (list : ChangeLis
           omega (arith, others_hold p id other.1 es, held.known p id r (sym same ∙ is))
     ]
 
-    pub repacked_held : (es : List (Entry K)) → HoldsEntries old es → HoldsEntries new (filter_map becomes es)
-    repacked_held es held = record {
+    all_held : (es : List (Entry K)) → HoldsEntries old es → HoldsEntries new (filter_map becomes es)
+    all_held es held = record {
       live = all_live es held.live;
       once = λ p id. holding p id es held;
       known = λ p id r is. known p id r es held is;
@@ -229,8 +230,8 @@ module _ {A : Type 0} (old new : List AtlasValue) (page : ℕ) (list : ChangeLis
           high = omega (arith, height, before.high, was.positive.1);
         }
 
-    pub repacked_bordered : (padding : ℤ) (es : List (Entry K)) → AllByRecursion (IsLiveOn old) es → AreBordered padding es
-        → AreBordered padding (filter_map becomes es)
+    pub repacked_bordered : (padding : ℤ) (es : List (Entry K)) → AllByRecursion (λ e. is_blank e ≡ false → IsLiveOn old e) es
+        → AreBordered padding es → AreBordered padding (filter_map becomes es)
     repacked_bordered padding [] live h = tt
     repacked_bordered padding (e ∷ es) live h = elim (eqb_tells e.page page) [
       | inl here ↦ rw here.0 (by_option here.1 (find (old_is e.id) cs) refl (repacked_bordered padding es live.1 h.1))
@@ -240,12 +241,40 @@ module _ {A : Type 0} (old new : List AtlasValue) (page : ℕ) (list : ChangeLis
         by_option : e.page ≡ page → (o : Option Change) → find (old_is e.id) cs ≡ o → AreBordered padding (filter_map becomes es)
             → AreBordered padding (cons_option (option_map (λ (c : Change). record e { id = c.new.id; rectangle = c.new.rectangle }) o) (filter_map becomes es))
         by_option here None is rest = rest
-        by_option here (Some c) is rest =
-            let there = rw here at live.0 in (
-              moved_bordered padding e c (Contains-find (old_is e.id) cs c is).0
-                  (same_Some c.old.rectangle e.rectangle (sym (was_old e.id c is) ∙ there)) h.0,
-              rest,
-            )
+        by_option here (Some c) is rest = (
+          record {
+            large = λ lies.
+                let there = rw here at (live.0 lies) in
+                moved_bordered padding e c (Contains-find (old_is e.id) cs c is).0
+                (same_Some c.old.rectangle e.rectangle (sym (was_old e.id c is) ∙ there)) (h.0.large lies);
+            empty = h.0.empty;
+          },
+          rest,
+        )
+
+    -- What lies on a page lies there still.
+    pub lying_later : (page ≡ no_page → ⊥) → (es : List (Entry K)) → lying (filter_map becomes es) ≡ filter_map becomes (lying es)
+    lying_later off [] = refl
+    lying_later off (e ∷ es) = elim (eqb_tells e.page page) [
+      | inl here ↦
+          let lies : is_blank e ≡ false = ne_eqb e.page no_page (λ q. off (sym here.1 ∙ q)) in
+          rw (here.0, lies) (rw here.0 (by_option lies (find (old_is e.id) cs) (lying_later off es)))
+      | inr other ↦ elim (cases_Bool (is_blank e)) [
+        | inl blank ↦ rw (other.0, blank) (lying_later off es)
+        | inr lies ↦ rw (other.0, lies) (rw other.0 (ap (λ fs. e ∷ fs) (lying_later off es)))
+      ]
+    ]
+      where
+        by_option : is_blank e ≡ false → (o : Option Change) → lying (filter_map becomes es) ≡ filter_map becomes (lying es)
+            → lying (cons_option (option_map (λ (c : Change). record e { id = c.new.id; rectangle = c.new.rectangle }) o) (filter_map becomes es))
+            ≡ cons_option (option_map (λ (c : Change). record e { id = c.new.id; rectangle = c.new.rectangle }) o) (filter_map becomes (lying es))
+        by_option lies None rest = rest
+        by_option lies (Some c) rest =
+            rw lies (ap (λ fs. record e { id = c.new.id; rectangle = c.new.rectangle } ∷ fs) rest)
+
+    pub repacked_held : (page ≡ no_page → ⊥) → (es : List (Entry K)) → HoldsEntries old (lying es)
+        → HoldsEntries new (lying (filter_map becomes es))
+    repacked_held off es held = rw (lying_later off es) (all_held (lying es) held)
 
 module _ {X Y : Type 0} (f : X → Option Y) where
   filter_map-shorter : (xs : List X) → length (filter_map f xs) ≤ length xs

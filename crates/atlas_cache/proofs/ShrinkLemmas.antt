@@ -20,6 +20,7 @@ use Rattle.atlas_cache.specs.declared.options.CacheOptions.{CacheOptions}
 use Rattle.atlas_cache.specs.Caches.{CacheState, holders, HoldsEntries}
 use Rattle.atlas_cache.specs.Changes.{Picture, all_changed, changed, picture_of, KeepsEntries, ShowsSame}
 use Rattle.atlas_cache.specs.Clearing.{TellsChanges}
+use Rattle.atlas_cache.specs.Entries.{lying}
 use Rattle.atlas_cache.specs.Rooms.{page_sizes, rooms_of, size_of_page, IsNothingLive, KeepsRooms}
 use Rattle.atlas_cache.specs.Shrinking.{all_removed, pages_in_use, DropsIdle, DropsPage, IsLastInUse, Shrinks}
 use Rattle.atlas_cache.proofs.HoldingLemmas.{id_cases}
@@ -176,11 +177,11 @@ module _ {K : Type 0} where
         }
 
     pub shrunk : (before after : List (CacheChange K)) (s t : CacheState K) → Gone eq before after s t
-        → HoldsEntries t.pages t.entries → IsLastInUse t.pages → Shrinks before after s t
+        → HoldsEntries t.pages (lying t.entries) → IsLastInUse t.pages → Shrinks before after s t
     shrunk before after s t h held used = record {
       gone = h.gone;
       was = h.was;
-      left = used_exactly t.pages t.entries held used;
+      left = used_exactly t.pages (lying t.entries) held used;
       nothing = h.nothing;
       listed = h.listed;
       keeps = h.keeps;

@@ -5,7 +5,7 @@ use Rattle.std.proofs.lemmas.List.{get_or_append_left, get_or_read}
 use Rattle.atlas_cache.specs.declared.recency.links.Link.{Link}
 use Rattle.atlas_cache.specs.Orders.{Order, one_if_same, times_in, without_first, newest_of, oldest_of}
 use Rattle.atlas_cache.specs.Rings.{RunsThrough, RunsForward, HasSpare, IsRecency, IsRing, blank, line, run, no_entry, link_at, next_at, previous_at}
-use Rattle.atlas_cache.proofs.RingLemmas.{RunsThrough-same, RunsForward-same, line-RunsThrough, last-RunsThrough, one_if_same-self, one_if_same-ne, ne-from_times_in, times_in-without, length-without_first, next-in_chain}
+use Rattle.atlas_cache.proofs.RingLemmas.{RunsThrough-same, RunsForward-same, line-RunsThrough, last-RunsThrough, one_if_same-self, one_if_same-ne, ne-from_times_in, times_in-without, length-without_first, next-in_chain, previous-in_chain}
 
 -- A ring with as many entries as are counted is what the links run through.
 pub run-IsRing : (links : List Link) (ends : Link) (n : ℕ) (xs : List ℕ) → IsRing links ends xs → length xs ≡ n → run links ends n ≡ xs
@@ -158,6 +158,29 @@ older-some links ends i newer [] h ne =
 older-some links ends i newer (x ∷ older) h ne =
     ap (λ (v : ℕ). Some v) (RunsThrough-older (next_at links ends) (previous_at links ends) no_entry i newer (x ∷ older) h.chain).0
 
+RunsThrough-newer : (nx pv : ℕ → ℕ) (b i x : ℕ) (newer older : List ℕ) → RunsThrough nx pv b (x ∷ (newer ++ i ∷ older))
+    → oldest_of (x ∷ newer) ≡ Some (pv i)
+RunsThrough-newer nx pv b i x [] older h = ap (λ (v : ℕ). Some v) (sym h.2.1)
+RunsThrough-newer nx pv b i x (y ∷ newer) older h = RunsThrough-newer nx pv x i y newer older h.2
+
+newer-in : (nx pv : ℕ → ℕ) (b i x : ℕ) (newer older : List ℕ) → RunsThrough nx pv b (x ∷ (newer ++ i ∷ older))
+    → 0 < times_in (pv i) (x ∷ (newer ++ i ∷ older))
+newer-in nx pv b i x [] older h = omega (arith, one_if_same-self x, ap (λ v. one_if_same v x) h.2.1)
+newer-in nx pv b i x (y ∷ newer) older h = omega (arith, newer-in nx pv x i y newer older h.2)
+
+pub newer-none : (links : List Link) (ends : Link) (i : ℕ) (newer older : List ℕ) → length links ≤ 4294967295
+    → IsRing links ends (newer ++ i ∷ older) → previous_at links ends i ≡ 4294967295 → None ≡ oldest_of newer
+newer-none links ends i [] older short h e = refl
+newer-none links ends i (x ∷ newer) older short h e =
+    let m = h.inside _ (newer-in (next_at links ends) (previous_at links ends) no_entry i x newer older h.chain) in
+    absurd (omega (arith, m, short, e))
+
+pub newer-some : (links : List Link) (ends : Link) (i : ℕ) (newer older : List ℕ) → IsRing links ends (newer ++ i ∷ older)
+    → (previous_at links ends i ≡ 4294967295 → ⊥) → Some (previous_at links ends i) ≡ oldest_of newer
+newer-some links ends i [] older h ne = absurd (ne h.chain.1)
+newer-some links ends i (x ∷ newer) older h ne =
+    sym (RunsThrough-newer (next_at links ends) (previous_at links ends) no_entry i x newer older h.chain)
+
 pub next-read : (links : List Link) (ends l : Link) (u : ℕ) → (u ≡ 4294967295 → ⊥) → l ≡ slice_index_or links u l → u < length links → l.next ≡ next_at links ends u
 next-read links ends l u nu e m =
     ap (λ (v : Link). v.next) (get_or_read links u l m e blank ∙ sym (cond-false (eqb u 4294967295) ends (slice_index_or links u blank) (ne_eqb u 4294967295 nu)))
@@ -174,6 +197,11 @@ last-entry links ends (x ∷ xs) h ne =
 pub next-entry : (links : List Link) (ends : Link) (i : ℕ) (xs : List ℕ) → IsRing links ends xs → 0 < times_in i xs → (next_at links ends i ≡ 4294967295 → ⊥) → 0 < times_in (next_at links ends i) xs
 next-entry links ends i xs h l ne =
     elim (next-in_chain (next_at links ends) (previous_at links ends) no_entry i xs h.chain l) [ inl e ↦ absurd (ne e) | inr m ↦ m ]
+
+pub previous-entry : (links : List Link) (ends : Link) (i : ℕ) (xs : List ℕ) → IsRing links ends xs → 0 < times_in i xs
+    → (previous_at links ends i ≡ 4294967295 → ⊥) → 0 < times_in (previous_at links ends i) xs
+previous-entry links ends i xs h l ne =
+    elim (previous-in_chain (next_at links ends) (previous_at links ends) no_entry i xs h.chain l) [ inl e ↦ absurd (ne e) | inr m ↦ m ]
 
 -- Where no number is spare and no more can be made, all are in use.
 pub all-used : (links : List Link) (ends : Link) (u : ℕ) (xs : List ℕ) → HasSpare links ends u xs → u ≡ no_entry → length links ≡ no_entry → length xs ≡ no_entry

@@ -43,6 +43,10 @@ IsFaultIn o Padding = (0 < o.pages) × (o.padding <ℤ pos 0)
 IsFaultIn o Atlas = (pos 0 ≤ℤ o.padding) × (AreValid (options_of o.atlas) → ⊥)
 IsFaultIn o NothingFits = AreValid (options_of o.atlas) × (CanStand o one_pixel → ⊥)
 
+-- A rectangle with no pixel.
+abbrev pub no_pixels : Rectangle
+no_pixels = record { min = record { x = pos 0; y = pos 0 }; max = record { x = pos 0; y = pos 0 } }
+
 -- The rectangle is at least as large as an entry of this size with its padding.
 pub record IsBorderedBy (padding : ℤ) (size : Size) (r : Rectangle) : Type 0 where
   pub exact : IsExact r

@@ -1,21 +1,21 @@
 -- What a cache holds, and what it keeps.
-use Rattle.std.specs.Prelude.{◌≡◌, ◌≢◌, ◌+◌, ◌<◌, ◌≤◌, ◌==◌, ◌&&◌, ℕ, ℤ, Bool, false, List, [], ◌∷◌, length, map, find}
+use Rattle.std.specs.Prelude.{◌≡◌, ◌≢◌, ◌+◌, ◌<◌, ◌≤◌, ◌==◌, ◌&&◌, ℕ, ℤ, Bool, true, false, List, [], ◌∷◌, ◌++◌, length, map, find}
 use Rattle.std.specs.Prelude.{if◌then◌else◌}
 use Rattle.std.specs.Prelude.{Option, Some, option_map, slice_get}
 use Rattle.std.specs.List.{AllByRecursion}
 use Rattle.guillotiere.specs.declared.Rectangle.{Rectangle}
 use Rattle.guillotiere.specs.declared.Size.{Size}
-use Rattle.guillotiere.specs.Boxes.{IsWithin}
+use Rattle.guillotiere.specs.Boxes.{IsPositive, IsWithin}
 use Rattle.guillotiere.specs.Callers.{RectanglesLieApart}
 use Rattle.guillotiere.specs.Pages.{rectangle_on, NoneHasRoomBelow}
-use Rattle.guillotiere.specs.Pixels.{box_of}
+use Rattle.guillotiere.specs.Pixels.{box_of, sides_of}
 use Rattle.guillotiere.specs.Stored.{AtlasValue, state_of}
 use Rattle.atlas_cache.specs.declared.counts.Counts.{Counts}
 use Rattle.atlas_cache.specs.declared.entries.Entry.{Entry}
 use Rattle.atlas_cache.specs.declared.options.CacheOptions.{CacheOptions}
 use Rattle.atlas_cache.specs.declared.places.Place.{Place}
-use Rattle.atlas_cache.specs.Asking.{inner_of, IsBorderedBy}
-use Rattle.atlas_cache.specs.Entries.{entry_at}
+use Rattle.atlas_cache.specs.Asking.{inner_of, no_pixels, IsBorderedBy}
+use Rattle.atlas_cache.specs.Entries.{entry_at, is_blank, lying, without_number}
 use Rattle.atlas_cache.specs.Rooms.{growth_left, page_sizes, AreAllLargest}
 
 -- What contracts see of a cache: how it was made, the atlas of each page, the entries, the most recently used first,
@@ -33,9 +33,13 @@ module _ {K : Type 0} where
   abbrev pub entries_of : List (ℕ × Entry K) → List (Entry K)
   entries_of es = map (λ e. e.1) es
 
-  -- What a caller is shown of an entry: its number, its page, its rectangle there, and that without the padding.
+  -- What a caller is shown of an entry: its number, its page, its rectangle there, and that without the padding. Of a
+  -- blank one: its number, page 0, and rectangles with no pixel.
   abbrev pub shown : (padding : ℤ) → Entry K → Place
   shown padding e =
+      if is_blank e
+      then record { number = e.number; page = 0; rectangle = no_pixels; inner = no_pixels }
+      else
       record { number = e.number; page = e.page; rectangle = e.rectangle; inner = inner_of padding e.size e.rectangle }
 
   -- The entry of a key.
@@ -46,6 +50,16 @@ module _ {K : Type 0} where
   pub record IsFound (eq : K → K → Bool) (k : K) (number : ℕ) (entry : Entry K) (es : List (ℕ × Entry K)) : Type 0 where
     pub at : entry_at number es ≡ Some entry
     pub here : entry_for eq k (entries_of es) ≡ Some entry
+
+  -- The entry of a number lies on a page, and all that were used before it are blank.
+  pub record IsOldestLying (number : ℕ) (entry : Entry K) (es : List (ℕ × Entry K)) : Type 0 where
+    pub at : entry_at number es ≡ Some entry
+    pub newer : List (Entry K)
+    pub older : List (Entry K)
+    pub was : entries_of es ≡ newer ++ entry ∷ older
+    pub others : entries_of (without_number number es) ≡ newer ++ older
+    pub lies : is_blank entry ≡ false
+    pub blank : lying older ≡ []
 
   -- The place of a key.
   abbrev pub place_for : (K → K → Bool) → CacheState K → K → Option Place
@@ -72,13 +86,19 @@ module _ {K : Type 0} where
   FramesFall frame [] = Unit {0}
   FramesFall frame (e ∷ es) = (e.frame ≤ frame) × FramesFall e.frame es
 
-  -- Each entry's rectangle is at least as large as the entry with its padding.
+  -- An entry's rectangle is at least as large as the entry with its padding; that of a blank one doesn't matter, but its
+  -- size is empty.
+  pub record IsBordered (padding : ℤ) (e : Entry K) : Type 0 where
+    pub large : is_blank e ≡ false → IsBorderedBy padding e.size e.rectangle
+    pub empty : is_blank e ≡ true → IsPositive (sides_of e.size) → ⊥
+
+  -- The same of each entry.
   abbrev pub AreBordered : (padding : ℤ) → List (Entry K) → Type 0
-  AreBordered padding es = AllByRecursion (λ e. IsBorderedBy padding e.size e.rectangle) es
+  AreBordered padding es = AllByRecursion (IsBordered padding) es
 
   -- What each cache keeps, beside what its pages and its keys do.
   pub record IsKept (s : CacheState K) : Type 0 where
-    pub held : HoldsEntries s.pages s.entries
+    pub held : HoldsEntries s.pages (lying s.entries)
     pub bordered : AreBordered s.options.padding s.entries
     pub frames : FramesFall s.frame s.entries
 
@@ -91,9 +111,9 @@ module _ {K : Type 0} where
   abbrev pub HasNoPageFor : Size → CacheState K → Type 0
   HasNoPageFor asked s = NoneHasRoomBelow asked s.pages (length s.pages)
 
-  -- Each entry was used in this frame.
+  -- Each entry that lies on a page was used in this frame.
   abbrev pub AreAllInUse : CacheState K → Type 0
-  AreAllInUse s = AllByRecursion (λ e. e.frame ≡ s.frame) s.entries
+  AreAllInUse s = AllByRecursion (λ e. e.frame ≡ s.frame) (lying s.entries)
 
   -- No entry was used in this frame.
   abbrev pub IsNoneInUse : CacheState K → Type 0

@@ -1,6 +1,6 @@
 -- What a cache does, change by change, and what a caller learns of it.
-use Rattle.std.specs.Prelude.{◌≡◌, ◌≢◌, ◌+◌, ◌<◌, ◌≤◌, max, ℕ, Bool, List, [], ◌∷◌, ◌++◌, length, Option, Some, None, Result, Ok, Err}
-use Rattle.std.specs.Prelude.{if◌then◌else◌, slice_set, take}
+use Rattle.std.specs.Prelude.{◌≡◌, ◌≢◌, ◌+◌, ◌<◌, ◌≤◌, max, ℕ, Bool, true, false, List, [], ◌∷◌, ◌++◌, length, Option, Some, None}
+use Rattle.std.specs.Prelude.{if◌then◌else◌, slice_set, take, Result, Ok, Err}
 use Rattle.guillotiere.specs.declared.Size.{Size}
 use Rattle.guillotiere.specs.Boxes.{IsPositive}
 use Rattle.guillotiere.specs.Pixels.{sides_of}
@@ -12,11 +12,13 @@ use Rattle.atlas_cache.specs.declared.entries.Entry.{Entry}
 use Rattle.atlas_cache.specs.declared.error.CacheError.{CacheError}
 use Rattle.atlas_cache.specs.declared.error.CacheError.TheVariants.{OtherSize}
 use Rattle.atlas_cache.specs.declared.inserted.Inserted.{Inserted}
-use Rattle.atlas_cache.specs.declared.inserted.Inserted.TheVariants.{Placed, Held, FrameFull, NeverFits, EmptySize}
+use Rattle.atlas_cache.specs.declared.inserted.Inserted.TheVariants.{Placed, Held, FrameFull, NeverFits}
 use Rattle.atlas_cache.specs.declared.places.Place.{Place}
 use Rattle.atlas_cache.specs.Asking.{CanStand}
 use Rattle.atlas_cache.specs.Caches.{CacheState, entry_for, place_for, shown, AreAllInUse, HasNoPageFor, IsFull}
 use Rattle.atlas_cache.specs.Counting.{one_more}
+use Rattle.atlas_cache.specs.Entries.{is_blank, lying}
+use Rattle.atlas_cache.specs.Refusals.{IsWithoutNumber}
 use Rattle.atlas_cache.specs.Rooms.{page_sizes, AreAllLargest, IsAtLeast, IsFirstToGrow, IsRounded}
 
 -- A caller's picture of a cache: the place of each key, and the size of each page.
@@ -75,11 +77,17 @@ module _ {K : Type 0} where
     pub same : HasSameRectangles s.pages t.pages
     pub keeps : KeepsEntries s t
 
-  -- Every page is there and at its largest, and the least recently used entry goes, which this frame didn't use.
+  -- Every page is there and at its largest, and of the entries that lie on a page the least recently used one goes, which
+  -- this frame didn't use. The others keep their order.
   pub record Evicts (key : K) (place : Place) (s t : CacheState K) : Type 0 where
     pub full : IsFull s
     pub entry : Entry K
-    pub last : s.entries ≡ t.entries ++ entry ∷ []
+    pub newer : List (Entry K)
+    pub older : List (Entry K)
+    pub was : s.entries ≡ newer ++ entry ∷ older
+    pub is : t.entries ≡ newer ++ older
+    pub lies : is_blank entry ≡ false
+    pub blank : lying older ≡ []
     pub named : key ≡ entry.key
     pub shows : place ≡ shown s.options.padding entry
     pub unused : entry.frame < s.frame
@@ -136,13 +144,31 @@ module _ {K : Type 0} where
     pub frame : t.frame ≡ s.frame
     pub counts : t.counts ≡ s.counts
 
+  -- A key of an empty size is added, the most recently used from now on: a blank entry. Its number is that of any new
+  -- entry. The pages stay as they are.
+  pub record AddsBlank (key : K) (size : Size) (place : Place) (s t : CacheState K) : Type 0 where
+    pub entry : Entry K
+    pub first : t.entries ≡ entry ∷ s.entries
+    pub blank : is_blank entry ≡ true
+    pub named : entry.key ≡ key
+    pub sized : entry.size ≡ size
+    pub used : entry.frame ≡ s.frame
+    pub shows : place ≡ shown s.options.padding entry
+    pub next : entry.number ≤ s.numbers
+    pub dense : entry.number ≡ s.numbers → length s.entries ≡ s.numbers
+    pub numbers : t.numbers ≡ max s.numbers (entry.number + 1)
+    pub pages : t.pages ≡ s.pages
+    pub options : t.options ≡ s.options
+    pub frame : t.frame ≡ s.frame
+    pub counts : t.counts ≡ s.counts
+
   -- Nothing that a caller can see changed.
   pub record LooksSame (s t : CacheState K) : Type 0 where
     pub same : HasSameRectangles s.pages t.pages
     pub sizes : page_sizes t.pages ≡ page_sizes s.pages
     pub keeps : KeepsEntries s t
 
-  -- The request has room on no page, every page is there and at its largest, and each entry is in use.
+  -- The request has room on no page, every page is there and at its largest, and each entry that lies on one is in use.
   pub record IsExhausted (asked : Size) (s : CacheState K) : Type 0 where
     pub none : HasNoPageFor asked s
     pub full : IsFull s
@@ -154,7 +180,6 @@ module _ {K : Type 0} where
   Ends asked key size (Ok (Held place)) s t = ⊥
   Ends asked key size (Ok FrameFull) s t = (s ≡ t) × IsExhausted asked s
   Ends asked key size (Ok NeverFits) s t = ⊥
-  Ends asked key size (Ok EmptySize) s t = ⊥
   Ends asked key size (Err error) s t = LooksSame s t
 
   -- What an insert of a new key did: it made changes, listed in their order, and then it ended so.
@@ -165,6 +190,14 @@ module _ {K : Type 0} where
     pub done : CacheState K
     pub leads : Leads asked made s done
     pub ends : Ends asked key size result done t
+
+  -- What an insert of a new key with an empty size does: the key is added, or it is refused, and then nothing changes.
+  abbrev pub InsertsBlank : (key : K) (size : Size) → Result Inserted CacheError → (s t : CacheState K) → Type 0
+  InsertsBlank key size (Ok (Placed place)) s t = AddsBlank key size place s t
+  InsertsBlank key size (Ok (Held place)) s t = ⊥
+  InsertsBlank key size (Ok FrameFull) s t = ⊥
+  InsertsBlank key size (Ok NeverFits) s t = ⊥
+  InsertsBlank key size (Err error) s t = (t ≡ s) × IsWithoutNumber (length s.entries) error
 
   -- An entry is used in this frame, and is the most recently used from now on; the others keep their order.
   pub record Uses (entry : Entry K) (s t : CacheState K) : Type 0 where
@@ -195,7 +228,7 @@ module _ {K : Type 0} where
         × (t.counts ≡ s.counts)
     pub other : entry.size ≢ size → (result ≡ Err OtherSize) × (t ≡ s)
 
-  -- An entry is gone with its rectangle; the others keep their order.
+  -- An entry is gone, with its rectangle if it lies on a page; the others keep their order.
   pub record Removes (entry : Entry K) (s t : CacheState K) : Type 0 where
     pub newer : List (Entry K)
     pub older : List (Entry K)

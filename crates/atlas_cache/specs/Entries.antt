@@ -1,5 +1,5 @@
 -- Entries of a cache under their numbers, the most recently used first.
-use Rattle.std.specs.Prelude.{◌≡◌, ◌≤◌, ℕ, Bool, nat_eq, if◌then◌else◌, List, [], ◌∷◌, length, map, Option, None, Some}
+use Rattle.std.specs.Prelude.{◌≡◌, ◌≤◌, ◌==◌, ℕ, Bool, nat_eq, if◌then◌else◌, List, [], ◌∷◌, length, map, Option, None, Some}
 use Rattle.std.specs.Prelude.{IsNone, IsSome}
 use Rattle.std.specs.List.{AllByRecursion}
 use Rattle.std.specs.Option.{option_map_or}
@@ -7,12 +7,25 @@ use Rattle.std.specs.Map.{keys_of, lookup, remove_entry}
 use Rattle.guillotiere.specs.declared.Rectangle.{Rectangle}
 use Rattle.atlas_cache.specs.declared.entries.Entry.{Entry}
 
+-- What a blank entry has for its page. No page has this number, since a cache has at most so many pages.
+abbrev pub no_page : ℕ
+no_page = 4294967295
+
 -- Entries under their numbers, the most recently used first, and how many numbers were given out so far: 0, 1 and so on.
 pub record Table (K : Type 0) : Type 0 where
   pub entries : List (ℕ × Entry K)
   pub made : ℕ
 
 module _ {K : Type 0} where
+  -- A blank entry is that of a key with an empty size. It lies on no page, and takes no room.
+  abbrev pub is_blank : Entry K → Bool
+  is_blank e = e.page == no_page
+
+  -- The entries that lie on a page, in their order.
+  abbrev pub lying : List (Entry K) → List (Entry K)
+  lying [] = []
+  lying (e ∷ es) = if is_blank e then lying es else e ∷ lying es
+
   -- The entry of a number.
   abbrev pub entry_at : ℕ → List (ℕ × Entry K) → Option (Entry K)
   entry_at n es = lookup (nat_eq n) es

@@ -7,6 +7,7 @@ use Rattle.atlas_cache.specs.declared.changes.CacheChange.TheVariants.{PageRemov
 use Rattle.atlas_cache.specs.declared.entries.Entry.{Entry}
 use Rattle.atlas_cache.specs.Caches.{CacheState}
 use Rattle.atlas_cache.specs.Changes.{KeepsEntries}
+use Rattle.atlas_cache.specs.Entries.{lying}
 use Rattle.atlas_cache.specs.Rooms.{IsNothingLive}
 
 -- The last page goes, and nothing is live on it.
@@ -21,7 +22,7 @@ abbrev pub IsLastInUse : List AtlasValue → Type 0
 IsLastInUse pages = (rest : List AtlasValue) (last : AtlasValue) → pages ≡ rest ++ last ∷ [] → live_in (state_of last) ≡ [] → ⊥
 
 module _ {K : Type 0} where
-  -- How many pages there are up to the last one with an entry.
+  -- How many pages there are up to the last one on which one of these entries lies.
   abbrev pub pages_in_use : List (Entry K) → ℕ
   pages_in_use [] = 0
   pages_in_use (e ∷ es) = max (e.page + 1) (pages_in_use es)
@@ -42,7 +43,7 @@ module _ {K : Type 0} where
   pub record Shrinks (before after : List (CacheChange K)) (s t : CacheState K) : Type 0 where
     pub gone : List AtlasValue
     pub was : s.pages ≡ t.pages ++ gone
-    pub left : length t.pages ≡ pages_in_use t.entries
+    pub left : length t.pages ≡ pages_in_use (lying t.entries)
     pub nothing : IsNothingLive gone
     pub listed : after ≡ before ++ all_removed (length t.pages) gone
     pub keeps : KeepsEntries s t

@@ -3,7 +3,7 @@ use Rattle.std.specs.Prelude.{◌≡◌, Bool, List, ◌++◌, Option, Some, Non
 use Rattle.atlas_cache.specs.declared.changes.CacheChange.{CacheChange}
 use Rattle.atlas_cache.specs.declared.error.CacheError.{CacheError}
 use Rattle.atlas_cache.specs.declared.inserted.Inserted.{Inserted}
-use Rattle.atlas_cache.specs.declared.inserted.Inserted.TheVariants.{Placed, Held, FrameFull, NeverFits, EmptySize}
+use Rattle.atlas_cache.specs.declared.inserted.Inserted.TheVariants.{Placed, Held, FrameFull, NeverFits}
 use Rattle.atlas_cache.specs.declared.places.Place.{Place}
 use Rattle.atlas_cache.specs.Caches.{CacheState}
 use Rattle.atlas_cache.specs.Changes.{Picture, all_changed, picture_of, placed, ShowsSame}
@@ -14,7 +14,6 @@ given_by (Placed place) = Some place
 given_by (Held place) = Some place
 given_by FrameFull = None
 given_by NeverFits = None
-given_by EmptySize = None
 
 module _ {K : Type 0} where
   -- The picture with the place that a call gave for a key.
@@ -23,7 +22,6 @@ module _ {K : Type 0} where
   with_given eq key (Ok (Held place)) p = placed eq key (Some place) p
   with_given eq key (Ok FrameFull) p = p
   with_given eq key (Ok NeverFits) p = p
-  with_given eq key (Ok EmptySize) p = p
   with_given eq key (Err error) p = p
 
   -- A caller who follows the changes that were added, and notes the place that was given, knows what the cache holds.

@@ -2,13 +2,14 @@
 ghost use Rattle.std.specs.Prelude.{◌≡◌, ◌≢◌, ◌↔◌, ◌⊎◌, ◌<◌, [], false, length, slice_get, IfErr, IfOk, IfSome, IsOk};
 ghost use Rattle.std.specs.Prelude.{IsSome, IsTrue};
 ghost use Rattle.std.specs.Prelude.{None, Ok, OnErr, vec_capacity, vec_len};
-ghost use Rattle.guillotiere.specs.Pixels.{size_of};
+ghost use Rattle.guillotiere.specs.Boxes.{IsPositive};
+ghost use Rattle.guillotiere.specs.Pixels.{sides_of, size_of};
 ghost use Rattle.atlas_cache.specs.Asking.{bordered, AreUsable, CanStand, IsFaultIn};
 ghost use Rattle.atlas_cache.specs.Counting.{one_more};
+ghost use Rattle.atlas_cache.specs.Entries.{lying};
 ghost use Rattle.atlas_cache.specs.Refusals.{IsRefusedNew};
 ghost use Rattle.atlas_cache.specs.Rooms.{page_sizes, IsRefusal};
-ghost use Rattle.atlas_cache.specs.declared.inserted.Inserted.TheVariants.{EmptySize, FrameFull, Held, NeverFits};
-ghost use Rattle.atlas_cache.specs.declared.inserted.Inserted.TheVariants.{Placed};
+ghost use Rattle.atlas_cache.specs.declared.inserted.Inserted.TheVariants.{FrameFull, Held, NeverFits, Placed};
 
 mod clearing;
 mod figures;
@@ -17,7 +18,7 @@ mod repacking;
 mod shrinking;
 mod walking;
 
-use crate::cache::holding::{grant, look_up, oldest, place_of, take_out};
+use crate::cache::holding::{grant, join_blank, look_up, oldest_lying, place_of, take_out};
 use crate::changes::{CacheChange, Changes};
 use crate::counts::{Counts, NO_COUNTS, count};
 use crate::entries::{DefaultHasher, Entries};
@@ -106,8 +107,9 @@ impl<K: Copy + Eq + Hash, S: BuildHasher, A: Allocator + Copy> TextureCache<K, S
     ghost use Rattle.atlas_cache.specs.Caches.{entry_for, place_for, steps_left, AreAllInUse, EntriesLieApart};
     ghost use Rattle.atlas_cache.specs.Caches.{EntriesLieWithin, HasNoPageFor, HaveNumbersBelow, HaveOwnKeys};
     ghost use Rattle.atlas_cache.specs.Caches.{HaveOwnNumbers, IsFull, IsKept, IsNoneInUse};
-    ghost use Rattle.atlas_cache.specs.Changes.{picture_of, placed, Adds, DoesOne, FindsKnown, Inserts, IsExhausted};
-    ghost use Rattle.atlas_cache.specs.Changes.{IsNewAndEmpty, IsNewAndTooLarge, LooksSame, Removes, ShowsSame, Uses};
+    ghost use Rattle.atlas_cache.specs.Changes.{picture_of, placed, Adds, DoesOne, FindsKnown, Inserts, InsertsBlank};
+    ghost use Rattle.atlas_cache.specs.Changes.{IsExhausted, IsNewAndEmpty, IsNewAndTooLarge, LooksSame, Removes};
+    ghost use Rattle.atlas_cache.specs.Changes.{ShowsSame, Uses};
     ghost use Rattle.atlas_cache.specs.Telling.{Tells};
 
     /// A new frame: what was used before may go from now on. Frames are counted up to
@@ -152,13 +154,13 @@ impl<K: Copy + Eq + Hash, S: BuildHasher, A: Allocator + Copy> TextureCache<K, S
         }
     }
 
-    /// Says what each cache keeps, and does nothing: what is live on its pages is what the entries hold, each once;
-    /// each entry has its padding; two entries of one page lie apart, and each lies within its page, padding included;
-    /// and each has a key and a number of its own.
+    /// Says what each cache keeps, and does nothing: what is live on its pages is what the entries hold that lie there, each
+    /// once; each of those has its padding; two of one page lie apart, and each lies within its page, padding included; the
+    /// others have empty sizes; and each entry has a key and a number of its own.
     pub fn prove_kept(&self)
         ensures kept { IsKept self.now }
-        ensures apart { EntriesLieApart self.now.entries }
-        ensures within { EntriesLieWithin self.now.pages self.now.entries }
+        ensures apart { EntriesLieApart (lying self.now.entries) }
+        ensures within { EntriesLieWithin self.now.pages (lying self.now.entries) }
         ensures keys { HaveOwnKeys K.eq self.now.entries }
         ensures numbers { HaveOwnNumbers self.now.entries }
         ensures below { HaveNumbersBelow self.now.numbers self.now.entries }
@@ -203,11 +205,14 @@ impl<K: Copy + Eq + Hash, S: BuildHasher, A: Allocator + Copy> TextureCache<K, S
     /// from now on, which counts as no hit; asked with another size, be it empty or too large, it is refused with
     /// `OtherSize`, and nothing changes. A new key comes on the first page with room for its size, in pixels, with the
     /// padding. Where none has, a page grows; where none can, one is added; and where all are there, the least recently
-    /// used entry goes that this frame didn't use; and so on. `FrameFull` if then each entry is in use and no page has
-    /// room, which isn't so as long as this frame has used nothing; `NeverFits` if the size, with the padding and
-    /// rounded up to the alignment, passes the largest page, and `EmptySize` if it is empty, and then nothing changes.
-    /// What was done is added to the changes, also after `FrameFull` and after an error: `Memory`, `Slots` if those of a
-    /// page don't suffice, or `Numbers` only where 4,294,967,295 entries are left.
+    /// used entry goes that lies on a page and that this frame didn't use; and so on. `FrameFull` if then each entry on a
+    /// page is in use and no page has room, which isn't so as long as this frame has used nothing; `NeverFits` if the size,
+    /// with the padding and rounded up to the alignment, passes the largest page, and then nothing changes. What was done
+    /// is added to the changes, also after `FrameFull` and after an error: `Memory`, `Slots` if those of a page don't
+    /// suffice, or `Numbers` only where 4,294,967,295 entries are left.
+    ///
+    /// A new key with an empty size, of which a side is 0 or below, becomes a blank entry: `Placed` with a place that is
+    /// empty. It takes no room, so that no page changes and nothing goes, and it never goes for another key's room.
     pub fn insert(
         &mut self,
         key: K,
@@ -216,9 +221,10 @@ impl<K: Copy + Eq + Hash, S: BuildHasher, A: Allocator + Copy> TextureCache<K, S
     ) -> Result<Inserted, CacheError>
         ensures known { IfSome (entry_for K.eq key self.old.entries) (λ e.
             FindsKnown e size result self.old self.new × (changes.new.items ≡ changes.old.items)) }
-        ensures empty { (result ≡ Ok EmptySize) ↔ IsNewAndEmpty K.eq key size self.old }
+        ensures blank { IsNewAndEmpty K.eq key size self.old
+            → InsertsBlank key size result self.old self.new × (changes.new.items ≡ changes.old.items) }
         ensures never { (result ≡ Ok NeverFits) ↔ IsNewAndTooLarge K.eq key size self.old }
-        ensures nothing { (result ≡ Ok EmptySize) ⊎ (result ≡ Ok NeverFits)
+        ensures nothing { result ≡ Ok NeverFits
             → (self.new ≡ self.old) × (changes.new.items ≡ changes.old.items) }
         ensures placed { (place : Place) → result ≡ Ok (Placed place) → place_for K.eq self.old key ≡ None }
         ensures held { (place : Place) → result ≡ Ok (Held place) → place_for K.eq self.old key ≡ Some place }
@@ -240,7 +246,7 @@ impl<K: Copy + Eq + Hash, S: BuildHasher, A: Allocator + Copy> TextureCache<K, S
             return Ok(Inserted::Held(place_of(entry, &self.rooms.options())));
         }
         if !size.is_positive() {
-            return Ok(Inserted::EmptySize);
+            return self.add_blank(key, size);
         }
         let Some(asked) = self.rooms.options().asked(size) else {
             return Ok(Inserted::NeverFits);
@@ -261,6 +267,16 @@ impl<K: Copy + Eq + Hash, S: BuildHasher, A: Allocator + Copy> TextureCache<K, S
         };
         take_out(&mut self.rooms, &mut self.entries, number, gone);
         Some(place_of(gone, &self.rooms.options()))
+    }
+
+    // Adds a key that isn't held, of an empty size.
+    fn add_blank(&mut self, key: K, size: Size) -> Result<Inserted, CacheError>
+        requires absent { entry_for K.eq key self.old.entries ≡ None }
+        requires empty { IsPositive (sides_of size) → ⊥ }
+        ensures { InsertsBlank key size result self.old self.new }
+    {
+        let entry = join_blank(&mut self.entries, key, size, self.frame)?;
+        Ok(Inserted::Placed(place_of(entry, &self.rooms.options())))
     }
 
     // Inserts a key that isn't held, of a size that can stand on a page.
@@ -338,7 +354,7 @@ impl<K: Copy + Eq + Hash, S: BuildHasher, A: Allocator + Copy> TextureCache<K, S
         Ok(self.evict(changes))
     }
 
-    // The least recently used entry goes, if this frame didn't use it; whether it did.
+    // Of the entries that lie on a page the least recently used one goes, if this frame didn't use it; whether it did.
     fn evict(&mut self, changes: &mut Changes<K, A>) -> bool
         requires full { IsFull self.old }
         requires room { vec_len changes.old < vec_capacity changes.old }
@@ -347,7 +363,7 @@ impl<K: Copy + Eq + Hash, S: BuildHasher, A: Allocator + Copy> TextureCache<K, S
         ensures stops { result ≡ false → AreAllInUse self.old }
         ensures stays { result ≡ false → (self.new ≡ self.old) × (changes.new.items ≡ changes.old.items) }
     {
-        let Some((number, entry)) = oldest(&self.entries) else {
+        let Some((number, entry)) = oldest_lying(&self.entries) else {
             return false;
         };
         if entry.frame == self.frame {

@@ -5,6 +5,7 @@ ghost use Rattle.std.specs.Prelude.{IfErr, IfOk, IfSome, IsNone, IsOkUnless, IsT
 ghost use Rattle.std.specs.Prelude.{vec_capacity, vec_len};
 ghost use Rattle.std.specs.HashMap.{Updates, spare};
 ghost use Rattle.std.specs.List.{AllByRecursion, IsDistinct};
+ghost use Rattle.atlas_cache.specs.Entries.{is_blank};
 ghost use Rattle.atlas_cache.specs.Orders.{newest_of, oldest_of};
 ghost use Rattle.atlas_cache.specs.Refusals.{IsWithoutNumber};
 
@@ -19,7 +20,11 @@ use std::marker::Model;
 /// The hasher of `new`. Its seed is fixed: for keys that an attacker picks, give `with_hasher` a `RandomState`.
 pub type DefaultHasher = BuildHasherDefault<FoldHasher>;
 
-/// What a cache holds under a key.
+/// What a blank entry has for its page: the number that no page has.
+pub const NO_PAGE: u32 = 4294967295;
+
+/// What a cache holds under a key. A blank entry, that of a key with an empty size, lies on no page: its page is `NO_PAGE`,
+/// and its id and its rectangle mean nothing.
 #[derive(Clone, Copy, Debug, PartialEq, Eq)]
 pub struct Entry<K> {
     pub key: K,
@@ -35,6 +40,15 @@ pub struct Entry<K> {
     pub number: u32,
     /// The frame that used it last.
     pub frame: u64,
+}
+
+impl<K: Copy> Entry<K> {
+    /// Whether it lies on no page.
+    pub fn is_blank(&self) -> bool
+        ensures { result ≡ is_blank self.now }
+    {
+        self.page == NO_PAGE
+    }
 }
 
 /// Entries under their keys, in the order of their use. Each has a number; those of entries which are gone are given to
@@ -179,6 +193,16 @@ impl<K: Copy + Eq + Hash, S: BuildHasher, A: Allocator + Copy> Entries<K, S, A> 
         ensures entry { IfSome result (λ number. IsNumber number self.now.entries) }
     {
         self.recency.older(number)
+    }
+
+    /// The entry that was used next after this one; None if this is the most recently used.
+    pub fn newer(&self, number: u32) -> Option<u32>
+        requires { IsNumber number self.now.entries }
+        ensures next { (newer older : List ℕ) → numbers self.now.entries ≡ newer ++ number ∷ older
+            → result ≡ oldest_of newer }
+        ensures entry { IfSome result (λ number. IsNumber number self.now.entries) }
+    {
+        self.recency.newer(number)
     }
 
     /// An entry is used in this frame, and is the most recently used from now on.

@@ -7,7 +7,7 @@ use crate::places::Place;
 /// What an insertion answers.
 #[derive(Clone, Copy, Debug, PartialEq, Eq)]
 pub enum Inserted {
-    /// The key is new, and this is its place: its pixels are to be written there.
+    /// The key is new, and this is its place: its pixels are to be written there. A blank one has none: its place is empty.
     Placed(Place),
     /// The key was held, and this is its place still, with the pixels that were written there.
     Held(Place),
@@ -16,8 +16,6 @@ pub enum Inserted {
     FrameFull,
     /// The size passes the largest page, with the padding on all sides and rounded up to the alignment.
     NeverFits,
-    /// A side of the size is below 1.
-    EmptySize,
 }
 
 impl Inserted {
@@ -27,7 +25,7 @@ impl Inserted {
     {
         match self {
             Inserted::Placed(place) | Inserted::Held(place) => Some(place),
-            Inserted::FrameFull | Inserted::NeverFits | Inserted::EmptySize => None,
+            Inserted::FrameFull | Inserted::NeverFits => None,
         }
     }
 }

@@ -174,6 +174,19 @@ impl<A: Allocator> Recency<A> {
         Some(own.next)
     }
 
+    /// The entry that was used next after this one; None if this is the most recently used.
+    pub fn newer(&self, number: u32) -> Option<u32>
+        requires { IsEntry number self.now }
+        ensures next { (newer older : List ℕ) → self.now.entries ≡ newer ++ number ∷ older → result ≡ oldest_of newer }
+        ensures entry { IfSome result (λ number. IsEntry number self.now) }
+    {
+        let own = read_link(&self.links, self.ends, number);
+        if own.previous == NO_ENTRY {
+            return None;
+        }
+        Some(own.previous)
+    }
+
     /// A new entry, the most recently used from now on: its number. That is one that was given out before and belongs to no
     /// entry, or, if all of those are in use, the next one. `Numbers` only if all are in use, and `Memory` if memory is refused; then nothing changes.
     pub fn push(&mut self) -> Result<u32, CacheError>

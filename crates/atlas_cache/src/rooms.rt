@@ -10,6 +10,7 @@ ghost use Rattle.guillotiere.specs.Pixels.{natural, sides_of, size_of};
 ghost use Rattle.guillotiere.specs.Stored.{AtlasValue, state_of};
 ghost use Rattle.atlas_cache.specs.declared.options.CacheOptions.{CacheOptions};
 ghost use Rattle.atlas_cache.specs.Asking.{AreUsable};
+ghost use Rattle.atlas_cache.specs.Entries.{no_page};
 ghost use Rattle.atlas_cache.specs.Rooms.{grown_sides, growth_left, page_sizes, AreAllLargest, AreLargestBelow};
 ghost use Rattle.atlas_cache.specs.Rooms.{rooms_of, IsAtLeast, IsFirstToGrow, IsNothingLive, IsRefusal, KeepsRooms};
 ghost use Rattle.atlas_cache.specs.Rooms.{IsRounded, LargestHasRoom};
@@ -101,6 +102,7 @@ fn place_first<A: Allocator + Copy>(
     ensures first { IfOk result (λ placed. IfSome placed (λ place.
         NoneHasRoomBelow asked pages.old.items place.0)) }
     ensures page { IfOk result (λ placed. IfSome placed (λ place. place.0 < length pages.old.items)) }
+    ensures numbered { IfOk result (λ placed. IfSome placed (λ place. place.0 < no_page)) }
     ensures sizes { page_sizes pages.new.items ≡ page_sizes pages.old.items }
     ensures kept { KeepsRooms (rooms_of options.now pages.new.items) }
     ensures full { result ≡ Ok None → NoneHasRoomBelow asked pages.old.items (length pages.old.items) }
@@ -327,10 +329,11 @@ impl<A: Allocator + Copy> Rooms<A> {
         self.options
     }
 
-    /// How many pages there are.
+    /// How many pages there are: at most 4,294,967,295, so that none has the number `NO_PAGE`.
     pub fn len(&self) -> u32
         ensures pages { result ≡ length self.now.pages }
         ensures few { result ≤ self.now.options.pages }
+        ensures numbered { result ≤ no_page }
     {
         number(self.pages.len(), self.options.pages)
     }
@@ -375,6 +378,7 @@ impl<A: Allocator + Copy> Rooms<A> {
         ensures first { IfOk result (λ placed. IfSome placed (λ place.
             NoneHasRoomBelow asked self.old.pages place.0)) }
         ensures page { IfOk result (λ placed. IfSome placed (λ place. place.0 < length self.old.pages)) }
+        ensures numbered { IfOk result (λ placed. IfSome placed (λ place. place.0 < no_page)) }
         ensures sizes { page_sizes self.new.pages ≡ page_sizes self.old.pages }
         ensures options { self.new.options ≡ self.old.options }
         ensures full { result ≡ Ok None → NoneHasRoomBelow asked self.old.pages (length self.old.pages) }

@@ -53,7 +53,7 @@ fn page_lines(alloc: Global, size: Size, glyphs: &[Drawn]) -> Result<String, All
     format!(in alloc; "{first}{boxes}")
 }
 
-// The glyphs of a page, the most recently used first.
+// The glyphs of a page, the most recently used first. A blank one lies on none, and its place is empty.
 fn glyphs_on(
     alloc: Global,
     cache: &TextureCache<u32>,
@@ -65,7 +65,8 @@ fn glyphs_on(
         let Some((key, place)) = next else {
             return Ok(glyphs);
         };
-        if place.page == page && glyphs.push(Drawn { key, place }).is_err() {
+        let lies = place.page == page && !place.rectangle.is_empty();
+        if lies && glyphs.push(Drawn { key, place }).is_err() {
             return Err(AllocError);
         }
         next = cache.older(&key);

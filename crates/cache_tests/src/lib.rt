@@ -4,6 +4,8 @@
 #[cfg(test)]
 mod asking;
 #[cfg(test)]
+mod blank;
+#[cfg(test)]
 mod cache;
 #[cfg(test)]
 mod calls;

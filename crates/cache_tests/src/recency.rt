@@ -22,6 +22,20 @@ fn nth(recency: &Recency, place: usize) -> Option<u32>
     at
 }
 
+// The entry that so many were used before, since the oldest.
+fn nth_newer(recency: &Recency, place: usize) -> Option<u32>
+    ensures { IfSome result (λ number. IsEntry number recency.now) }
+{
+    let mut at = recency.oldest();
+    for _turn in 0..place {
+        let Some(number) = at else {
+            return None;
+        };
+        at = recency.newer(number);
+    }
+    at
+}
+
 fn three(alloc: Global) -> Result<Recency, CacheError> {
     let mut recency = Recency::new(alloc);
     for _turn in 0..3 {
@@ -56,6 +70,20 @@ fn a_new_entry_comes_first(rt: HostRuntime) -> Result<(), Fail> {
     let recency = three(rt.alloc())?;
     assert_eq!(rt; shown(&recency), [Some(2), Some(1), Some(0), Some(0)]);
     assert_eq!(rt; recency.len(), 3);
+    Ok(())
+}
+
+// Entries 2, 1 and 0: after the oldest, 0, entry 1 was used, and none after 2.
+#[test]
+fn the_order_is_walked_back(rt: HostRuntime) -> Result<(), Fail> {
+    let recency = three(rt.alloc())?;
+    let back = [
+        nth_newer(&recency, 0),
+        nth_newer(&recency, 1),
+        nth_newer(&recency, 2),
+    ];
+    assert_eq!(rt; back, [Some(0), Some(1), Some(2)]);
+    assert_eq!(rt; nth_newer(&recency, 3), None);
     Ok(())
 }
 

@@ -1,6 +1,7 @@
 //! Glyphs under keys in a cache: what is written once, and a frame that is drawn in several goes.
 ghost use Rattle.std.specs.Prelude.{◌≡◌, ◌≢◌, ◌<◌, None, Ok, OnOk, Some, true, false, length, nat_eq};
 ghost use Rattle.atlas_cache.specs.Caches.{place_for};
+ghost use Rattle.atlas_cache.specs.Entries.{lying};
 ghost use Rattle.atlas_cache.specs.Shrinking.{pages_in_use};
 ghost use Rattle.atlas_cache.specs.declared.inserted.Inserted.TheVariants.{FrameFull};
 
@@ -46,14 +47,14 @@ pub fn place_in_turn<A: Allocator + Copy>(
     cache.insert(key, size, changes)
 }
 
-/// What wasn't used for so many frames goes, and then the pages at the end that hold nothing any more: the last page that
-/// is left, if there is one, has an entry.
+/// What wasn't used for so many frames goes, and then the pages at the end that hold nothing any more: on the last page that
+/// is left, if there is one, an entry lies.
 pub fn give_back<A: Allocator + Copy>(
     cache: &mut TextureCache<u64, DefaultHasher, A>,
     frames: u64,
     changes: &mut Changes<u64, A>,
 ) -> Result<(), CacheError>
-    ensures { OnOk result (length cache.new.pages ≡ pages_in_use cache.new.entries) }
+    ensures { OnOk result (length cache.new.pages ≡ pages_in_use (lying cache.new.entries)) }
 {
     cache.trim(frames, changes)?;
     cache.shrink(changes)

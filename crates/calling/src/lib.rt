@@ -5,6 +5,7 @@
 mod apart;
 mod asked;
 mod back;
+mod blanks;
 mod boxes;
 mod first;
 mod frames;

@@ -1,15 +1,15 @@
 -- What a call does with a cache that has keys of 64 bits.
-use Rattle.std.specs.Prelude.{◌≡◌, ◌≢◌, ◌↔◌, ◌<◌, ◌⊎◌, ℕ, length, IfErr, IfSome, IsSome, Option, None, Some, Result, Ok}
+use Rattle.std.specs.Prelude.{◌≡◌, ◌≢◌, ◌↔◌, ◌<◌, ℕ, length, IfErr, IfSome, IsSome, Option, None, Some, Result, Ok}
 use Rattle.std.specs.Prelude.{nat_eq}
 use Rattle.guillotiere.specs.declared.Size.{Size}
 use Rattle.guillotiere.specs.Pixels.{size_of}
 use Rattle.atlas_cache.specs.declared.error.CacheError.{CacheError}
 use Rattle.atlas_cache.specs.declared.inserted.Inserted.{Inserted}
-use Rattle.atlas_cache.specs.declared.inserted.Inserted.TheVariants.{Placed, Held, FrameFull, NeverFits, EmptySize}
+use Rattle.atlas_cache.specs.declared.inserted.Inserted.TheVariants.{Placed, Held, FrameFull, NeverFits}
 use Rattle.atlas_cache.specs.declared.places.Place.{Place}
 use Rattle.atlas_cache.specs.Asking.{bordered, CanStand}
 use Rattle.atlas_cache.specs.Caches.{CacheState, entry_for, place_for, IsNoneInUse}
-use Rattle.atlas_cache.specs.Changes.{FindsKnown, Inserts, IsNewAndEmpty, IsNewAndTooLarge, Removes, Uses}
+use Rattle.atlas_cache.specs.Changes.{FindsKnown, Inserts, InsertsBlank, IsNewAndEmpty, IsNewAndTooLarge, Removes, Uses}
 use Rattle.atlas_cache.specs.Clearing.{TellsChanges, Trims}
 use Rattle.atlas_cache.specs.Counting.{one_more}
 use Rattle.atlas_cache.specs.Refusals.{IsRefusedNew}
@@ -38,9 +38,9 @@ pub record IsRemoval (key : ℕ) (found : Option Place) (s t : CacheState ℕ) :
 pub record IsInsert (key : ℕ) (size : Size) (result : Result Inserted CacheError) (f g : Followed) : Type 0 where
   pub known : IfSome (entry_for nat_eq key f.cache.entries) (λ e.
       FindsKnown e size result f.cache g.cache × (g.changes ≡ f.changes))
-  pub empty : (result ≡ Ok EmptySize) ↔ IsNewAndEmpty nat_eq key size f.cache
+  pub blank : IsNewAndEmpty nat_eq key size f.cache → InsertsBlank key size result f.cache g.cache × (g.changes ≡ f.changes)
   pub never : (result ≡ Ok NeverFits) ↔ IsNewAndTooLarge nat_eq key size f.cache
-  pub nothing : (result ≡ Ok EmptySize) ⊎ (result ≡ Ok NeverFits) → (g.cache ≡ f.cache) × (g.changes ≡ f.changes)
+  pub nothing : result ≡ Ok NeverFits → (g.cache ≡ f.cache) × (g.changes ≡ f.changes)
   pub placed : (place : Place) → result ≡ Ok (Placed place) → place_for nat_eq f.cache key ≡ None
   pub held : (place : Place) → result ≡ Ok (Held place) → place_for nat_eq f.cache key ≡ Some place
   pub new : entry_for nat_eq key f.cache.entries ≡ None → CanStand f.cache.options size

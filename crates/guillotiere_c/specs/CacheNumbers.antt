@@ -1,7 +1,7 @@
 -- What statuses and structs of numbers of a cache mean.
 use Rattle.std.specs.Prelude.{ℕ, ◌==◌, if◌then◌else◌, Option, Some, None, Result, Ok, Err}
 use Rattle.guillotiere_c.specs.declared.plain.TheConstants.{DONE, SLOTS, MEMORY, OTHER_SIZE, NUMBERS}
-use Rattle.guillotiere_c.specs.declared.plain.TheConstants.{HELD, FRAME_FULL, NEVER_FITS, EMPTY_SIZE}
+use Rattle.guillotiere_c.specs.declared.plain.TheConstants.{HELD, FRAME_FULL, NEVER_FITS}
 use Rattle.guillotiere_c.specs.declared.plain.TheConstants.{EMPTY_PAGE}
 use Rattle.guillotiere_c.specs.declared.plain.TheConstants.{LARGEST_PAGE, NO_PAGES, BAD_PADDING, BAD_ATLAS, NOTHING_FITS}
 use Rattle.guillotiere_c.specs.declared.plain.TheConstants.{NOT_HELD, PAGE_ADDED, PAGE_GROWN, EVICTED, MOVED, PAGE_REMOVED}
@@ -18,7 +18,7 @@ use Rattle.atlas_cache.specs.declared.error.CacheError.TheVariants as error
 use Rattle.atlas_cache.specs.declared.error.OptionsError.{OptionsError}
 use Rattle.atlas_cache.specs.declared.error.OptionsError.TheVariants as fault
 use Rattle.atlas_cache.specs.declared.inserted.Inserted.{Inserted}
-use Rattle.atlas_cache.specs.declared.inserted.Inserted.TheVariants.{Placed, Held, FrameFull, NeverFits, EmptySize}
+use Rattle.atlas_cache.specs.declared.inserted.Inserted.TheVariants.{Placed, Held, FrameFull, NeverFits}
 use Rattle.atlas_cache.specs.declared.options.CacheOptions.{CacheOptions}
 use Rattle.atlas_cache.specs.declared.places.Place.{Place}
 
@@ -73,11 +73,10 @@ insert_answer status written =
     else (if status == HELD then Some (Ok (Held (place_in written)))
     else (if status == FRAME_FULL then Some (Ok FrameFull)
     else (if status == NEVER_FITS then Some (Ok NeverFits)
-    else (if status == EMPTY_SIZE then Some (Ok EmptySize)
     else (if status == MEMORY then Some (Err error.Memory)
     else (if status == NUMBERS then Some (Err error.Numbers)
     else (if status == SLOTS then Some (Err error.Slots)
-    else (if status == OTHER_SIZE then Some (Err error.OtherSize) else None))))))))
+    else (if status == OTHER_SIZE then Some (Err error.OtherSize) else None)))))))
 
 -- The place that a look-up of a key wrote, if its answer is one.
 abbrev pub found_answer : (status : ℕ) → PlainPlace → Option (Option Place)

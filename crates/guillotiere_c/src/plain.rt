@@ -95,10 +95,7 @@ pub const FRAME_FULL: u32 = 24;
 /// A size passes the largest page, with the padding and rounded up to the alignment.
 pub const NEVER_FITS: u32 = 25;
 
-/// A side of a size is below 1.
-pub const EMPTY_SIZE: u32 = 26;
-
-/// Not even a size of 1 by 1 fits the largest page.
+/// Not even a size of 1 by 1 fits the largest page. (26 isn't used.)
 pub const NOTHING_FITS: u32 = 27;
 
 /// A kind of sheets: this size alone.

@@ -28,7 +28,7 @@
 //!     Inserted::Placed(place) => println!("write its pixels at {place:?}"),
 //!     Inserted::Held(place) => println!("draw it from {place:?}"),
 //!     Inserted::FrameFull => println!("draw what this frame has, begin a new one, and insert again"),
-//!     Inserted::NeverFits | Inserted::EmptySize => println!("it has no place"),
+//!     Inserted::NeverFits => println!("it has no place"),
 //! }
 //! assert_eq!(glyphs.get('g'), inserted.place());
 //! # Ok::<(), guillotiere::cache::CacheError>(())
@@ -56,13 +56,14 @@ pub struct CacheOptions {
     pub atlas: AllocatorOptions,
 }
 
-/// Where an entry lies, in pixels.
+/// Where an entry lies, in pixels. A blank entry, that of a key with an empty size, lies on no page: both of its rectangles
+/// are empty.
 #[derive(Copy, Clone, Debug, PartialEq)]
 pub struct Place {
     /// The number of the entry. It stays until the entry is gone, and no other entry has it meanwhile; the numbers of
     /// entries that are gone are given out again before new ones, so what a caller keeps of each entry fits a list.
     pub number: u32,
-    /// The page, counted from 0.
+    /// The page, counted from 0; of a blank entry 0, also where there is no page yet.
     pub page: u32,
     /// The rectangle with its padding, which no other entry of the page overlaps. Its border shows what lay there
     /// before: clear it.
@@ -74,7 +75,7 @@ pub struct Place {
 /// What an insertion answers.
 #[derive(Copy, Clone, Debug, PartialEq)]
 pub enum Inserted {
-    /// The key is new, and this is its place: its pixels are to be written there.
+    /// The key is new, and this is its place: its pixels are to be written there. A blank one has none: its place is empty.
     Placed(Place),
     /// The key was held, and this is its place still, with the pixels that were written there.
     Held(Place),
@@ -83,8 +84,6 @@ pub enum Inserted {
     FrameFull,
     /// The size passes the largest page, with the padding on all sides and rounded up to the alignment.
     NeverFits,
-    /// A side of the size is below 1.
-    EmptySize,
 }
 
 impl Inserted {
@@ -92,7 +91,7 @@ impl Inserted {
     pub fn place(self) -> Option<Place> {
         match self {
             Inserted::Placed(place) | Inserted::Held(place) => Some(place),
-            Inserted::FrameFull | Inserted::NeverFits | Inserted::EmptySize => None,
+            Inserted::FrameFull | Inserted::NeverFits => None,
         }
     }
 }
@@ -259,7 +258,6 @@ fn inserted_of(inserted: library::Inserted) -> Inserted {
         library::Inserted::Held(place) => Inserted::Held(place_of(place)),
         library::Inserted::FrameFull => Inserted::FrameFull,
         library::Inserted::NeverFits => Inserted::NeverFits,
-        library::Inserted::EmptySize => Inserted::EmptySize,
     }
 }
 

@@ -112,8 +112,6 @@ fn sizes_that_get_no_place() {
     let mut cache = TextureCache::new(&one_page()).unwrap();
     cache.begin_frame();
     let rows = [
-        (size2(0, 1), Inserted::EmptySize),
-        (size2(1, -1), Inserted::EmptySize),
         (size2(17, 1), Inserted::NeverFits),
         (size2(1, 33), Inserted::NeverFits),
     ];
@@ -122,6 +120,25 @@ fn sizes_that_get_no_place() {
         assert_eq!(answer.place(), None);
     }
     assert_eq!((cache.len(), cache.numbers(), cache.pages()), (0, 0, 0));
+}
+
+#[test]
+fn blank_keys() {
+    let mut cache = TextureCache::new(&one_page()).unwrap();
+    cache.begin_frame();
+    let space = cache.insert(1, size2(0, 9)).unwrap();
+    let place = space.place().unwrap();
+    assert_eq!((place.number, place.page), (0, 0));
+    assert!(place.rectangle.is_empty() && place.inner.is_empty());
+    assert_eq!((cache.next_change(), cache.pages()), (None, 0));
+    assert_eq!(cache.insert(1, size2(0, 9)), Ok(Inserted::Held(place)));
+    assert_eq!(cache.insert(1, size2(1, 9)), Err(CacheError::OtherSize));
+    cache.insert(2, size2(16, 32)).unwrap();
+    cache.begin_frame();
+    cache.insert(3, size2(16, 32)).unwrap();
+    assert_eq!((cache.get(1), cache.get(2)), (Some(place), None));
+    cache.trim(0).unwrap();
+    assert!(cache.is_empty());
 }
 
 #[test]

@@ -63,7 +63,7 @@ export class Cache {
   insert() {
     const key = this.someKey();
     const number = key >>> 0;
-    const width = this.draw.oneIn(40) ? this.draw.side(500) : 4 + number * 7 % 60;
+    const width = this.draw.oneIn(40) ? this.draw.side(500) : number % 10 === 3 ? 0 : 4 + number * 7 % 60;
     const { value: place, status } = this.call((cache) => cache.insert(this.key(key), width, 4 + number * 11 % 50));
     const otherwise = place === null ? 'FRAME_FULL' : place.isNew ? 'DONE' : 'HELD';
     this.sum.add(status === 0 ? numberOf(otherwise) : status);

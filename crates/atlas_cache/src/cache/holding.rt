@@ -1,20 +1,19 @@
 //! Steps over the pages and the entries of a cache: what is live on the pages stays what the entries hold, each once.
-ghost use Rattle.std.specs.Prelude.{◌≡◌, ◌+◌, max, [], ◌∷◌, ◌++◌, length, IfErr, IfNone, IfOk, IfSome, IsNone, None, Ok, OnErr};
-ghost use Rattle.std.specs.Prelude.{Some};
+ghost use Rattle.std.specs.Prelude.{◌≡◌, ◌+◌, max, [], ◌∷◌, ◌++◌, length, false, true, IfErr, IfNone, IfOk, IfSome, IsNone, None, Ok};
+ghost use Rattle.std.specs.Prelude.{OnErr, Some};
 ghost use Rattle.guillotiere.specs.Pages.{HasSameRectangles, LeavesNoBoxOn, NoneHasRoomBelow};
-ghost use Rattle.atlas_cache.specs.Asking.{IsBorderedBy};
-ghost use Rattle.atlas_cache.specs.Caches.{entries_of, entry_for, shown, HoldsEntries, IsFound};
+ghost use Rattle.atlas_cache.specs.Caches.{entries_of, entry_for, shown, HoldsEntries, IsBordered, IsFound, IsOldestLying};
 ghost use Rattle.atlas_cache.specs.Changes.{GetsPlace};
-ghost use Rattle.atlas_cache.specs.Entries.{entry_at, number_of, without_number, IsNextNumber};
-ghost use Rattle.atlas_cache.specs.Refusals.{IsRefusedNew};
+ghost use Rattle.atlas_cache.specs.Entries.{entry_at, is_blank, lying, number_of, without_number, IsNextNumber};
+ghost use Rattle.atlas_cache.specs.Refusals.{IsRefusedNew, IsWithoutNumber};
 ghost use Rattle.atlas_cache.specs.Rooms.{page_sizes, IsRounded};
 
-use crate::entries::{Entries, Entry};
+use crate::entries::{Entries, Entry, NO_PAGE};
 use crate::error::CacheError;
 use crate::options::CacheOptions;
-use crate::places::Place;
+use crate::places::{NO_PIXELS, Place};
 use crate::rooms::Rooms;
-use guillotiere::Size;
+use guillotiere::{AllocId, Size};
 use std::alloc::Allocator;
 use std::hash::{BuildHasher, Hash};
 
@@ -46,11 +45,37 @@ pub fn oldest<K: Copy + Eq + Hash, S: BuildHasher, A: Allocator + Copy>(
     Some((number, entries.entry(number)))
 }
 
+/// The least recently used entry that lies on a page, with its number; None if none does. Blank entries that were used
+/// before it are passed one by one.
+pub fn oldest_lying<K: Copy + Eq + Hash, S: BuildHasher, A: Allocator + Copy>(
+    entries: &Entries<K, S, A>,
+) -> Option<(u32, Entry<K>)>
+    ensures last { IfSome result (λ found. IsOldestLying found.0 found.1 entries.now.entries) }
+    ensures none { IfNone result (lying (entries_of entries.now.entries) ≡ []) }
+{
+    entries.prove_kept();
+    let mut next = entries.oldest();
+    for _ in 0..entries.len() {
+        let Some(number) = next else {
+            return None;
+        };
+        let entry = entries.entry(number);
+        if !entry.is_blank() {
+            return Some((number, entry));
+        }
+        next = entries.newer(number);
+    }
+    None
+}
+
 /// The place of an entry.
 pub fn place_of<K: Copy>(entry: Entry<K>, options: &CacheOptions) -> Place
-    requires { IsBorderedBy options.now.padding entry.size entry.rectangle }
+    requires { IsBordered options.now.padding entry }
     ensures { result ≡ shown options.now.padding entry }
 {
+    if entry.is_blank() {
+        return Place::blank(entry.number);
+    }
     Place::new(
         entry.number,
         entry.page,
@@ -69,11 +94,12 @@ pub fn grant<K: Copy + Eq + Hash, S: BuildHasher, A: Allocator + Copy>(
     asked: Size,
     frame: u64,
 ) -> Result<Option<Entry<K>>, CacheError>
-    requires held { HoldsEntries rooms.old.pages (entries_of entries.old.entries) }
+    requires held { HoldsEntries rooms.old.pages (lying (entries_of entries.old.entries)) }
     requires absent { IsNone (number_of K.eq key entries.old.entries) }
-    ensures held { HoldsEntries rooms.new.pages (entries_of entries.new.entries) }
+    ensures held { HoldsEntries rooms.new.pages (lying (entries_of entries.new.entries)) }
     ensures placed { IfOk result (λ granted. IfSome granted (λ e.
         GetsPlace asked key size frame rooms.old.pages rooms.new.pages e)) }
+    ensures lies { IfOk result (λ granted. IfSome granted (λ e. is_blank e ≡ false)) }
     ensures sides { IfOk result (λ granted. IfSome granted (λ e.
         IsRounded rooms.old.options asked e.rectangle)) }
     ensures first { IfOk result (λ granted. IfSome granted (λ e.
@@ -110,16 +136,47 @@ pub fn grant<K: Copy + Eq + Hash, S: BuildHasher, A: Allocator + Copy>(
     }
 }
 
-/// An entry goes, and its rectangle is freed.
+/// A new blank entry, the most recently used from now on. After an error nothing has changed.
+pub fn join_blank<K: Copy + Eq + Hash, S: BuildHasher, A: Allocator + Copy>(
+    entries: &mut Entries<K, S, A>,
+    key: K,
+    size: Size,
+    frame: u64,
+) -> Result<Entry<K>, CacheError>
+    requires { IsNone (number_of K.eq key entries.old.entries) }
+    ensures blank { IfOk result (λ e. is_blank e ≡ true) }
+    ensures named { IfOk result (λ e. e.key ≡ key) }
+    ensures sized { IfOk result (λ e. e.size ≡ size) }
+    ensures used { IfOk result (λ e. e.frame ≡ frame) }
+    ensures first { IfOk result (λ e. entries_of entries.new.entries ≡ e ∷ entries_of entries.old.entries) }
+    ensures next { IfOk result (λ e. IsNextNumber e.number entries.old) }
+    ensures made { IfOk result (λ e. entries.new.made ≡ max entries.old.made (e.number + 1)) }
+    ensures refused { OnErr result (entries.new ≡ entries.old) }
+    ensures errors { IfErr result (IsWithoutNumber (length entries.old.entries)) }
+{
+    let entry = Entry {
+        key,
+        size,
+        page: NO_PAGE,
+        id: AllocId::deserialize(0),
+        rectangle: NO_PIXELS,
+        number: 0,
+        frame,
+    };
+    let number = entries.push(entry)?;
+    Ok(Entry { number, ..entry })
+}
+
+/// An entry goes, and its rectangle is freed, if it lies on a page.
 pub fn take_out<K: Copy + Eq + Hash, S: BuildHasher, A: Allocator + Copy>(
     rooms: &mut Rooms<A>,
     entries: &mut Entries<K, S, A>,
     number: u32,
     entry: Entry<K>,
 )
-    requires held { HoldsEntries rooms.old.pages (entries_of entries.old.entries) }
+    requires held { HoldsEntries rooms.old.pages (lying (entries_of entries.old.entries)) }
     requires here { entry_at number entries.old.entries ≡ Some entry }
-    ensures held { HoldsEntries rooms.new.pages (entries_of entries.new.entries) }
+    ensures held { HoldsEntries rooms.new.pages (lying (entries_of entries.new.entries)) }
     ensures without { entries.new.entries ≡ without_number number entries.old.entries }
     ensures made { entries.new.made ≡ entries.old.made }
     ensures leaves { LeavesNoBoxOn rooms.old.pages rooms.new.pages entry.page entry.id }
@@ -127,5 +184,7 @@ pub fn take_out<K: Copy + Eq + Hash, S: BuildHasher, A: Allocator + Copy>(
     ensures options { rooms.new.options ≡ rooms.old.options }
 {
     entries.remove(number);
-    rooms.free(entry.page, entry.id);
+    if entry.page < rooms.len() {
+        rooms.free(entry.page, entry.id);
+    }
 }

@@ -3,8 +3,7 @@ ghost use Rattle.std.specs.Prelude.{◌≡◌, ◌==◌, ◌↔◌, ◌+◌, ◌
 ghost use Rattle.std.specs.Prelude.{IfErr, IfOk, IsOkUnless, IsTrue, OnErr, Ok, Some};
 ghost use Rattle.std.specs.Prelude.{vec_capacity, vec_len};
 ghost use Rattle.std.specs.List.{cons_option, filter_map};
-ghost use Rattle.atlas_cache.specs.Asking.{IsBorderedBy};
-ghost use Rattle.atlas_cache.specs.Caches.{entries_of, AreBordered};
+ghost use Rattle.atlas_cache.specs.Caches.{entries_of, AreBordered, IsBordered};
 ghost use Rattle.atlas_cache.specs.Clearing.{TellsChanges};
 ghost use Rattle.atlas_cache.specs.Entries.{entry_at};
 ghost use Rattle.atlas_cache.specs.Relocating.{become, held_on, numbered_as, renewed_by, told_as, told_of, Repacks};
@@ -65,9 +64,9 @@ fn settle<K: Copy + Eq + Hash, S: BuildHasher, A: Allocator + Copy>(
     changes: &mut Changes<K, A>,
 )
     requires here { entry_at number entries.old.entries ≡ Some entry }
-    requires was { IsBorderedBy options.now.padding entry.size entry.rectangle }
+    requires was { IsBordered options.now.padding entry }
     requires is { (f : Entry K) → renewed_by moves.now entry ≡ Some f
-        → IsBorderedBy options.now.padding f.size f.rectangle }
+        → IsBordered options.now.padding f }
     requires room { vec_len changes.old < vec_capacity changes.old }
     ensures settled { (newer older : List (ℕ × Entry K)) → entries.old.entries ≡ newer ++ (number, entry) ∷ older
         → entries.new.entries ≡ newer ++ cons_option (numbered_as number (renewed_by moves.now entry)) older }

@@ -8,7 +8,9 @@ mod repacking;
 mod shrinking;
 mod walking;
 
-use crate::atlas_cache::cache::holding::{grant, look_up, oldest, place_of, take_out};
+use crate::atlas_cache::cache::holding::{
+    grant, join_blank, look_up, oldest_lying, place_of, take_out,
+};
 use crate::atlas_cache::changes::{CacheChange, Changes};
 use crate::atlas_cache::counts::{count, Counts, NO_COUNTS};
 use crate::atlas_cache::entries::{DefaultHasher, Entries};
@@ -94,9 +96,9 @@ impl<K: Copy + Eq + Hash, S: BuildHasher, A: Allocator + Copy> TextureCache<K, S
         }
     }
 
-    /// Says what each cache keeps, and does nothing: what is live on its pages is what the entries hold, each once;
-    /// each entry has its padding; two entries of one page lie apart, and each lies within its page, padding included;
-    /// and each has a key and a number of its own.
+    /// Says what each cache keeps, and does nothing: what is live on its pages is what the entries hold that lie there, each
+    /// once; each of those has its padding; two of one page lie apart, and each lies within its page, padding included; the
+    /// others have empty sizes; and each entry has a key and a number of its own.
     #[inline]
     pub fn prove_kept(&self) {
         self.rooms.prove_kept();
@@ -135,11 +137,14 @@ impl<K: Copy + Eq + Hash, S: BuildHasher, A: Allocator + Copy> TextureCache<K, S
     /// from now on, which counts as no hit; asked with another size, be it empty or too large, it is refused with
     /// `OtherSize`, and nothing changes. A new key comes on the first page with room for its size, in pixels, with the
     /// padding. Where none has, a page grows; where none can, one is added; and where all are there, the least recently
-    /// used entry goes that this frame didn't use; and so on. `FrameFull` if then each entry is in use and no page has
-    /// room, which isn't so as long as this frame has used nothing; `NeverFits` if the size, with the padding and
-    /// rounded up to the alignment, passes the largest page, and `EmptySize` if it is empty, and then nothing changes.
-    /// What was done is added to the changes, also after `FrameFull` and after an error: `Memory`, `Slots` if those of a
-    /// page don't suffice, or `Numbers` only where 4,294,967,295 entries are left.
+    /// used entry goes that lies on a page and that this frame didn't use; and so on. `FrameFull` if then each entry on a
+    /// page is in use and no page has room, which isn't so as long as this frame has used nothing; `NeverFits` if the size,
+    /// with the padding and rounded up to the alignment, passes the largest page, and then nothing changes. What was done
+    /// is added to the changes, also after `FrameFull` and after an error: `Memory`, `Slots` if those of a page don't
+    /// suffice, or `Numbers` only where 4,294,967,295 entries are left.
+    ///
+    /// A new key with an empty size, of which a side is 0 or below, becomes a blank entry: `Placed` with a place that is
+    /// empty. It takes no room, so that no page changes and nothing goes, and it never goes for another key's room.
     #[inline]
     pub fn insert(
         &mut self,
@@ -156,7 +161,7 @@ impl<K: Copy + Eq + Hash, S: BuildHasher, A: Allocator + Copy> TextureCache<K, S
             return Ok(Inserted::Held(place_of(entry, &self.rooms.options())));
         }
         if !size.is_positive() {
-            return Ok(Inserted::EmptySize);
+            return self.add_blank(key, size);
         }
         let asked = match self.rooms.options().asked(size) {
             Some(asked) => asked,
@@ -179,6 +184,13 @@ impl<K: Copy + Eq + Hash, S: BuildHasher, A: Allocator + Copy> TextureCache<K, S
         };
         take_out(&mut self.rooms, &mut self.entries, number, gone);
         Some(place_of(gone, &self.rooms.options()))
+    }
+
+    // Adds a key that isn't held, of an empty size.
+    #[inline]
+    fn add_blank(&mut self, key: K, size: Size) -> Result<Inserted, CacheError> {
+        let entry = join_blank(&mut self.entries, key, size, self.frame)?;
+        Ok(Inserted::Placed(place_of(entry, &self.rooms.options())))
     }
 
     // Inserts a key that isn't held, of a size that can stand on a page.
@@ -236,10 +248,10 @@ impl<K: Copy + Eq + Hash, S: BuildHasher, A: Allocator + Copy> TextureCache<K, S
         Ok(self.evict(changes))
     }
 
-    // The least recently used entry goes, if this frame didn't use it; whether it did.
+    // Of the entries that lie on a page the least recently used one goes, if this frame didn't use it; whether it did.
     #[inline]
     fn evict(&mut self, changes: &mut Changes<K, A>) -> bool {
-        let (number, entry) = match oldest(&self.entries) {
+        let (number, entry) = match oldest_lying(&self.entries) {
             Some((number, entry)) => (number, entry),
             _ => {
                 return false;

@@ -13,7 +13,11 @@ use wollemigo_support::prelude::Vec;
 /// The hasher of `new`. Its seed is fixed: for keys that an attacker picks, give `with_hasher` a `RandomState`.
 pub type DefaultHasher = BuildHasherDefault<FoldHasher>;
 
-/// What a cache holds under a key.
+/// What a blank entry has for its page: the number that no page has.
+pub const NO_PAGE: u32 = 4294967295;
+
+/// What a cache holds under a key. A blank entry, that of a key with an empty size, lies on no page: its page is `NO_PAGE`,
+/// and its id and its rectangle mean nothing.
 #[derive(Clone, Copy, Debug, PartialEq, Eq)]
 pub struct Entry<K> {
     pub key: K,
@@ -29,6 +33,14 @@ pub struct Entry<K> {
     pub number: u32,
     /// The frame that used it last.
     pub frame: u64,
+}
+
+impl<K: Copy> Entry<K> {
+    /// Whether it lies on no page.
+    #[inline]
+    pub fn is_blank(&self) -> bool {
+        self.page == NO_PAGE
+    }
 }
 
 /// Entries under their keys, in the order of their use. Each has a number; those of entries which are gone are given to
@@ -128,6 +140,12 @@ impl<K: Copy + Eq + Hash, S: BuildHasher, A: Allocator + Copy> Entries<K, S, A> 
     #[inline]
     pub fn older(&self, number: u32) -> Option<u32> {
         self.recency.older(number)
+    }
+
+    /// The entry that was used next after this one; None if this is the most recently used.
+    #[inline]
+    pub fn newer(&self, number: u32) -> Option<u32> {
+        self.recency.newer(number)
     }
 
     /// An entry is used in this frame, and is the most recently used from now on.

@@ -1,16 +1,23 @@
 // Erased from crates/atlas_cache/src/places.rt by rust/erase: don't edit.
 //! Places of entries.
 
-use crate::guillotiere::{point2, Rectangle, Size};
+use crate::guillotiere::{point2, Point, Rectangle, Size};
 
-/// Where an entry lies, in pixels.
+/// A rectangle with no pixel.
+pub const NO_PIXELS: Rectangle = Rectangle {
+    min: Point { x: 0, y: 0 },
+    max: Point { x: 0, y: 0 },
+};
+
+/// Where an entry lies, in pixels. A blank entry, that of a key with an empty size, lies on no page: both of its rectangles
+/// are empty.
 #[derive(Clone, Copy, Debug, PartialEq, Eq)]
 pub struct Place {
     /// The number of the entry. It stays until the entry is gone, and no other entry has it meanwhile; the numbers of
     /// entries that are gone are given out again before new ones are, so that what a caller keeps of each entry fits a
     /// list.
     pub number: u32,
-    /// The page, counted from 0.
+    /// The page, counted from 0; of a blank entry 0, also where there is no page yet.
     pub page: u32,
     /// The rectangle with its padding, which no other entry of the page overlaps. The border of a new entry shows what lay
     /// there before: it is to be cleared.
@@ -27,6 +34,18 @@ fn moved_by(at: i32, by: i32) -> i32 {
 }
 
 impl Place {
+    /// The place of a blank entry: nothing is drawn there. Its page is 0, so that a caller who draws an empty rectangle on
+    /// a page needs no case for it.
+    #[inline]
+    pub fn blank(number: u32) -> Place {
+        Place {
+            number,
+            page: 0,
+            rectangle: NO_PIXELS,
+            inner: NO_PIXELS,
+        }
+    }
+
     /// The place of an entry of this size, in pixels, in a rectangle that it was given with this padding.
     #[inline]
     pub fn new(number: u32, page: u32, rectangle: Rectangle, size: Size, padding: i32) -> Place {

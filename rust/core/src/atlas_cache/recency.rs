@@ -118,6 +118,16 @@ impl<A: Allocator> Recency<A> {
         Some(own.next)
     }
 
+    /// The entry that was used next after this one; None if this is the most recently used.
+    #[inline]
+    pub fn newer(&self, number: u32) -> Option<u32> {
+        let own = read_link(&self.links, self.ends, number);
+        if own.previous == NO_ENTRY {
+            return None;
+        }
+        Some(own.previous)
+    }
+
     /// A new entry, the most recently used from now on: its number. That is one that was given out before and belongs to no
     /// entry, or, if all of those are in use, the next one. `Numbers` only if all are in use, and `Memory` if memory is refused; then nothing changes.
     #[inline]

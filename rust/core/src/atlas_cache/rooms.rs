@@ -212,7 +212,7 @@ impl<A: Allocator + Copy> Rooms<A> {
         self.options
     }
 
-    /// How many pages there are.
+    /// How many pages there are: at most 4,294,967,295, so that none has the number `NO_PAGE`.
     #[inline]
     pub fn len(&self) -> u32 {
         number(self.pages.len(), self.options.pages)

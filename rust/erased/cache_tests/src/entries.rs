@@ -2,7 +2,7 @@
 //! Entries under their keys, in the order of their use.
 
 use test_memory::Refusing;
-use wollemigo_core::atlas_cache::entries::{Entries, Entry};
+use wollemigo_core::atlas_cache::entries::{Entries, Entry, NO_PAGE};
 use wollemigo_core::atlas_cache::CacheError;
 use wollemigo_core::guillotiere::{point2, size2, AllocId, Rectangle};
 use wollemigo_support::alloc::{Allocator, Global};
@@ -69,6 +69,12 @@ fn oldest(entries: &Entries<u32>) -> Option<(u32, u64)> {
     Some((held.key, held.frame))
 }
 
+// The key of the entry that was used next after that of a key.
+fn newer(entries: &Entries<u32>, key: u32) -> Option<u32> {
+    let number = entries.newer(entries.find(&key)?)?;
+    Some(entries.entry(number).key)
+}
+
 // The number that the entry of a key has.
 fn number_of(entries: &Entries<u32>, key: u32) -> Option<u32> {
     Some(entries.entry(entries.find(&key)?).number)
@@ -115,6 +121,29 @@ fn a_new_entry_is_found_and_comes_first() -> Result<(), Fail> {
     assert_eq!(rt; entries.find(&71), Some(1));
     assert_eq!(rt; entries.find(&73), None);
     assert_eq!(rt; entries.len(), 3);
+    Ok(())
+}
+
+#[test]
+fn the_order_is_walked_back() -> Result<(), Fail> {
+    let rt = HostRuntime;
+    let entries = three(rt.alloc())?;
+    assert_eq!(rt; newer(&entries, 70), Some(71));
+    assert_eq!(rt; newer(&entries, 71), Some(72));
+    assert_eq!(rt; newer(&entries, 72), None);
+    Ok(())
+}
+
+// An entry is blank exactly if its page is the number that none has.
+#[test]
+fn a_blank_entry_is_on_no_page() -> Result<(), Fail> {
+    let rt = HostRuntime;
+    let on_a_page = entry(7, 1);
+    let blank = Entry {
+        page: NO_PAGE,
+        ..on_a_page
+    };
+    assert!(rt; blank.is_blank() && !on_a_page.is_blank());
     Ok(())
 }
 

@@ -6,6 +6,8 @@
 #[cfg(test)]
 mod asking;
 #[cfg(test)]
+mod blank;
+#[cfg(test)]
 mod cache;
 #[cfg(test)]
 mod calls;

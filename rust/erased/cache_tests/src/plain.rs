@@ -5,7 +5,7 @@
 use crate::asking::peek;
 use wollemigo_core::atlas_cache::entries::DefaultHasher;
 use wollemigo_core::atlas_cache::{CacheChange, CacheError, CacheOptions, Place, TextureCache};
-use wollemigo_core::guillotiere::{Rectangle, Size};
+use wollemigo_core::guillotiere::{point2, Rectangle, Size};
 use wollemigo_support::alloc::{Allocator, Global};
 use wollemigo_support::prelude::{IsSomeAnd, Vec};
 
@@ -29,6 +29,11 @@ pub struct Plain {
     /// The most keys that there were at once, which is how many numbers they had.
     pub numbers: usize,
     pub frame: u64,
+}
+
+/// Whether a size has no pixel.
+pub fn is_empty(size: Size) -> bool {
+    size.width < 1 || size.height < 1
 }
 
 // A side and the padding at both of its ends.
@@ -165,7 +170,7 @@ impl Plain {
     // Whether a key has its place on this page.
     fn uses_page(&self, page: usize) -> bool {
         for held in &self.held {
-            if held.place.page as usize == page {
+            if !is_empty(held.size) && held.place.page as usize == page {
                 return true;
             }
         }
@@ -223,9 +228,20 @@ impl Plain {
         is_next && self.growth().is_none() && size == self.options.page
     }
 
-    // Whether this entry goes next: the least recently used one, where this frame didn't use it.
+    // The least recently used entry with a size that isn't empty.
+    fn last_with_pixels(&self) -> Option<Held> {
+        let mut last = None;
+        for held in &self.held {
+            if !is_empty(held.size) {
+                last = Some(*held);
+            }
+        }
+        last
+    }
+
+    // Whether this entry goes next: the least recently used one that takes room, where this frame didn't use it.
     fn evicts(&self, key: u32, place: Place) -> bool {
-        let last = match self.held.last() {
+        let last = match self.last_with_pixels() {
             Some(last) => last,
             _ => {
                 return false;
@@ -281,6 +297,22 @@ impl Plain {
     /// A new key has this place. Whether it can have it.
     pub fn add(&mut self, key: u32, size: Size, place: Place) -> Result<bool, CacheError> {
         let is_right = self.is_free(place) && shows(place, size, self.options.padding);
+        self.join(key, size, place)?;
+        Ok(is_right)
+    }
+
+    /// A new key with an empty size has this place. Whether it can have it: one with nothing in it, on page 0.
+    pub fn add_blank(&mut self, key: u32, size: Size, place: Place) -> Result<bool, CacheError> {
+        let nothing = Rectangle {
+            min: point2(0, 0),
+            max: point2(0, 0),
+        };
+        self.join(key, size, place)?;
+        Ok(place.page == 0 && place.rectangle == nothing && place.inner == nothing)
+    }
+
+    // A new key has this place, and is the most recently used.
+    fn join(&mut self, key: u32, size: Size, place: Place) -> Result<(), CacheError> {
         let new = Held {
             key,
             size,
@@ -289,13 +321,14 @@ impl Plain {
         };
         self.held.insert(0, new)?;
         self.numbers = self.numbers.max(self.held.len());
-        Ok(is_right)
+        Ok(())
     }
 
-    /// Whether a new key may get no place: every page is there and at its largest, and this frame uses all keys.
+    /// Whether a new key may get no place: every page is there and at its largest, and this frame uses all keys that take
+    /// room.
     pub fn is_exhausted(&self) -> bool {
         for held in &self.held {
-            if held.frame != self.frame {
+            if held.frame != self.frame && !is_empty(held.size) {
                 return false;
             }
         }

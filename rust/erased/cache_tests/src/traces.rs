@@ -1,7 +1,7 @@
 // Erased from crates/cache_tests/src/traces.rt by rust/erase: don't edit.
 //! Random traces, call by call beside a plain model.
 use crate::asking::{begin_frame, clear, get, insert, peek, remove, shrink, trim};
-use crate::plain::Plain;
+use crate::plain::{is_empty, Plain};
 use test_memory::Refusing;
 use wollemigo_core::atlas_cache::entries::DefaultHasher;
 use wollemigo_core::atlas_cache::{CacheError, CacheOptions, Changes, Inserted, TextureCache};
@@ -31,15 +31,15 @@ fn next(state: &mut u64) -> u64 {
     z ^ (z >> 31)
 }
 
-// A size whose sides are from 1 to 14 pixels; of forty sizes four can't stand on a page of a trace.
+// A size whose sides are from 1 to 14 pixels; of forty sizes six are empty, and two can't stand on a page of a trace.
 fn drawn_size(word: u64) -> Size {
     let width = 1 + ((word >> 16) % 14) as i32;
     let height = 1 + ((word >> 24) % 14) as i32;
     match (word >> 32) % 40 {
-        0 => size2(0, height),
-        1 => size2(width, -height),
-        2 => size2(i32::MAX, height),
-        3 => size2(width, 1000),
+        0..=2 => size2(0, height),
+        3..=5 => size2(width, -height),
+        6 => size2(i32::MAX, height),
+        7 => size2(width, 1000),
         _ => size2(width, height),
     }
 }
@@ -90,11 +90,27 @@ impl<A: Allocator + Copy> Played<A> {
         Ok(answer == Ok(Inserted::Held(place)) && self.changes.is_empty())
     }
 
+    // Inserts a new key with an empty size, which was answered so.
+    fn insert_blank(
+        &mut self,
+        key: u32,
+        size: Size,
+        answer: Result<Inserted, CacheError>,
+    ) -> Result<bool, CacheError> {
+        let place = match answer? {
+            Inserted::Placed(place) => place,
+            _ => {
+                return Ok(false);
+            }
+        };
+        Ok(self.plain.add_blank(key, size, place)? && self.changes.is_empty())
+    }
+
     // The same with a key that isn't. The model follows what was told also where memory was refused, the error then.
     fn insert_new(&mut self, key: u32, size: Size) -> Result<bool, CacheError> {
         let answer = insert(&mut self.cache, key, size, &mut self.changes);
-        if size.width < 1 || size.height < 1 {
-            return Ok(answer == Ok(Inserted::EmptySize) && self.changes.is_empty());
+        if is_empty(size) {
+            return self.insert_blank(key, size, answer);
         }
         if !self.plain.can_stand(size) {
             return Ok(answer == Ok(Inserted::NeverFits) && self.changes.is_empty());

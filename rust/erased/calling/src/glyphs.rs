@@ -37,8 +37,8 @@ pub fn place_in_turn<A: Allocator + Copy>(
     cache.insert(key, size, changes)
 }
 
-/// What wasn't used for so many frames goes, and then the pages at the end that hold nothing any more: the last page that
-/// is left, if there is one, has an entry.
+/// What wasn't used for so many frames goes, and then the pages at the end that hold nothing any more: on the last page that
+/// is left, if there is one, an entry lies.
 pub fn give_back<A: Allocator + Copy>(
     cache: &mut TextureCache<u64, DefaultHasher, A>,
     frames: u64,

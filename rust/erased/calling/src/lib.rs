@@ -7,6 +7,7 @@
 mod apart;
 mod asked;
 mod back;
+mod blanks;
 mod boxes;
 mod first;
 mod frames;

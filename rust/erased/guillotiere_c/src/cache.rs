@@ -4,8 +4,7 @@
 use crate::cache_handle::CacheHandle;
 use crate::followed::FollowedCache;
 use crate::plain::{
-    DONE, EMPTY, EMPTY_SIZE, FRAME_FULL, HELD, MEMORY, NEVER_FITS, NOT_HELD, NO_CHANGE, NO_PAGE,
-    SLOTS,
+    DONE, EMPTY, FRAME_FULL, HELD, MEMORY, NEVER_FITS, NOT_HELD, NO_CHANGE, NO_PAGE, SLOTS,
 };
 use crate::plain_cache::{
     cache_options_for, plain_cache_change, plain_place, status_of_cache_error,
@@ -122,16 +121,15 @@ fn write_inserted(answer: Result<Inserted, CacheError>, place: &mut PlainPlace) 
         }
         Ok(Inserted::FrameFull) => FRAME_FULL,
         Ok(Inserted::NeverFits) => NEVER_FITS,
-        Ok(Inserted::EmptySize) => EMPTY_SIZE,
         Err(error) => status_of_cache_error(error),
     }
 }
 
 /// A place for a key, which is used in this frame, as `TextureCache::insert` finds it. `DONE` of a new key, whose pixels
-/// are to be written there; `HELD` of one that was held, and then the place is written too; `FRAME_FULL` if each entry is
-/// used in this frame and no page has room; `NEVER_FITS` if the size passes the largest page; `EMPTY_SIZE`; `OTHER_SIZE`
-/// if the key is held with another size; `NUMBERS`, `SLOTS`, `MEMORY`. What was done is told by
-/// `guillotiere_cache_next_change`, also after `FRAME_FULL` and after an error.
+/// are to be written there; a key with an empty size has none, and its place is empty. `HELD` of one that was held, and then
+/// the place is written too; `FRAME_FULL` if each entry on a page is used in this frame and no page has room; `NEVER_FITS`
+/// if the size passes the largest page; `OTHER_SIZE` if the key is held with another size; `NUMBERS`, `SLOTS`, `MEMORY`.
+/// What was done is told by `guillotiere_cache_next_change`, also after `FRAME_FULL` and after an error.
 #[no_mangle]
 pub extern "C" fn guillotiere_cache_insert(
     cache: &mut CacheHandle,

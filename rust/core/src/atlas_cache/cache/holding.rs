@@ -1,12 +1,12 @@
 // Erased from crates/atlas_cache/src/cache/holding.rt by rust/erase: don't edit.
 //! Steps over the pages and the entries of a cache: what is live on the pages stays what the entries hold, each once.
 
-use crate::atlas_cache::entries::{Entries, Entry};
+use crate::atlas_cache::entries::{Entries, Entry, NO_PAGE};
 use crate::atlas_cache::error::CacheError;
 use crate::atlas_cache::options::CacheOptions;
-use crate::atlas_cache::places::Place;
+use crate::atlas_cache::places::{Place, NO_PIXELS};
 use crate::atlas_cache::rooms::Rooms;
-use crate::guillotiere::Size;
+use crate::guillotiere::{AllocId, Size};
 use wollemigo_support::alloc::Allocator;
 use wollemigo_support::hash::{BuildHasher, Hash};
 
@@ -31,9 +31,36 @@ pub fn oldest<K: Copy + Eq + Hash, S: BuildHasher, A: Allocator + Copy>(
     Some((number, entries.entry(number)))
 }
 
+/// The least recently used entry that lies on a page, with its number; None if none does. Blank entries that were used
+/// before it are passed one by one.
+#[inline]
+pub fn oldest_lying<K: Copy + Eq + Hash, S: BuildHasher, A: Allocator + Copy>(
+    entries: &Entries<K, S, A>,
+) -> Option<(u32, Entry<K>)> {
+    entries.prove_kept();
+    let mut next = entries.oldest();
+    for _ in 0..entries.len() {
+        let number = match next {
+            Some(number) => number,
+            _ => {
+                return None;
+            }
+        };
+        let entry = entries.entry(number);
+        if !entry.is_blank() {
+            return Some((number, entry));
+        }
+        next = entries.newer(number);
+    }
+    None
+}
+
 /// The place of an entry.
 #[inline]
 pub fn place_of<K: Copy>(entry: Entry<K>, options: &CacheOptions) -> Place {
+    if entry.is_blank() {
+        return Place::blank(entry.number);
+    }
     Place::new(
         entry.number,
         entry.page,
@@ -77,7 +104,28 @@ pub fn grant<K: Copy + Eq + Hash, S: BuildHasher, A: Allocator + Copy>(
     }
 }
 
-/// An entry goes, and its rectangle is freed.
+/// A new blank entry, the most recently used from now on. After an error nothing has changed.
+#[inline]
+pub fn join_blank<K: Copy + Eq + Hash, S: BuildHasher, A: Allocator + Copy>(
+    entries: &mut Entries<K, S, A>,
+    key: K,
+    size: Size,
+    frame: u64,
+) -> Result<Entry<K>, CacheError> {
+    let entry = Entry {
+        key,
+        size,
+        page: NO_PAGE,
+        id: AllocId::deserialize(0),
+        rectangle: NO_PIXELS,
+        number: 0,
+        frame,
+    };
+    let number = entries.push(entry)?;
+    Ok(Entry { number, ..entry })
+}
+
+/// An entry goes, and its rectangle is freed, if it lies on a page.
 #[inline]
 pub fn take_out<K: Copy + Eq + Hash, S: BuildHasher, A: Allocator + Copy>(
     rooms: &mut Rooms<A>,
@@ -86,5 +134,7 @@ pub fn take_out<K: Copy + Eq + Hash, S: BuildHasher, A: Allocator + Copy>(
     entry: Entry<K>,
 ) {
     entries.remove(number);
-    rooms.free(entry.page, entry.id);
+    if entry.page < rooms.len() {
+        rooms.free(entry.page, entry.id);
+    }
 }

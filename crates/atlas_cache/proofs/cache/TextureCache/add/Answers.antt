@@ -23,12 +23,13 @@ invariant_of-self-2 g c =
     let usable = rw (c.options.ensures.options, options) at c.options.ensures.usable in
     let stands = rw (← c.self.view_is) at c.requires.stands in
     let asked = rw (← c.self.view_is) at c.requires.asked in
+    let lies = rw c.in-Some.is at c.in_ok-granted.ensures.lies in
     let falls = was.frames in
     let here = placed.used in
     record {
       held = c.in_ok-granted.ensures.held;
       bordered = rw (options, first)
-          (is_bordered it.rooms.options c.args.asked c.args.size e usable stands asked placed.large placed.sized, was.bordered);
+          (is_bordered it.rooms.options c.args.asked c.args.size e usable stands asked placed.large placed.sized lies, was.bordered);
       frames = rw (first, here) (omega arith, falls);
     }
 

@@ -1,4 +1,5 @@
 use Rattle.atlas_cache.specs.Caches.{entries_of}
+use Rattle.atlas_cache.specs.Entries.{lying}
 use Rattle.atlas_cache.proofs.HoldingLemmas.{stays}
 use Rattle.atlas_cache.proofs.ShrinkLemmas.{drops_same}
 use Rattle.atlas_cache.proofs.cache.TextureCache.drop_page.Goals as goal
@@ -9,7 +10,7 @@ invariant_of-self-2 g c =
     let old = c.self.inside.rooms.pages in
     let new = c.remove_page.new.self.pages in
     rw c.in-Some.ensures.options (record {
-      held = stays old new (drops_same c.in-Some.page old new c.in-Some.ensures.drops) (entries_of c.self.inside.entries.entries) was.held;
+      held = stays old new (drops_same c.in-Some.page old new c.in-Some.ensures.drops) (lying (entries_of c.self.inside.entries.entries)) was.held;
       bordered = was.bordered;
       frames = was.frames;
     })

@@ -3,7 +3,8 @@ use Rattle.atlas_cache.specs.Caches.{entries_of}
 use Rattle.atlas_cache.specs.Entries.{without_number}
 use Rattle.atlas_cache.specs.declared.changes.CacheChange.TheVariants.{Evicted}
 use Rattle.atlas_cache.proofs.CacheLemmas.{bordered-at, rest_bordered, rest_falls}
-use Rattle.atlas_cache.proofs.ListLemmas.{falls-all, falls-last, length-last, parts}
+use Rattle.atlas_cache.proofs.BlankLemmas.{all-in-use, falls-here, length-less}
+use Rattle.atlas_cache.proofs.ListLemmas.{parts}
 use Rattle.atlas_cache.proofs.cache.TextureCache.evict.Goals as goal
 
 pub returns-in_default-clause-stops : goal.returns-in_default-clause-stops
@@ -13,31 +14,29 @@ returns-in_default-clause-stops g c = λ _.
 pub returns-then-entry-self-clause-stops : goal.returns-then-entry-self-clause-stops
 returns-then-entry-self-clause-stops g c = λ _.
     let it = c.self.inside in
-    let last = rw c.in-Some.is at c.oldest.ensures.last in
-    let falls = rw last at c.self.invariant.frames in
-    rw (← c.self.view_is, last)
-    (falls-all it.frame it.frame (entries_of (without_number c.in-Some.number it.entries.entries)) c.in-Some.entry falls (omega arith)
-    c.if-entry-self.true)
+    let w = rw c.in-Some.is at c.oldest_lying.ensures.last in
+    let falls = rw w.was at c.self.invariant.frames in
+    rw (← c.self.view_is, w.was) (all-in-use it.frame w.newer c.in-Some.entry w.older w.lies w.blank falls c.if-entry-self.true)
 
 pub take_out-requires-clause-here : goal.take_out-requires-clause-here
-take_out-requires-clause-here g c = rw c.in-Some.is at c.oldest.ensures.here
+take_out-requires-clause-here g c = let w = rw c.in-Some.is at c.oldest_lying.ensures.last in w.at
 
 pub place_of-place-requires : goal.place_of-place-requires
 place_of-place-requires g c =
-    let here = rw c.in-Some.is at c.oldest.ensures.here in
+    let w = rw c.in-Some.is at c.oldest_lying.ensures.last in
     rw (c.options.ensures.options, c.take_out.ensures.options)
-    (bordered-at _ _ c.self.inside.entries.entries c.in-Some.entry c.self.invariant.bordered here)
+    (bordered-at _ _ c.self.inside.entries.entries c.in-Some.entry c.self.invariant.bordered w.at)
 
 pub invariant_of-self : goal.invariant_of-self
 invariant_of-self g c =
-    let here = rw c.in-Some.is at c.oldest.ensures.here in
+    let w = rw c.in-Some.is at c.oldest_lying.ensures.last in
     let it = c.self.inside in
     let n = c.in-Some.number in
     let e = c.in-Some.entry in
     let was = c.self.invariant in
     let es = entries_of it.entries.entries in
     let rest = entries_of (without_number n it.entries.entries) in
-    let p = parts n it.entries.entries e here in
+    let p = parts n it.entries.entries e w.at in
     record {
       held = c.take_out.ensures.held;
       bordered = rw (c.take_out.ensures.options, c.take_out.ensures.without)
@@ -50,9 +49,9 @@ pub returns-clause-does : goal.returns-clause-does
 returns-clause-does g c = λ _.
     let it = c.self.inside in
     let e = c.in-Some.entry in
-    let last = rw c.in-Some.is at c.oldest.ensures.last in
-    let falls = rw last at c.self.invariant.frames in
-    let least = falls-last it.frame (entries_of (without_number c.in-Some.number it.entries.entries)) e falls in
+    let w = rw c.in-Some.is at c.oldest_lying.ensures.last in
+    let falls = rw w.was at c.self.invariant.frames in
+    let least = falls-here it.frame w.newer e w.older falls in
     let full = rw (← c.self.view_is) at c.requires.full in
     rw (← c.self.view_is) (record {
       change = Evicted e.key c.place_of-place.result;
@@ -60,7 +59,12 @@ returns-clause-does g c = λ _.
       does = record {
         full = full;
         entry = e;
-        last = rw c.take_out.ensures.without last;
+        newer = w.newer;
+        older = w.older;
+        was = w.was;
+        is = rw c.take_out.ensures.without w.others;
+        lies = w.lies;
+        blank = w.blank;
         named = refl;
         shows = rw (c.place_of-place.ensures, c.options.ensures.options, c.take_out.ensures.options) refl;
         unused = omega (arith, least, c.if-entry-self.false);
@@ -75,7 +79,6 @@ returns-clause-does g c = λ _.
 
 pub returns-clause-less : goal.returns-clause-less
 returns-clause-less g c = λ _.
-    let it = c.self.inside in
-    let last = rw c.in-Some.is at c.oldest.ensures.last in
-    rw (← c.self.view_is, c.take_out.ensures.options, c.take_out.ensures.sizes, c.take_out.ensures.without, last)
-    (omega (arith, length-last (entries_of (without_number c.in-Some.number it.entries.entries)) c.in-Some.entry))
+    let w = rw c.in-Some.is at c.oldest_lying.ensures.last in
+    rw (← c.self.view_is, c.take_out.ensures.options, c.take_out.ensures.sizes, c.take_out.ensures.without, w.others, w.was)
+    (omega (arith, length-less w.newer c.in-Some.entry w.older))

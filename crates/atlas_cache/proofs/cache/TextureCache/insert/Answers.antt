@@ -4,10 +4,10 @@ use Rattle.atlas_cache.specs.Changes.{Uses}
 use Rattle.atlas_cache.specs.Entries.{without_number}
 use Rattle.atlas_cache.specs.declared.entries.Entry.{Entry}
 use Rattle.atlas_cache.proofs.CacheLemmas.{bordered-at, touched-is, used}
-use Rattle.atlas_cache.proofs.InsertLemmas.{inserts_stay, not_empty, not_held, not_never}
+use Rattle.atlas_cache.proofs.InsertLemmas.{inserts_stay, not_held, not_never}
 use Rattle.atlas_cache.proofs.KeyLemmas.{found_named, own_keys}
 use Rattle.atlas_cache.proofs.ListLemmas.{append-none, parts}
-use Rattle.atlas_cache.proofs.PictureLemmas.{inserts_tell, same_shown, uses_tell}
+use Rattle.atlas_cache.proofs.PictureLemmas.{blanks_tell, inserts_tell, same_shown, uses_tell}
 use Rattle.atlas_cache.proofs.cache.TextureCache.insert.Goals as goal
 
 pub place_of-requires : goal.place_of-requires
@@ -58,13 +58,8 @@ returns-in-Some-clause-known g c =
       refl,
     )
 
-pub returns-clause-empty : goal.returns-clause-empty
-returns-clause-empty g c =
-    let stands = c.in-Some-asked.ensures.0 in (
-      λ is. absurd (not_empty c.in-Some-asked.asked c.args.key c.args.size c.insert_new.result c.args.changes.now.items
-          c.insert_new.new.changes.items c.args.self.now c.insert_new.new.self c.insert_new.ensures.inserts is),
-      λ new. absurd (new.empty stands.positive),
-    )
+pub returns-clause-blank : goal.returns-clause-blank
+returns-clause-blank g c = λ new. absurd (new.empty c.in-Some-asked.ensures.0.positive)
 
 pub returns-clause-never : goal.returns-clause-never
 returns-clause-never g c =
@@ -90,6 +85,11 @@ returns-then-ne-clause-told g c = record {
   listed = sym (append-none c.args.changes.now.items);
   shows = same_shown g.K.PartialEq.eq c.args.self.now;
 }
+
+pub returns-then-not-is_positive-clause-told : goal.returns-then-not-is_positive-clause-told
+returns-then-not-is_positive-clause-told g c =
+    blanks_tell g.K.PartialEq.eq g.met.K.Eq.laws c.args.key c.args.size c.add_blank.result c.args.changes.now.items c.args.self.now
+    c.add_blank.new.self c.add_blank.ensures
 
 pub returns-in_default-asked-clause-told : goal.returns-in_default-asked-clause-told
 returns-in_default-asked-clause-told g c = record {

@@ -1,4 +1,5 @@
 use Rattle.atlas_cache.specs.Caches.{entries_of}
+use Rattle.atlas_cache.specs.Entries.{lying}
 use Rattle.atlas_cache.proofs.ApartLemmas.{apart, within}
 use Rattle.atlas_cache.proofs.KeyLemmas.{own_keys}
 use Rattle.atlas_cache.proofs.NumberLemmas.{numbers_below, own_numbers}
@@ -11,12 +12,12 @@ pub returns-clause-apart : goal.returns-clause-apart
 returns-clause-apart g c =
     let held = c.self.invariant.held in
     rw (← c.self.view_is)
-    (apart c.self.inside.rooms.pages c.prove_kept.ensures.apart (entries_of c.self.inside.entries.entries) held.live held.once)
+    (apart c.self.inside.rooms.pages c.prove_kept.ensures.apart (lying (entries_of c.self.inside.entries.entries)) held.live held.once)
 
 pub returns-clause-within : goal.returns-clause-within
 returns-clause-within g c =
     rw (← c.self.view_is)
-    (within c.self.inside.rooms.pages c.prove_kept.ensures.within (entries_of c.self.inside.entries.entries) c.self.invariant.held.live)
+    (within c.self.inside.rooms.pages c.prove_kept.ensures.within (lying (entries_of c.self.inside.entries.entries)) c.self.invariant.held.live)
 
 pub returns-clause-keys : goal.returns-clause-keys
 returns-clause-keys g c =

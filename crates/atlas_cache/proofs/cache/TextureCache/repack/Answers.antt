@@ -1,6 +1,9 @@
 use Rattle.std.proofs.Common.{◌≡◌, ◌+◌, ◌-◌, min, length, refl, arith, ap}
 use Rattle.atlas_cache.specs.Caches.{entries_of}
+use Rattle.atlas_cache.specs.Entries.{no_page}
 use Rattle.atlas_cache.specs.Relocating.{become, renewed_by}
+use Rattle.atlas_cache.proofs.BlankLemmas.{each-where}
+use Rattle.atlas_cache.proofs.HoldingLemmas.{IsLiveOn}
 use Rattle.atlas_cache.proofs.GatherLemmas.{entries-exact, entries-name}
 use Rattle.atlas_cache.proofs.KeyLemmas.{own_keys}
 use Rattle.atlas_cache.proofs.ListLemmas.{length-listed}
@@ -12,16 +15,18 @@ use Rattle.atlas_cache.proofs.cache.TextureCache.repack.Goals as goal
 pub repack-requires-clause-exact : goal.repack-requires-clause-exact
 repack-requires-clause-exact g c =
     rw c.in_ok-held.ensures.held (entries-exact c.args.page c.self.inside.rooms.options.padding
-    (entries_of c.self.inside.entries.entries) c.self.invariant.bordered)
+    (entries_of c.self.inside.entries.entries) (λ q. omega (arith, q, c.if-page-len.false, c.len.ensures.numbered)) c.self.invariant.bordered)
 
 pub settle_all-requires-clause-is : goal.settle_all-requires-clause-is
 settle_all-requires-clause-is g c =
     let es = entries_of c.self.inside.entries.entries in
+    let off : c.args.page ≡ no_page → ⊥ = (λ q. omega (arith, q, c.if-page-len.false, c.len.ensures.numbered)) in
     let does = c.in_ok-list.ensures.repacks
-    (rw c.in_ok-held.ensures.held (entries-name c.args.page c.self.inside.rooms.pages es c.self.invariant.held)) in
+    (rw c.in_ok-held.ensures.held (entries-name c.args.page c.self.inside.rooms.pages es off c.self.invariant.held)) in
     rw (c.options-options.ensures.options, c.repack.ensures.options, c.deref.ensures.value)
     (repacked_bordered c.self.inside.rooms.pages c.repack.new.self.pages c.args.page c.in_ok-list.list does
-    c.self.inside.rooms.options.padding (entries_of c.self.inside.entries.entries) c.self.invariant.held.live c.self.invariant.bordered)
+    c.self.inside.rooms.options.padding es (each-where (IsLiveOn c.self.inside.rooms.pages) es c.self.invariant.held.live)
+    c.self.invariant.bordered)
 
 pub overflow_sub-gone : goal.overflow_sub-gone
 overflow_sub-gone g c = omega (
@@ -35,14 +40,16 @@ pub invariant_of-self-2 : goal.invariant_of-self-2
 invariant_of-self-2 g c =
     let it = c.self.inside in
     let es = entries_of c.self.inside.entries.entries in
+    let off : c.args.page ≡ no_page → ⊥ = (λ q. omega (arith, q, c.if-page-len.false, c.len.ensures.numbered)) in
     let does = c.in_ok-list.ensures.repacks
-    (rw c.in_ok-held.ensures.held (entries-name c.args.page c.self.inside.rooms.pages es c.self.invariant.held)) in
+    (rw c.in_ok-held.ensures.held (entries-name c.args.page c.self.inside.rooms.pages es off c.self.invariant.held)) in
     record {
       held = rw (c.settle_all.ensures.entries, c.deref.ensures.value)
-          (repacked_held it.rooms.pages c.repack.new.self.pages c.args.page c.in_ok-list.list does (entries_of it.entries.entries) c.self.invariant.held);
+          (repacked_held it.rooms.pages c.repack.new.self.pages c.args.page c.in_ok-list.list does off es c.self.invariant.held);
       bordered = rw (c.settle_all.ensures.entries, c.deref.ensures.value, c.repack.ensures.options)
           (repacked_bordered it.rooms.pages c.repack.new.self.pages c.args.page c.in_ok-list.list does it.rooms.options.padding
-          (entries_of it.entries.entries) c.self.invariant.held.live c.self.invariant.bordered);
+          es (each-where (IsLiveOn it.rooms.pages) es c.self.invariant.held.live)
+          c.self.invariant.bordered);
       frames = rw (c.settle_all.ensures.entries, c.deref.ensures.value)
           (repacked_falls it.rooms.pages c.repack.new.self.pages c.args.page c.in_ok-list.list does it.frame (entries_of it.entries.entries)
           c.self.invariant.frames);
@@ -53,8 +60,9 @@ returns-clause-repacks g c = λ _.
     let it = c.self.inside in
     let cs = c.in_ok-list.list.changes.items in
     let es = entries_of c.self.inside.entries.entries in
+    let off : c.args.page ≡ no_page → ⊥ = (λ q. omega (arith, q, c.if-page-len.false, c.len.ensures.numbered)) in
     let does = c.in_ok-list.ensures.repacks
-    (rw c.in_ok-held.ensures.held (entries-name c.args.page c.self.inside.rooms.pages es c.self.invariant.held)) in
+    (rw c.in_ok-held.ensures.held (entries-name c.args.page c.self.inside.rooms.pages es off c.self.invariant.held)) in
     let evictions : c.saturating_add-self-inside.result
     ≡ min (it.counts.evictions + (length (entries_of it.entries.entries) - length (entries_of c.settle_all.new.entries.entries))) 18446744073709551615 =
     omega (arith, c.saturating_add-self-inside.ensures, c.len-2.ensures, c.len-before.ensures, length-listed it.entries.entries, length-listed c.settle_all.new.entries.entries) in

@@ -1,5 +1,8 @@
+use Rattle.std.proofs.Common.{◌≡◌, false, arith}
+use Rattle.std.proofs.lemmas.Bool.{ne_eqb}
 use Rattle.guillotiere.proofs.Callers.{pages_given_back}
 use Rattle.atlas_cache.specs.Caches.{entries_of}
+use Rattle.atlas_cache.specs.Entries.{is_blank, lying, no_page}
 use Rattle.atlas_cache.specs.declared.entries.Entry.{Entry}
 use Rattle.atlas_cache.proofs.HoldingLemmas.{joined, stays}
 use Rattle.atlas_cache.proofs.cache.holding.grant.Goals as goal
@@ -16,15 +19,21 @@ returns-in-Ok-clause-held g c =
       number = c.in-Ok.number;
       frame = c.args.frame;
     } in
-    rw c.in-Ok.ensures.joined
-    (joined c.args.rooms.now.pages c.place.new.self.pages entry adds (entries_of c.args.entries.now.entries) c.requires.held)
+    let numbered = rw c.in-Some.is at c.in_ok-page.ensures.numbered in
+    let lies : is_blank entry ≡ false = ne_eqb c.in-Some.page no_page (λ q. omega (arith, q, numbered)) in
+    rw (c.in-Ok.ensures.joined, lies)
+    (joined c.args.rooms.now.pages c.place.new.self.pages entry adds (lying (entries_of c.args.entries.now.entries)) c.requires.held)
+
+pub returns-in-Ok-clause-lies : goal.returns-in-Ok-clause-lies
+returns-in-Ok-clause-lies g c =
+    let numbered = rw c.in-Some.is at c.in_ok-page.ensures.numbered in ne_eqb c.in-Some.page no_page (λ q. omega (arith, q, numbered))
 
 pub returns-in-Err-clause-held : goal.returns-in-Err-clause-held
 returns-in-Err-clause-held g c =
     let adds = rw c.in-Some.is at c.in_ok-page.ensures.adds in
     rw c.in-Err.ensures.refused
     (stays c.args.rooms.now.pages c.free.new.self.pages
-    (pages_given_back _ _ _ _ _ _ adds c.free.ensures.leaves) (entries_of c.args.entries.now.entries) c.requires.held)
+    (pages_given_back _ _ _ _ _ _ adds c.free.ensures.leaves) (lying (entries_of c.args.entries.now.entries)) c.requires.held)
 
 pub returns-in-Err-clause-refused : goal.returns-in-Err-clause-refused
 returns-in-Err-clause-refused g c =

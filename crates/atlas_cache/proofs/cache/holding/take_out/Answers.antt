@@ -1,8 +1,9 @@
+use Rattle.std.proofs.Common.{◌≡◌, false, arith, pos}
+use Rattle.std.proofs.lemmas.Bool.{ne_eqb}
 use Rattle.atlas_cache.specs.Caches.{entries_of}
-use Rattle.atlas_cache.specs.Entries.{without_number}
-use Rattle.atlas_cache.proofs.CacheLemmas.{number-at, rectangle-live, rest_held}
+use Rattle.atlas_cache.specs.Entries.{is_blank, no_page, without_number}
+use Rattle.atlas_cache.proofs.CacheLemmas.{number-at, pages_stay, rectangle-live, rest_held, rest_off}
 use Rattle.atlas_cache.proofs.ListLemmas.{parts}
-use Rattle.std.proofs.Common.{pos}
 use Rattle.atlas_cache.proofs.cache.holding.take_out.Goals as goal
 
 pub remove-requires : goal.remove-requires
@@ -10,12 +11,28 @@ remove-requires g c = number-at c.args.number c.args.entries.now.entries c.args.
 
 pub free-requires : goal.free-requires
 free-requires g c =
-    rectangle-live c.args.rooms.now.pages c.args.number c.args.entries.now.entries c.args.entry c.requires.held c.requires.here
+    let lies : is_blank c.args.entry ≡ false =
+    ne_eqb c.args.entry.page no_page (λ q. omega (arith, q, c.if-entry-len.true, c.len.ensures.numbered)) in
+    rectangle-live c.args.rooms.now.pages c.args.number c.args.entries.now.entries c.args.entry c.requires.held c.requires.here lies
 
-pub returns-clause-held : goal.returns-clause-held
-returns-clause-held g c =
+pub returns-then-entry-len-clause-held : goal.returns-then-entry-len-clause-held
+returns-then-entry-len-clause-held g c =
     let p = parts c.args.number c.args.entries.now.entries c.args.entry c.requires.here in
+    let lies : is_blank c.args.entry ≡ false =
+    ne_eqb c.args.entry.page no_page (λ q. omega (arith, q, c.if-entry-len.true, c.len.ensures.numbered)) in
     rw c.remove.ensures.entries
     (rest_held c.args.rooms.now.pages (pos 0) 0 c.args.entry (entries_of c.args.entries.now.entries)
-    (entries_of (without_number c.args.number c.args.entries.now.entries)) p c.free.new.self.pages c.requires.held
+    (entries_of (without_number c.args.number c.args.entries.now.entries)) p c.free.new.self.pages c.requires.held lies
     c.free.ensures.leaves)
+
+pub returns-else-entry-len-clause-held : goal.returns-else-entry-len-clause-held
+returns-else-entry-len-clause-held g c =
+    let p = parts c.args.number c.args.entries.now.entries c.args.entry c.requires.here in
+    rw c.remove.ensures.entries
+    (rest_off c.args.rooms.now.pages (pos 0) 0 c.args.entry (entries_of c.args.entries.now.entries)
+    (entries_of (without_number c.args.number c.args.entries.now.entries)) p c.requires.held
+    (omega (arith, c.if-entry-len.false, c.len.ensures.pages)))
+
+pub returns-else-entry-len-clause-leaves : goal.returns-else-entry-len-clause-leaves
+returns-else-entry-len-clause-leaves g c =
+    pages_stay c.args.rooms.now.pages c.args.entry.page c.args.entry.id (omega (arith, c.if-entry-len.false, c.len.ensures.pages))

@@ -1,0 +1,5 @@
+use Rattle.atlas_cache.proofs.PassLemmas.{Passed}
+use Rattle.atlas_cache.proofs.cache.holding.oldest_lying.Given as goal
+
+abbrev pub invariant-loop : goal.invariant-loop
+invariant-loop g l = Passed l.entries.entries l.next l.counter
