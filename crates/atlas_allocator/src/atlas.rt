@@ -235,9 +235,9 @@ impl<A: Allocator + Copy> AtlasAllocator<A> {
         self.request(requested_size)
     }
 
-    /// Frees the box of an id: it joins the free space beside it. `NotLive` if the id isn't live, and then nothing
+    /// Frees the box of an id: it joins the free space next to it. `NotLive` if the id isn't live, and then nothing
     /// changes. Takes no memory, and one turn more than there are members fewer. A turn marks a leaf as free, joins it
-    /// with the next one or lifts it into its container's place; links of lists are written beside the turns.
+    /// with the next one or lifts it into its container's place; links of lists are written in addition to the turns.
     pub fn deallocate(&mut self, id: AllocId) -> Result<(), AtlasError>
         ensures step { Step (state_of self.old) (Deallocate id) (done_reply result) (state_of self.new) }
         ensures refused { OnErr result (self.new ≡ self.old) }
@@ -258,8 +258,8 @@ impl<A: Allocator + Copy> AtlasAllocator<A> {
         Ok(())
     }
 
-    /// Frees the boxes of the ids of a list. The tree that is left doesn't tell in which order; the numbers of later
-    /// ids may. `NotLive` if one of them isn't live or stands twice, and then nothing changes. Takes no memory, time in
+    /// Frees the boxes of the ids of a list. The tree that is left doesn't depend on their order; the numbers of later
+    /// ids may. `NotLive` if one of them isn't live or is there twice, and then nothing changes. Takes no memory, time in
     /// proportion to the list, and one turn an id more than there are members fewer.
     pub fn deallocate_all(&mut self, ids: &[AllocId]) -> Result<(), AtlasError>
         ensures freed { OnOk result (state_of self.new ≡ after_freeing (state_of self.old) (is_among ids.now)) }
@@ -285,7 +285,7 @@ impl<A: Allocator + Copy> AtlasAllocator<A> {
         Ok(())
     }
 
-    /// Makes the atlas larger; every live id keeps its rectangle. Asks that neither side shrinks. One free rectangle
+    /// Makes the atlas larger; every live id keeps its rectangle. Requires that neither side shrinks. One free rectangle
     /// alone is enlarged. Else, first along the top sequence, a free last member is enlarged or a free strip is
     /// appended, and then, across it, a free strip along the whole side (docs/MODEL.md, "Changes of a tree"); each only
     /// if that side grows. `Slots` if more slots would be used than the limit allows; `Memory` if more would be used
@@ -337,7 +337,7 @@ impl<A: Allocator + Copy> AtlasAllocator<A> {
     /// Places what is allocated anew in an empty atlas of this size, the largest first; the options and the limit stay.
     /// Asks a size that isn't empty. The rectangles are taken in order of descending area, where areas count up to
     /// 2147483647, and of descending slot, the low 24 bits of the id, where areas are equal; each is placed where it
-    /// then fits, or else listed as a failure, whose id is live no more. All former ids are void, and each slot is in
+    /// then fits, or else listed as a failure, whose id is no longer live. All former ids are void, and each slot is in
     /// its first generation. `Slots` if on the way more slots would be used than the limit allows; `Memory` if memory
     /// is refused; then nothing changes. Takes no turns.
     pub fn resize_and_rearrange(&mut self, new_size: Size) -> Result<ChangeList<A>, AtlasError>
@@ -482,7 +482,7 @@ impl<A: Allocator + Copy> AtlasAllocator<A> {
         self.size = size;
     }
 
-    // Whether each of these ids is live, and none stands twice.
+    // Whether each of these ids is live, and none is there twice.
     fn are_live_once(&mut self, ids: &[AllocId]) -> bool
         ensures live { IsTrue result ↔ AreLiveOnce (state_of self.old) ids.now }
         ensures same { self.new ≡ self.old }
@@ -532,7 +532,7 @@ impl<A: Allocator + Copy> Index<AllocId> for AtlasAllocator<A> {
 
     ghost index_gives = { λ atlas id area. option_map rectangle_of (live_box (state_of atlas) id) ≡ Some area };
 
-    /// The rectangle of an id. Asks that the id is live: `get` is the test.
+    /// The rectangle of an id. Requires that the id is live: `get` is the test.
     fn index(&self, id: AllocId) -> &Rectangle {
         match named_slot(&self.store.slots, id) {
             Some(at) => &self.store.slots[at].node.area,

@@ -1,4 +1,4 @@
-//! Replies to a rearranging.
+//! Replies to a rearrangement.
 ghost use Rattle.std.specs.Prelude.{◌≡◌, ◌≤◌, ◌+◌, ◌++◌, true, false, not, length, decimal, flat_map};
 ghost use Rattle.atlas_words.specs.Blocks.{IsGathered};
 ghost use Rattle.atlas_words.specs.Devices.{WritesBeginning};
@@ -116,7 +116,7 @@ fn end_changes<W: ToolOutput>(
     true
 }
 
-/// Adds the lines of a rearranging; what waited is written where there is no room. `false` where the device failed.
+/// Adds the lines of a rearrangement; what waited is written where there is no room. `false` where the device failed.
 pub fn send_changes<W: ToolOutput>(
     output: &mut W,
     waiting: &mut Waiting,

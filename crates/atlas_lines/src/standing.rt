@@ -1,4 +1,4 @@
-//! What stands in the tool's one place for an atlas.
+//! What is in the tool's one place for an atlas.
 
 /// An atlas, a recorded session or neither.
 #[derive(Drop)]

@@ -1,4 +1,4 @@
-//! What a rearranging moved, and what found no room.
+//! What a rearrangement moved, and what found no room.
 ghost use Rattle.std.specs.Prelude.{◌≡◌, [], IfOk, IsOkUnless};
 
 use crate::allocation::Allocation;
@@ -12,8 +12,8 @@ pub struct Change {
     pub new: Allocation,
 }
 
-/// What a rearranging did with what was allocated, in the order in which it was tried: `changes` are the rectangles
-/// that were placed anew, `failures` those that found no room, whose ids are live no more.
+/// What a rearrangement did with what was allocated, in the order in which it was tried: `changes` are the rectangles
+/// that were placed anew, `failures` those that found no room, whose ids are no longer live.
 #[derive(Drop)]
 #[derive_where(Debug, PartialEq)]
 pub struct ChangeList<A: Allocator + Copy = Global> {

@@ -77,7 +77,7 @@ impl Rectangle {
         has_length(self.min.x, self.max.x) && has_length(self.min.y, self.max.y)
     }
 
-    /// `max.x - min.x`, in pixels, which is negative where `max` lies left of `min`. Asks that the rectangle is
+    /// `max.x - min.x`, in pixels, which is negative where `max` lies left of `min`. Requires that the rectangle is
     /// measurable: `is_measurable` is the test.
     pub fn width(&self) -> i32
         requires { IsMeasurable self.now }
@@ -86,7 +86,7 @@ impl Rectangle {
         self.max.x - self.min.x
     }
 
-    /// `max.y - min.y`, in pixels, which is negative where `max` lies above `min`. Asks that the rectangle is
+    /// `max.y - min.y`, in pixels, which is negative where `max` lies above `min`. Requires that the rectangle is
     /// measurable.
     pub fn height(&self) -> i32
         requires { IsMeasurable self.now }
@@ -95,7 +95,7 @@ impl Rectangle {
         self.max.y - self.min.y
     }
 
-    /// `width` and `height`. Asks that the rectangle is measurable.
+    /// `width` and `height`. Requires that the rectangle is measurable.
     pub fn size(&self) -> Size
         requires { IsMeasurable self.now }
         ensures { result

@@ -175,7 +175,7 @@ pub fn examples_of_picks()
     ensures all_large { IsPick mixed_boxes large_options (sides 10 10) (box 100 0 110 300) }
 {}
 
-/// A worked rearranging, of three boxes: its order, its changes, its failure, and the limits that it would pass.
+/// A worked rearrangement, of three boxes: its order, its changes, its failure, and the limits that it would pass.
 #[tactic(auto, using(crate::proofs::StepLemmas::WorkedRefits::worked_refits))]
 pub fn examples_of_refits()
     ensures three { Shows (sides 10 10) three_boxes
@@ -240,7 +240,7 @@ pub fn growths_keep_boxes()
     ensures { GrowthsKeepBoxes }
 {}
 
-/// A rearranging moves each live id once or lists it as failed, and each moved box has its former sides.
+/// A rearrangement moves each live id once or lists it as failed, and each moved box has its former sides.
 #[tactic(auto, using(crate::proofs::StepLemmas::StepEffects::rearrangings_lose_nothing))]
 pub fn rearrangings_lose_nothing()
     ensures { RearrangingsLoseNothing }

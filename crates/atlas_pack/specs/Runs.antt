@@ -100,8 +100,9 @@ abbrev pub Answers : (fill : Bool) → SheetOptions → List Size → (sheet : S
 Answers true options sizes sheet places = IsFilled options sizes sheet places
 Answers false options sizes sheet places = IsFound options sizes sheet places
 
--- The lines that were read ask for a sheet, the library answered with one, and its text was written.
-pub record Packs (in_old out_old out_new : Option (List ℕ)) : Type 0 where
+-- The lines that were read ask for a sheet, the library answered with one on which so many sprites have no place, and its text was
+-- written.
+pub record Packs (many : ℕ) (in_old out_old out_new : Option (List ℕ)) : Type 0 where
   pub input : List ℕ
   pub before : ℕ
   pub settings : Settings
@@ -111,6 +112,7 @@ pub record Packs (in_old out_old out_new : Option (List ℕ)) : Type 0 where
   pub read : HoldsBytes in_old input
   pub asked : AsksFor input before settings sprites
   pub answered : Answers settings.fill (sheet_options settings) (map (λ sprite. sprite.size) sprites) sheet places
+  pub left : many ≡ length (left_of sprites places)
   pub told : Appends out_old out_new
       (written settings.json sheet (frames_of sprites places) (left_of sprites places))
 

@@ -1,5 +1,5 @@
 //! A run of the program, from the bytes of a reader to the bytes of a writer.
-ghost use Rattle.std.specs.Prelude.{◌≡◌, ◌≤◌, map, IfErr, IfOk, OnOk};
+ghost use Rattle.std.specs.Prelude.{◌≡◌, ◌≤◌, map, IfErr, IfOk};
 ghost use Rattle.atlas_pack.specs.Runs.{Answers, IsPackFault, IsRunFault, Packs, sheet_options, written};
 
 use crate::packing::{beside, fill_one, pack_all, parted, sheet_options, sizes_of};
@@ -46,15 +46,23 @@ fn written(
     Vec::from_slice(alloc, lines.as_bytes())
 }
 
+// Tells a person which sprites have no place. A failure is passed over.
+fn tell_left<P: Write>(progress: &mut P, left: &[Sprite<'_>]) {
+    for sprite in left {
+        let _ = writeln!(progress, "no place: {}", sprite.name);
+    }
+}
+
 /// Reads lines to their end, packs the sprites that they name, and writes the sheet. Nothing is written where a line is
-/// bad or no sheet is found.
+/// bad or no sheet is found. The answer is how many sprites have no place; `progress` has a line for each.
 pub fn run<R: Read, W: Write, P: Write>(
     alloc: Global,
     input: &mut R,
     output: &mut W,
     progress: &mut P,
-) -> Result<(), PackError>
-    ensures packs { OnOk result (Packs (R.remaining input.old) (W.contents output.old) (W.contents output.new)) }
+) -> Result<usize, PackError>
+    ensures packs { IfOk result (λ many.
+        Packs many (R.remaining input.old) (W.contents output.old) (W.contents output.new)) }
     ensures fault { IfErr result (λ e. IsRunFault (R.remaining input.old) e) }
 {
     let mut text = Vec::new(alloc);
@@ -65,7 +73,8 @@ pub fn run<R: Read, W: Write, P: Write>(
     let (frames, left) = parted(alloc, &pairs)?;
     let told = written(alloc, job.settings.json, sheet, &frames, &left)?;
     output.write_all(&told)?;
-    Ok(())
+    tell_left(progress, &left);
+    Ok(left.len())
 }
 
 #[cfg(test)]
@@ -120,7 +129,7 @@ mod tests {
         let mut output = Vec::new(alloc);
         let mut progress = Vec::new(alloc);
         match run(alloc, &mut lines.as_bytes(), &mut output, &mut progress) {
-            Ok(()) => output,
+            Ok(_) => output,
             Err(error) => {
                 let told = format!(in alloc; "{error}").expect(rt, "memory");
                 Vec::from_slice(alloc, told.as_bytes()).expect(rt, "memory")
@@ -136,6 +145,18 @@ mod tests {
                 "row {row}"
             );
         }
+    }
+
+    // What is left out is told, and counted.
+    #[test]
+    fn tells_what_is_left_out(rt: HostRuntime) {
+        let alloc = rt.alloc();
+        let mut output = Vec::new(alloc);
+        let mut progress = Vec::new(alloc);
+        let lines = b"sheet one 4 4 fill\na 4 4\nb 4 4\nc 1 5\n";
+        let left = run(alloc, &mut lines.as_slice(), &mut output, &mut progress);
+        assert!(&rt; left.expect(&rt, "a sheet") == 2);
+        assert!(&rt; progress.as_slice() == b"no place: b\nno place: c\n".as_slice());
     }
 
     // Sprites of which changes of the order by one seed fit into a lesser square than the ways find, and by another don't.

@@ -4,14 +4,10 @@ pub mod JoiningWrites
 pub mod Lifting
 pub mod LiftingWrites
 pub mod Weights
-pub mod Granting
-pub mod Wrapping
-pub mod Splitting
 pub mod SlotAreas
-pub mod SplittingWrites
 pub mod SlotAims
-pub mod SlotPlacing
-pub mod SlotCuts
+pub mod Placing
+pub mod PlacingWrites
 pub mod Reading
 pub mod Normal
 pub mod Calm

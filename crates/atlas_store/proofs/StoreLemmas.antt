@@ -5,7 +5,6 @@ pub mod Taking
 pub mod Turning
 pub mod Starting
 pub mod StoreSteps
-pub mod PlacingSteps
 pub mod StoreTakes
 pub mod UnusedCounts
 pub mod Sizes

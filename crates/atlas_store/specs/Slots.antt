@@ -9,6 +9,7 @@ pub mod Links
 pub mod Areas
 pub mod Growing
 pub mod SlotCalls
+pub mod Placing
 use Rattle.std.specs.Prelude.{ℕ, ◌≡◌, List, map, pos, slice_index_or}
 use Rattle.atlas_store.specs.declared.slots.Slot.{Slot}
 use Rattle.atlas_store.specs.declared.slots.Link.{Link}

@@ -8,7 +8,7 @@ ghost use Rattle.atlas_store.specs.Rectangles.{FitsInto, IsRestOf, Tile, axis_of
 
 use atlas_model::{Point, Rectangle, Size};
 
-/// Which way members of a sequence lie beside each other.
+/// Which way members of a sequence lie next to each other.
 #[derive(Clone, Copy, Debug, PartialEq, Eq, Hash)]
 pub enum Orientation {
     Horizontal,
@@ -16,7 +16,7 @@ pub enum Orientation {
 }
 
 /// What is left of a rectangle once a request is taken from its `min`: along an axis the split, as wide across as the
-/// rectangle, and beside the request the leftover. Either may be empty.
+/// rectangle, and next to the request the leftover. Either may be empty.
 #[derive(Clone, Copy, Debug, PartialEq, Eq, Hash)]
 pub struct Rest {
     pub orientation: Orientation,

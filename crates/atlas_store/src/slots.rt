@@ -39,7 +39,7 @@ impl Link {
     pub const NONE: Link = Link { number: NO_SLOT };
 }
 
-/// The number that stands for no slot.
+/// The number that means no slot.
 pub const NO_SLOT: u32 = 4294967295;
 
 /// The tree's part of a slot: its place among its siblings, what it is, and its rectangle.
@@ -104,7 +104,7 @@ pub fn set_kind(slots: &mut [Slot], at: Link, kind: NodeKind)
     write_node(slots, at, node);
 }
 
-/// What stands at `at`, if that is a slot, follows `previous` from now on.
+/// What is at `at`, if that is a slot, follows `previous` from now on.
 pub fn set_previous(slots: &mut [Slot], at: Link, previous: Link)
     requires inside { IsSlot (length slots.old) at.number }
     requires short { length slots.old < NO_SLOT }

@@ -1,10 +1,9 @@
-//! The slots of an atlas with their lists: each call keeps the tree that the slots stand for, and the lists, in order.
+//! The slots of an atlas with their lists: each call keeps the tree that the slots represent, and the lists, in order.
 ghost use Rattle.std.specs.Prelude.{◌≡◌, ◌≢◌, ◌<◌, ◌≤◌, ◌↔◌, ℕ, true, false, IsTrue, IfOk, length};
 ghost use Rattle.atlas_store.specs.declared.slots.NodeKind.TheVariants.{Alloc, Free};
 ghost use Rattle.atlas_model.specs.Trees.{most_slots};
 ghost use Rattle.atlas_store.specs.Slots.{no_slot};
 ghost use Rattle.atlas_store.specs.Slots.Standing.{IsSlot};
-ghost use Rattle.atlas_store.specs.Slots.Reading.{extent_of};
 ghost use Rattle.atlas_store.specs.Stored.{Holding, Holds, HoldsWith};
 
 pub mod extend;
@@ -14,7 +13,7 @@ pub mod turns;
 use crate::search::bands::Scale;
 use crate::search::table::Table;
 use crate::slots::lists::{enlist, give_back, take_slot, unlist};
-use crate::slots::placing::{grant_leaf, split_leaf, wrap_leaf};
+use crate::slots::placing::{Parts, Plan, place_leaf};
 use crate::slots::{Link, NO_SLOT, Node, NodeKind, Slot, join_next, lift, mark_free, read_node};
 use crate::store::turns::Turns;
 use std::alloc::{AllocError, Allocator};
@@ -31,12 +30,11 @@ pub struct Store<A: Allocator> {
 }
 
 impl<A: Allocator> Store<A> {
-    ghost use Rattle.atlas_store.specs.Store.Holdings.{shelf_of, node_in, across_of, HasSlotsFor, IsHeld};
-    ghost use Rattle.atlas_store.specs.Store.Holdings.{IsDetachedLeaf};
-    ghost use Rattle.atlas_store.specs.Store.StoreCalls.{HasClaimed, GrantsLeaf, IsJoined, IsLifted, ListsLeaf};
-    ghost use Rattle.atlas_store.specs.Store.StoreCalls.{IsDetached, IsMarkedFree, IsReadyFor, IsSharpened};
-    ghost use Rattle.atlas_store.specs.Store.StoreCalls.{IsSlotTaken, IsSplit, IsSplitWith, UnlistsLeaf, IsWrapped};
-    ghost use Rattle.atlas_store.specs.Store.StoreCalls.{IsWrappedTwo, IsWrappedWith};
+    ghost use Rattle.atlas_store.specs.Slots.Placing.{slots_of, taken_by};
+    ghost use Rattle.atlas_store.specs.Store.Holdings.{shelf_of, node_in, HasSlotsFor, IsDetachedLeaf, IsHeld};
+    ghost use Rattle.atlas_store.specs.Store.StoreCalls.{AreSlotsTaken, IsDetached, IsJoined, IsLeafPlaced, IsLifted};
+    ghost use Rattle.atlas_store.specs.Store.StoreCalls.{IsMarkedFree, IsPlaceable, IsSharpened, IsSlotTaken};
+    ghost use Rattle.atlas_store.specs.Store.StoreCalls.{ListsLeaf, UnlistsLeaf};
 
     /// A copy: the same slots and lists, in new memory of the same allocator. No turn was taken in it yet.
     pub fn copy(&self) -> Result<Store<A>, AllocError>
@@ -100,14 +98,6 @@ impl<A: Allocator> Store<A> {
         enlist(&mut self.slots, &mut self.lists, &self.options, at);
     }
 
-    /// A detached leaf is granted.
-    pub fn grant(&mut self, at: Link)
-        requires { IsDetached self.old at.number }
-        ensures { GrantsLeaf self.old self.new at.number }
-    {
-        grant_leaf(&mut self.slots, at);
-    }
-
     /// Takes an unused slot, the one given back last, or else a new one at the end. It is claimed.
     pub fn take(&mut self) -> Link
         requires { (h : Holding) × (claimed : ℕ → ℕ) × HoldsWith claimed (shelf_of self.old) h
@@ -117,62 +107,53 @@ impl<A: Allocator> Store<A> {
         take_slot(&mut self.slots, &mut self.unused)
     }
 
-    // A detached leaf keeps the first `extent` pixels along its axis, and the claimed slot takes the rest.
-    fn split_with(&mut self, at: Link, fresh: Link, extent: u32)
-        requires claimed { HasClaimed self.old at.number fresh.number }
-        requires positive { 0 < extent }
-        requires less { extent < extent_of (node_in (shelf_of self.old) at.number) }
-        ensures { IsSplitWith self.old self.new at fresh extent }
-    {
-        split_leaf(&mut self.slots, at, fresh, extent);
-    }
-
-    // A detached leaf becomes a container, and the claimed slot its lone child.
-    fn wrap_with(&mut self, at: Link, fresh: Link)
-        requires { HasClaimed self.old at.number fresh.number }
-        ensures { IsWrappedWith self.old self.new at fresh }
-    {
-        wrap_leaf(&mut self.slots, at, fresh);
-    }
-
-    /// A detached leaf keeps the first `extent` pixels along its axis; the slot that is returned takes the rest, and is
-    /// detached too.
+    // Takes the slots of a plan: of what the first cut leaves, of the inner container, of what is granted and of what
+    // the second cut leaves, each where there is one. They are claimed.
     #[inline(always)]
-    pub fn split(&mut self, at: Link, extent: u32) -> Link
-        requires ready { IsReadyFor 1 self.old at.number }
-        requires positive { 0 < extent }
-        requires less { extent < extent_of (node_in (shelf_of self.old) at.number) }
-        ensures { IsSplit self.old self.new at.number result.number extent }
+    fn take_for(&mut self, plan: Plan) -> Parts
+        requires { (h : Holding) × Holds (shelf_of self.old) h × HasSlotsFor (slots_of plan) self.old h }
+        ensures { AreSlotsTaken self.old self.new (taken_by plan result) }
     {
-        let fresh = self.take();
-        self.split_with(at, fresh, extent);
-        fresh
+        let none = Link::NONE;
+        let mut parts = Parts {
+            split: none,
+            container: none,
+            granted: none,
+            leftover: none,
+        };
+        match plan {
+            Plan::Whole => {}
+            Plan::StripAlong(_) => {
+                parts.split = self.take();
+            }
+            Plan::CornerAlong(_, _) => {
+                parts.split = self.take();
+                parts.granted = self.take();
+                parts.leftover = self.take();
+            }
+            Plan::StripAcross(_) => {
+                parts.split = self.take();
+                parts.granted = self.take();
+            }
+            Plan::CornerAcross(_, _) => {
+                parts.split = self.take();
+                parts.container = self.take();
+                parts.granted = self.take();
+                parts.leftover = self.take();
+            }
+        }
+        parts
     }
 
-    /// A detached leaf becomes a container; the slot that is returned is its lone child, as large, and detached in its
-    /// place.
-    pub fn wrap(&mut self, at: Link) -> Link
-        requires { IsReadyFor 1 self.old at.number }
-        ensures { IsWrapped self.old self.new at.number result.number }
+    /// A detached leaf gives way to what a plan says, for which there are slots. What is left free is detached.
+    #[inline(always)]
+    pub fn place(&mut self, at: Link, plan: Plan) -> Parts
+        requires { (h : Holding) × IsPlaceable self.old at.number plan h }
+        ensures { IsLeafPlaced self.old self.new at.number plan result }
     {
-        let fresh = self.take();
-        self.wrap_with(at, fresh);
-        fresh
-    }
-
-    /// A detached leaf becomes a container of two, the first with `extent` pixels along the other axis; the slot of the
-    /// second is taken before that of the first. Both are detached.
-    pub fn wrap_two(&mut self, at: Link, extent: u32) -> (Link, Link)
-        requires ready { IsReadyFor 2 self.old at.number }
-        requires positive { 0 < extent }
-        requires less { extent < across_of (node_in (shelf_of self.old) at.number) }
-        ensures { IsWrappedTwo self.old self.new at.number result.0.number result.1.number extent }
-    {
-        let back = self.take();
-        let front = self.take();
-        self.wrap_with(at, front);
-        self.split_with(front, back, extent);
-        (front, back)
+        let parts = self.take_for(plan);
+        place_leaf(&mut self.slots, at, plan, parts);
+        parts
     }
 
     /// A granted leaf becomes free, and is detached. One turn of a freeing.

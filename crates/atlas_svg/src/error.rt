@@ -9,7 +9,7 @@ pub enum SvgError {
     /// The line with this number, counted from 1, is none that can be read.
     #[error("line {0} can't be read")]
     BadLine(u64),
-    /// No line tells the size.
+    /// No line gives the size.
     #[error("no line tells the size")]
     NoSize,
     /// A request for memory was refused.

@@ -11,7 +11,7 @@ use crate::lines::{Corners, Line, Named, Sides, read_line};
 use atlas_words::words::first_line;
 use std::alloc::{AllocError, Global};
 
-/// What a picture shows: the last size, and the boxes that lines after it tell.
+/// What a picture shows: the last size, and the boxes of the lines after it.
 #[derive(Drop)]
 pub struct Picture {
     /// The atlas's size.
@@ -100,7 +100,7 @@ fn show(alloc: Global, said: &[Line]) -> Result<Picture, SvgError>
 }
 
 /// The picture that the lines of a text show. `BadLine` at the first line that can't be read, `NoSize` where no line
-/// tells the size, `Memory` where memory was refused.
+/// gives the size, `Memory` where memory was refused.
 pub fn read_picture(alloc: Global, text: &[u8]) -> Result<Picture, SvgError>
     ensures shown { IfOk result
         (λ p. (said : List Line) × SayLines said text.now × IsPictured said p.sides p.live.items p.free.items) }

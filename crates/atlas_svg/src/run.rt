@@ -9,7 +9,7 @@ use std::alloc::Global;
 use std::io::{Read, Write};
 
 /// Reads the tool's lines to their end, and writes the picture of what they show. Nothing is written where a line can't
-/// be read or none tells the size.
+/// be read or none gives the size.
 pub fn run<R: Read, W: Write>(alloc: Global, input: &mut R, output: &mut W) -> Result<(), SvgError>
     ensures { OnOk result (Draws (R.remaining input.old) (W.contents output.old) (W.contents output.new)) }
 {

@@ -9,18 +9,20 @@ ghost use Rattle.atlas_store.specs.Slots.{nodes, axis_of};
 ghost use Rattle.atlas_model.specs.Trees.{most_slots};
 ghost use Rattle.atlas_store.specs.Search.Picks.{AreFreeBoxes};
 ghost use Rattle.atlas_store.specs.Stored.{Holding};
-ghost use Rattle.atlas_store.specs.Store.Holdings.{shelf_of, across_of};
+ghost use Rattle.atlas_store.specs.Slots.Placing.{across_of, slots_of, IsFeasible};
+ghost use Rattle.atlas_store.specs.Store.Holdings.{shelf_of};
 ghost use Rattle.atlas_tree.specs.Plans.Chosen.{CanGrant, IsAtRest, IsChosen, IsRequestGranted, IsShortOf, KeepsShelf};
 ghost use Rattle.atlas_store.specs.declared.slots.Node.{Node};
 ghost use Rattle.atlas_model.specs.Cuts.{cut};
 ghost use Rattle.atlas_model.specs.Cuts.Cut.{Whole, Strip, Corner};
 ghost use Rattle.atlas_store.specs.Slots.Reading.{extent_of};
-ghost use Rattle.atlas_tree.specs.Plans.Planning.{slots_of, IsPlanFor, IsFeasible, IsPlanReady, IsPlanDone};
+ghost use Rattle.atlas_tree.specs.Plans.Planning.{IsPlanFor, IsPlanReady, IsPlanDone};
 
 use atlas_model::{Allocation, AtlasError, Size};
 use atlas_store::cut::{Orientation, orientation_of};
 use atlas_store::slots::lists::exact_size;
 use atlas_store::slots::pick::pick;
+use atlas_store::slots::placing::Plan;
 use atlas_store::slots::walks::slot_id;
 use atlas_store::slots::{Link, Node};
 use atlas_store::store::Store;
@@ -51,7 +53,7 @@ pub fn choose<A: Allocator>(store: &Store<A>, size: Size) -> Option<Chosen>
     })
 }
 
-/// Makes room for slots beside those that are used. `Slots` if there would be more than the limit; `Memory`, if they
+/// Makes room for slots in addition to those in use. `Slots` if there would be more than the limit; `Memory`, if they
 /// are more than were ever used and more than there is room for, and memory for them is refused. The slots and their
 /// lists stay as they are.
 pub fn make_room<A: Allocator>(
@@ -93,22 +95,6 @@ pub fn grant<A: Allocator>(store: &mut Store<A>, chosen: Chosen, plan: Plan) -> 
         id: slot_id(slot.number as usize, node.generation),
         rectangle: node.area,
     }
-}
-
-/// How a free leaf gives way to a request that fits it, with the request's pixels along the leaf's sequence and across
-/// it (docs/MODEL.md, "Changes of a tree").
-#[derive(Clone, Copy, Debug, PartialEq, Eq)]
-pub enum Plan {
-    /// The leaf is granted whole.
-    Whole,
-    /// The leaf is cut along its sequence.
-    StripAlong(u32),
-    /// It is cut along its sequence, and its first part across.
-    CornerAlong(u32, u32),
-    /// It becomes a container, and is cut across.
-    StripAcross(u32),
-    /// It becomes a container, is cut across, and its first part along.
-    CornerAcross(u32, u32),
 }
 
 /// How many slots a plan takes.
@@ -199,7 +185,7 @@ pub fn place<A: Allocator>(store: &mut Store<A>, at: Link, plan: Plan) -> Link
 {
     match plan {
         Plan::Whole => {
-            store.grant(at);
+            store.place(at, plan);
             at
         }
         Plan::StripAlong(along) => strip_along(store, at, along),
@@ -213,9 +199,8 @@ fn strip_along<A: Allocator>(store: &mut Store<A>, at: Link, along: u32) -> Link
     requires { IsPlanReady store.old at.number (Plan.StripAlong along) }
     ensures { IsPlanDone store.old store.new at.number result.number (Plan.StripAlong along) }
 {
-    let split = store.split(at, along);
-    store.grant(at);
-    store.list(split);
+    let parts = store.place(at, Plan::StripAlong(along));
+    store.list(parts.split);
     at
 }
 
@@ -223,34 +208,27 @@ fn corner_along<A: Allocator>(store: &mut Store<A>, at: Link, along: u32, across
     requires { IsPlanReady store.old at.number (Plan.CornerAlong along across) }
     ensures { IsPlanDone store.old store.new at.number result.number (Plan.CornerAlong along across) }
 {
-    let split = store.split(at, along);
-    let granted = store.wrap(at);
-    let leftover = store.split(granted, across);
-    store.grant(granted);
-    store.list(split);
-    store.list(leftover);
-    granted
+    let parts = store.place(at, Plan::CornerAlong(along, across));
+    store.list(parts.split);
+    store.list(parts.leftover);
+    parts.granted
 }
 
 fn strip_across<A: Allocator>(store: &mut Store<A>, at: Link, across: u32) -> Link
     requires { IsPlanReady store.old at.number (Plan.StripAcross across) }
     ensures { IsPlanDone store.old store.new at.number result.number (Plan.StripAcross across) }
 {
-    let (granted, split) = store.wrap_two(at, across);
-    store.grant(granted);
-    store.list(split);
-    granted
+    let parts = store.place(at, Plan::StripAcross(across));
+    store.list(parts.split);
+    parts.granted
 }
 
 fn corner_across<A: Allocator>(store: &mut Store<A>, at: Link, along: u32, across: u32) -> Link
     requires { IsPlanReady store.old at.number (Plan.CornerAcross along across) }
     ensures { IsPlanDone store.old store.new at.number result.number (Plan.CornerAcross along across) }
 {
-    let (container, split) = store.wrap_two(at, across);
-    let granted = store.wrap(container);
-    let leftover = store.split(granted, along);
-    store.grant(granted);
-    store.list(split);
-    store.list(leftover);
-    granted
+    let parts = store.place(at, Plan::CornerAcross(along, across));
+    store.list(parts.split);
+    store.list(parts.leftover);
+    parts.granted
 }

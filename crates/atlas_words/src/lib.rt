@@ -1,5 +1,5 @@
 //! What the lines of `atlas_tool` are made of: devices that are read and written in blocks, words, numbers and
-//! commands (docs/TOOL.md). `atlas_lines` gives on what programs of one's own need.
+//! commands (docs/TOOL.md). Every program of lines is built on it.
 #![tactic(auto)]
 
 pub mod buffer;

@@ -4,7 +4,7 @@ ghost use Rattle.std.specs.Prelude.{◌≡◌, None, false, if◌then◌else◌}
 use crate::devices::ToolOutput;
 use std::io::Write;
 
-/// Any writer as a device. It tells the bytes that the writer tells, and none after a failure.
+/// Any writer as a device. It reports the bytes that the writer reports, and none after a failure.
 #[derive(Drop)]
 pub struct StdOutput<W> {
     inner: W,
@@ -12,7 +12,7 @@ pub struct StdOutput<W> {
 }
 
 impl<W: Write> StdOutput<W> {
-    /// A device that hasn't failed. It holds the bytes that the writer holds, where the writer tells them.
+    /// A device that hasn't failed. It holds the bytes that the writer holds, where the writer reports them.
     pub fn new(inner: W) -> StdOutput<W>
         ensures failed { ⟦<StdOutput<W> as ToolOutput>⟧.has_failed result ≡ false }
         ensures contents { ⟦<StdOutput<W> as ToolOutput>⟧.contents result ≡ W.contents inner }

@@ -9,7 +9,7 @@ use crate::AtlasAllocator;
 use atlas_model::{AllocId, Allocation, AtlasError, Size};
 use std::alloc::Allocator;
 
-/// Asks a page for a box, as `allocate` does. Asks that there is such a page. The other pages stay as they are.
+/// Asks a page for a box, as `allocate` does. Requires that there is such a page. The other pages stay as they are.
 pub fn allocate_on<A: Allocator + Copy>(
     pages: &mut [AtlasAllocator<A>],
     page: usize,
@@ -26,7 +26,7 @@ pub fn allocate_on<A: Allocator + Copy>(
     pages[page].allocate(size)
 }
 
-/// Frees the box of an id of a page, as `deallocate` does. Asks that there is such a page. `NotLive` if the id isn't
+/// Frees the box of an id of a page, as `deallocate` does. Requires that there is such a page. `NotLive` if the id isn't
 /// live there, and then nothing changes. The other pages stay as they are.
 pub fn deallocate_on<A: Allocator + Copy>(
     pages: &mut [AtlasAllocator<A>],
@@ -50,7 +50,7 @@ fn has_room<A: Allocator + Copy>(page: &AtlasAllocator<A>, size: Size) -> bool
     page.can_fit(size)
 }
 
-/// The first page on which a request has room, as `can_fit` tells; None if it has room on none.
+/// The first page on which a request has room, by `can_fit`; None if it has room on none.
 pub fn page_with_room<A: Allocator + Copy>(pages: &[AtlasAllocator<A>], size: Size) -> Option<usize>
     ensures inside { IfSome result (λ page. page < length pages.now) }
     ensures room { IfSome result (λ page. HasRoomOn size pages.now page) }

@@ -47,7 +47,7 @@ pub enum Reply<A: Allocator + Copy = Global> {
     NoRoom,
     /// A freeing, a growth or a start is done.
     Done,
-    /// A rearranging is done.
+    /// A rearrangement is done.
     Changed(ChangeList<A>),
     /// The call was refused; nothing changed.
     Refused(AtlasError),
@@ -81,7 +81,7 @@ fn done<A: Allocator + Copy>(answer: Result<(), AtlasError>) -> Reply<A>
     }
 }
 
-// What a rearranging answers.
+// What a rearrangement answers.
 fn changed<A: Allocator + Copy>(answer: Result<ChangeList<A>, AtlasError>) -> Reply<A>
     requires { IfOk answer AreExactChanges }
     ensures reply { reply_of result ≡ change_reply answer }

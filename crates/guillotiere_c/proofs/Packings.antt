@@ -66,6 +66,6 @@ pub filled_sheet :
 filled_sheet o asked sprites sheet order placed area same greatest shown used best plain =
     let P : List Size → Type 0 = λ l. IsFilledSheet o l sheet placed in
     let Q : ℕ → Type 0 = λ n. InEach o asked (λ lying. All (IsNoBetter (sides_of sheet) (spacing_of o) lying n)
-        (take (ways_tried (length asked)) WAYS)) in
+    (take (ways_tried (length asked)) WAYS)) in
     let best' : Q (used_area (areas_of placed)) = subst Q used best in
     subst P same (record { order = order; greatest = greatest; shown = shown; best = best'; plain = plain })

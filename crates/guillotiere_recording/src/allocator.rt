@@ -174,7 +174,7 @@ impl<A: Allocator + Copy> RecordingAllocator<A> {
         Ok(())
     }
 
-    /// Makes the atlas larger, as its `grow` does. Asks that neither side shrinks. `Memory` if memory for the event or
+    /// Makes the atlas larger, as its `grow` does. Requires that neither side shrinks. `Memory` if memory for the event or
     /// for slots is refused; `Slots` as the atlas's.
     pub fn grow(&mut self, new_size: Size) -> Result<(), RecordingError>
         requires { Fits (state_of self.old.atlas).size (sides_of new_size) }
@@ -194,7 +194,7 @@ impl<A: Allocator + Copy> RecordingAllocator<A> {
     }
 
     /// Places what is allocated anew, as the atlas's `rearrange` does. Each change has one name in `old` and `new`; the
-    /// name of a failure is live no more. `Memory` if memory is refused; `Slots` as the atlas's.
+    /// name of a failure is no longer live. `Memory` if memory is refused; `Slots` as the atlas's.
     pub fn rearrange(&mut self) -> Result<ChangeList<A>, RecordingError>
         ensures recorded { IfOk result (λ list. self.new.recording
             ≡ with_event (Rearrange (list_value_of list)) self.old.recording) }
@@ -246,7 +246,7 @@ impl<A: Allocator + Copy> RecordingAllocator<A> {
         Ok(list)
     }
 
-    /// Calls `visit` on each free rectangle once, in an order that is left open. Asks that `visit` may be called along
+    /// Calls `visit` on each free rectangle once, in an order that is left open. Requires that `visit` may be called along
     /// each list that may be shown, and no more: nothing else is called. Takes no memory.
     pub fn for_each_free_rectangle<F: FnMut(&Rectangle)>(&self, visit: F)
         requires { (areas : List Area) → AreFreeAreas (state_of self.now.atlas) areas
@@ -257,7 +257,7 @@ impl<A: Allocator + Copy> RecordingAllocator<A> {
         self.atlas.for_each_free_rectangle(visit);
     }
 
-    /// Calls `visit` on each live name and its rectangle once, by rising name. Asks that `visit` may be called along
+    /// Calls `visit` on each live name and its rectangle once, by rising name. Requires that `visit` may be called along
     /// that list, and no more: nothing else is called. Takes no memory.
     pub fn for_each_allocated_rectangle<F: FnMut(AllocId, &Rectangle)>(&self, visit: F)
         requires { (grants : List Grant) → AreBooked self.now.recording.events grants

@@ -1,4 +1,4 @@
-//! A rearranging in a replay: its list is compared with the recorded one, and the live names get their new ids.
+//! A rearrangement in a replay: its list is compared with the recorded one, and the live names get their new ids.
 ghost use Rattle.std.specs.Prelude.{◌≡◌, ◌↔◌, IsTrue, IfOk, IfErr, All, Some};
 ghost use Rattle.std.specs.Ordering.{nat_cmp};
 ghost use Rattle.std.specs.BTreeMap.{get, IsOrdered};
@@ -54,7 +54,7 @@ pub fn are_equal<A: Allocator + Copy>(one: &ChangeList<A>, other: &ChangeList<A>
     one == other
 }
 
-/// Compares the list of a rearranging, under the names of the live ids, with the recorded one, and gives the names that
+/// Compares the list of a rearrangement, under the names of the live ids, with the recorded one, and gives the names that
 /// are live now.
 pub fn follow<A: Allocator + Copy>(
     alloc: A,

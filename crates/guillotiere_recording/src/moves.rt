@@ -1,4 +1,4 @@
-//! What a rearranging of the atlas did, under names in place of ids.
+//! What a rearrangement of the atlas did, under names in place of ids.
 ghost use Rattle.std.specs.Prelude.{◌≡◌, ◌≤◌, ℕ, IfOk, IsOkUnless, All, Contains, IsPermutation, map};
 ghost use Rattle.std.specs.List.Sorted.{IsNonDecreasingBy};
 ghost use Rattle.guillotiere.specs.declared.Allocation.{Allocation as Grant};
@@ -111,7 +111,7 @@ fn name_entries<A: Allocator + Copy>(
     Ok(entries)
 }
 
-/// What a rearranging did, under the names of the ids that were live. `Memory` is the only error.
+/// What a rearrangement did, under the names of the ids that were live. `Memory` is the only error.
 pub fn under_names<A: Allocator + Copy>(
     alloc: A,
     names: &[LiveName],

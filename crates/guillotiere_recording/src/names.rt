@@ -14,7 +14,7 @@ pub struct LiveName {
     pub id: AllocId,
 }
 
-/// Where a name stands among names that rise.
+/// Where a name is among names that rise.
 pub fn place_of(names: &[LiveName], name: u32) -> Option<usize>
     requires { AreRisingNames names.now }
     ensures inside { IfSome result (λ at. at < length names.now) }
@@ -29,14 +29,14 @@ pub fn place_of(names: &[LiveName], name: u32) -> Option<usize>
     }
 }
 
-/// A live id, and where its name stands.
+/// A live id, and where its name is.
 #[derive(Clone, Copy)]
 pub struct Found {
     pub at: usize,
     pub id: AllocId,
 }
 
-/// The live id that a name stands for, among names that rise.
+/// The live id that a name is given to, among names that rise.
 pub fn find<A: Allocator>(names: &Vec<LiveName, A>, name: u32) -> Option<Found>
     requires { AreRisingNames names.now.items }
     ensures inside { IfSome result (λ found. found.at < length names.now.items) }

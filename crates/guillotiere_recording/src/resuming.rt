@@ -124,7 +124,7 @@ fn grow_on<A: Allocator + Copy>(
     Ok(session.grow(size)?)
 }
 
-// A rearranging.
+// A rearrangement.
 fn rearrange_on<A: Allocator + Copy>(
     session: &mut RecordingAllocator<A>,
     recorded: &ChangeList<A>,
@@ -140,7 +140,7 @@ fn rearrange_on<A: Allocator + Copy>(
     Ok(())
 }
 
-// A rearranging into another size.
+// A rearrangement into another size.
 fn resize_on<A: Allocator + Copy>(
     session: &mut RecordingAllocator<A>,
     size: Size,

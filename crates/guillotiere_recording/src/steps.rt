@@ -191,7 +191,7 @@ fn grow_again<A: Allocator + Copy>(
     Ok(())
 }
 
-// A rearranging.
+// A rearrangement.
 fn rearrange_again<A: Allocator + Copy>(
     atlas: &mut AtlasAllocator<A>,
     names: &mut BTreeMap<u32, AllocId, A>,
@@ -209,7 +209,7 @@ fn rearrange_again<A: Allocator + Copy>(
     Ok(())
 }
 
-// A rearranging into another size.
+// A rearrangement into another size.
 fn resize_again<A: Allocator + Copy>(
     atlas: &mut AtlasAllocator<A>,
     names: &mut BTreeMap<u32, AllocId, A>,

@@ -14,7 +14,7 @@ use crate::names::LiveName;
 use guillotiere::{AllocId, Allocation, AtlasAllocator, Rectangle};
 use std::alloc::Allocator;
 
-/// Calls `visit` on each name and its rectangle, in order. Asks that `visit` may be called along that list.
+/// Calls `visit` on each name and its rectangle, in order. Requires that `visit` may be called along that list.
 pub fn visit_names<A: Allocator + Copy, F: FnMut(AllocId, &Rectangle)>(
     atlas: &AtlasAllocator<A>,
     names: &[LiveName],

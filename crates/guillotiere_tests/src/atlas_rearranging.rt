@@ -1,4 +1,4 @@
-//! Rearranging: worked rows.
+//! Rearrangement: worked rows.
 
 use crate::atlas_calls::Call::{
     Allocate, Deallocate, DeallocateDead, IsEmpty, Live, Rearrange, RearrangeBeyondLimit,

@@ -1,13 +1,7 @@
 //! Sprites in as few sheets as are found.
-use guillotiere::sheet::{fill, pack_telling, Allowed, Placed, SheetError, SheetOptions};
+pub use guillotiere::sheet::OnPage as Place;
+use guillotiere::sheet::{pack_pages, pack_telling, Allowed, Sheet, SheetError, SheetOptions};
 use guillotiere::Size;
-
-/// Where a sprite lies: in the sheet with this number.
-#[derive(Clone, Copy, Debug, PartialEq)]
-pub struct Place {
-    pub page: usize,
-    pub placed: Placed,
-}
 
 /// The sizes of the sheets, and a place or none for each sprite, in the order of the sprites.
 #[derive(Clone, Debug, PartialEq)]
@@ -31,58 +25,61 @@ pub fn greatest(allowed: Allowed) -> Size {
 
 /// Whether a sprite fits an empty sheet of the greatest size.
 pub fn fits(sprite: Size, options: &SheetOptions) -> bool {
-    let room = greatest(options.allowed);
-    let padding = 2 * i64::from(options.padding);
-    let fits = |w: i32, h: i32| {
-        i64::from(w) + padding <= i64::from(room.width)
-            && i64::from(h) + padding <= i64::from(room.height)
+    let alone = SheetOptions {
+        allowed: Allowed::One(greatest(options.allowed)),
+        effort: 0,
+        ..*options
     };
-    fits(sprite.width, sprite.height) || options.turn && fits(sprite.height, sprite.width)
+    matches!(pack_pages(&[sprite], &alone), Ok(Some(_)))
 }
 
-/// Fills one sheet of the greatest size after the other, until the rest is packed into the smallest sheet that is found for
-/// it, or `limit` sheets are filled. No sheet is empty. `told` is called with the size of each sheet that takes the rest, as soon
-/// as it is found.
+/// All sprites in the smallest sheet that takes them, or one sheet of the greatest size after the other, the last as small as is
+/// found, and of these the first `limit`. A sprite that fits no empty sheet, or lies on a later one, has no place. `told` is
+/// called with the size of each sheet that takes all sprites, as soon as it is found.
 pub fn pages(
     sprites: &[Size],
     options: &SheetOptions,
     limit: usize,
-    mut told: impl FnMut(Size),
+    told: impl FnMut(Size),
 ) -> Result<Pages, SheetError> {
     let mut found = Pages {
         sizes: Vec::new(),
         places: vec![None; sprites.len()],
     };
-    let mut rest: Vec<usize> = (0..sprites.len()).collect();
-    while !rest.is_empty() && found.sizes.len() < limit {
-        let sizes: Vec<Size> = rest.iter().map(|number| sprites[*number]).collect();
-        let (size, places) = one_page(&sizes, options, &mut told)?;
-        if places.iter().all(Option::is_none) {
-            break;
+    if sprites.is_empty() || limit == 0 {
+        return Ok(found);
+    }
+    if let Some(sheet) = one_sheet(sprites, options, told)? {
+        found.sizes.push(sheet.size);
+        let place = |placed| Some(Place { page: 0, placed });
+        found.places = sheet.places.into_iter().map(place).collect();
+        return Ok(found);
+    }
+    let numbers: Vec<usize> = (0..sprites.len())
+        .filter(|number| fits(sprites[*number], options))
+        .collect();
+    let fitting: Vec<Size> = numbers.iter().map(|number| sprites[*number]).collect();
+    if let Some(packed) = pack_pages(&fitting, options)? {
+        found.sizes = packed.sizes;
+        found.sizes.truncate(limit);
+        for (number, place) in numbers.iter().zip(packed.places) {
+            found.places[*number] = Some(place).filter(|place| place.page < limit);
         }
-        let page = found.sizes.len();
-        found.sizes.push(size);
-        for (number, placed) in rest.iter().zip(&places) {
-            found.places[*number] = placed.map(|placed| Place { page, placed });
-        }
-        rest.retain(|number| found.places[*number].is_none());
     }
     Ok(found)
 }
 
-fn one_page(
-    sizes: &[Size],
+// `pack_pages` finds one sheet too, and tells nothing of it on the way.
+fn one_sheet(
+    sprites: &[Size],
     options: &SheetOptions,
     told: impl FnMut(Size),
-) -> Result<(Size, Vec<Option<Placed>>), SheetError> {
+) -> Result<Option<Sheet>, SheetError> {
     let area = |size: &Size| i64::from(size.width) * i64::from(size.height);
-    if sizes.iter().map(area).sum::<i64>() <= area(&greatest(options.allowed)) {
-        if let Some(sheet) = pack_telling(sizes, options, told)? {
-            return Ok((sheet.size, sheet.places.into_iter().map(Some).collect()));
-        }
+    if sprites.iter().map(area).sum::<i64>() > area(&greatest(options.allowed)) {
+        return Ok(None);
     }
-    let filled = fill(sizes, options)?;
-    Ok((filled.size, filled.places))
+    pack_telling(sprites, options, told)
 }
 
 #[cfg(test)]

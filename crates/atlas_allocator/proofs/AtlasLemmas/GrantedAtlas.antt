@@ -21,9 +21,10 @@ use Rattle.atlas_model.specs.Steps.AtlasCall.{Allocate}
 use Rattle.atlas_model.specs.Steps.AtlasReply.{Refused}
 use Rattle.atlas_tree.specs.Plans.Chosen.{CanGrant, IsAtRest, IsChosen, IsGrantable, IsGrantMade, IsRequestGranted}
 use Rattle.atlas_tree.specs.Plans.Chosen.{IsShortOf}
-use Rattle.atlas_store.specs.Store.Holdings.{shelf_of, node_in, across_of, HasSlotsFor}
-use Rattle.atlas_tree.specs.Plans.Planning.{slots_of, IsPlanFor, IsFeasible}
-use Rattle.atlas_tree.specs.declared.requests.Plan.{Plan}
+use Rattle.atlas_store.specs.Slots.Placing.{across_of, slots_of, IsFeasible}
+use Rattle.atlas_store.specs.Store.Holdings.{shelf_of, node_in, HasSlotsFor}
+use Rattle.atlas_tree.specs.Plans.Planning.{IsPlanFor}
+use Rattle.atlas_store.specs.declared.slots.placing.Plan.{Plan}
 use Rattle.atlas_store.specs.Slots.Reading.{extent_of}
 use Rattle.atlas_store.specs.declared.slots.Node.{Node}
 use Rattle.atlas_store.specs.Stored.{Stored, Shelf, Holding, IsAtlas, state_of}
@@ -129,7 +130,9 @@ module _ (v : Stored) (a : IsAtlas v) (request : Sides) where
       after used turns = state_of (record { stored = record { shelf = u; first = v.first; used = used; size = v.size; limit = v.limit }; turns = turns; capacity = 0 })
 
       tree-placed : tree_of (nodes u.slots) ≡ place (sides_of v.size) (chosen_box v p) wanted made.id (tree_of (nodes v.shelf.slots))
-      tree-placed = grind (arith, planned-tree, placing)
+      tree-placed =
+          planned-tree (sides_of v.size) v.shelf a.holding p.at.number wanted placing u to plan h line w.planned
+          ∙ ap (λ k. place (sides_of v.size) (chosen_box v p) wanted k (tree_of (nodes v.shelf.slots))) (sym w.names)
 
       more : numbers h.tree ≡ numbers a.holding.tree + slots_of plan
       more = planned-used (sides_of v.size) v.shelf a.holding p.at.number wanted placing u to plan h line w.planned
@@ -168,7 +171,7 @@ module _ (v : Stored) (a : IsAtlas v) (request : Sides) where
         at_rest = w.planned.listed;
         start = ap (λ s. s.start) w.planned.sequence ∙ a.start;
         across = rw w.planned.sequence a.across;
-        first = a.first ∙ sym (planned-first plan p.at.number a.holding.sequence.width to (node_in u to).generation a.holding.tree h.tree w.planned.tree);
+        first = a.first ∙ sym (planned-first u p.at.number to plan a.holding h w.planned);
         used = omega (arith, more, a.used);
         sound = placing_sound now (chosen_box v p) request (record { id = made.id; box = box }) (after (v.used + slots_of plan) 0) a.sound (grants (v.used + slots_of plan) 0);
         exact = a.exact;

@@ -21,9 +21,9 @@ use Rattle.atlas_model.proofs.StepLemmas.StepKeeping.{nodes_positive}
 use Rattle.atlas_model.proofs.TreeLemmas.TreeCounts.{place_nodes, place_most, grow_nodes, grow_most, release_nodes}
 use Rattle.atlas_store.proofs.WalkLemmas.Observing.{used-IsAtlas}
 use Rattle.atlas_tree.specs.Plans.Chosen.{IsShortOf}
-use Rattle.atlas_tree.specs.Plans.Planning.{slots_of}
-use Rattle.atlas_tree.specs.declared.requests.Plan.{Plan}
-use Rattle.atlas_tree.specs.declared.requests.Plan.TheVariants as plan
+use Rattle.atlas_store.specs.Slots.Placing.{slots_of}
+use Rattle.atlas_store.specs.declared.slots.placing.Plan.{Plan}
+use Rattle.atlas_store.specs.declared.slots.placing.Plan.TheVariants as plan
 
 -- Slots are refused exactly if there would be more than the limit.
 pub slots-refused : (Q : Type 0) (v : Stored) (a : IsAtlas v) (n kept : ℕ) (result : Result (Unit {0}) AtlasError)

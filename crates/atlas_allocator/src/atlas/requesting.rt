@@ -1,4 +1,4 @@
-//! A request, as `allocate` and a rearranging make it.
+//! A request, as `allocate` and a rearrangement make it.
 ghost use Rattle.std.specs.Prelude.{◌≡◌, ◌≢◌, Err, IfOk, IfSome, None, Ok, OnErr};
 ghost use Rattle.atlas_model.specs.Callers.{IsAnswer};
 ghost use Rattle.atlas_model.specs.Pixels.{sides_of};

@@ -53,9 +53,6 @@ true_lt m n h = grind (arith, nat_tests)
 le_true : (m n : ℕ) → m ≤ n → nat_le m n ≡ true
 le_true m n h = grind (arith, nat_tests)
 
-pub true_le : (m n : ℕ) → nat_le m n ≡ true → m ≤ n
-true_le m n h = grind (arith, nat_tests)
-
 pub and_of : (a b : Bool) → a ≡ true → b ≡ true → (a && b) ≡ true
 and_of a b e f = ap (λ t. t && b) e ∙ f
 

@@ -1,21 +1,15 @@
 -- What holds of every edit of a numbered tree, by one walk over the tree.
-use Rattle.std.proofs.Common.{ℕ, ◌+◌, ◌-◌, ◌<◌, ◌≤◌, ◌≡◌, Bool, true, false, cond, List, refl, sym, ap, ap₂, subst, inl, inr, arith}
+use Rattle.std.proofs.Common.{ℕ, ◌+◌, ◌<◌, ◌≤◌, ◌≡◌, Bool, true, false, cond, List, refl, sym, ap, ap₂, subst, inl, inr, arith}
 use Rattle.std.proofs.lemmas.Bool.{cond_both, eqb-true, true≢false}
 use Rattle.atlas_store.specs.declared.slots.Node.{Node}
 use Rattle.atlas_store.specs.Slots.{node_at, no_slot}
 use Rattle.atlas_store.specs.Slots.Numbered.{Numbered, weigh, tally, same, first_slot, edited_in, on_free, on_alloc, on_seq, grown_by, lifted_to, is_free_at, is_alloc_at, is_seq_at, End, Free, Alloc, Seq}
 use Rattle.atlas_store.specs.Slots.Standing.{Sequence, Standing, inside}
-use Rattle.atlas_store.proofs.SlotLemmas.Frames.{same-self, split_pos, one_of, ne-from_count, Standing-same}
+use Rattle.atlas_store.proofs.SlotLemmas.Frames.{same-self, one_of, ne-from_count, Standing-same}
 use Rattle.atlas_store.proofs.SlotLemmas.Suffixes.{Suffix, suffix-at, suffix-wider}
-use Rattle.atlas_store.proofs.SlotLemmas.Weights.{places, places-le, places-some, not_here, not_here_more}
+use Rattle.atlas_store.proofs.SlotLemmas.Weights.{places, places-le, places-some, not_here}
 
 -- What the edits make of the members from their place on, in a sequence that spans `across`.
-
-abbrev pub granting : (g : ℕ) → (across : ℕ) → Numbered → Numbered
-granting g across = on_free (λ j e rest. Alloc j g e rest)
-
-abbrev pub splitting : (k p : ℕ) → (across : ℕ) → Numbered → Numbered
-splitting k p across = on_free (λ j e rest. Free j p (Free k (e - p) rest))
 
 abbrev pub joining : (across : ℕ) → Numbered → Numbered
 joining across = on_free grown_by
@@ -83,26 +77,6 @@ module _ (is : Numbered → Bool) (change : ℕ → Numbered → Numbered) where
         alloc = λ a i g e m n _ h. ap (λ v. w i + v) h;
         seq = λ a i e k l m n _ g h. ap₂ (λ x y. w i + x + y) g h;
       }) here
-
-  -- A change that adds y at least to what the slots weigh.
-  pub weigh-more : (w : ℕ → ℕ) (y : ℕ) → ((a : ℕ) (m : Numbered) → is m ≡ true → weigh w m + y ≤ weigh w (change a m)) → (a : ℕ) (n : Numbered) → (weigh w n ≤ weigh w (edited_in is change (change a) n)) × (0 < places is n → weigh w n + y ≤ weigh w (edited_in is change (change a) n))
-  weigh-more w y here =
-      edited-keeps (λ a m n. (weigh w m ≤ weigh w n) × (0 < places is m → weigh w m + y ≤ weigh w n)) (record {
-        ends = λ a. (omega arith, λ l. absurd (omega arith));
-        free = λ a i e m n no h. (omega (arith, h.0), λ l. omega (arith, h.1 (not_here_more _ _ no l)));
-        alloc = λ a i g e m n no h. (omega (arith, h.0), λ l. omega (arith, h.1 (not_here_more _ _ no l)));
-        seq = grind (arith, split_pos, places, not_here_more);
-      }) (λ a m t. (omega (arith, here a m t), λ _. here a m t))
-
-  -- A change that leaves a member that is looked for next.
-  pub places-next : (next : Numbered → Bool) → ((a : ℕ) (m : Numbered) → is m ≡ true → 0 < places next (change a m)) → (a : ℕ) (n : Numbered) → 0 < places is n → 0 < places next (edited_in is change (change a) n)
-  places-next next here =
-      edited-keeps (λ a m n. 0 < places is m → 0 < places next n) (record {
-        ends = λ a l. absurd (omega arith);
-        free = λ a i e m n no h l. omega (arith, h (not_here_more _ _ no l));
-        alloc = λ a i g e m n no h l. omega (arith, h (not_here_more _ _ no l));
-        seq = λ a i e k l m n no g h some. elim (split_pos (places is k) (places is m) (not_here_more _ _ no some)) [ inl x ↦ omega (arith, g x) | inr x ↦ omega (arith, h x) ];
-      }) (λ a m t _. here a m t)
 
   -- A change at the only place adds y to what the slots weigh, and takes x away.
   module _ (ns : List Node) (w : ℕ → ℕ) (x y : ℕ) (never : is End ≡ false) (here : (s : Sequence) (b p : ℕ) (m : Numbered) → is m ≡ true → Standing ns s b p m → weigh w (change s.width m) + x ≡ weigh w m + y) where

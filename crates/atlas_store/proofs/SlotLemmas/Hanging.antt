@@ -22,7 +22,7 @@ use Rattle.atlas_store.proofs.WalkLemmas.Observing.{nonempty-total}
 use Rattle.atlas_store.proofs.SlotLemmas.Frames.{Standing-same, IsWritten, IsWritten-by, same-self, same-ne, keeps-same, used-le, ne-from_same, ne-from_count}
 use Rattle.atlas_store.proofs.SlotLemmas.JoiningWrites.{none-unused}
 use Rattle.atlas_model.proofs.TreeLemmas.TreeBasics.{other_twice}
-use Rattle.atlas_store.proofs.SlotLemmas.Wrapping.{axis_of-flipped}
+use Rattle.atlas_store.proofs.SlotLemmas.Placing.{axis_of-flipped}
 use Rattle.atlas_store.proofs.SlotLemmas.Reading.{first-axis}
 use Rattle.atlas_store.proofs.SlotLemmas.Following.{outermost, outermost-few, followers, followers-outermost, begins-inside}
 use Rattle.atlas_store.proofs.SlotLemmas.Closing.{begins-none}

@@ -40,9 +40,6 @@ places-free i (Seq j e inner rest) = omega (arith, places-free i inner, places-f
 pub not_here : (b : Bool) (x y : ℕ) → b ≡ false → x + cond b 1 0 ≡ y → x ≡ y
 not_here b x y other e = grind arith
 
-pub not_here_more : (b : Bool) (x : ℕ) → b ≡ false → 0 < x + cond b 1 0 → 0 < x
-not_here_more b x other l = grind arith
-
 -- Or it is.
 some_here : (b : Bool) (x : ℕ) → b ≡ true → 0 < x + cond b 1 0
 some_here b x t = grind arith

@@ -1,28 +1,33 @@
 -- The calls of the store keep what it holds: from what the calls on nodes and on lists ensure.
 use Rattle.std.proofs.Common.{ℕ, ◌+◌, ◌<◌, ◌≤◌, ◌≡◌, ◌≢◌, List, [], ◌∷◌, refl, sym, ap, ◌∙◌, ◌++◌, arith, length, set, length-set, Bool, true, false, ◌⊎◌, inl, inr, subst}
-use Rattle.std.proofs.lemmas.Bool.{cases_eq}
+use Rattle.std.proofs.lemmas.Bool.{cases_eq, cases_lt}
 use Rattle.atlas_store.specs.declared.slots.Slot.{Slot}
 use Rattle.atlas_store.specs.declared.slots.Link.{Link}
 use Rattle.atlas_store.specs.declared.slots.Node.{Node}
 use Rattle.atlas_store.specs.declared.slots.Ring.{Ring}
+use Rattle.atlas_store.specs.declared.slots.placing.Parts.{Parts}
+use Rattle.atlas_store.specs.declared.slots.placing.Plan.{Plan}
 use Rattle.atlas_store.specs.declared.slots.NodeKind.TheVariants as kind
 use Rattle.atlas_store.specs.declared.search.table.ListHead.{ListHead}
 use Rattle.atlas_model.specs.Choice.{Options}
 use Rattle.atlas_model.specs.Pixels.{options_of}
 use Rattle.atlas_store.specs.Search.Tables.{head_of, low_of}
 use Rattle.atlas_store.specs.Slots.{nodes, rings, node_at, use_count, KeepsUse, no_slot}
-use Rattle.atlas_store.specs.Slots.Numbered.{Numbered, joined, lifted, split_at, wrapped_at}
+use Rattle.atlas_store.specs.Slots.Numbered.{Numbered, joined, lifted}
 use Rattle.atlas_store.specs.Slots.Standing.{Sequence, Stands}
-use Rattle.atlas_store.specs.Slots.SlotCalls.{CanSplitInto, IsLeafFreed, IsLeafGranted, IsNextJoined, IsChildLifted, IsLeafSplit, IsLeafWrapped}
-use Rattle.atlas_store.proofs.SlotLemmas.Frames.{Standing-same}
-use Rattle.atlas_store.specs.Slots.Lists.{AreFiled, Places, Line, front, is_free}
+use Rattle.atlas_store.specs.Slots.SlotCalls.{IsLeafFreed, IsNextJoined, IsChildLifted}
+use Rattle.atlas_store.specs.Slots.Placing.{granted_by, left_by, marks_of, planned, taken_by, CanPlace, IsPlaced}
+use Rattle.atlas_store.proofs.SlotLemmas.Frames.{Standing-same, same-ne}
+use Rattle.atlas_store.specs.Slots.Lists.{AreFiled, Places, Line, front, is_free, occurs}
 use Rattle.std.proofs.lemmas.List.{length-map, length_push}
 use Rattle.atlas_store.specs.Slots.Links.{with_mark, with_count, given_back, IsSolid, IsTaken}
-use Rattle.atlas_store.specs.Stored.{Shelf, Holding, Holds, HoldsWith, places_of}
-use Rattle.atlas_store.specs.Store.Holdings.{node_in, IsLow, IsDetachedLeaf, IsReadyWith, after_take, after_grant, after_mark, after_join, after_lift, after_split, after_wrap}
+use Rattle.atlas_store.specs.Stored.{Shelf, Holding, Holds, HoldsWith, IsDetachedOnly, places_of}
+use Rattle.atlas_store.specs.Store.Holdings.{node_in, IsLow, IsDetachedLeaf, after_take, after_mark, after_join, after_lift, after_place}
 use Rattle.atlas_store.proofs.StoreLemmas.Filing.{AreFiled-sharpened, with_mark-same, with_mark-other, with_count-same, with_count-other}
 use Rattle.atlas_store.proofs.StoreLemmas.Taking.{AreFiled-moved, AreFiled-nodes, IsMoved}
-use Rattle.atlas_store.proofs.SlotLemmas.NumberedCuts.{IsRecut, recut-marked, recut-granted, recut-joined, recut-lifted, recut-split, recut-wrapped}
+use Rattle.atlas_store.proofs.SlotLemmas.NumberedCuts.{IsRecut, recut-marked, recut-joined, recut-lifted, recut-planned}
+use Rattle.atlas_store.proofs.SlotLemmas.Placing.{Stands-placed, placed-leaf, placed-others, placed-part, untaken-unmarked, used_after}
+use Rattle.atlas_store.proofs.SlotLemmas.JoiningWrites.{none-unused}
 use Rattle.atlas_store.proofs.SlotLemmas.SlotBoxes.{slot-exact}
 
 -- What is held once the slots and the unused list changed, and no list of free slots.
@@ -49,18 +54,6 @@ pub filed-one : (o : Options) (ns ms : List Node) (rs ts : List Ring) (heads : L
     → AreFiled o ns rs heads unused p → AreFiled o ms ts heads unused (record p { detached = with_mark p.detached i mark })
 filed-one o ns ms rs ts heads unused p i mark same here used others filed =
     grind (arith, with_mark-same, moved-kept, with_mark-other, use-kept, AreFiled-moved)
-
--- A detached leaf is granted.
-pub granted-holds : (v : Shelf) (new : List Slot) (at : ℕ) → length new ≡ length v.slots → IsLeafGranted v.slots new at
-    → (h : Holding) → IsDetachedLeaf v at h
-    → Holds (record v { slots = new }) (after_grant at (node_in v at).generation h)
-granted-holds v new at long w h leaf =
-    grind (
-      arith,
-      held_again,
-      filed-one (options_of v.options) (nodes v.slots) (nodes new) (rings v.slots) (rings new) v.heads v.unused,
-      recut-granted at (node_in v at).generation h.sequence.width h.tree,
-    )
 
 -- The slots of a shelf, and those that a call left.
 pub record AreSlots (own old mid new : List Slot) : Type 0 where
@@ -261,58 +254,43 @@ pub taken-short : (v : Shelf) (new : List Slot) (capacity i : ℕ) (n : Node) (s
 taken-short v new capacity i n slot h claimed holds room again fresh =
     grind (arith, length_push, some-front, length-rings, length-set, length-nodes)
 
--- A free leaf and an unused slot are two.
-pub apart-kinds : (ns : List Node) (i j : ℕ) → (node_at ns i).kind ≡ kind.Free → (node_at ns j).kind ≡ kind.Unused → i ≢ j
-apart-kinds ns i j free unused e = grind arith
+-- A plan is carried out in a detached leaf, the only one, in slots that are claimed.
+module _ (v : Shelf) (new : List Slot) (at : Link) (p : Plan) (t : Parts) (long : length new ≡ length v.slots)
+    (placed : IsPlaced (nodes v.slots) (nodes new) at p t) (same : rings new ≡ rings v.slots)
+    (can : CanPlace (nodes v.slots) at.number p t) (h : Holding)
+    (holds : HoldsWith (λ i. occurs i (taken_by p t)) v h) (detached : h.detached at.number ≡ true)
+    (only : IsDetachedOnly (at.number ∷ []) h) where
+  abbrev ns : List Node
+  ns = nodes v.slots
 
--- The claimed slot takes what a detached leaf doesn't keep.
-pub split-holds : (v : Shelf) (new : List Slot) (at fresh : Link) (p : ℕ) → length new ≡ length v.slots
-    → IsLeafSplit v.slots new at fresh p → CanSplitInto (nodes v.slots) at.number fresh.number p
-    → (h : Holding) (claimed : ℕ → ℕ) → IsReadyWith claimed v at.number fresh.number h
-    → HoldsWith (with_count claimed fresh.number 0) (record v { slots = new }) (after_split at.number fresh.number p h)
-split-holds v new at fresh p long w can h claimed r =
-    let i : ℕ = at.number in
-    let k : ℕ = fresh.number in
-    let apart : i ≢ k = apart-kinds (nodes v.slots) i k can.free can.unused in
-    let back_free : (node_at (nodes new) k).kind ≡ kind.Free = ap (λ n. n.kind) w.back in
-    held_again claimed (with_count claimed k 0) v new v.unused h (split_at i k p h.tree) h.unused_list (with_mark h.detached k true)
-    (omega (arith, long, r.holds.short)) r.holds (w.tree h.sequence h.tree r.holds.stands)
-    (filed-two (options_of v.options) (nodes v.slots) (nodes new) (rings v.slots) (rings new) v.heads v.unused (places_of claimed h)
-    (with_count claimed k 0) (with_mark h.detached k true) i k w.same_rings (record {
-      apart = apart;
-      first = inr (inl r.detached, inl (with_mark-other h.detached k true i apart ∙ r.detached));
-      second = inr (inr (ap is_free can.unused), inl (with_mark-same h.detached k true));
-      used = ap (λ n. use_count n.kind) w.front;
-      counted = omega (arith, with_count-same claimed k 0, ap use_count back_free, ap use_count can.unused, r.is_claimed);
-      hands = λ x ne. with_count-other claimed k 0 x ne;
-      marks = λ x _ ne. with_mark-other h.detached k true x ne;
-      others = w.others;
-    }) r.holds.filed)
-    (recut-split i k p (nodes v.slots) can.positive can.less h.sequence no_slot 0 h.tree r.holds.stands.standing)
+  abbrev ms : List Node
+  ms = nodes new
 
--- The claimed slot becomes the lone child of what was a detached leaf.
-pub wrapped-holds : (v : Shelf) (new : List Slot) (at fresh : Link) → length new ≡ length v.slots
-    → IsLeafWrapped v.slots new at fresh → (node_in v at.number).kind ≡ kind.Free → (node_in v fresh.number).kind ≡ kind.Unused
-    → (h : Holding) (claimed : ℕ → ℕ) → IsReadyWith claimed v at.number fresh.number h
-    → HoldsWith (with_count claimed fresh.number 0) (record v { slots = new }) (after_wrap at.number fresh.number h)
-wrapped-holds v new at fresh long w free unused h claimed r =
-    let i : ℕ = at.number in
-    let k : ℕ = fresh.number in
-    let apart : i ≢ k = apart-kinds (nodes v.slots) i k free unused in
-    let outer_kind : (node_at (nodes new) i).kind ≡ kind.Container = ap (λ n. n.kind) w.outer in
-    let inner_free : (node_at (nodes new) k).kind ≡ kind.Free = ap (λ n. n.kind) w.inner in
-    held_again claimed (with_count claimed k 0) v new v.unused h (wrapped_at i k h.sequence.width h.tree) h.unused_list
-    (with_mark (with_mark h.detached k true) i false)
-    (omega (arith, long, r.holds.short)) r.holds (w.tree h.sequence h.tree r.holds.stands)
-    (filed-two (options_of v.options) (nodes v.slots) (nodes new) (rings v.slots) (rings new) v.heads v.unused (places_of claimed h)
-    (with_count claimed k 0) (with_mark (with_mark h.detached k true) i false) i k w.same_rings (record {
-      apart = apart;
-      first = inr (inl r.detached, inr (ap is_free outer_kind));
-      second = inr (inr (ap is_free unused), inl (with_mark-other (with_mark h.detached k true) i false k (λ e. apart (sym e)) ∙ with_mark-same h.detached k true));
-      used = ap use_count outer_kind ∙ sym (ap use_count free);
-      counted = omega (arith, with_count-same claimed k 0, ap use_count inner_free, ap use_count unused, r.is_claimed);
-      hands = λ x ne. with_count-other claimed k 0 x ne;
-      marks = λ x ne nf. with_mark-other (with_mark h.detached k true) i false x ne ∙ with_mark-other h.detached k true x nf;
-      others = w.others;
-    }) r.holds.filed)
-    (recut-wrapped i k h.sequence.width h.tree)
+  placed_moved : (i : ℕ) → IsMoved (node_at ns i) (node_at ms i) (h.detached i) (marks_of (left_by p t) i)
+  placed_moved i = elim (cases_eq i at.number) [
+    | inl e ↦ inr (inl (ap h.detached e ∙ detached), inr (ap (λ x. is_free (node_at ms x).kind) e ∙ (placed-leaf ns ms at p t placed).1))
+    | inr ne ↦ elim (cases_lt 0 (occurs i (taken_by p t))) [
+      | inl l ↦ inr (inr (ap is_free (can.unused i l)), (placed-part ns ms at p t placed i l).1)
+      | inr z ↦
+          let none : occurs i (taken_by p t) ≡ 0 = omega (arith, z) in
+          moved-kept (node_at ns i) (node_at ms i) (h.detached i) (marks_of (left_by p t) i) (placed-others ns ms at p t placed can i ne none)
+          (untaken-unmarked p t i none ∙ sym (only i (omega (arith, same-ne i at.number ne))))
+    ]
+  ]
+
+  placed_filed : AreFiled (options_of v.options) ms (rings new) v.heads v.unused
+      (record { unused_list = h.unused_list; free_lists = h.free_lists; claimed = λ i. 0; detached = marks_of (left_by p t) })
+  placed_filed =
+      subst (λ r. AreFiled (options_of v.options) ms r v.heads v.unused
+      (record { unused_list = h.unused_list; free_lists = h.free_lists; claimed = λ i. 0; detached = marks_of (left_by p t) })) (sym same)
+      (AreFiled-moved (options_of v.options) ns ms (rings v.slots) v.heads v.unused (places_of (λ i. occurs i (taken_by p t)) h)
+      (λ i. 0) (marks_of (left_by p t)) placed_moved (λ i _. omega (arith, used_after ns ms at p t placed can i)) holds.filed)
+
+  pub placed-holds : Holds (record v { slots = new }) (after_place p t at.number (node_in v (granted_by p t at.number)).generation h)
+  placed-holds =
+      let g = (node_in v (granted_by p t at.number)).generation in
+      let short : length ns < no_slot = omega (arith, holds.short, length-nodes v.slots) in
+      held_again (λ i. occurs i (taken_by p t)) (λ i. 0) v new v.unused h (planned p t at.number g h.sequence.width h.tree) h.unused_list
+      (marks_of (left_by p t)) (omega (arith, long, holds.short)) holds
+      (Stands-placed ns ms at p t placed can h.sequence h.tree (none-unused ns short) holds.stands) placed_filed
+      (recut-planned p t at.number g ns can.feasible h.sequence no_slot 0 h.tree holds.stands.standing)

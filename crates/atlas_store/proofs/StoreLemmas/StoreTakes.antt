@@ -1,22 +1,48 @@
 -- A slot is taken and put to use at once.
-use Rattle.std.proofs.Common.{ℕ, ◌-◌, [], ◌∷◌, ◌≡◌, ◌≢◌, List, refl, sym, arith, length, true}
+use Rattle.std.proofs.Common.{
+  ℕ,
+  ◌+◌,
+  ◌-◌,
+  ◌≤◌,
+  ◌≡◌,
+  ◌≢◌,
+  [],
+  ◌∷◌,
+  List,
+  refl,
+  sym,
+  ap,
+  subst,
+  ◌∙◌,
+  inl,
+  inr,
+  arith,
+  length,
+}
+use Rattle.std.proofs.lemmas.Bool.{cases_eq, cases_lt}
 use Rattle.atlas_store.specs.declared.store.Store.{Store}
-use Rattle.atlas_store.specs.declared.slots.NodeKind.TheVariants as kind
-use Rattle.atlas_store.specs.Slots.Links.{with_count, tail_of}
-use Rattle.atlas_store.specs.Stored.{Shelf, Holding, HoldsWith}
-use Rattle.atlas_store.specs.Store.Holdings.{node_in, HasSlotsFor, IsReadyWith, KeepsRoom, after_take, after_wrap}
-use Rattle.atlas_store.proofs.StoreLemmas.Filing.{with_count-same, with_count-other, with_mark-same, with_mark-other}
-use Rattle.atlas_store.proofs.StoreLemmas.StoreSteps.{holds-claimed, claimed-back, apart-kinds}
+use Rattle.atlas_store.specs.declared.slots.Node.{Node}
+use Rattle.atlas_store.specs.declared.slots.placing.Parts.{Parts}
+use Rattle.atlas_store.specs.declared.slots.placing.Plan.{Plan}
+use Rattle.atlas_store.specs.declared.slots.placing.Plan.TheVariants as plan
 use Rattle.atlas_store.specs.Slots.{nodes}
-
--- A slot that was just taken is claimed.
-pub ready-taken : (v : Shelf) (at fresh : ℕ) (claimed : ℕ → ℕ) (h : Holding) → HoldsWith (with_count claimed fresh 1) v (after_take h) → h.detached at ≡ true
-    → IsReadyWith (with_count claimed fresh 1) v at fresh (after_take h)
-ready-taken v at fresh claimed h holds detached = record { holds = holds; detached = detached; is_claimed = with_count-same claimed fresh 1 }
+use Rattle.atlas_store.specs.Slots.Placing.{across_of, slots_of, taken_by, CanPlace, IsFeasible}
+use Rattle.atlas_store.specs.Slots.Reading.{extent_of}
+use Rattle.atlas_store.specs.Slots.Links.{with_count, tail_of}
+use Rattle.atlas_store.specs.Slots.Lists.{occurs}
+use Rattle.atlas_store.specs.Slots.Numbered.{same}
+use Rattle.atlas_store.specs.Stored.{Shelf, Holding, Holds, HoldsWith}
+use Rattle.atlas_store.specs.Store.Holdings.{shelf_of, node_in, HasSlotsFor, KeepsRoom, with_unused_list}
+use Rattle.atlas_store.specs.Store.StoreCalls.{AreSlotsTaken, IsPlaceable, IsSlotTaken, IsUnusedSlot}
+use Rattle.atlas_store.proofs.SlotLemmas.Frames.{same-self, same-ne}
+use Rattle.atlas_store.proofs.StoreLemmas.Filing.{with_count-same, with_count-other}
+use Rattle.atlas_store.proofs.StoreLemmas.StoreSteps.{holds-claimed, claimed-back, length-nodes, length-rings}
 
 -- Nothing is claimed once the taken slot is used.
-pub used-taken : (v : Shelf) (fresh : ℕ) (claimed : ℕ → ℕ) (h : Holding) → claimed fresh ≡ 0 → HoldsWith (with_count (with_count claimed fresh 1) fresh 0) v h → HoldsWith claimed v h
-used-taken v fresh claimed h none holds = holds-claimed (with_count (with_count claimed fresh 1) fresh 0) claimed v h (λ i. sym (claimed-back claimed fresh 1 none i)) holds
+pub used-taken : (v : Shelf) (fresh : ℕ) (claimed : ℕ → ℕ) (h : Holding) → claimed fresh ≡ 0
+    → HoldsWith (with_count (with_count claimed fresh 1) fresh 0) v h → HoldsWith claimed v h
+used-taken v fresh claimed h none holds = holds-claimed (with_count (with_count claimed fresh 1) fresh 0) claimed v h
+    (λ i. sym (claimed-back claimed fresh 1 none i)) holds
 
 -- As many slots can be taken as before.
 pub slots-kept : {A : Type 0} (old new : Store A) (n : ℕ) (h : Holding) → KeepsRoom old new
@@ -28,10 +54,6 @@ pub rest-length : (xs : List ℕ) → length (tail_of xs) ≡ length xs - 1
 rest-length [] = refl
 rest-length (x ∷ xs) = omega arith
 
--- A free leaf is another slot than one that is unused.
-pub apart-leaf : (v : Shelf) (i j : ℕ) → (node_in v i).kind ≡ kind.Free → (node_in v j).kind ≡ kind.Unused → i ≢ j
-apart-leaf v i j free unused = apart-kinds (nodes v.slots) i j free unused
-
 -- Two slots are taken: b, and then f. Both are claimed, and no other is.
 abbrev pub two_claimed : (b f : ℕ) → ℕ → ℕ
 two_claimed b f = with_count (with_count (λ i. 0) b 1) f 1
@@ -42,7 +64,135 @@ second-claimed b f apart = grind (arith, with_count-other, with_count-same)
 pub none-claimed : (b f : ℕ) (i : ℕ) → 0 ≡ with_count (with_count (two_claimed b f) f 0) b 0 i
 none-claimed b f i = grind (arith, with_count-same, with_count-other)
 
--- The child of what was a detached leaf is ready to be split.
-pub ready-wrapped : (v : Shelf) (at f b : ℕ) (h : Holding) → f ≢ b → f ≢ at → HoldsWith (with_count (two_claimed b f) f 0) v (after_wrap at f h)
-    → IsReadyWith (with_count (two_claimed b f) f 0) v f b (after_wrap at f h)
-ready-wrapped v at f b h apart other holds = grind (arith, with_mark-other, with_mark-same, second-claimed)
+-- Slots are taken one after another.
+
+-- Fewer slots are there too.
+pub fewer-slots : {A : Type 0} (m n : ℕ) (v : Store A) (h : Holding) → m ≤ n → HasSlotsFor n v h → HasSlotsFor m v h
+fewer-slots m n v h l s = elim s [ inl a ↦ inl (omega arith) | inr b ↦ inr (omega (arith, b.0), omega (arith, b.1)) ]
+
+pub none-taken : {A : Type 0} (v : Store A) → AreSlotsTaken v v []
+none-taken v = record {
+  taken = λ h n holds room. (h.unused_list, holds, fewer-slots n (n + 0) v h (omega arith) room, omega arith);
+  was_unused = λ k l. absurd (omega (arith, l));
+  fresh = λ k l. absurd (omega (arith, l));
+  others = λ j z. refl;
+  options = refl;
+  capacity = refl;
+  once = λ f. f;
+  turns = refl;
+}
+
+-- Another one can be taken.
+pub ready-taken : {A : Type 0} {v0 v : Store A} {ks : List ℕ} (m : ℕ) → AreSlotsTaken v0 v ks → 1 + length ks ≤ m
+    → (h : Holding) → Holds (shelf_of v0) h → HasSlotsFor m v0 h
+    → (h : Holding) × (claimed : ℕ → ℕ) × HoldsWith claimed (shelf_of v) h × HasSlotsFor 1 v h
+ready-taken {A} {v0} {v} {ks} m w l h holds room =
+    let got = w.taken h 1 holds (fewer-slots (1 + length ks) m v0 h l room) in
+    (with_unused_list got.0 h, λ i. occurs i ks, got.1, got.2)
+
+pub more-taken : {A : Type 0} {v0 v v' : Store A} {k : ℕ} {ks : List ℕ} (m : ℕ) → AreSlotsTaken v0 v ks
+    → 1 + length ks ≤ m
+    → (h : Holding) → Holds (shelf_of v0) h → HasSlotsFor m v0 h → IsSlotTaken v v' k → AreSlotsTaken v0 v' (k ∷ ks)
+more-taken {A} {v0} {v} {v'} {k} {ks} m w l h0 holds0 room0 step =
+    let unclaimed : occurs k ks ≡ 0 = elim (cases_lt 0 (occurs k ks)) [
+      | inl some ↦
+          let r = ready-taken m w l h0 holds0 room0 in
+          let got = w.taken h0 1 holds0 (fewer-slots (1 + length ks) m v0 h0 l room0) in
+          absurd (step.apart (with_unused_list got.0 h0) (λ i. occurs i ks) k got.1 some (w.fresh k some).inside refl)
+      | inr z ↦ omega (arith, z)
+    ] in
+    record {
+      taken = λ h n holds room.
+          let got = w.taken h (n + 1) holds (fewer-slots (n + 1 + length ks) (n + length (k ∷ ks)) v0 h (omega arith)
+          room) in
+          let now = step.taken (with_unused_list got.0 h) (λ i. occurs i ks) got.1 in (
+            tail_of got.0,
+            holds-claimed (with_count (λ i. occurs i ks) k 1) (λ i. occurs i (k ∷ ks)) (shelf_of v')
+                (with_unused_list (tail_of got.0) h)
+                (λ i. grind (arith, cases_eq i k, same-self k, same-ne i k, with_count-same, with_count-other)) now,
+            step.slots (with_unused_list got.0 h) (λ i. occurs i ks) n got.1 got.2,
+            omega (arith, rest-length got.0, got.3),
+          );
+      was_unused = λ i l. elim (cases_eq i k) [
+        | inl e ↦ ap (λ x. (node_in (shelf_of v0) x).kind) e ∙ ap (λ (n : Node). n.kind) (sym (w.others k unclaimed))
+            ∙ step.was_unused
+        | inr ne ↦ w.was_unused i (omega (arith, l, same-ne i k ne))
+      ];
+      fresh = λ i l. elim (cases_eq i k) [
+        | inl e ↦ subst (λ x. IsUnusedSlot v' x) (sym e) step.fresh
+        | inr ne ↦
+            let was = w.fresh i (omega (arith, l, same-ne i k ne)) in
+            record {
+              unused = ap (λ (n : Node). n.kind) (step.others i ne)
+                  ∙ was.unused;
+              inside = omega (arith, was.inside, step.longer);
+            }
+      ];
+      others = λ j z. step.others j (λ e. absurd (omega (arith, z, ap (same j) e, same-self j)))
+          ∙ w.others j (omega (arith, z));
+      options = step.options ∙ w.options;
+      capacity = step.capacity ∙ w.capacity;
+      once = λ f. step.once (w.once f);
+      turns = step.turns ∙ w.turns;
+    }
+
+-- The same where the slots are those of a plan.
+abbrev pub HasSlotsOf : {A : Type 0} → Plan → Store A → Type 0
+HasSlotsOf p v = (h : Holding) × Holds (shelf_of v) h × HasSlotsFor (slots_of p) v h
+
+pub take-next : {A : Type 0} {v0 v : Store A} {ks : List ℕ} {p q : Plan} → p ≡ q → AreSlotsTaken v0 v ks
+    → 1 + length ks ≤ slots_of q
+    → HasSlotsOf p v0 → (h : Holding) × (claimed : ℕ → ℕ) × HoldsWith claimed (shelf_of v) h × HasSlotsFor 1 v h
+take-next {A} {v0} {v} {ks} {p} {q} e w l r =
+    let have : HasSlotsOf q v0 = subst (λ p. HasSlotsOf p v0) e r in ready-taken (slots_of q) w l have.0 have.1 have.2
+
+pub took-next : {A : Type 0} {v0 v v' : Store A} {k : ℕ} {ks : List ℕ} {p q : Plan} → p ≡ q → AreSlotsTaken v0 v ks
+    → 1 + length ks ≤ slots_of q → HasSlotsOf p v0 → IsSlotTaken v v' k → AreSlotsTaken v0 v' (k ∷ ks)
+took-next {A} {v0} {v} {v'} {k} {ks} {p} {q} e w l r step =
+    let have : HasSlotsOf q v0 = subst (λ p. HasSlotsOf p v0) e r in more-taken (slots_of q) w l have.0 have.1 have.2
+    step
+
+pub taken-as : {A : Type 0} {v v' : Store A} {p q : Plan} (t : Parts) → p ≡ q → AreSlotsTaken v v' (taken_by q t)
+    → AreSlotsTaken v v' (taken_by p t)
+taken-as {A} {v} {v'} t e w = subst (λ p. AreSlotsTaken v v' (taken_by p t)) (sym e) w
+
+pub taken-number : (p : Plan) (t : Parts) → length (taken_by p t) ≡ slots_of p
+taken-number plan.Whole t = refl
+taken-number (plan.StripAlong p) t = refl
+taken-number (plan.CornerAlong p q) t = refl
+taken-number (plan.StripAcross q) t = refl
+taken-number (plan.CornerAcross p q) t = refl
+
+-- A plan can be carried out in the slots that were taken for it.
+module _ {A : Type 0} {old mid : Store A} (at : ℕ) (p : Plan) (t : Parts)
+    (taken : AreSlotsTaken old mid (taken_by p t)) (h : Holding)
+    (ready : IsPlaceable old at p h) where
+  pub held-taken : (unused_list : List ℕ) × HoldsWith (λ i. occurs i (taken_by p t)) (shelf_of mid)
+      (with_unused_list unused_list h)
+      × HasSlotsFor 0 mid (with_unused_list unused_list h)
+      × (length unused_list ≡ length h.unused_list - length (taken_by p t))
+  held-taken =
+      let all : slots_of p ≡ 0 + length (taken_by p t) = omega (arith, taken-number p t) in
+      taken.taken h 0 ready.leaf.holds (subst (λ n. HasSlotsFor n old h) all ready.slots)
+
+  leaf_same : node_in (shelf_of mid) at ≡ node_in (shelf_of old) at
+  leaf_same = taken.others at (elim (cases_lt 0 (occurs at (taken_by p t))) [
+    | inl l ↦ let free = ready.leaf.kind in let unused = taken.was_unused at l in cc
+    | inr z ↦ omega (arith, z)
+  ])
+
+  pub can-taken : CanPlace (nodes mid.slots.items) at p t
+  can-taken = record {
+    free = ap (λ (n : Node). n.kind) leaf_same ∙ ready.leaf.kind;
+    feasible = subst (λ n. IsFeasible p (extent_of n) (across_of n)) (sym leaf_same) ready.feasible;
+    unused = λ i l. (taken.fresh i l).unused;
+    inside = λ i l. omega (arith, (taken.fresh i l).inside, length-nodes mid.slots.items);
+    once = λ i. elim (cases_lt 0 (occurs i (taken_by p t))) [
+      | inl l ↦ omega (
+        arith,
+        held-taken.1.filed.each i
+            (omega (arith, (taken.fresh i l).inside, length-rings mid.slots.items)),
+      )
+      | inr z ↦ omega (arith, z)
+    ];
+  }

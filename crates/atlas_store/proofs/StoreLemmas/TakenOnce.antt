@@ -1,6 +1,6 @@
 -- Slots that were taken once, where the calls of the store change other parts of them.
-use Rattle.std.proofs.Common.{arith, ℕ, ◌≡◌, ◌≢◌, List, [], ◌∷◌, length, ap, ◌∙◌, subst, sym}
-use Rattle.std.proofs.lemmas.Bool.{cases_eq, cases_lt}
+use Rattle.std.proofs.Common.{arith, ℕ, ◌≡◌, List, [], ◌∷◌, length, ap, ◌∙◌, subst, sym}
+use Rattle.std.proofs.lemmas.Bool.{cases_lt}
 use Rattle.std.proofs.lemmas.List.{get_or_past}
 use Rattle.std.proofs.lemmas.List.Elements.{All-from_get_or, All-get_or}
 use Rattle.atlas_store.specs.declared.slots.Link.{Link}
@@ -8,7 +8,7 @@ use Rattle.atlas_store.specs.declared.slots.Node.{Node}
 use Rattle.atlas_store.specs.declared.slots.Slot.{Slot}
 use Rattle.atlas_model.specs.declared.geometry.Size.{Size}
 use Rattle.atlas_store.specs.Generations.{AreFirstGenerations}
-use Rattle.atlas_store.specs.Slots.{nodes, node_at, no_slot, blank_node, AreTakenOnce, KeepsUse}
+use Rattle.atlas_store.specs.Slots.{nodes, node_at, no_slot, blank_node, AreTakenOnce}
 use Rattle.atlas_store.specs.Store.Starts.{one_free_slot}
 use Rattle.atlas_store.specs.Stored.{AtlasValue, Shelf}
 
@@ -22,19 +22,6 @@ once-same {ns} {ms} {u} same = once-kept (λ k. ap (λ (xs : List Node). (node_a
 
 pub once-shelf : (v w : Shelf) → w ≡ v → AreTakenOnce (nodes v.slots) v.unused → AreTakenOnce (nodes w.slots) w.unused
 once-shelf v w same = subst (λ (s : Shelf). AreTakenOnce (nodes s.slots) s.unused) (sym same)
-
--- One slot changes, and keeps its generation.
-pub once-one : {ns ms : List Node} {u : Link} (i : ℕ) → (node_at ms i).generation ≡ (node_at ns i).generation
-    → ((k : ℕ) → k ≢ i → KeepsUse (node_at ns k) (node_at ms k)) → AreTakenOnce ns u → AreTakenOnce ms u
-once-one {ns} {ms} {u} i here others =
-    once-kept (λ k. grind (arith, cases_eq k i))
-
--- Two slots do.
-pub once-two : {ns ms : List Node} {u : Link} (i j : ℕ) → (node_at ms i).generation ≡ (node_at ns i).generation
-    → (node_at ms j).generation ≡ (node_at ns j).generation
-    → ((k : ℕ) → k ≢ i → k ≢ j → KeepsUse (node_at ns k) (node_at ms k)) → AreTakenOnce ns u → AreTakenOnce ms u
-once-two {ns} {ms} {u} i j first second others =
-    once-kept (λ k. grind (arith, cases_eq k i, cases_eq k j))
 
 -- An atlas of one free slot.
 whole-first : (size : Size) (k : ℕ) → (node_at (nodes (one_free_slot size ∷ [])) k).generation ≡ 0

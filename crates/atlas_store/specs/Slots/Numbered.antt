@@ -1,5 +1,5 @@
 -- The tree of cuts, each member with the number of its slot. No public clause cites this module.
-use Rattle.std.specs.Prelude.{ℕ, ◌+◌, ◌-◌, ◌*◌, ◌==◌, Bool, false, if◌then◌else◌}
+use Rattle.std.specs.Prelude.{ℕ, ◌+◌, ◌*◌, ◌==◌, Bool, false, if◌then◌else◌}
 use Rattle.atlas_model.specs.Trees.{Members, most_slots}
 use Rattle.atlas_model.specs.Trees as tree
 use Rattle.atlas_store.specs.Slots.{no_slot}
@@ -112,19 +112,3 @@ lifted_to j e inner rest = Seq j e inner rest
 -- The container at slot i gives way to its lone free child.
 abbrev pub lifted : ℕ → Numbered → Numbered
 lifted i n = edited (is_seq_at i) (on_seq lifted_to) n
-
--- The free leaf at slot i is granted, under the generation g.
-abbrev pub granted_at : (i g : ℕ) → Numbered → Numbered
-granted_at i g n = edited (is_free_at i) (on_free (λ j e rest. Alloc j g e rest)) n
-
--- The free leaf at slot i keeps p of its extent, and slot k takes the rest after it.
-abbrev pub split_at : (i k p : ℕ) → Numbered → Numbered
-split_at i k p n = edited (is_free_at i) (on_free (λ j e rest. Free j p (Free k (e - p) rest))) n
-
--- A free first member becomes a container of one free leaf at slot k.
-abbrev pub wrapping : (k : ℕ) → (across : ℕ) → Numbered → Numbered
-wrapping k across = on_free (λ j e rest. Seq j e (Free k across End) rest)
-
--- The free leaf at slot i becomes a container of one free leaf at slot k, in a sequence that spans `across`.
-abbrev pub wrapped_at : (i k : ℕ) → (across : ℕ) → Numbered → Numbered
-wrapped_at i k across n = edited_in (is_free_at i) (wrapping k) (wrapping k across) n

@@ -1,7 +1,6 @@
 -- What the calls on the tree of the slots ask, and what they leave. No public clause cites this module.
 use Rattle.std.specs.Prelude.{ℕ, ◌+◌, ◌≡◌, ◌≢◌, ◌<◌, ◌⊎◌, List}
 use Rattle.atlas_store.specs.declared.slots.Slot.{Slot}
-use Rattle.atlas_store.specs.declared.slots.Link.{Link}
 use Rattle.atlas_store.specs.declared.slots.Node.{Node}
 use Rattle.atlas_store.specs.declared.slots.NodeKind.TheVariants as kind
 use Rattle.atlas_model.specs.declared.geometry.Size.{Size}
@@ -9,14 +8,13 @@ use Rattle.atlas_model.specs.Boxes.{other, side}
 use Rattle.atlas_model.specs.Pixels.{sides_of}
 use Rattle.atlas_model.specs.Trees.{total}
 use Rattle.atlas_store.specs.Slots.{nodes, rings, node_at, no_slot, KeepsUse}
-use Rattle.atlas_store.specs.Slots.Numbered.{Numbered, marked, joined, lifted, granted_at, split_at, wrapped_at}
+use Rattle.atlas_store.specs.Slots.Numbered.{Numbered, marked, joined, lifted}
 use Rattle.atlas_store.specs.Slots.Numbered.{End, Free, Seq, erase, first_slot}
 use Rattle.atlas_store.specs.Slots.Standing.{Sequence, Standing, Stands}
 use Rattle.atlas_store.specs.Slots.Growing.{Reaches, last_slot, stretched, appended, held_by, top_along}
 use Rattle.atlas_store.specs.Slots.Growing.{stretched_area, whole_sequence}
 use Rattle.atlas_store.specs.Slots.Calm.{IsCalmAt, IsCalmBut}
-use Rattle.atlas_store.specs.Slots.Reading.{extent_of}
-use Rattle.atlas_store.specs.Slots.Parts.{front_node, back_node, inner_node, joined_node}
+use Rattle.atlas_store.specs.Slots.Parts.{joined_node}
 
 -- Slot i is a free leaf, and so is the next one.
 pub record IsFreePair (ns : List Node) (i : ℕ) : Type 0 where
@@ -30,13 +28,6 @@ pub record IsLoneLeaf (ns : List Node) (i : ℕ) : Type 0 where
   pub last : (node_at ns i).next.number ≡ no_slot
   pub nested : (node_at ns i).parent.number ≢ no_slot
 
--- Slot i is a free leaf longer than p, and slot k is unused.
-pub record CanSplitInto (ns : List Node) (i k p : ℕ) : Type 0 where
-  pub free : (node_at ns i).kind ≡ kind.Free
-  pub unused : (node_at ns k).kind ≡ kind.Unused
-  pub positive : 0 < p
-  pub less : p < extent_of (node_at ns i)
-
 -- The tree that the slots hold, in a sequence s, is changed by `f s`.
 abbrev pub ChangesTree : (old new : List Slot) → (Sequence → Numbered → Numbered) → Type 0
 ChangesTree old new f = (s : Sequence) (n : Numbered) → Stands (nodes old) s n → Stands (nodes new) s (f s n)
@@ -46,13 +37,6 @@ pub record IsLeafFreed (old new : List Slot) (i : ℕ) : Type 0 where
   pub tree : ChangesTree old new (λ s. marked i)
   pub calm : ((k : ℕ) → IsCalmAt (nodes old) k) → IsCalmBut (nodes new) i
   pub leaf : node_at (nodes new) i ≡ record (node_at (nodes old) i) { kind = kind.Free }
-  pub others : (k : ℕ) → k ≢ i → KeepsUse (node_at (nodes old) k) (node_at (nodes new) k)
-  pub same_rings : rings new ≡ rings old
-
--- The free leaf of slot i is granted.
-pub record IsLeafGranted (old new : List Slot) (i : ℕ) : Type 0 where
-  pub tree : ChangesTree old new (λ s. granted_at i (node_at (nodes old) i).generation)
-  pub leaf : node_at (nodes new) i ≡ record (node_at (nodes old) i) { kind = kind.Alloc }
   pub others : (k : ℕ) → k ≢ i → KeepsUse (node_at (nodes old) k) (node_at (nodes new) k)
   pub same_rings : rings new ≡ rings old
 
@@ -75,26 +59,6 @@ pub record IsChildLifted (old new : List Slot) (i c : ℕ) : Type 0 where
   pub leaf : node_at (nodes new) i ≡ record (node_at (nodes old) i) { kind = kind.Free }
   pub given : node_at (nodes new) c ≡ record (node_at (nodes old) c) { kind = kind.Unused }
   pub others : (k : ℕ) → k ≢ i → k ≢ c → KeepsUse (node_at (nodes old) k) (node_at (nodes new) k)
-  pub same_rings : rings new ≡ rings old
-
--- The free leaf at `at` keeps p of its extent, and `fresh` is a free leaf of the rest.
-pub record IsLeafSplit (old new : List Slot) (at fresh : Link) (p : ℕ) : Type 0 where
-  pub tree : ChangesTree old new (λ s. split_at at.number fresh.number p)
-  pub front : node_at (nodes new) at.number ≡ front_node (node_at (nodes old) at.number) p fresh
-  pub back : node_at (nodes new) fresh.number
-      ≡ back_node (node_at (nodes old) at.number) p at (node_at (nodes old) fresh.number)
-  pub others : (k : ℕ) → k ≢ at.number → k ≢ fresh.number
-      → KeepsUse (node_at (nodes old) k) (node_at (nodes new) k)
-  pub same_rings : rings new ≡ rings old
-
--- The free leaf at `at` is a container, and `fresh` is its lone free leaf.
-pub record IsLeafWrapped (old new : List Slot) (at fresh : Link) : Type 0 where
-  pub tree : ChangesTree old new (λ s. wrapped_at at.number fresh.number s.width)
-  pub outer : node_at (nodes new) at.number ≡ record (node_at (nodes old) at.number) { kind = kind.Container }
-  pub inner : node_at (nodes new) fresh.number
-      ≡ inner_node (node_at (nodes old) at.number) at (node_at (nodes old) fresh.number)
-  pub others : (k : ℕ) → k ≢ at.number → k ≢ fresh.number
-      → KeepsUse (node_at (nodes old) k) (node_at (nodes new) k)
   pub same_rings : rings new ≡ rings old
 
 -- Slot i is a member, and slot k is unused.

@@ -2,16 +2,18 @@
 use Rattle.std.specs.Prelude.{ℕ, ◌+◌, ◌≡◌, ◌≤◌, ◌⊎◌, Bool, true, false, List, ◌∷◌, length, vec_capacity}
 use Rattle.atlas_store.specs.declared.store.Store.{Store}
 use Rattle.atlas_store.specs.declared.slots.Node.{Node}
+use Rattle.atlas_store.specs.declared.slots.placing.Parts.{Parts}
+use Rattle.atlas_store.specs.declared.slots.placing.Plan.{Plan}
 use Rattle.atlas_store.specs.declared.slots.NodeKind.TheVariants as kind
-use Rattle.atlas_model.specs.Boxes.{side, other, box_sides}
-use Rattle.atlas_model.specs.Pixels.{box_of, options_of}
+use Rattle.atlas_model.specs.Pixels.{options_of}
 use Rattle.atlas_store.specs.Search.Bands.{list_of}
 use Rattle.atlas_model.specs.Trees.{most_slots}
 use Rattle.atlas_store.specs.Slots.Lists.{node_sides, node_top}
-use Rattle.atlas_store.specs.Slots.{nodes, node_at, axis_of, AreTakenOnce}
+use Rattle.atlas_store.specs.Slots.{nodes, node_at, AreTakenOnce}
 use Rattle.atlas_store.specs.Slots.Links.{with_mark, tail_of}
-use Rattle.atlas_store.specs.Slots.Numbered.{Numbered, marked, joined, lifted, granted_at, split_at, wrapped_at}
-use Rattle.atlas_store.specs.Stored.{Shelf, Holding, Holds, HoldsWith}
+use Rattle.atlas_store.specs.Slots.Numbered.{Numbered, marked, joined, lifted}
+use Rattle.atlas_store.specs.Slots.Placing.{left_by, marks_of, planned}
+use Rattle.atlas_store.specs.Stored.{Shelf, Holding, Holds}
 
 -- The stored part of a store.
 abbrev pub shelf_of : {A : Type 0} → Store A → Shelf
@@ -72,28 +74,13 @@ IsTakenOnce s = AreTakenOnce (nodes s.slots.items) s.unused
 abbrev pub KeepsTakenOnce : {A : Type 0} → (old new : Store A) → Type 0
 KeepsTakenOnce old new = IsTakenOnce old → IsTakenOnce new
 
--- Slot i is a detached leaf, and slot k is claimed.
-pub record IsReadyWith (claimed : ℕ → ℕ) (v : Shelf) (i k : ℕ) (h : Holding) : Type 0 where
-  pub holds : HoldsWith claimed v h
-  pub detached : h.detached i ≡ true
-  pub is_claimed : claimed k ≡ 1
-
 -- The first unused slot is gone, if there was one.
 abbrev pub after_take : Holding → Holding
 after_take h = with_unused_list (tail_of h.unused_list) h
 
--- What a leaf of slot i becomes when it is granted.
-abbrev pub after_grant : (i g : ℕ) → Holding → Holding
-after_grant i g h = with_detached i false (with_numbered (granted_at i g h.tree) h)
-
--- Slot k takes what a detached leaf of slot i doesn't keep, p of its extent.
-abbrev pub after_split : (i k p : ℕ) → Holding → Holding
-after_split i k p h = with_detached k true (with_numbered (split_at i k p h.tree) h)
-
--- Slot k is the lone child of what was the detached leaf of slot i.
-abbrev pub after_wrap : (i k : ℕ) → Holding → Holding
-after_wrap i k h =
-    with_detached i false (with_detached k true (with_numbered (wrapped_at i k h.sequence.width h.tree) h))
+-- The detached leaf of slot i, the only one, gives way to what a plan says, under generation g.
+abbrev pub after_place : Plan → Parts → (i g : ℕ) → Holding → Holding
+after_place p t i g h = record h { tree = planned p t i g h.sequence.width h.tree; detached = marks_of (left_by p t) }
 
 -- The granted leaf of slot i is free, and detached.
 abbrev pub after_mark : (i : ℕ) → Holding → Holding
@@ -108,7 +95,3 @@ abbrev pub after_lift : (i c : ℕ) → Holding → Holding
 after_lift i c h =
     with_unused_list (c ∷ h.unused_list) (with_detached c false
     (with_detached i true (with_numbered (lifted i h.tree) h)))
-
--- The side of a leaf across the sequence that holds it.
-abbrev pub across_of : Node → ℕ
-across_of leaf = side (other (axis_of leaf.axis)) (box_sides (box_of leaf.area))

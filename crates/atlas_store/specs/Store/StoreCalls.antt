@@ -1,31 +1,31 @@
 -- What each call of the store does, in one word. No public clause cites this module.
-use Rattle.std.specs.Prelude.{ℕ, ◌+◌, ◌-◌, ◌<◌, ◌≤◌, ◌≡◌, ◌≢◌, ◌⊎◌, List, length, true, false, vec_capacity}
+use Rattle.std.specs.Prelude.{ℕ, ◌+◌, ◌-◌, ◌<◌, ◌≤◌, ◌≡◌, ◌≢◌, ◌⊎◌, List, [], ◌∷◌, length, true, false, vec_capacity}
 use Rattle.atlas_store.specs.declared.store.Store.{Store}
 use Rattle.atlas_store.specs.declared.slots.Link.{Link}
+use Rattle.atlas_store.specs.declared.slots.placing.Parts.{Parts}
+use Rattle.atlas_store.specs.declared.slots.placing.Plan.{Plan}
 use Rattle.atlas_store.specs.declared.slots.NodeKind.TheVariants as kind
 use Rattle.atlas_store.specs.Slots.Calm.{IsCalmAt, IsCalmBut}
 use Rattle.atlas_store.specs.Slots.Links.{with_count}
-use Rattle.atlas_store.specs.Slots.Parts.{front_node, back_node, inner_node, joined_node}
+use Rattle.atlas_store.specs.Slots.Lists.{occurs}
+use Rattle.atlas_store.specs.Slots.Parts.{joined_node}
+use Rattle.atlas_store.specs.Slots.Placing.{across_of, granted_by, left_by, slots_of, IsFeasible}
 use Rattle.atlas_store.specs.Slots.Reading.{extent_of}
-use Rattle.atlas_store.specs.Slots.{nodes, KeepsUse}
-use Rattle.atlas_store.specs.Stored.{Holding, Holds, HoldsWith}
+use Rattle.atlas_store.specs.Slots.{nodes}
+use Rattle.atlas_store.specs.Stored.{Holding, Holds, HoldsWith, IsDetachedOnly}
 use Rattle.atlas_store.specs.Store.Holdings.{
   shelf_of,
   node_in,
-  across_of,
   HasSlotsFor,
   IsDetachedLeaf,
   IsLow,
-  IsReadyWith,
   KeepsRoom,
   KeepsTakenOnce,
   with_detached,
   with_free_lists,
   with_unused_list,
   after_take,
-  after_grant,
-  after_split,
-  after_wrap,
+  after_place,
   after_mark,
   after_join,
   after_lift,
@@ -43,12 +43,6 @@ IsReadyFor n s i = (h : Holding) × IsDetachedLeaf (shelf_of s) i h × HasSlotsF
 pub record IsUnusedSlot {A : Type 0} (s : Store A) (i : ℕ) : Type 0 where
   pub unused : (node_in (shelf_of s) i).kind ≡ kind.Unused
   pub inside : i < length s.slots.items
-
--- Slot i is a detached leaf, and slot k is claimed.
-pub record HasClaimed {A : Type 0} (s : Store A) (i k : ℕ) : Type 0 where
-  pub ready : (h : Holding) × (claimed : ℕ → ℕ) × IsReadyWith claimed (shelf_of s) i k h
-  pub free : (node_in (shelf_of s) i).kind ≡ kind.Free
-  pub fresh : IsUnusedSlot s k
 
 -- The free leaf of slot i left its list.
 pub record UnlistsLeaf {A : Type 0} (old new : Store A) (i : ℕ) : Type 0 where
@@ -76,16 +70,6 @@ pub record ListsLeaf {A : Type 0} (old new : Store A) (i : ℕ) : Type 0 where
   pub once : KeepsTakenOnce old new
   pub turns : new.turns ≡ old.turns
 
--- The detached leaf of slot i is granted.
-pub record GrantsLeaf {A : Type 0} (old new : Store A) (i : ℕ) : Type 0 where
-  pub kept : (h : Holding) → IsDetachedLeaf (shelf_of old) i h
-      → Holds (shelf_of new) (after_grant i (node_in (shelf_of old) i).generation h)
-  pub granted : node_in (shelf_of new) i ≡ record (node_in (shelf_of old) i) { kind = kind.Alloc }
-  pub others : (j : ℕ) → j ≢ i → KeepsUse (node_in (shelf_of old) j) (node_in (shelf_of new) j)
-  pub room : KeepsRoom old new
-  pub once : KeepsTakenOnce old new
-  pub turns : new.turns ≡ old.turns
-
 -- Slot k was unused, and is claimed.
 pub record IsSlotTaken {A : Type 0} (old new : Store A) (k : ℕ) : Type 0 where
   pub taken : (h : Holding) (claimed : ℕ → ℕ) → HoldsWith claimed (shelf_of old) h
@@ -103,32 +87,6 @@ pub record IsSlotTaken {A : Type 0} (old new : Store A) (k : ℕ) : Type 0 where
   pub once : KeepsTakenOnce old new
   pub turns : new.turns ≡ old.turns
 
--- The detached leaf of slot `at` keeps p of its extent, and slot `fresh`, which was claimed, takes the rest.
-pub record IsSplitWith {A : Type 0} (old new : Store A) (at fresh : Link) (p : ℕ) : Type 0 where
-  pub kept : (h : Holding) (claimed : ℕ → ℕ) → IsReadyWith claimed (shelf_of old) at.number fresh.number h
-      → HoldsWith (with_count claimed fresh.number 0) (shelf_of new) (after_split at.number fresh.number p h)
-  pub front : node_in (shelf_of new) at.number ≡ front_node (node_in (shelf_of old) at.number) p fresh
-  pub back : node_in (shelf_of new) fresh.number
-      ≡ back_node (node_in (shelf_of old) at.number) p at (node_in (shelf_of old) fresh.number)
-  pub others : (j : ℕ) → j ≢ at.number → j ≢ fresh.number
-      → KeepsUse (node_in (shelf_of old) j) (node_in (shelf_of new) j)
-  pub room : KeepsRoom old new
-  pub once : KeepsTakenOnce old new
-  pub turns : new.turns ≡ old.turns
-
--- The detached leaf of slot `at` is a container, and slot `fresh`, which was claimed, its lone child.
-pub record IsWrappedWith {A : Type 0} (old new : Store A) (at fresh : Link) : Type 0 where
-  pub kept : (h : Holding) (claimed : ℕ → ℕ) → IsReadyWith claimed (shelf_of old) at.number fresh.number h
-      → HoldsWith (with_count claimed fresh.number 0) (shelf_of new) (after_wrap at.number fresh.number h)
-  pub outer : node_in (shelf_of new) at.number ≡ record (node_in (shelf_of old) at.number) { kind = kind.Container }
-  pub inner : node_in (shelf_of new) fresh.number
-      ≡ inner_node (node_in (shelf_of old) at.number) at (node_in (shelf_of old) fresh.number)
-  pub others : (j : ℕ) → j ≢ at.number → j ≢ fresh.number
-      → KeepsUse (node_in (shelf_of old) j) (node_in (shelf_of new) j)
-  pub room : KeepsRoom old new
-  pub once : KeepsTakenOnce old new
-  pub turns : new.turns ≡ old.turns
-
 -- What is held once slots were taken as `after` tells: m slots of those for which there was room.
 abbrev pub TakesSlots : {A : Type 0} → (old new : Store A) → (m : ℕ) → (before : Holding → Type 0)
     → (after : Holding → Holding) → Type 0
@@ -138,42 +96,36 @@ TakesSlots old new m before after =
     × HasSlotsFor n new (with_unused_list unused_list h)
     × (length unused_list ≡ length h.unused_list - m)
 
--- The detached leaf of slot `at` keeps p of its extent, and slot k takes the rest; both are detached.
-pub record IsSplit {A : Type 0} (old new : Store A) (at k p : ℕ) : Type 0 where
-  pub kept : TakesSlots old new 1 (IsDetachedLeaf (shelf_of old) at) (after_split at k p)
-  pub front : (node_in (shelf_of new) at).kind ≡ kind.Free
-  pub across : across_of (node_in (shelf_of new) at) ≡ across_of (node_in (shelf_of old) at)
-  pub back : (node_in (shelf_of new) k).kind ≡ kind.Free
-  pub apart : k ≢ at
-  pub others : (j : ℕ) → j ≢ at → j ≢ k → KeepsUse (node_in (shelf_of old) j) (node_in (shelf_of new) j)
+-- The slots ks were unused, and are claimed, the first of them taken last.
+pub record AreSlotsTaken {A : Type 0} (old new : Store A) (ks : List ℕ) : Type 0 where
+  pub taken : (h : Holding) (n : ℕ) → Holds (shelf_of old) h → HasSlotsFor (n + length ks) old h
+      → (unused_list : List ℕ) × HoldsWith (λ i. occurs i ks) (shelf_of new) (with_unused_list unused_list h)
+      × HasSlotsFor n new (with_unused_list unused_list h)
+      × (length unused_list ≡ length h.unused_list - length ks)
+  pub was_unused : (k : ℕ) → 0 < occurs k ks → (node_in (shelf_of old) k).kind ≡ kind.Unused
+  pub fresh : (k : ℕ) → 0 < occurs k ks → IsUnusedSlot new k
+  pub others : (j : ℕ) → occurs j ks ≡ 0 → node_in (shelf_of new) j ≡ node_in (shelf_of old) j
   pub options : new.options ≡ old.options
   pub capacity : vec_capacity new.slots ≡ vec_capacity old.slots
   pub once : KeepsTakenOnce old new
   pub turns : new.turns ≡ old.turns
 
--- The detached leaf of slot `at` is a container, and slot k its lone child, which is detached.
-pub record IsWrapped {A : Type 0} (old new : Store A) (at k : ℕ) : Type 0 where
-  pub kept : TakesSlots old new 1 (IsDetachedLeaf (shelf_of old) at) (after_wrap at k)
-  pub inner : (node_in (shelf_of new) k).kind ≡ kind.Free
-  pub extent : extent_of (node_in (shelf_of new) k) ≡ across_of (node_in (shelf_of old) at)
-  pub across : across_of (node_in (shelf_of new) k) ≡ extent_of (node_in (shelf_of old) at)
-  pub apart : k ≢ at
-  pub others : (j : ℕ) → j ≢ at → j ≢ k → KeepsUse (node_in (shelf_of old) j) (node_in (shelf_of new) j)
-  pub options : new.options ≡ old.options
-  pub capacity : vec_capacity new.slots ≡ vec_capacity old.slots
-  pub once : KeepsTakenOnce old new
-  pub turns : new.turns ≡ old.turns
+-- Slot `at` is a detached leaf, the only one, in which a plan can be carried out, and there are slots for it.
+pub record IsPlaceable {A : Type 0} (s : Store A) (at : ℕ) (p : Plan) (h : Holding) : Type 0 where
+  pub leaf : IsDetachedLeaf (shelf_of s) at h
+  pub only : IsDetachedOnly (at ∷ []) h
+  pub feasible : IsFeasible p (extent_of (node_in (shelf_of s) at)) (across_of (node_in (shelf_of s) at))
+  pub slots : HasSlotsFor (slots_of p) s h
 
--- The detached leaf of slot `at` is a container of slot k, which keeps p of it, and slot l, which has the rest; both
--- are detached.
-pub record IsWrappedTwo {A : Type 0} (old new : Store A) (at k l p : ℕ) : Type 0 where
-  pub kept : TakesSlots old new 2 (IsDetachedLeaf (shelf_of old) at) (λ h. after_split k l p (after_wrap at k h))
-  pub front : (node_in (shelf_of new) k).kind ≡ kind.Free
-  pub across : across_of (node_in (shelf_of new) k) ≡ extent_of (node_in (shelf_of old) at)
-  pub back : (node_in (shelf_of new) l).kind ≡ kind.Free
-  pub front_apart : k ≢ at
-  pub back_apart : (l ≢ at) × (l ≢ k)
-  pub others : (j : ℕ) → j ≢ at → j ≢ k → j ≢ l → KeepsUse (node_in (shelf_of old) j) (node_in (shelf_of new) j)
+-- A plan was carried out in the detached leaf of slot `at`, in the slots of its parts; what is left free is detached.
+pub record IsLeafPlaced {A : Type 0} (old new : Store A) (at : ℕ) (p : Plan) (t : Parts) : Type 0 where
+  pub kept : (h : Holding) → IsPlaceable old at p h
+      → (unused_list : List ℕ) × Holds (shelf_of new) (with_unused_list unused_list
+      (after_place p t at (node_in (shelf_of new) (granted_by p t at)).generation h))
+      × (length unused_list ≡ length h.unused_list - slots_of p)
+  pub granted : (node_in (shelf_of new) (granted_by p t at)).kind ≡ kind.Alloc
+  pub left : (k : ℕ) → 0 < occurs k (left_by p t) → (node_in (shelf_of new) k).kind ≡ kind.Free
+  pub apart : (k : ℕ) → occurs k (left_by p t) ≤ 1
   pub options : new.options ≡ old.options
   pub capacity : vec_capacity new.slots ≡ vec_capacity old.slots
   pub once : KeepsTakenOnce old new

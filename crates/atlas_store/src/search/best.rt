@@ -11,7 +11,7 @@ use crate::search::table::LISTS;
 use crate::slots::Link;
 use atlas_model::{Rectangle, Size};
 
-/// The free box that a request takes, and where it stands.
+/// The free box that a request takes, and where it is.
 #[derive(Clone, Copy)]
 pub struct Found {
     pub rectangle: Rectangle,
@@ -25,7 +25,7 @@ pub struct Found {
     pub low: u32,
 }
 
-/// Where the best box stands, as `Found` has it.
+/// Where the best box is, as `Found` has it.
 #[derive(Clone, Copy)]
 pub struct Spot {
     pub at: Link,
@@ -219,7 +219,7 @@ impl Best {
         self.bar < low
     }
 
-    /// Where the best of the boxes shown stands.
+    /// Where the best of the boxes shown is.
     pub fn spot(&self) -> Option<Spot>
         ensures none { result ≡ None → self.now.rank ≡ no_rank }
         ensures some { IfSome result (λ spot. (spot ≡ self.now.spot) × (self.now.rank ≢ no_rank)) }
@@ -235,7 +235,7 @@ impl Best {
 impl Spot {
     ghost use Rattle.atlas_store.specs.Search.Bests.{found_at};
 
-    /// What stands there, with its rectangle.
+    /// What is there, with its rectangle.
     pub fn found(self, rectangle: Rectangle) -> Found
         ensures { result ≡ found_at rectangle self }
     {

@@ -1,5 +1,5 @@
 //! A test of a list of ids, in time proportional to its length and without memory: the slots that the ids name are
-//! hidden one after another, so that an id that stands twice names none the second time, and shown again.
+//! hidden one after another, so that an id that is there twice names none the second time, and shown again.
 ghost use Rattle.std.specs.Prelude.{◌≡◌, ◌≢◌, ◌≤◌, ◌↔◌, List, IsTrue, length, take};
 ghost use Rattle.atlas_store.specs.declared.slots.Node.{Node as TreePart};
 ghost use Rattle.atlas_store.specs.Slots.{nodes, rings};
@@ -41,7 +41,7 @@ fn show(slots: &mut [Slot], ids: &[AllocId])
     }
 }
 
-/// Whether each of these ids names an allocated slot, and none stands twice.
+/// Whether each of these ids names an allocated slot, and none is there twice.
 pub fn are_named_once(slots: &mut [Slot], ids: &[AllocId]) -> bool
     ensures named { IsTrue result ↔ AreNamedOnce (nodes slots.old) ids.now }
     ensures same { slots.new ≡ slots.old }

@@ -7,7 +7,7 @@ use Rattle.atlas_store.specs.declared.slots.Node.{Node}
 use Rattle.atlas_store.specs.declared.slots.NodeKind.TheVariants as kind
 use Rattle.atlas_store.specs.declared.search.best.Found.{Found}
 use Rattle.atlas_tree.specs.declared.requests.Chosen.{Chosen}
-use Rattle.atlas_tree.specs.declared.requests.Plan.{Plan}
+use Rattle.atlas_store.specs.declared.slots.placing.Plan.{Plan}
 use Rattle.atlas_model.specs.declared.allocation.Allocation.{Allocation}
 use Rattle.atlas_model.specs.declared.geometry.Rectangle.{Rectangle}
 use Rattle.atlas_model.specs.Boxes.{Sides, Box, origin, box_sides, Fits}
@@ -21,13 +21,13 @@ use Rattle.atlas_store.specs.Stored.{Shelf, Holding, Holds, places_of}
 use Rattle.atlas_store.specs.Store.Holdings.{shelf_of, node_in, with_detached, with_free_lists, IsLow}
 use Rattle.atlas_store.specs.Search.Bands.{list_of}
 use Rattle.atlas_store.specs.Slots.Lists.{node_sides, node_top}
-use Rattle.atlas_tree.specs.Plans.Planning.{IsPlanReady, IsPlanReadyWith, IsPlanDone, IsPlanned}
-use Rattle.atlas_store.specs.Store.StoreCalls.{IsSharpened, UnlistsLeaf}
+use Rattle.atlas_tree.specs.Plans.Planning.{IsPlanReady, IsPlanDone, IsPlanned}
+use Rattle.atlas_store.specs.Store.StoreCalls.{IsPlaceable, IsSharpened, UnlistsLeaf}
 use Rattle.atlas_tree.specs.Plans.Chosen.{IsAtRest, IsChosen, IsGrantable, IsGrantMade}
-use Rattle.atlas_store.proofs.StoreLemmas.Filing.{with_mark-same}
+use Rattle.atlas_store.proofs.StoreLemmas.Filing.{with_mark-same, with_mark-other}
+use Rattle.atlas_store.proofs.SlotLemmas.Frames.{same-ne}
 use Rattle.atlas_store.proofs.SlotLemmas.JoiningWrites.{used-inside}
 use Rattle.atlas_store.proofs.SlotLemmas.FreeSlots.{AreFreeBoxes-stands, exact-free, searchable}
-use Rattle.atlas_store.proofs.StoreLemmas.PlacingSteps.{only-more}
 use Rattle.atlas_store.proofs.StoreLemmas.StoreTakes.{slots-kept}
 
 module _ (v : Shelf) (h : Holding) (rest : IsAtRest v h) where
@@ -108,8 +108,8 @@ module _ {A : Type 0} {v v' : Store A} {r : Sides} {p : Chosen} {plan : Plan} {h
   abbrev unlisted : Holding
   unlisted = with_detached p.at.number true (with_free_lists left.0 h)
 
-  is_placeable : IsPlanReadyWith v' p.at.number plan unlisted
-  is_placeable = grind (arith, left, with_mark-same, only-more, slots-kept)
+  is_placeable : IsPlaceable v' p.at.number plan unlisted
+  is_placeable = grind (arith, left, with_mark-same, with_mark-other, same-ne, slots-kept)
 
   pub placeable-chosen : IsPlanReady v' p.at.number plan
   placeable-chosen = (unlisted, is_placeable)
@@ -134,7 +134,9 @@ module _ {A : Type 0} {v v' : Store A} {r : Sides} {p : Chosen} {plan : Plan} {h
             planned = record {
               holds = made.holds;
               listed = made.listed;
+              parts = made.parts;
               tree = made.tree;
+              is = made.is;
               sequence = made.sequence;
               granted = made.granted;
               unused_list = made.unused_list;

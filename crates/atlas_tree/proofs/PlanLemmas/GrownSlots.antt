@@ -22,8 +22,7 @@ use Rattle.atlas_store.proofs.StoreLemmas.Filing.{with_mark-same, with_mark-othe
 use Rattle.atlas_store.proofs.SlotLemmas.Reading.{IsNonempty}
 use Rattle.atlas_store.proofs.WalkLemmas.Observing.{nonempty-total}
 use Rattle.atlas_model.proofs.TreeLemmas.TreeBasics.{side_positive}
-use Rattle.atlas_tree.proofs.PlanLemmas.PlacingChains.{fewer-slots}
-use Rattle.atlas_store.proofs.StoreLemmas.StoreTakes.{slots-kept}
+use Rattle.atlas_store.proofs.StoreLemmas.StoreTakes.{slots-kept, fewer-slots}
 use Rattle.atlas_store.proofs.StoreLemmas.Turning.{keeps-room}
 use Rattle.atlas_store.proofs.SlotLemmas.Stretching.{first-stretched}
 use Rattle.atlas_tree.proofs.PlanLemmas.GrownTrees.{last-inside, erase-stretched, erase-appended, first-appended}

@@ -1,54 +1,54 @@
 -- A plan carried out in the leaf of a slot is the model's placing.
-use Rattle.std.proofs.Common.{ℕ, ◌+◌, ◌<◌, ◌≤◌, ◌≡◌, ◌≢◌, true, false, List, refl, sym, ap, ◌∙◌, arith}
-use Rattle.atlas_tree.specs.declared.requests.Plan.{Plan}
-use Rattle.atlas_tree.specs.declared.requests.Plan.TheVariants as plan
+use Rattle.std.proofs.Common.{ℕ, ◌+◌, ◌≤◌, ◌≡◌, Bool, true, false, cond, List, refl, sym, ap, subst, ◌∙◌, inl, inr, arith, eqb}
+use Rattle.std.proofs.lemmas.Bool.{cases_eq, eq-eqb, ne_eqb, cond-true, cond-false}
+use Rattle.atlas_store.specs.declared.slots.placing.Parts.{Parts}
+use Rattle.atlas_store.specs.declared.slots.placing.Plan.{Plan}
+use Rattle.atlas_store.specs.declared.slots.placing.Plan.TheVariants as plan
 use Rattle.atlas_store.specs.declared.slots.Node.{Node}
-use Rattle.atlas_model.specs.Boxes.{Axis, Sides, Box, other, same_axis, side}
+use Rattle.atlas_model.specs.Boxes.{
+  Axis,
+  Position,
+  Sides,
+  Box,
+  other,
+  same_axis,
+  side,
+  sized,
+  moved,
+  box_at,
+  box_sides,
+  same_box,
+  origin,
+}
 use Rattle.atlas_model.specs.Boxes.Axis.{Horizontal, Vertical}
+use Rattle.atlas_model.specs.Cuts.{cut}
 use Rattle.atlas_model.specs.Pixels.{box_of}
-use Rattle.atlas_model.specs.Changes.{place, place_need}
+use Rattle.atlas_model.specs.Trees.{Members, Tree, node_count}
+use Rattle.atlas_model.specs.Trees as tree
+use Rattle.atlas_model.specs.Changes.{put, placed, place, place_need}
 use Rattle.atlas_store.specs.Slots.{node_at, axis_of}
-use Rattle.atlas_store.specs.Slots.Numbered.{Numbered, tally, numbers, same, id_of, granted_at, split_at, wrapped_at, wrapping, is_free_at}
+use Rattle.atlas_store.specs.Slots.Numbered.{
+  Numbered,
+  tally,
+  numbers,
+  same,
+  erase,
+  id_of,
+  is_free_at,
+  End,
+  Free,
+  Alloc,
+  Seq,
+}
+use Rattle.atlas_store.specs.Slots.Placing.{granted_by, planned, put_by, putting, slots_of}
 use Rattle.atlas_store.specs.Slots.Standing.{Sequence, Stands}
-use Rattle.atlas_tree.specs.Plans.Planning.{IsPlanFor, IsPlannedTree, slots_of}
+use Rattle.atlas_tree.specs.Plans.Planning.{IsPlanFor}
 use Rattle.atlas_store.proofs.SlotLemmas.Frames.{same-self, used-le}
-use Rattle.atlas_store.proofs.SlotLemmas.Weights.{places, free_place}
-use Rattle.atlas_store.proofs.SlotLemmas.Editing.{splitting, free_here, weigh-more, places-next}
-use Rattle.atlas_store.proofs.SlotLemmas.Granting.{tally-granted}
-use Rattle.atlas_model.specs.Trees.{Tree, node_count}
+use Rattle.atlas_store.proofs.SlotLemmas.Weights.{free_tally, free_once, places-free}
+use Rattle.atlas_store.proofs.SlotLemmas.Editing.{edited-absent}
 use Rattle.atlas_store.proofs.SlotLemmas.Normal.{numbers-erase}
 use Rattle.atlas_model.proofs.TreeLemmas.TreeCounts.{place_nodes}
-use Rattle.atlas_store.proofs.SlotLemmas.SlotAims.{IsChoice, IsFitting, tree_in, place_need-choice}
-use Rattle.atlas_store.proofs.SlotLemmas.SlotCuts.{whole-placed, strip_along-placed, strip_across-placed, corner_along-placed, corner_across-placed}
-
--- No slot leaves the tree, and the taken one comes in.
-
-module _ (x i k : ℕ) where
-  more_split : (p : ℕ) (n : Numbered) → (tally x n ≤ tally x (split_at i k p n)) × (0 < places (is_free_at i) n → tally x n + same x k ≤ tally x (split_at i k p n))
-  more_split p = weigh-more (is_free_at i) (splitting k p) (same x) (same x k) (λ a. free_here i (λ m. tally x m + same x k ≤ tally x (splitting k p a m)) (λ e rest. omega arith)) 0
-
-  pub split-keeps : (p : ℕ) (n : Numbered) → tally x n ≤ tally x (split_at i k p n)
-  split-keeps p n = (more_split p n).0
-
-  pub split-adds : (p : ℕ) (n : Numbered) → 0 < places (is_free_at i) n → tally x n + same x k ≤ tally x (split_at i k p n)
-  split-adds p n = (more_split p n).1
-
-  more_wrapped : (across : ℕ) (n : Numbered) → (tally x n ≤ tally x (wrapped_at i k across n)) × (0 < places (is_free_at i) n → tally x n + same x k ≤ tally x (wrapped_at i k across n))
-  more_wrapped = weigh-more (is_free_at i) (wrapping k) (same x) (same x k) (λ a. free_here i (λ m. tally x m + same x k ≤ tally x (wrapping k a m)) (λ e rest. omega arith))
-
-  pub wrapped-keeps : (across : ℕ) (n : Numbered) → tally x n ≤ tally x (wrapped_at i k across n)
-  wrapped-keeps across n = (more_wrapped across n).0
-
-  pub wrapped-adds : (across : ℕ) (n : Numbered) → 0 < places (is_free_at i) n → tally x n + same x k ≤ tally x (wrapped_at i k across n)
-  wrapped-adds across n = (more_wrapped across n).1
-
--- The first part of a cut leaf is free, and so is the leaf inside a new container.
-
-pub split-stays : (i k p : ℕ) (n : Numbered) → 0 < places (is_free_at i) n → 0 < places (is_free_at i) (split_at i k p n)
-split-stays i k p = places-next (is_free_at i) (splitting k p) (is_free_at i) (λ a. free_here i (λ m. 0 < places (is_free_at i) (splitting k p a m)) (λ e rest. omega (arith, same-self i))) 0
-
-pub wrapped-gains : (i k across : ℕ) (n : Numbered) → 0 < places (is_free_at i) n → 0 < places (is_free_at k) (wrapped_at i k across n)
-wrapped-gains i k = places-next (is_free_at i) (wrapping k) (is_free_at k) (λ a. free_here i (λ m. 0 < places (is_free_at k) (wrapping k a m)) (λ e rest. omega (arith, same-self k)))
+use Rattle.atlas_store.proofs.SlotLemmas.SlotAims.{IsAim, IsChoice, IsFitting, aim-choice, tree_in, place_need-choice}
 
 -- Axes
 
@@ -60,84 +60,97 @@ same_axis-other : (a : Axis) → same_axis (other a) a ≡ false
 same_axis-other Horizontal = refl
 same_axis-other Vertical = refl
 
-apart_from : (x y : ℕ) → same x y ≡ 0 → x ≢ y
-apart_from x y z e = absurd (omega (arith, same-self x, ap (same x) e))
+-- What a plan puts in the place of a leaf is what the cut of its box and the request puts there.
+put-plan : (leaf : Node) (r : Sides) (p : Plan) → IsPlanFor leaf r p
+    → (t : Parts) (i g across e : ℕ) (rest : Numbered)
+    → erase (put_by p t g across i e rest) ≡ put (cut (box_sides (box_of leaf.area)) r) (axis_of leaf.axis) e across
+    (side (axis_of leaf.axis) r) (side (other (axis_of leaf.axis)) r) (id_of (granted_by p t i) g) (erase rest)
+put-plan leaf r plan.Whole for t i g across e rest = rw for refl
+put-plan leaf r (plan.StripAlong p) for t i g across e rest =
+    rw (for.0, same_axis-itself (axis_of leaf.axis), for.1) refl
+put-plan leaf r (plan.CornerAlong p q) for t i g across e rest =
+    rw (for.0, same_axis-itself (axis_of leaf.axis), for.1, for.2) refl
+put-plan leaf r (plan.StripAcross q) for t i g across e rest =
+    rw (for.0, same_axis-other (axis_of leaf.axis), for.1) refl
+put-plan leaf r (plan.CornerAcross p q) for t i g across e rest =
+    rw (for.0, same_axis-other (axis_of leaf.axis), for.1, for.2) refl
 
-module _ (size : Sides) (ns : List Node) (s : Sequence) (n : Numbered) (i : ℕ) (r : Sides) (h : IsChoice size ns s n i) (fit : IsFitting ns i r) where
+module _ (leaf : Node) (r : Sides) (p : Plan) (for : IsPlanFor leaf r p) (t : Parts) (i g : ℕ) where
   abbrev f : Box
-  f = box_of (node_at ns i).area
+  f = box_of leaf.area
 
   abbrev a : Axis
-  a = axis_of (node_at ns i).axis
+  a = axis_of leaf.axis
 
-  here : 0 < places (is_free_at i) n
-  here = rw (free_place ns i s n h.free h.stands) (omega arith)
+  abbrev id : ℕ
+  id = id_of (granted_by p t i) g
 
+  absent : (across : ℕ) (n : Numbered) → free_tally i n ≡ 0 → planned p t i g across n ≡ n
+  absent across n z = edited-absent (is_free_at i) (putting p t g) refl across n (places-free i n ∙ z)
+
+  hit : (b : Bool) (axis : Axis) (e across : ℕ) (x y : Members) → b ≡ true → axis ≡ a
+      → cond b (put (cut (box_sides f) r) axis e across (side axis r) (side (other axis) r) id x) y ≡ put
+      (cut (box_sides f) r) a e across (side a r) (side (other a) r) id x
+  hit b axis e across x y t q = grind (arith, cond-true)
+
+  -- The walk: where the free leaf of slot i, and no other, has the box.
+  erase-planned : (axis : Axis) (o : Position) (across : ℕ) (n : Numbered) → IsAim i f a axis o across n
+      → free_tally i n ≤ 1 → erase (planned p t i g across n) ≡ placed f r id axis o across (erase n)
+  erase-planned axis o across End h one = refl
+  erase-planned axis o across (Free j e rest) h one =
+      let after = erase-planned axis (moved axis o e) across rest h.1 (omega arith) in
+      elim (cases_eq i j) [
+        | inl q ↦
+            let b : eqb i j ≡ true = eq-eqb i j q in
+            let none : free_tally i rest ≡ 0 = omega (arith, one, ap (same i) (sym q), same-self i) in
+            let same_rest : erase rest ≡ placed f r id axis (moved axis o e) across (erase rest) =
+            sym (ap erase (absent across rest none)) ∙ after in
+            ap erase (cond-true (eqb i j) (put_by p t g across j e rest) (Free j e (planned p t i g across rest)) b)
+            ∙ subst (λ k. erase (put_by p t g across k e rest) ≡ put (cut (box_sides f) r) a e across (side a r)
+            (side (other a) r) id (erase rest)) q (put-plan leaf r p for t i g across e rest)
+            ∙ ap (put (cut (box_sides f) r) a e across (side a r) (side (other a) r) id) same_rest
+            ∙ sym (hit (same_box (box_at o (sized axis e across)) f) axis e across
+            (placed f r id axis (moved axis o e) across (erase rest))
+            (tree.Free e (placed f r id axis (moved axis o e) across (erase rest))) (sym h.0.0 ∙ b) (h.0.1 b))
+        | inr ne ↦
+            let b : eqb i j ≡ false = ne_eqb i j ne in
+            ap erase (cond-false (eqb i j) (put_by p t g across j e rest) (Free j e (planned p t i g across rest)) b)
+            ∙ ap (tree.Free e) after
+            ∙ sym (cond-false (same_box (box_at o (sized axis e across)) f) _ _ (sym h.0.0 ∙ b))
+      ]
+  erase-planned axis o across (Alloc j k e rest) h one =
+      ap (tree.Alloc (id_of j k) e) (erase-planned axis (moved axis o e) across rest h one)
+  erase-planned axis o across (Seq j e inner rest) h one =
+      grind (
+        arith,
+        erase-planned (other axis) o e inner h.0 (omega arith),
+        erase-planned axis (moved axis o e) across rest h.1 (omega arith),
+      )
+
+module _ (size : Sides) (ns : List Node) (s : Sequence) (n : Numbered) (i : ℕ) (r : Sides)
+    (h : IsChoice size ns s n i) (fit : IsFitting ns i r) (p : Plan) (for : IsPlanFor (node_at ns i) r p) where
   -- The tree once a plan is carried out in the leaf: `placed` by the model.
-  pub planned-placed : (p : Plan) (to g : ℕ) (new : Numbered) → IsPlanFor (node_at ns i) r p → IsPlannedTree p i s.width to g n new → ((x : ℕ) → tally x new ≤ 1) → tree_in s new ≡ place size f r (id_of to g) (tree_in s n)
-  planned-placed plan.Whole to g new for t once = grind (arith, tree_in, whole-placed)
-  planned-placed (plan.StripAlong p) to g new for t once =
-      let k = t.1 in
-      let is : new ≡ granted_at i g (split_at i k (side a r) n) = t.2 ∙ ap (λ v. granted_at i g (split_at i k v n)) for.1 in
-      let zk : tally k n ≡ 0 = omega (arith, once k, ap (tally k) is, tally-granted k i g (split_at i k (side a r) n), split-adds k i k (side a r) n here, same-self k) in
-      ap (tree_in s) is ∙ strip_along-placed size ns s n i r h fit a g k for.0 (same_axis-itself a) zk ∙ ap (λ v. place size f r (id_of v g) (tree_in s n)) (sym t.0)
-  planned-placed (plan.CornerAlong p q) to g new for t once =
-      let k = t.0 in
-      let l = t.1 in
-      let n1 : Numbered = split_at i k (side a r) n in
-      let n2 : Numbered = wrapped_at i to s.width n1 in
-      let n3 : Numbered = split_at to l (side (other a) r) n2 in
-      let is : new ≡ granted_at to g n3 = t.2 ∙ ap (λ v. granted_at to g (split_at to l v (wrapped_at i to s.width (split_at i k p n)))) for.2 ∙ ap (λ v. granted_at to g (split_at to l (side (other a) r) (wrapped_at i to s.width (split_at i k v n)))) for.1 in
-      let stays : 0 < places (is_free_at i) n1 = split-stays i k (side a r) n here in
-      let gains : 0 < places (is_free_at to) n2 = wrapped-gains i to s.width n1 stays in
-      let sum : (x : ℕ) → tally x n + same x k + same x to + same x l ≤ 1 = (λ x. omega (arith, once x, ap (tally x) is, tally-granted x to g n3, split-adds x to l (side (other a) r) n2 gains, wrapped-adds x i to s.width n1 stays, split-adds x i k (side a r) n here)) in
-      let zk : tally k n ≡ 0 = omega (arith, sum k, same-self k) in
-      let zj : tally to n ≡ 0 = omega (arith, sum to, same-self to) in
-      let zl : tally l n ≡ 0 = omega (arith, sum l, same-self l) in
-      let jk : to ≢ k = apart_from to k (omega (arith, sum to, same-self to)) in
-      ap (tree_in s) is ∙ corner_along-placed size ns s n i r h fit a g k to l for.0 (same_axis-itself a) jk zk zj zl
-  planned-placed (plan.StripAcross q) to g new for t once =
-      let k = t.0 in
-      let n1 : Numbered = wrapped_at i to s.width n in
-      let n2 : Numbered = split_at to k (side (other a) r) n1 in
-      let is : new ≡ granted_at to g n2 = t.1 ∙ ap (λ v. granted_at to g (split_at to k v n1)) for.1 in
-      let gains : 0 < places (is_free_at to) n1 = wrapped-gains i to s.width n here in
-      let sum : (x : ℕ) → tally x n + same x to + same x k ≤ 1 = (λ x. omega (arith, once x, ap (tally x) is, tally-granted x to g n2, split-adds x to k (side (other a) r) n1 gains, wrapped-adds x i to s.width n here)) in
-      let zj : tally to n ≡ 0 = omega (arith, sum to, same-self to) in
-      let zk : tally k n ≡ 0 = omega (arith, sum k, same-self k) in
-      ap (tree_in s) is ∙ strip_across-placed size ns s n i r h fit (other a) g to k for.0 (same_axis-other a) zj zk
-  planned-placed (plan.CornerAcross p q) to g new for t once =
-      let k = t.0 in
-      let c = t.1 in
-      let l = t.2 in
-      let n1 : Numbered = wrapped_at i c s.width n in
-      let n2 : Numbered = split_at c k (side (other a) r) n1 in
-      let n3 : Numbered = wrapped_at c to s.width n2 in
-      let n4 : Numbered = split_at to l (side a r) n3 in
-      let is : new ≡ granted_at to g n4 = t.3 ∙ ap (λ v. granted_at to g (split_at to l v (wrapped_at c to s.width (split_at c k q n1)))) for.1 ∙ ap (λ v. granted_at to g (split_at to l (side a r) (wrapped_at c to s.width (split_at c k v n1)))) for.2 in
-      let gains : 0 < places (is_free_at c) n1 = wrapped-gains i c s.width n here in
-      let stays : 0 < places (is_free_at c) n2 = split-stays c k (side (other a) r) n1 gains in
-      let gains_again : 0 < places (is_free_at to) n3 = wrapped-gains c to s.width n2 stays in
-      let sum : (x : ℕ) → tally x n + same x c + same x k + same x to + same x l ≤ 1 = (λ x. omega (arith, once x, ap (tally x) is, tally-granted x to g n4, split-adds x to l (side a r) n3 gains_again, wrapped-adds x c to s.width n2 stays, split-adds x c k (side (other a) r) n1 gains, wrapped-adds x i c s.width n here)) in
-      let zc : tally c n ≡ 0 = omega (arith, sum c, same-self c) in
-      let zk : tally k n ≡ 0 = omega (arith, sum k, same-self k) in
-      let zd : tally to n ≡ 0 = omega (arith, sum to, same-self to) in
-      let zl : tally l n ≡ 0 = omega (arith, sum l, same-self l) in
-      let dk : to ≢ k = apart_from to k (omega (arith, sum to, same-self to)) in
-      ap (tree_in s) is ∙ corner_across-placed size ns s n i r h fit (other a) g c k to l for.0 (same_axis-other a) dk zc zk zd zl
+  pub planned-placed : (t : Parts) (g : ℕ) → tree_in s (planned p t i g s.width n) ≡ place size
+      (box_of (node_at ns i).area) r (id_of (granted_by p t i) g) (tree_in s n)
+  planned-placed t g =
+      ap (λ w. tree_in s (planned p t i g w n)) h.across
+      ∙ ap (λ m. record { axis = s.axis; members = m })
+      (erase-planned (node_at ns i) r p for t i g s.axis origin (side (other s.axis) size) n
+      (aim-choice size ns s n i r h fit)
+      (omega (arith, free_once ns i s n h.free h.stands)))
 
   -- As many slots as the model needs.
-  pub planned-need : (p : Plan) → IsPlanFor (node_at ns i) r p → place_need size f r (tree_in s n) ≡ slots_of p
-  planned-need p for = grind (arith, place_need-choice, same_axis-itself, same_axis-other)
+  pub planned-need : place_need size (box_of (node_at ns i).area) r (tree_in s n) ≡ slots_of p
+  planned-need = grind (arith, place_need-choice, same_axis-itself, same_axis-other)
 
   -- As many members as the model's tree.
-  pub planned-numbers : (p : Plan) (to g : ℕ) (new : Numbered) → IsPlanFor (node_at ns i) r p → IsPlannedTree p i s.width to g n new → ((x : ℕ) → tally x new ≤ 1) → numbers new ≡ numbers n + slots_of p
-  planned-numbers p to g new for t once =
-      numbers-erase new
-      ∙ ap (λ (v : Tree). node_count v.members) (planned-placed p to g new for t once)
-      ∙ place_nodes size (tree_in s n) f r (id_of to g)
-      ∙ ap (λ v. v + place_need size f r (tree_in s n)) (sym (numbers-erase n))
-      ∙ ap (λ v. numbers n + v) (planned-need p for)
+  pub planned-numbers : (t : Parts) (g : ℕ) → numbers (planned p t i g s.width n) ≡ numbers n + slots_of p
+  planned-numbers t g =
+      numbers-erase (planned p t i g s.width n)
+      ∙ ap (λ (v : Tree). node_count v.members) (planned-placed t g)
+      ∙ place_nodes size (tree_in s n) (box_of (node_at ns i).area) r (id_of (granted_by p t i) g)
+      ∙ ap (λ v. v + place_need size (box_of (node_at ns i).area) r (tree_in s n)) (sym (numbers-erase n))
+      ∙ ap (λ v. numbers n + v) planned-need
 
 -- No slot is that of two members.
 pub once-Stands : (ms : List Node) (s : Sequence) (new : Numbered) → Stands ms s new → (x : ℕ) → tally x new ≤ 1

@@ -2,7 +2,7 @@
 use Rattle.std.specs.Prelude.{ℕ, ◌+◌, ◌<◌, ◌≤◌, ◌≡◌, ◌≢◌, List, [], vec_capacity}
 use Rattle.atlas_store.specs.declared.store.Store.{Store}
 use Rattle.atlas_tree.specs.declared.requests.Chosen.{Chosen}
-use Rattle.atlas_tree.specs.declared.requests.Plan.{Plan}
+use Rattle.atlas_store.specs.declared.slots.placing.Plan.{Plan}
 use Rattle.atlas_store.specs.declared.slots.NodeKind.TheVariants as kind
 use Rattle.atlas_model.specs.declared.allocation.Allocation.{Allocation}
 use Rattle.atlas_model.specs.declared.error.AtlasError.{AtlasError}
@@ -17,8 +17,9 @@ use Rattle.atlas_store.specs.Search.Bands.{list_of}
 use Rattle.atlas_store.specs.Slots.Lists.{node_sides, node_top}
 use Rattle.atlas_store.specs.Search.Picks.{AreFreeBoxes, IsFreeSlot}
 use Rattle.atlas_store.specs.Stored.{Shelf, Holding, Holds, IsDetachedOnly}
-use Rattle.atlas_store.specs.Store.Holdings.{shelf_of, node_in, across_of, HasSlotsFor, KeepsTakenOnce}
-use Rattle.atlas_tree.specs.Plans.Planning.{IsPlanFor, IsFeasible, IsPlanned, slots_of}
+use Rattle.atlas_store.specs.Slots.Placing.{across_of, slots_of, IsFeasible}
+use Rattle.atlas_store.specs.Store.Holdings.{shelf_of, node_in, HasSlotsFor, KeepsTakenOnce}
+use Rattle.atlas_tree.specs.Plans.Planning.{IsPlanFor, IsPlanned}
 
 -- The slots stand for a tree that begins at 0, and each free slot stands in its list.
 pub record IsAtRest (v : Shelf) (h : Holding) : Type 0 where

@@ -27,7 +27,7 @@ pub enum SimpleCall {
     Clear,
     /// `reset`, to a size that isn't empty, with valid options.
     Reset(Size, AllocatorOptions),
-    /// `init_from_allocator`, from the atlas that is handed in beside the calls.
+    /// `init_from_allocator`, from the atlas that is passed along with the calls.
     Start,
 }
 

@@ -1,5 +1,5 @@
 // Erased from crates/atlas_model/src/change.rt by rust/erase: don't edit.
-//! What a rearranging moved, and what found no room.
+//! What a rearrangement moved, and what found no room.
 
 use crate::atlas_model::allocation::Allocation;
 use crate::atlas_model::error::AtlasError;
@@ -13,8 +13,8 @@ pub struct Change {
     pub new: Allocation,
 }
 
-/// What a rearranging did with what was allocated, in the order in which it was tried: `changes` are the rectangles
-/// that were placed anew, `failures` those that found no room, whose ids are live no more.
+/// What a rearrangement did with what was allocated, in the order in which it was tried: `changes` are the rectangles
+/// that were placed anew, `failures` those that found no room, whose ids are no longer live.
 
 #[derive(Debug, PartialEq)]
 pub struct ChangeList<A: Allocator + Copy = Global> {

@@ -3,7 +3,7 @@
 
 use crate::atlas_model::geometry::Size;
 
-/// How an allocator rounds requests and tells small, medium and large ones apart.
+/// How an allocator rounds requests, and which are small, medium and large.
 #[derive(Clone, Copy, Debug, PartialEq, Eq, Hash)]
 pub struct AllocatorOptions {
     /// Sides of requests are rounded up to multiples of these, in pixels; both are above 0.

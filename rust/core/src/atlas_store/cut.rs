@@ -3,7 +3,7 @@
 
 use crate::atlas_model::{Point, Rectangle, Size};
 
-/// Which way members of a sequence lie beside each other.
+/// Which way members of a sequence lie next to each other.
 #[derive(Clone, Copy, Debug, PartialEq, Eq, Hash)]
 pub enum Orientation {
     Horizontal,
@@ -11,7 +11,7 @@ pub enum Orientation {
 }
 
 /// What is left of a rectangle once a request is taken from its `min`: along an axis the split, as wide across as the
-/// rectangle, and beside the request the leftover. Either may be empty.
+/// rectangle, and next to the request the leftover. Either may be empty.
 #[derive(Clone, Copy, Debug, PartialEq, Eq, Hash)]
 pub struct Rest {
     pub orientation: Orientation,

@@ -35,7 +35,7 @@ impl Link {
     pub const NONE: Link = Link { number: NO_SLOT };
 }
 
-/// The number that stands for no slot.
+/// The number that means no slot.
 pub const NO_SLOT: u32 = 4294967295;
 
 /// The tree's part of a slot: its place among its siblings, what it is, and its rectangle.
@@ -90,7 +90,7 @@ pub fn set_kind(slots: &mut [Slot], at: Link, kind: NodeKind) {
     write_node(slots, at, node);
 }
 
-/// What stands at `at`, if that is a slot, follows `previous` from now on.
+/// What is at `at`, if that is a slot, follows `previous` from now on.
 #[inline]
 pub fn set_previous(slots: &mut [Slot], at: Link, previous: Link) {
     if at.number != NO_SLOT {

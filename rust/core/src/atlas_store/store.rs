@@ -1,5 +1,5 @@
 // Erased from crates/atlas_store/src/store.rt by rust/erase: don't edit.
-//! The slots of an atlas with their lists: each call keeps the tree that the slots stand for, and the lists, in order.
+//! The slots of an atlas with their lists: each call keeps the tree that the slots represent, and the lists, in order.
 
 pub mod extend;
 pub mod start;
@@ -8,7 +8,7 @@ pub mod turns;
 use crate::atlas_store::search::bands::Scale;
 use crate::atlas_store::search::table::Table;
 use crate::atlas_store::slots::lists::{enlist, give_back, take_slot, unlist};
-use crate::atlas_store::slots::placing::{grant_leaf, split_leaf, wrap_leaf};
+use crate::atlas_store::slots::placing::{place_leaf, Parts, Plan};
 use crate::atlas_store::slots::{
     join_next, lift, mark_free, read_node, Link, Node, NodeKind, Slot, NO_SLOT,
 };
@@ -75,57 +75,53 @@ impl<A: Allocator> Store<A> {
         enlist(&mut self.slots, &mut self.lists, &self.options, at);
     }
 
-    /// A detached leaf is granted.
-    #[inline]
-    pub fn grant(&mut self, at: Link) {
-        grant_leaf(&mut self.slots, at);
-    }
-
     /// Takes an unused slot, the one given back last, or else a new one at the end. It is claimed.
     #[inline]
     pub fn take(&mut self) -> Link {
         take_slot(&mut self.slots, &mut self.unused)
     }
 
-    // A detached leaf keeps the first `extent` pixels along its axis, and the claimed slot takes the rest.
-    #[inline]
-    fn split_with(&mut self, at: Link, fresh: Link, extent: u32) {
-        split_leaf(&mut self.slots, at, fresh, extent);
-    }
-
-    // A detached leaf becomes a container, and the claimed slot its lone child.
-    #[inline]
-    fn wrap_with(&mut self, at: Link, fresh: Link) {
-        wrap_leaf(&mut self.slots, at, fresh);
-    }
-
-    /// A detached leaf keeps the first `extent` pixels along its axis; the slot that is returned takes the rest, and is
-    /// detached too.
+    // Takes the slots of a plan: of what the first cut leaves, of the inner container, of what is granted and of what
+    // the second cut leaves, each where there is one. They are claimed.
     #[inline(always)]
-    pub fn split(&mut self, at: Link, extent: u32) -> Link {
-        let fresh = self.take();
-        self.split_with(at, fresh, extent);
-        fresh
+    fn take_for(&mut self, plan: Plan) -> Parts {
+        let none = Link::NONE;
+        let mut parts = Parts {
+            split: none,
+            container: none,
+            granted: none,
+            leftover: none,
+        };
+        match plan {
+            Plan::Whole => {}
+            Plan::StripAlong(_) => {
+                parts.split = self.take();
+            }
+            Plan::CornerAlong(_, _) => {
+                parts.split = self.take();
+                parts.granted = self.take();
+                parts.leftover = self.take();
+            }
+            Plan::StripAcross(_) => {
+                parts.split = self.take();
+                parts.granted = self.take();
+            }
+            Plan::CornerAcross(_, _) => {
+                parts.split = self.take();
+                parts.container = self.take();
+                parts.granted = self.take();
+                parts.leftover = self.take();
+            }
+        }
+        parts
     }
 
-    /// A detached leaf becomes a container; the slot that is returned is its lone child, as large, and detached in its
-    /// place.
-    #[inline]
-    pub fn wrap(&mut self, at: Link) -> Link {
-        let fresh = self.take();
-        self.wrap_with(at, fresh);
-        fresh
-    }
-
-    /// A detached leaf becomes a container of two, the first with `extent` pixels along the other axis; the slot of the
-    /// second is taken before that of the first. Both are detached.
-    #[inline]
-    pub fn wrap_two(&mut self, at: Link, extent: u32) -> (Link, Link) {
-        let back = self.take();
-        let front = self.take();
-        self.wrap_with(at, front);
-        self.split_with(front, back, extent);
-        (front, back)
+    /// A detached leaf gives way to what a plan says, for which there are slots. What is left free is detached.
+    #[inline(always)]
+    pub fn place(&mut self, at: Link, plan: Plan) -> Parts {
+        let parts = self.take_for(plan);
+        place_leaf(&mut self.slots, at, plan, parts);
+        parts
     }
 
     /// A granted leaf becomes free, and is detached. One turn of a freeing.

@@ -6,6 +6,7 @@ use crate::atlas_model::{Allocation, AtlasError, Size};
 use crate::atlas_store::cut::{orientation_of, Orientation};
 use crate::atlas_store::slots::lists::exact_size;
 use crate::atlas_store::slots::pick::pick;
+use crate::atlas_store::slots::placing::Plan;
 use crate::atlas_store::slots::walks::slot_id;
 use crate::atlas_store::slots::{Link, Node};
 use crate::atlas_store::store::Store;
@@ -31,7 +32,7 @@ pub fn choose<A: Allocator>(store: &Store<A>, size: Size) -> Option<Chosen> {
     })
 }
 
-/// Makes room for slots beside those that are used. `Slots` if there would be more than the limit; `Memory`, if they
+/// Makes room for slots in addition to those in use. `Slots` if there would be more than the limit; `Memory`, if they
 /// are more than were ever used and more than there is room for, and memory for them is refused. The slots and their
 /// lists stay as they are.
 #[inline]
@@ -62,22 +63,6 @@ pub fn grant<A: Allocator>(store: &mut Store<A>, chosen: Chosen, plan: Plan) -> 
         id: slot_id(slot.number as usize, node.generation),
         rectangle: node.area,
     }
-}
-
-/// How a free leaf gives way to a request that fits it, with the request's pixels along the leaf's sequence and across
-/// it (docs/MODEL.md, "Changes of a tree").
-#[derive(Clone, Copy, Debug, PartialEq, Eq)]
-pub enum Plan {
-    /// The leaf is granted whole.
-    Whole,
-    /// The leaf is cut along its sequence.
-    StripAlong(u32),
-    /// It is cut along its sequence, and its first part across.
-    CornerAlong(u32, u32),
-    /// It becomes a container, and is cut across.
-    StripAcross(u32),
-    /// It becomes a container, is cut across, and its first part along.
-    CornerAcross(u32, u32),
 }
 
 /// How many slots a plan takes.
@@ -147,7 +132,7 @@ pub fn plan_for(leaf: &Node, size: Size) -> Plan {
 pub fn place<A: Allocator>(store: &mut Store<A>, at: Link, plan: Plan) -> Link {
     match plan {
         Plan::Whole => {
-            store.grant(at);
+            store.place(at, plan);
             at
         }
         Plan::StripAlong(along) => strip_along(store, at, along),
@@ -159,38 +144,30 @@ pub fn place<A: Allocator>(store: &mut Store<A>, at: Link, plan: Plan) -> Link {
 
 #[inline]
 fn strip_along<A: Allocator>(store: &mut Store<A>, at: Link, along: u32) -> Link {
-    let split = store.split(at, along);
-    store.grant(at);
-    store.list(split);
+    let parts = store.place(at, Plan::StripAlong(along));
+    store.list(parts.split);
     at
 }
 
 #[inline]
 fn corner_along<A: Allocator>(store: &mut Store<A>, at: Link, along: u32, across: u32) -> Link {
-    let split = store.split(at, along);
-    let granted = store.wrap(at);
-    let leftover = store.split(granted, across);
-    store.grant(granted);
-    store.list(split);
-    store.list(leftover);
-    granted
+    let parts = store.place(at, Plan::CornerAlong(along, across));
+    store.list(parts.split);
+    store.list(parts.leftover);
+    parts.granted
 }
 
 #[inline]
 fn strip_across<A: Allocator>(store: &mut Store<A>, at: Link, across: u32) -> Link {
-    let (granted, split) = store.wrap_two(at, across);
-    store.grant(granted);
-    store.list(split);
-    granted
+    let parts = store.place(at, Plan::StripAcross(across));
+    store.list(parts.split);
+    parts.granted
 }
 
 #[inline]
 fn corner_across<A: Allocator>(store: &mut Store<A>, at: Link, along: u32, across: u32) -> Link {
-    let (container, split) = store.wrap_two(at, across);
-    let granted = store.wrap(container);
-    let leftover = store.split(granted, along);
-    store.grant(granted);
-    store.list(split);
-    store.list(leftover);
-    granted
+    let parts = store.place(at, Plan::CornerAcross(along, across));
+    store.list(parts.split);
+    store.list(parts.leftover);
+    parts.granted
 }

@@ -5,7 +5,7 @@ use crate::atlas_model::{AllocId, Allocation, AtlasError, Size};
 use crate::guillotiere::AtlasAllocator;
 use wollemigo_support::alloc::Allocator;
 
-/// Asks a page for a box, as `allocate` does. Asks that there is such a page. The other pages stay as they are.
+/// Asks a page for a box, as `allocate` does. Requires that there is such a page. The other pages stay as they are.
 #[inline]
 pub fn allocate_on<A: Allocator + Copy>(
     pages: &mut [AtlasAllocator<A>],
@@ -15,7 +15,7 @@ pub fn allocate_on<A: Allocator + Copy>(
     pages[page].allocate(size)
 }
 
-/// Frees the box of an id of a page, as `deallocate` does. Asks that there is such a page. `NotLive` if the id isn't
+/// Frees the box of an id of a page, as `deallocate` does. Requires that there is such a page. `NotLive` if the id isn't
 /// live there, and then nothing changes. The other pages stay as they are.
 #[inline]
 pub fn deallocate_on<A: Allocator + Copy>(
@@ -32,7 +32,7 @@ fn has_room<A: Allocator + Copy>(page: &AtlasAllocator<A>, size: Size) -> bool {
     page.can_fit(size)
 }
 
-/// The first page on which a request has room, as `can_fit` tells; None if it has room on none.
+/// The first page on which a request has room, by `can_fit`; None if it has room on none.
 #[inline]
 pub fn page_with_room<A: Allocator + Copy>(
     pages: &[AtlasAllocator<A>],

@@ -38,7 +38,7 @@ pub enum Reply<A: Allocator + Copy = Global> {
     NoRoom,
     /// A freeing, a growth or a start is done.
     Done,
-    /// A rearranging is done.
+    /// A rearrangement is done.
     Changed(ChangeList<A>),
     /// The call was refused; nothing changed.
     Refused(AtlasError),
@@ -68,7 +68,7 @@ fn done<A: Allocator + Copy>(answer: Result<(), AtlasError>) -> Reply<A> {
     }
 }
 
-// What a rearranging answers.
+// What a rearrangement answers.
 #[inline]
 fn changed<A: Allocator + Copy>(answer: Result<ChangeList<A>, AtlasError>) -> Reply<A> {
     match answer {

@@ -110,7 +110,7 @@ impl<A: Allocator + Copy> RecordingAllocator<A> {
         Ok(())
     }
 
-    /// Makes the atlas larger, as its `grow` does. Asks that neither side shrinks. `Memory` if memory for the event or
+    /// Makes the atlas larger, as its `grow` does. Requires that neither side shrinks. `Memory` if memory for the event or
     /// for slots is refused; `Slots` as the atlas's.
     #[inline]
     pub fn grow(&mut self, new_size: Size) -> Result<(), RecordingError> {
@@ -121,7 +121,7 @@ impl<A: Allocator + Copy> RecordingAllocator<A> {
     }
 
     /// Places what is allocated anew, as the atlas's `rearrange` does. Each change has one name in `old` and `new`; the
-    /// name of a failure is live no more. `Memory` if memory is refused; `Slots` as the atlas's.
+    /// name of a failure is no longer live. `Memory` if memory is refused; `Slots` as the atlas's.
     #[inline]
     pub fn rearrange(&mut self) -> Result<ChangeList<A>, RecordingError> {
         let mut atlas = self.atlas.clone()?;
@@ -154,14 +154,14 @@ impl<A: Allocator + Copy> RecordingAllocator<A> {
         Ok(list)
     }
 
-    /// Calls `visit` on each free rectangle once, in an order that is left open. Asks that `visit` may be called along
+    /// Calls `visit` on each free rectangle once, in an order that is left open. Requires that `visit` may be called along
     /// each list that may be shown, and no more: nothing else is called. Takes no memory.
     #[inline]
     pub fn for_each_free_rectangle<F: FnMut(&Rectangle)>(&self, visit: F) {
         self.atlas.for_each_free_rectangle(visit);
     }
 
-    /// Calls `visit` on each live name and its rectangle once, by rising name. Asks that `visit` may be called along
+    /// Calls `visit` on each live name and its rectangle once, by rising name. Requires that `visit` may be called along
     /// that list, and no more: nothing else is called. Takes no memory.
     #[inline]
     pub fn for_each_allocated_rectangle<F: FnMut(AllocId, &Rectangle)>(&self, visit: F) {

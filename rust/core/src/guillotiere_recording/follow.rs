@@ -1,5 +1,5 @@
 // Erased from crates/guillotiere_recording/src/follow.rt by rust/erase: don't edit.
-//! A rearranging in a replay: its list is compared with the recorded one, and the live names get their new ids.
+//! A rearrangement in a replay: its list is compared with the recorded one, and the live names get their new ids.
 
 use crate::guillotiere::{AllocId, ChangeList};
 use crate::guillotiere_recording::moves::under_names;
@@ -44,7 +44,7 @@ pub fn are_equal<A: Allocator + Copy>(one: &ChangeList<A>, other: &ChangeList<A>
     one == other
 }
 
-/// Compares the list of a rearranging, under the names of the live ids, with the recorded one, and gives the names that
+/// Compares the list of a rearrangement, under the names of the live ids, with the recorded one, and gives the names that
 /// are live now.
 #[inline]
 pub fn follow<A: Allocator + Copy>(

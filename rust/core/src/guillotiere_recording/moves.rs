@@ -1,5 +1,5 @@
 // Erased from crates/guillotiere_recording/src/moves.rt by rust/erase: don't edit.
-//! What a rearranging of the atlas did, under names in place of ids.
+//! What a rearrangement of the atlas did, under names in place of ids.
 
 use crate::guillotiere::{Allocation, Change, ChangeList};
 use crate::guillotiere_recording::error::RecordingError;
@@ -84,7 +84,7 @@ fn name_entries<A: Allocator + Copy>(
     Ok(entries)
 }
 
-/// What a rearranging did, under the names of the ids that were live. `Memory` is the only error.
+/// What a rearrangement did, under the names of the ids that were live. `Memory` is the only error.
 #[inline]
 pub fn under_names<A: Allocator + Copy>(
     alloc: A,

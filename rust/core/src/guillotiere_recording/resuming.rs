@@ -105,7 +105,7 @@ fn grow_on<A: Allocator + Copy>(
     Ok(session.grow(size)?)
 }
 
-// A rearranging.
+// A rearrangement.
 #[inline]
 fn rearrange_on<A: Allocator + Copy>(
     session: &mut RecordingAllocator<A>,
@@ -118,7 +118,7 @@ fn rearrange_on<A: Allocator + Copy>(
     Ok(())
 }
 
-// A rearranging into another size.
+// A rearrangement into another size.
 #[inline]
 fn resize_on<A: Allocator + Copy>(
     session: &mut RecordingAllocator<A>,

@@ -164,7 +164,7 @@ fn grow_again<A: Allocator + Copy>(
     Ok(())
 }
 
-// A rearranging.
+// A rearrangement.
 #[inline]
 fn rearrange_again<A: Allocator + Copy>(
     atlas: &mut AtlasAllocator<A>,
@@ -178,7 +178,7 @@ fn rearrange_again<A: Allocator + Copy>(
     Ok(())
 }
 
-// A rearranging into another size.
+// A rearrangement into another size.
 #[inline]
 fn resize_again<A: Allocator + Copy>(
     atlas: &mut AtlasAllocator<A>,

@@ -7,7 +7,7 @@ use crate::guillotiere_recording::names::LiveName;
 use wollemigo_support::alloc::Allocator;
 use wollemigo_support::prelude::Vec;
 
-/// Calls `visit` on each name and its rectangle, in order. Asks that `visit` may be called along that list.
+/// Calls `visit` on each name and its rectangle, in order. Requires that `visit` may be called along that list.
 #[inline]
 pub fn visit_names<A: Allocator + Copy, F: FnMut(AllocId, &Rectangle)>(
     atlas: &AtlasAllocator<A>,

@@ -28,7 +28,7 @@ fn ordered_holes<A: Allocator + Copy>(
     Ok(areas)
 }
 
-// The lines of what a rearranging answers.
+// The lines of what a rearrangement answers.
 fn answer_changes<A: Allocator + Copy>(changed: Result<ChangeList<A>, AtlasError>) -> Answer<A> {
     match changed {
         Ok(list) => Answer::ChangeLines(list),

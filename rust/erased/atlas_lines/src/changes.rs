@@ -1,5 +1,5 @@
 // Erased from crates/atlas_lines/src/changes.rt by rust/erase: don't edit.
-//! Replies to a rearranging.
+//! Replies to a rearrangement.
 
 use crate::listing::{make_room, Waiting, BLOCK};
 use crate::replies::{push_corners, LINE};
@@ -76,7 +76,7 @@ fn end_changes<W: ToolOutput>(
     true
 }
 
-/// Adds the lines of a rearranging; what waited is written where there is no room. `false` where the device failed.
+/// Adds the lines of a rearrangement; what waited is written where there is no room. `false` where the device failed.
 pub fn send_changes<W: ToolOutput>(
     output: &mut W,
     waiting: &mut Waiting,

@@ -1,5 +1,5 @@
 // Erased from crates/atlas_lines/src/standing.rt by rust/erase: don't edit.
-//! What stands in the tool's one place for an atlas.
+//! What is in the tool's one place for an atlas.
 
 /// An atlas, a recorded session or neither.
 

@@ -19,7 +19,8 @@ fn main() -> ExitCode {
         &mut rt.stdout(),
         &mut rt.stderr(),
     ) {
-        Ok(()) => ExitCode::SUCCESS,
+        Ok(0) => ExitCode::SUCCESS,
+        Ok(_) => ExitCode::from(4),
         Err(error) => {
             let _ = eprintln!(rt; "{error}");
             match error {

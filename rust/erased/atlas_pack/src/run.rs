@@ -38,14 +38,21 @@ fn written(
     Vec::from_slice(alloc, lines.as_bytes())
 }
 
+// Tells a person which sprites have no place. A failure is passed over.
+fn tell_left<P: Write>(progress: &mut P, left: &[Sprite<'_>]) {
+    for sprite in left {
+        let _ = writeln!(progress, "no place: {}", sprite.name);
+    }
+}
+
 /// Reads lines to their end, packs the sprites that they name, and writes the sheet. Nothing is written where a line is
-/// bad or no sheet is found.
+/// bad or no sheet is found. The answer is how many sprites have no place; `progress` has a line for each.
 pub fn run<R: Read, W: Write, P: Write>(
     alloc: Global,
     input: &mut R,
     output: &mut W,
     progress: &mut P,
-) -> Result<(), PackError> {
+) -> Result<usize, PackError> {
     let mut text = Vec::new(alloc);
     input.read_to_end(&mut text)?;
     let job = read_job(alloc, &text)?;
@@ -54,7 +61,8 @@ pub fn run<R: Read, W: Write, P: Write>(
     let (frames, left) = parted(alloc, &pairs)?;
     let told = written(alloc, job.settings.json, sheet, &frames, &left)?;
     output.write_all(&told)?;
-    Ok(())
+    tell_left(progress, &left);
+    Ok(left.len())
 }
 
 #[cfg(test)]
@@ -110,7 +118,7 @@ mod tests {
         let mut output = Vec::new(alloc);
         let mut progress = Vec::new(alloc);
         match run(alloc, &mut lines.as_bytes(), &mut output, &mut progress) {
-            Ok(()) => output,
+            Ok(_) => output,
             Err(error) => {
                 let told = format!(in alloc; "{error}").expect_in(rt, "memory");
                 Vec::from_slice(alloc, told.as_bytes()).expect_in(rt, "memory")
@@ -127,6 +135,19 @@ mod tests {
                 "row {row}"
             );
         }
+    }
+
+    // What is left out is told, and counted.
+    #[test]
+    fn tells_what_is_left_out() {
+        let rt = HostRuntime;
+        let alloc = rt.alloc();
+        let mut output = Vec::new(alloc);
+        let mut progress = Vec::new(alloc);
+        let lines = b"sheet one 4 4 fill\na 4 4\nb 4 4\nc 1 5\n";
+        let left = run(alloc, &mut lines.as_slice(), &mut output, &mut progress);
+        assert!(&rt; left.expect_in(&rt, "a sheet") == 2);
+        assert!(&rt; progress.as_slice() == b"no place: b\nno place: c\n".as_slice());
     }
 
     // Sprites of which changes of the order by one seed fit into a lesser square than the ways find, and by another don't.

@@ -8,7 +8,7 @@ use wollemigo_support::io;
 pub enum SvgError {
     /// The line with this number, counted from 1, is none that can be read.
     BadLine(u64),
-    /// No line tells the size.
+    /// No line gives the size.
     NoSize,
     /// A request for memory was refused.
     Memory(AllocError),

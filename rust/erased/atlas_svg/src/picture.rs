@@ -7,7 +7,7 @@ use atlas_words::words::first_line;
 use wollemigo_support::alloc::{AllocError, Global};
 use wollemigo_support::prelude::Vec;
 
-/// What a picture shows: the last size, and the boxes that lines after it tell.
+/// What a picture shows: the last size, and the boxes of the lines after it.
 
 pub struct Picture {
     /// The atlas's size.
@@ -88,7 +88,7 @@ fn show(alloc: Global, said: &[Line]) -> Result<Picture, SvgError> {
 }
 
 /// The picture that the lines of a text show. `BadLine` at the first line that can't be read, `NoSize` where no line
-/// tells the size, `Memory` where memory was refused.
+/// gives the size, `Memory` where memory was refused.
 pub fn read_picture(alloc: Global, text: &[u8]) -> Result<Picture, SvgError> {
     let said = read_lines(alloc, text)?;
     show(alloc, &said)

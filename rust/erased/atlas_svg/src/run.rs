@@ -9,7 +9,7 @@ use wollemigo_support::io::{Read, Write};
 use wollemigo_support::prelude::Vec;
 
 /// Reads the tool's lines to their end, and writes the picture of what they show. Nothing is written where a line can't
-/// be read or none tells the size.
+/// be read or none gives the size.
 pub fn run<R: Read, W: Write>(
     alloc: Global,
     input: &mut R,

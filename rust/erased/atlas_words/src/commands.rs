@@ -20,13 +20,13 @@ pub enum Command {
     Live,
     /// `holes`: list the free rectangles.
     Holes,
-    /// `size`: tell the size of the atlas.
+    /// `size`: report the size of the atlas.
     AskSize,
     /// `free ID`: give the rectangle with this id back.
     Free(AllocId),
     /// `grow W H`: make the atlas larger, to this size.
     Grow(Size),
-    /// `empty`: tell whether no rectangle is allocated.
+    /// `empty`: report whether no rectangle is allocated.
     Empty,
     /// `clear`: make the atlas one free rectangle again.
     Clear,

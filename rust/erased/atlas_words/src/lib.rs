@@ -1,6 +1,6 @@
 // Erased from crates/atlas_words/src/lib.rt by rust/erase: don't edit.
 //! What the lines of `atlas_tool` are made of: devices that are read and written in blocks, words, numbers and
-//! commands (docs/TOOL.md). `atlas_lines` gives on what programs of one's own need.
+//! commands (docs/TOOL.md). Every program of lines is built on it.
 #![forbid(unsafe_code)]
 #![allow(dead_code, unused_imports, unused_labels, unused_variables)]
 

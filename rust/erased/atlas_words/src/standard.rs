@@ -4,7 +4,7 @@
 use crate::devices::ToolInput;
 use wollemigo_support::io::Read;
 
-/// Any reader as a device. It tells the bytes that the reader tells, and none after a failure.
+/// Any reader as a device. It reports the bytes that the reader reports, and none after a failure.
 
 pub struct StdInput<R> {
     inner: R,
@@ -12,7 +12,7 @@ pub struct StdInput<R> {
 }
 
 impl<R: Read> StdInput<R> {
-    /// A device that hasn't failed. It will give the bytes that the reader will give, where the reader tells them.
+    /// A device that hasn't failed. It will give the bytes that the reader will give, where the reader reports them.
     pub fn new(inner: R) -> StdInput<R> {
         StdInput {
             inner,

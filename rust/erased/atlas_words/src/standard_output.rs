@@ -4,7 +4,7 @@
 use crate::devices::ToolOutput;
 use wollemigo_support::io::Write;
 
-/// Any writer as a device. It tells the bytes that the writer tells, and none after a failure.
+/// Any writer as a device. It reports the bytes that the writer reports, and none after a failure.
 
 pub struct StdOutput<W> {
     inner: W,
@@ -12,7 +12,7 @@ pub struct StdOutput<W> {
 }
 
 impl<W: Write> StdOutput<W> {
-    /// A device that hasn't failed. It holds the bytes that the writer holds, where the writer tells them.
+    /// A device that hasn't failed. It holds the bytes that the writer holds, where the writer reports them.
     pub fn new(inner: W) -> StdOutput<W> {
         StdOutput {
             inner,

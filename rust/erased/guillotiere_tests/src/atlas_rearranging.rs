@@ -1,5 +1,5 @@
 // Erased from crates/guillotiere_tests/src/atlas_rearranging.rt by rust/erase: don't edit.
-//! Rearranging: worked rows.
+//! Rearrangement: worked rows.
 
 use crate::atlas_calls::Call::{
     Allocate, Deallocate, DeallocateDead, IsEmpty, Live, Rearrange, RearrangeBeyondLimit,

@@ -31,7 +31,7 @@ enum Answer {
     Allocated(u32, Corners),
     NoRoom,
     Done,
-    // A rearranging of nothing.
+    // A rearrangement of nothing.
     ChangedNothing,
     NotLive,
     Slots,

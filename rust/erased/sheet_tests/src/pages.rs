@@ -36,7 +36,7 @@ fn one_more_than_fits() {
     }
 }
 
-// The places stand in the order of the sprites. Several ways fill the first sheet, and the last of them is taken: by height
+// The places are in the order of the sprites. Several ways fill the first sheet, and the last of them is taken: by height
 // times greater side all four count 36, and the first two lie there. The others are packed by area, the great one first.
 #[test]
 fn order_of_places() {

@@ -1,4 +1,4 @@
-use Rattle.std.proofs.Common.{ℕ, length, map, take, true, All, subst}
+use Rattle.std.proofs.Common.{ℕ, length, take, true, All, subst}
 use Rattle.atlas_model.specs.Pixels.{sides_of}
 use Rattle.atlas_sheet.specs.declared.ways.TheConstants.{WAYS}
 use Rattle.atlas_sheet.specs.Fillings.{IsNoBetter, ways_tried}

@@ -1,4 +1,6 @@
-use Rattle.std.proofs.Common.{Bool, true, false, IfErr, IfOk, map, rules, subst, sym}
+use Rattle.std.proofs.Common.{◌≡◌, ◌∙◌, Bool, true, false, IfErr, IfOk, List, map, ap, rules, subst, sym}
+use Rattle.atlas_model.specs.declared.geometry.Size.{Size}
+use Rattle.atlas_sheet.specs.declared.options.SheetOptions.{SheetOptions}
 use Rattle.atlas_pack.specs.Runs.{Answers, IsFilled, IsFound, IsPackFault, sheet_options}
 use Rattle.atlas_pack.proofs.run.answer.Goals as goal
 
@@ -26,6 +28,11 @@ returns-then-job-clause-fault g c =
 pub returns-clause-fault : goal.returns-clause-fault
 returns-clause-fault g c =
     let job = c.args.job.now in
-    let fact : IfErr c.pack_all.result (λ e. IsPackFault false job.before (sheet_options job.settings) (map (λ sprite. sprite.size) job.sprites.items) e) = search rules in
+    let sizes : c.deref-2.result.now ≡ map (λ sprite. sprite.size) job.sprites.items =
+    c.deref-2.ensures.value ∙ c.in_ok-sizes.ensures ∙ ap (map (λ sprite. sprite.size)) c.deref.ensures.value in
     subst (λ (b : Bool). IfErr c.pack_all.result (λ e. IsPackFault b job.before (sheet_options job.settings) (map (λ sprite. sprite.size) job.sprites.items) e))
-    (sym c.if-job.false) fact
+    (sym c.if-job.false)
+    (subst (λ (o : SheetOptions). IfErr c.pack_all.result (λ e. IsPackFault false job.before o (map (λ sprite. sprite.size) job.sprites.items) e))
+    c.sheet_options-options.ensures
+    (subst (λ (xs : List Size). IfErr c.pack_all.result (λ e. IsPackFault false job.before c.sheet_options-options.result xs e)) sizes
+    c.pack_all.ensures.fault))

@@ -1,7 +1,7 @@
 use Rattle.std.proofs.Common.{◌≡◌, List, ℕ, ◌∙◌, Err, inl, inr, rules, subst}
 use Rattle.std.proofs.lemmas.Result.{err_from_is_err_and}
 use Rattle.std.specs.Io.KnownBytes.{Appends}
-use Rattle.atlas_pack.proofs.Inputs.{read_all, same_text}
+use Rattle.atlas_pack.proofs.Inputs.{read_all, same_left, same_text}
 use Rattle.atlas_pack.proofs.run.run.Goals as goal
 
 pub returns-clause-packs : goal.returns-clause-packs
@@ -20,6 +20,8 @@ returns-clause-packs g c =
       read = read_all _ c.new-text.result.items c.read_to_end.new.buf.items _ c.in_ok-read_to_end.ensures.bytes c.new-text.ensures.items c.deref.ensures.value;
       asked = c.in_ok-job.ensures.asks;
       answered = c.in_ok-sheet.ensures.answers;
+      left = same_left c.len.result _ _ _ _ _ _ _ (c.len.ensures ∙ c.in_ok-frames.left.ok.0) c.in_ok-frames.ensures.1
+          c.deref-4.ensures.value pairs c.deref-2.ensures.value c.deref-3.ensures.value;
       told = subst (λ (bytes : List ℕ). Appends (g.W.Write.contents c.args.output.now) (g.W.Write.contents c.write_all.new.self) bytes)
           (c.deref-7.ensures.value ∙ c.in_ok-told.ensures ∙ text) c.in_ok-write_all.ensures.bytes;
     }

@@ -1,19 +1,17 @@
-use Rattle.std.proofs.Common.{◌∙◌}
-use Rattle.atlas_tree.proofs.PlanLemmas.PlacingChains.{strip_across-grant, strip_across-list, strip_across-planned}
+use Rattle.std.proofs.Common.{◌∙◌, refl}
+use Rattle.atlas_tree.proofs.PlanLemmas.PlacingChains.{unlisted-parts, unlisted-leaf, listed-next, planned-end, placed_holding}
 use Rattle.atlas_tree.proofs.requests.strip_across.Goals as goal
 
-pub grant-requires : goal.grant-requires
-grant-requires g c = strip_across-grant c.wrap_two.ensures c.requires.1
-
 pub list-requires : goal.list-requires
-list-requires g c = strip_across-list c.wrap_two.ensures c.requires.1 c.grant.ensures
+list-requires g c = (placed_holding c.place-parts.ensures c.requires.1, unlisted-leaf (unlisted-parts c.place-parts.ensures c.requires.1))
 
 pub returns : goal.returns
 returns g c = record {
-  kept = λ h s.
-      strip_across-planned c.wrap_two.ensures s c.grant.ensures c.list.ensures;
-  once = λ f. c.list.ensures.once (c.grant.ensures.once (c.wrap_two.ensures.once f));
-  options = c.list.ensures.room.options ∙ c.grant.ensures.room.options ∙ c.wrap_two.ensures.options;
-  capacity = c.list.ensures.room.capacity ∙ c.grant.ensures.room.capacity ∙ c.wrap_two.ensures.capacity;
-  turns = c.list.ensures.turns ∙ c.grant.ensures.turns ∙ c.wrap_two.ensures.turns;
+  kept = λ h ready.
+      let u = listed-next (unlisted-parts c.place-parts.ensures ready) c.list.ensures in
+      planned-end c.place-parts.ensures ready _ _ c.list.ensures.nodes u.1 refl refl refl;
+  once = λ f. c.list.ensures.once (c.place-parts.ensures.once f);
+  options = c.list.ensures.room.options ∙ c.place-parts.ensures.options;
+  capacity = c.list.ensures.room.capacity ∙ c.place-parts.ensures.capacity;
+  turns = c.list.ensures.turns ∙ c.place-parts.ensures.turns;
 }

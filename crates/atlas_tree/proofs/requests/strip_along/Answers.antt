@@ -1,19 +1,17 @@
-use Rattle.std.proofs.Common.{◌∙◌}
-use Rattle.atlas_tree.proofs.PlanLemmas.PlacingChains.{strip_along-grant, strip_along-list, strip_along-planned}
+use Rattle.std.proofs.Common.{◌∙◌, refl}
+use Rattle.atlas_tree.proofs.PlanLemmas.PlacingChains.{unlisted-parts, unlisted-leaf, listed-next, planned-end, placed_holding}
 use Rattle.atlas_tree.proofs.requests.strip_along.Goals as goal
 
-pub grant-requires : goal.grant-requires
-grant-requires g c = strip_along-grant c.split-split.ensures c.requires.1
-
 pub list-requires : goal.list-requires
-list-requires g c = strip_along-list c.split-split.ensures c.requires.1 c.grant.ensures
+list-requires g c = (placed_holding c.place-parts.ensures c.requires.1, unlisted-leaf (unlisted-parts c.place-parts.ensures c.requires.1))
 
 pub returns : goal.returns
 returns g c = record {
-  kept = λ h s.
-      strip_along-planned c.split-split.ensures s c.grant.ensures c.list.ensures;
-  once = λ f. c.list.ensures.once (c.grant.ensures.once (c.split-split.ensures.once f));
-  options = c.list.ensures.room.options ∙ c.grant.ensures.room.options ∙ c.split-split.ensures.options;
-  capacity = c.list.ensures.room.capacity ∙ c.grant.ensures.room.capacity ∙ c.split-split.ensures.capacity;
-  turns = c.list.ensures.turns ∙ c.grant.ensures.turns ∙ c.split-split.ensures.turns;
+  kept = λ h ready.
+      let u = listed-next (unlisted-parts c.place-parts.ensures ready) c.list.ensures in
+      planned-end c.place-parts.ensures ready _ _ c.list.ensures.nodes u.1 refl refl refl;
+  once = λ f. c.list.ensures.once (c.place-parts.ensures.once f);
+  options = c.list.ensures.room.options ∙ c.place-parts.ensures.options;
+  capacity = c.list.ensures.room.capacity ∙ c.place-parts.ensures.capacity;
+  turns = c.list.ensures.turns ∙ c.place-parts.ensures.turns;
 }

@@ -1,5 +1,5 @@
 // Erased from crates/atlas_allocator/src/atlas/requesting.rt by rust/erase: don't edit.
-//! A request, as `allocate` and a rearranging make it.
+//! A request, as `allocate` and a rearrangement make it.
 
 use crate::atlas_allocator::atlas::AtlasAllocator;
 use crate::atlas_model::{Allocation, AtlasError, Size};

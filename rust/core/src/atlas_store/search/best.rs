@@ -6,7 +6,7 @@ use crate::atlas_store::choice::margin_in;
 use crate::atlas_store::search::table::LISTS;
 use crate::atlas_store::slots::Link;
 
-/// The free box that a request takes, and where it stands.
+/// The free box that a request takes, and where it is.
 #[derive(Clone, Copy)]
 pub struct Found {
     pub rectangle: Rectangle,
@@ -20,7 +20,7 @@ pub struct Found {
     pub low: u32,
 }
 
-/// Where the best box stands, as `Found` has it.
+/// Where the best box is, as `Found` has it.
 #[derive(Clone, Copy)]
 pub struct Spot {
     pub at: Link,
@@ -182,7 +182,7 @@ impl Best {
         self.bar < low
     }
 
-    /// Where the best of the boxes shown stands.
+    /// Where the best of the boxes shown is.
     #[inline]
     pub fn spot(&self) -> Option<Spot> {
         if self.rank == NO_RANK {
@@ -194,7 +194,7 @@ impl Best {
 }
 
 impl Spot {
-    /// What stands there, with its rectangle.
+    /// What is there, with its rectangle.
     #[inline]
     pub fn found(self, rectangle: Rectangle) -> Found {
         Found {

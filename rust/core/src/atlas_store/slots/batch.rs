@@ -1,6 +1,6 @@
 // Erased from crates/atlas_store/src/slots/batch.rt by rust/erase: don't edit.
 //! A test of a list of ids, in time proportional to its length and without memory: the slots that the ids name are
-//! hidden one after another, so that an id that stands twice names none the second time, and shown again.
+//! hidden one after another, so that an id that is there twice names none the second time, and shown again.
 
 use crate::atlas_model::AllocId;
 use crate::atlas_store::slots::walks::{named_slot, slot_number};
@@ -29,7 +29,7 @@ fn show(slots: &mut [Slot], ids: &[AllocId]) {
     }
 }
 
-/// Whether each of these ids names an allocated slot, and none stands twice.
+/// Whether each of these ids names an allocated slot, and none is there twice.
 #[inline]
 pub fn are_named_once(slots: &mut [Slot], ids: &[AllocId]) -> bool {
     let count = hide(slots, ids);

@@ -8,12 +8,6 @@ use crate::atlas_store::slots::{
     read_node, set_kind, set_previous, write_node, Link, Node, NodeKind, Slot, NO_SLOT,
 };
 
-/// A free leaf becomes allocated.
-#[inline]
-pub fn grant_leaf(slots: &mut [Slot], at: Link) {
-    set_kind(slots, at, NodeKind::Alloc);
-}
-
 /// The other axis.
 #[inline]
 pub fn across(axis: Orientation) -> Orientation {
@@ -25,7 +19,7 @@ pub fn across(axis: Orientation) -> Orientation {
 
 // The two parts of a leaf's rectangle that is cut after its first `extent` pixels along an axis.
 #[inline(always)]
-fn parts(area: Rectangle, axis: Orientation, extent: u32) -> (Rectangle, Rectangle) {
+fn cut_area(area: Rectangle, axis: Orientation, extent: u32) -> (Rectangle, Rectangle) {
     let extent = extent as i32;
     let Rectangle { min, max } = area;
     match axis {
@@ -44,43 +38,142 @@ fn parts(area: Rectangle, axis: Orientation, extent: u32) -> (Rectangle, Rectang
     }
 }
 
-/// The free leaf at `at` keeps its first `extent` pixels along its axis, and the unused slot `fresh` takes the rest as
-/// a free leaf after it.
+/// How a free leaf gives way to a request that fits it, with the request's pixels along the leaf's sequence and across
+/// it (docs/MODEL.md, "Changes of a tree").
+#[derive(Clone, Copy, Debug, PartialEq, Eq)]
+pub enum Plan {
+    /// The leaf is granted whole.
+    Whole,
+    /// The leaf is cut along its sequence.
+    StripAlong(u32),
+    /// It is cut along its sequence, and its first part across.
+    CornerAlong(u32, u32),
+    /// It becomes a container, and is cut across.
+    StripAcross(u32),
+    /// It becomes a container, is cut across, and its first part along.
+    CornerAcross(u32, u32),
+}
+
+/// The slots that a plan takes, each none where it takes no such slot: of what the first cut leaves, of the container
+/// inside the leaf's own, of what is granted, and of what the second cut leaves. What is granted in the leaf's own slot
+/// takes none.
+#[derive(Clone, Copy)]
+pub struct Parts {
+    pub split: Link,
+    pub container: Link,
+    pub granted: Link,
+    pub leftover: Link,
+}
+
+// A leaf is cut after its first `extent` pixels along its axis. The slot `front` is used for those as `kind` says; the
+// unused slot `back` takes the rest as a free leaf after it. The answer is the first part.
 #[inline(always)]
-pub fn split_leaf(slots: &mut [Slot], at: Link, fresh: Link, extent: u32) {
-    let leaf = read_node(slots, at);
-    let unused = read_node(slots, fresh);
-    let (area, rest) = parts(leaf.area, leaf.axis, extent);
+fn cut_leaf(
+    slots: &mut [Slot],
+    leaf: Node,
+    extent: u32,
+    front: Link,
+    kind: NodeKind,
+    back: Link,
+) -> Node {
+    let unused = read_node(slots, back);
+    let (area, rest) = cut_area(leaf.area, leaf.axis, extent);
     let mut first = leaf;
-    first.next = fresh;
+    first.next = back;
     first.area = area;
+    first.kind = kind;
     let second = Node {
-        previous: at,
+        previous: front,
         area: rest,
         kind: NodeKind::Free,
         generation: unused.generation,
         ..leaf
     };
-    write_node(slots, at, first);
-    write_node(slots, fresh, second);
-    set_previous(slots, leaf.next, fresh);
+    write_node(slots, front, first);
+    write_node(slots, back, second);
+    first
 }
 
-/// The free leaf at `at` becomes a container, whose only child is the unused slot `fresh`, a free leaf as large.
-#[inline]
-pub fn wrap_leaf(slots: &mut [Slot], at: Link, fresh: Link) {
-    let leaf = read_node(slots, at);
-    let unused = read_node(slots, fresh);
+// The same with a leaf that is alone in the container of slot `at`, and fills it; slot `front` was unused.
+#[inline(always)]
+fn cut_inside(
+    slots: &mut [Slot],
+    at: Link,
+    container: Node,
+    extent: u32,
+    front: Link,
+    kind: NodeKind,
+    back: Link,
+) -> Node {
+    let unused = read_node(slots, front);
     let none = Link::NONE;
     let inner = Node {
         parent: at,
         previous: none,
         next: none,
         kind: NodeKind::Free,
-        axis: across(leaf.axis),
+        axis: across(container.axis),
         generation: unused.generation,
-        ..leaf
+        ..container
     };
-    set_kind(slots, at, NodeKind::Container);
-    write_node(slots, fresh, inner);
+    cut_leaf(slots, inner, extent, front, kind, back)
+}
+
+/// A free leaf gives way to what a plan says, in the slots of its parts, which were unused.
+#[inline(always)]
+pub fn place_leaf(slots: &mut [Slot], at: Link, plan: Plan, parts: Parts) {
+    let leaf = read_node(slots, at);
+    match plan {
+        Plan::Whole => set_kind(slots, at, NodeKind::Alloc),
+        Plan::StripAlong(along) => {
+            cut_leaf(slots, leaf, along, at, NodeKind::Alloc, parts.split);
+            set_previous(slots, leaf.next, parts.split);
+        }
+        Plan::CornerAlong(along, across) => {
+            let front = cut_leaf(slots, leaf, along, at, NodeKind::Container, parts.split);
+            set_previous(slots, leaf.next, parts.split);
+            cut_inside(
+                slots,
+                at,
+                front,
+                across,
+                parts.granted,
+                NodeKind::Alloc,
+                parts.leftover,
+            );
+        }
+        Plan::StripAcross(across) => {
+            set_kind(slots, at, NodeKind::Container);
+            cut_inside(
+                slots,
+                at,
+                leaf,
+                across,
+                parts.granted,
+                NodeKind::Alloc,
+                parts.split,
+            );
+        }
+        Plan::CornerAcross(along, across) => {
+            set_kind(slots, at, NodeKind::Container);
+            let front = cut_inside(
+                slots,
+                at,
+                leaf,
+                across,
+                parts.container,
+                NodeKind::Container,
+                parts.split,
+            );
+            cut_inside(
+                slots,
+                parts.container,
+                front,
+                along,
+                parts.granted,
+                NodeKind::Alloc,
+                parts.leftover,
+            );
+        }
+    }
 }

@@ -32,7 +32,7 @@ impl<A: Allocator + Copy> RecordingAllocator<A> {
         self.atlas.slots()
     }
 
-    /// Takes memory for so many slots of the atlas beside those that are used, as the atlas's `reserve` does. It is no call
+    /// Takes memory for so many slots of the atlas in addition to those in use, as the atlas's `reserve` does. It is no call
     /// that is recorded: names and events stay. `Slots` if more slots would be used than the limit allows; `Memory` if
     /// memory for them is refused; then nothing changes at all.
     #[inline]
