@@ -20,4 +20,5 @@ pub mod Rows
 pub mod Showing
 pub mod Steps
 pub mod Taking
+pub mod Telling
 pub mod WholeSheets

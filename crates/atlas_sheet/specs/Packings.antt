@@ -1,10 +1,11 @@
 -- Sheets that take all sprites.
-use Rattle.std.specs.Prelude.{◌≡◌, ℕ, ◌+◌, ◌≤◌, ◌⊎◌, ◌++◌, List, [], ◌∷◌, map, take, All, Contains, Option, Some, None}
+use Rattle.std.specs.Prelude.{◌≡◌, ℕ, ◌+◌, ◌<◌, ◌≤◌, ◌⊎◌, ◌++◌, List, [], ◌∷◌, map, take, All, Contains, Option, Some, None}
 use Rattle.std.specs.Prelude.{IsPermutation}
 use Rattle.std.specs.List.{FoldsTo, enumerate_from}
 use Rattle.guillotiere.specs.declared.Size.{Size}
 use Rattle.guillotiere.specs.declared.Rectangle.{Rectangle}
 use Rattle.guillotiere.specs.Boxes.{Sides}
+use Rattle.guillotiere.specs.Pixels.{sides_of}
 use Rattle.guillotiere.specs.Simple.{simple_start}
 use Rattle.atlas_sheet.specs.declared.options.Spacing.{Spacing}
 use Rattle.atlas_sheet.specs.declared.allowed.Allowed.{Allowed}
@@ -99,6 +100,14 @@ IsFirstFound ways by spacing sprites sheet order places =
     (packed : Packed) × IsLeastFound ways by spacing sprites sheet packed
     × (map (λ s. s.0) packed.order ≡ order) × (map Some packed.places ≡ places)
 
--- Steps that were taken one after another from a start, each at a size, the last at this one.
+-- Each size has fewer pixels than the one before it.
+abbrev pub AreFalling : List Size → Type 0
+AreFalling [] = Unit {0}
+AreFalling (s ∷ []) = Unit {0}
+AreFalling (s ∷ (t ∷ sizes)) = (pixels (sides_of t) < pixels (sides_of s)) × AreFalling (t ∷ sizes)
+
+-- Steps that were taken one after another from a start, each at a size with fewer pixels than the one before, the last at
+-- this one.
 abbrev pub IsToldLast : {F : Type 0} → (step : F → Size → F → Type 0) → (start : F) → Size → Type 0
-IsToldLast {F} step start size = (before : List Size) × (last : F) × FoldsTo step start (before ++ size ∷ []) last
+IsToldLast {F} step start size =
+    (before : List Size) × (last : F) × FoldsTo step start (before ++ size ∷ []) last × AreFalling (before ++ size ∷ [])

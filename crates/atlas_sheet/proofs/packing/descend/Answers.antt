@@ -1,4 +1,4 @@
-use Rattle.std.proofs.Common.{◌≡◌, ◌≤◌, ◌∙◌, [], ◌∷◌, ◌++◌, of_calls, rules, arith, subst, sym}
+use Rattle.std.proofs.Common.{◌≡◌, ◌<◌, ◌∙◌, [], ◌∷◌, ◌++◌, of_calls, rules, arith, subst, sym}
 use Rattle.std.proofs.lemmas.Fn.{FoldsTo-push}
 use Rattle.guillotiere.specs.declared.Size.{Size}
 use Rattle.guillotiere.specs.Pixels.{sides_of}
@@ -6,6 +6,7 @@ use Rattle.atlas_sheet.specs.Allowances.{IsAllowed, pixels}
 use Rattle.atlas_sheet.specs.Settings.{spacing_of}
 use Rattle.atlas_sheet.proofs.Arranging.{own, rebased}
 use Rattle.atlas_sheet.proofs.Flipping.{lie_packable}
+use Rattle.atlas_sheet.proofs.Telling.{falling_push}
 use Rattle.atlas_sheet.proofs.packing.descend.Goals as goal
 
 pub asked_in-requires-clause-packable : goal.asked_in-requires-clause-packable
@@ -38,8 +39,8 @@ loop-tries-preserved g c =
     let moved = rw c.deref.ensures.value at c.in_ok-moved.ensures.arranged in
     let size : f.size ≡ c.in-Some.size = c.in_ok-found.ensures.size ∙ c.in_ok-moved.ensures.size in
     let step = c.in-Some.ensures in
-    let less : pixels (sides_of f.size) ≤ pixels (sides_of best.size) =
-    subst (λ (s : Size). pixels (sides_of s) ≤ pixels (sides_of best.size)) (sym size) (omega (arith, step.1)) in
+    let fewer : pixels (sides_of f.size) < pixels (sides_of best.size) =
+    subst (λ (s : Size). pixels (sides_of s) < pixels (sides_of best.size)) (sym size) step.1 in
     record {
       arranged = rebased (sides_of f.size) spacing turn c.args.first.lying.items best.lying.items f.lying.items f.choice f.order.items f.places.items
           before.arranged.lies
@@ -51,6 +52,7 @@ loop-tries-preserved g c =
       told = (
         before.told.0 ++ best.size ∷ [],
         FoldsTo-push _ _ (before.told.0 ++ best.size ∷ []) _ f.size _ before.told.1 (search (rules, c.told-in-loop-tries.ensures)),
+        falling_push before.told.0 best.size f.size before.told.2 fewer,
       );
-      smaller = omega (arith, less, before.smaller);
+      smaller = omega (arith, fewer, before.smaller);
     }

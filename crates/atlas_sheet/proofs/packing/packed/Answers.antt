@@ -43,4 +43,5 @@ returns-then-options-eq0-clause-told g c = (
   c.told.new.self,
   FoldsTo-push (λ p size q. goal.F-step g p size tt q) c.args.told [] c.args.told c.in-Some.first.size c.told.new.self refl
       (search (rules, c.told.ensures)),
+  tt,
 )

@@ -5,7 +5,7 @@ use Rattle.guillotiere.specs.Pixels.{sides_of}
 use Rattle.atlas_sheet.specs.declared.ways.TheConstants.{WAYS}
 use Rattle.atlas_sheet.specs.Lying.{IsShown, areas_of}
 use Rattle.atlas_sheet.specs.Settings.{spacing_of}
-use Rattle.atlas_sheet.specs.Packings.{IsNoLarger}
+use Rattle.atlas_sheet.specs.Packings.{AreFalling, IsNoLarger}
 use Rattle.atlas_sheet.specs.Turnings.{InEach}
 use Rattle.atlas_sheet.proofs.Arranging.{shown_whole}
 use Rattle.atlas_sheet.proofs.Showing.{shows_apart, shows_inside, shows_upright}
@@ -60,4 +60,9 @@ returns-clause-told g c =
     let sheet = c.in_ok-sheet.sheet in
     let size : sheet.size ≡ c.in-Some.best.size = c.in_ok-sheet.ensures.size ∙ c.in_ok-filled.ensures.size in
     let told = rw c.in-Some.is at c.in_ok-found.ensures.told in
-    (told.0, told.1, subst (λ (s : Size). FoldsTo (λ p size q. goal.F-step g p size tt q) c.args.told (told.0 ++ s ∷ []) told.1) (sym size) told.2)
+    (
+      told.0,
+      told.1,
+      subst (λ (s : Size). FoldsTo (λ p size q. goal.F-step g p size tt q) c.args.told (told.0 ++ s ∷ []) told.1) (sym size) told.2,
+      subst (λ (s : Size). AreFalling (told.0 ++ s ∷ [])) (sym size) told.3,
+    )
