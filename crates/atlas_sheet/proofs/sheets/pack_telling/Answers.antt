@@ -59,8 +59,7 @@ pub returns-clause-told : goal.returns-clause-told
 returns-clause-told g c =
     let sheet = c.in_ok-sheet.sheet in
     let size : sheet.size ≡ c.in-Some.best.size = c.in_ok-sheet.ensures.size ∙ c.in_ok-filled.ensures.size in
-    let told = rw c.in-Some.is at c.in_ok-found.ensures.told in
-    (
+    let told = rw c.in-Some.is at c.in_ok-found.ensures.told in (
       told.0,
       told.1,
       subst (λ (s : Size). FoldsTo (λ p size q. goal.F-step g p size tt q) c.args.told (told.0 ++ s ∷ []) told.1) (sym size) told.2,
