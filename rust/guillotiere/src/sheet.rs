@@ -224,7 +224,19 @@ pub fn pack_telling(
     let sprites = library_sizes(sprites)?;
     let options = library_options(options);
     let told = |size: LibrarySize| told(convert::size(size));
-    let sheet = match library::pack_telling(Global, &sprites, &options, told)? {
+    converted(library::pack_telling(Global, &sprites, &options, told)?)
+}
+
+/// The sheet of `pack`, or a smaller one in which no whole cuts part the sprites, which comes out fuller as a rule, the more
+/// sprites there are. It never has more pixels than that of `pack`. In a smaller one no sprite is turned.
+pub fn pack_dense(sprites: &[Size], options: &SheetOptions) -> Result<Option<Sheet>, SheetError> {
+    let sprites = library_sizes(sprites)?;
+    converted(library::pack_dense(Global, &sprites, &library_options(options))?)
+}
+
+// A sheet, where one was found.
+fn converted(found: Option<library::Sheet>) -> Result<Option<Sheet>, SheetError> {
+    let sheet = match found {
         Some(sheet) => sheet,
         None => return Ok(None),
     };

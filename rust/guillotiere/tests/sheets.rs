@@ -70,6 +70,19 @@ fn kinds_of_sheets() {
 }
 
 #[test]
+fn a_sheet_with_no_whole_cuts() {
+    // By height they come as 10 x 6, 6 x 4, 4 x 2 and 4 x 2, and fill 10 x 10.
+    let sprites = [size2(4, 2), size2(10, 6), size2(4, 2), size2(6, 4)];
+    let sheet = pack_dense(&sprites, &squares(20)).unwrap().unwrap();
+    assert_eq!((sheet.size, sheet.used_area), (size2(10, 10), 100));
+    assert_eq!(
+        sheet.places.iter().map(|it| it.area).collect::<Vec<_>>(),
+        [area(6, 6, 4, 2), area(0, 0, 10, 6), area(6, 8, 4, 2), area(0, 6, 6, 4)]
+    );
+    assert_eq!(pack_dense(&sprites, &squares(9)), Ok(None));
+}
+
+#[test]
 fn a_turned_sprite() {
     let options = SheetOptions {
         effort: 100,
