@@ -12,6 +12,7 @@ use Rattle.atlas_sheet.specs.declared.options.SheetOptions.{SheetOptions}
 use Rattle.atlas_sheet.specs.declared.placed.Placed.{Placed}
 use Rattle.atlas_sheet.specs.declared.ways.TheConstants.{WAYS}
 use Rattle.atlas_sheet.specs.Allowances.{IsAllowed, IsGreatest}
+use Rattle.atlas_sheet.specs.Dense.{AreAllPlaced, ArePaddedApart, IsNoLargerThanWays}
 use Rattle.atlas_sheet.specs.Fillings.{IsBestFound, IsNoBetter, ways_tried}
 use Rattle.atlas_sheet.specs.Lying.{IsShown, areas_of}
 use Rattle.atlas_sheet.specs.Packings.{IsFirstFound, IsNoLarger, NoneIsFound}
@@ -84,6 +85,20 @@ pub record IsFound (o : SheetOptions) (sizes : List Size) (sheet : Size) (places
   pub first : o.effort ≡ 0
       → InOne o sizes (λ lying. IsFirstFound WAYS o.allowed (spacing_of o) lying (sides_of sheet) order (areas_of places))
 
+-- What `pack_dense` answers: an allowed sheet with a place for each sprite, in which they lie apart, no larger than what the ways find.
+pub record IsFoundDense (o : SheetOptions) (sizes : List Size) (sheet : Size) (places : List (Option Placed)) : Type 0 where
+  pub allowed : IsAllowed o.allowed (sides_of sheet)
+  pub all : List Placed
+  pub whole : places ≡ map Some all
+  pub each : AreAllPlaced o (sides_of sheet) sizes places
+  pub apart : ArePaddedApart (spacing_of o) places
+  pub larger : IsNoLargerThanWays o sizes (sides_of sheet)
+
+-- What the library answers where all sprites are to be packed, also with no whole cuts or not.
+abbrev pub IsWhole : (dense : Bool) → SheetOptions → List Size → (sheet : Size) → List (Option Placed) → Type 0
+IsWhole true o sizes sheet places = IsFoundDense o sizes sheet places
+IsWhole false o sizes sheet places = IsFound o sizes sheet places
+
 -- What `fill` answers: the greatest sheet that is allowed, with a place or none for each sprite. The places have no fewer pixels than those
 -- that any of the ways finds; without effort they are those of the best of these.
 pub record IsFilled (o : SheetOptions) (sizes : List Size) (sheet : Size) (places : List (Option Placed)) : Type 0 where
@@ -96,9 +111,9 @@ pub record IsFilled (o : SheetOptions) (sizes : List Size) (sheet : Size) (place
       IsBestFound (take (ways_tried (length sizes)) WAYS) (sides_of sheet) (spacing_of o) lying order (areas_of places))
 
 -- What the library answers to these options, where it is to fill a sheet or not.
-abbrev pub Answers : (fill : Bool) → SheetOptions → List Size → (sheet : Size) → List (Option Placed) → Type 0
-Answers true options sizes sheet places = IsFilled options sizes sheet places
-Answers false options sizes sheet places = IsFound options sizes sheet places
+abbrev pub Answers : (fill dense : Bool) → SheetOptions → List Size → (sheet : Size) → List (Option Placed) → Type 0
+Answers true dense options sizes sheet places = IsFilled options sizes sheet places
+Answers false dense options sizes sheet places = IsWhole dense options sizes sheet places
 
 -- The lines that were read ask for a sheet, the library answered with one on which so many sprites have no place, and its text was
 -- written.
@@ -111,7 +126,7 @@ pub record Packs (many : ℕ) (in_old out_old out_new : Option (List ℕ)) : Typ
   pub places : List (Option Placed)
   pub read : HoldsBytes in_old input
   pub asked : AsksFor input before settings sprites
-  pub answered : Answers settings.fill (sheet_options settings) (map (λ sprite. sprite.size) sprites) sheet places
+  pub answered : Answers settings.fill settings.dense (sheet_options settings) (map (λ sprite. sprite.size) sprites) sheet places
   pub left : many ≡ length (left_of sprites places)
   pub told : Appends out_old out_new
       (written settings.json sheet (frames_of sprites places) (left_of sprites places))

@@ -1,12 +1,12 @@
 //! What the library is asked, and what it answers.
 ghost use Rattle.std.specs.Prelude.{◌≡◌, ◌≤◌, false, map, true, flat_map, Bool, IfErr, IfOk, Some};
 ghost use Rattle.std.specs.List.{zip};
-ghost use Rattle.atlas_pack.specs.Runs.{IsFilled, IsFound, IsPackFault, allowed_of, frame_in, frame_of, left_in};
-ghost use Rattle.atlas_pack.specs.Runs.{sheet_options};
+ghost use Rattle.atlas_pack.specs.Runs.{IsFilled, IsFound, IsFoundDense, IsPackFault, IsWhole, allowed_of, frame_in};
+ghost use Rattle.atlas_pack.specs.Runs.{frame_of, left_in, sheet_options};
 ghost use Rattle.atlas_sheet.specs.Settings.{IsSheetFault};
 
 use atlas_model::Size;
-use atlas_sheet::{Allowed, Placed, SheetError, SheetOptions, fill, pack_telling};
+use atlas_sheet::{Allowed, Placed, SheetError, SheetOptions, fill, pack_dense, pack_telling};
 use pack_lines::{Frame, PackError, Settings, Sheets, Sprite};
 use std::alloc::{AllocError, Global};
 use std::io::Write;
@@ -117,9 +117,9 @@ fn tell<P: Write>(progress: &mut P, size: Size) {
     let _ = writeln!(progress, "sheet {} {}", size.width, size.height);
 }
 
-/// A sheet that takes all sprites, and their places. `NoSheet` where none is found. Where changes of the order are
-/// tried, `progress` has a line for each sheet as soon as it is found.
-pub fn pack_all<P: Write>(
+// A sheet that takes all sprites, and their places. `NoSheet` where none is found. Where changes of the order are tried,
+// `progress` has a line for each sheet as soon as it is found.
+fn pack_all<P: Write>(
     alloc: Global,
     sizes: &[Size],
     options: &SheetOptions,
@@ -144,6 +144,48 @@ pub fn pack_all<P: Write>(
         Ok(None) => Err(PackError::NoSheet),
         Err(error) => Err(fault_of(error, sizes, options, before)),
     }
+}
+
+// The same, or a smaller sheet with no whole cuts.
+fn pack_all_dense(
+    alloc: Global,
+    sizes: &[Size],
+    options: &SheetOptions,
+    before: usize,
+) -> Result<(Size, Vec<Option<Placed>>), PackError>
+    requires { before ≤ 1 }
+    ensures found { IfOk result (λ found. IsFoundDense options.now sizes.now found.0 found.1.items) }
+    ensures fault { IfErr result (λ e. IsPackFault false before options.now sizes.now e) }
+{
+    match pack_dense(alloc, sizes, options) {
+        Ok(Some(sheet)) => {
+            let places = all_of(alloc, &sheet.places)?;
+            Ok((sheet.size, places))
+        }
+        Ok(None) => Err(PackError::NoSheet),
+        Err(error) => Err(fault_of(error, sizes, options, before)),
+    }
+}
+
+/// A sheet that takes all sprites, and their places: with `dense` one with no whole cuts, where that is smaller. `NoSheet`
+/// where none is found. Without `dense`, where changes of the order are tried, `progress` has a line for each sheet as soon
+/// as it is found.
+pub fn pack_whole<P: Write>(
+    alloc: Global,
+    sizes: &[Size],
+    options: &SheetOptions,
+    dense: bool,
+    before: usize,
+    progress: &mut P,
+) -> Result<(Size, Vec<Option<Placed>>), PackError>
+    requires { before ≤ 1 }
+    ensures found { IfOk result (λ found. IsWhole dense options.now sizes.now found.0 found.1.items) }
+    ensures fault { IfErr result (λ e. IsPackFault false before options.now sizes.now e) }
+{
+    if dense {
+        return pack_all_dense(alloc, sizes, options, before);
+    }
+    pack_all(alloc, sizes, options, before, progress)
 }
 
 /// The greatest sheet that is allowed, and a place or none for each sprite.

@@ -2,7 +2,7 @@
 ghost use Rattle.std.specs.Prelude.{◌≡◌, ◌≤◌, map, IfErr, IfOk};
 ghost use Rattle.atlas_pack.specs.Runs.{Answers, IsPackFault, IsRunFault, Packs, sheet_options, written};
 
-use crate::packing::{beside, fill_one, pack_all, parted, sheet_options, sizes_of};
+use crate::packing::{beside, fill_one, pack_whole, parted, sheet_options, sizes_of};
 use atlas_model::Size;
 use atlas_sheet::Placed;
 use pack_lines::{Frame, Job, PackError, Sprite, read_job, sheet_json, sheet_lines};
@@ -16,7 +16,7 @@ fn answer<P: Write>(
     progress: &mut P,
 ) -> Result<(Size, Vec<Option<Placed>>), PackError>
     requires { job.now.before ≤ 1 }
-    ensures answers { IfOk result (λ found. Answers job.now.settings.fill
+    ensures answers { IfOk result (λ found. Answers job.now.settings.fill job.now.settings.dense
         (sheet_options job.now.settings) (map (λ sprite. sprite.size) job.now.sprites.items) found.0 found.1.items) }
     ensures fault { IfErr result (λ e. IsPackFault job.now.settings.fill job.now.before
         (sheet_options job.now.settings) (map (λ sprite. sprite.size) job.now.sprites.items) e) }
@@ -26,7 +26,14 @@ fn answer<P: Write>(
     if job.settings.fill {
         return fill_one(alloc, &sizes, &options, job.before);
     }
-    pack_all(alloc, &sizes, &options, job.before, progress)
+    pack_whole(
+        alloc,
+        &sizes,
+        &options,
+        job.settings.dense,
+        job.before,
+        progress,
+    )
 }
 
 // The text of a sheet.
@@ -85,7 +92,7 @@ mod tests {
     use std::process::Abort;
 
     // Each row: the lines in, and the lines out or what stops them.
-    const ROWS: [(&str, &str); 11] = [
+    const ROWS: [(&str, &str); 13] = [
         (
             "a 4 3\nb 4 3\n",
             "sheet 8 4\na 0 0 4 3\nb 4 0 4 3\nfull 750\n",
@@ -105,6 +112,15 @@ mod tests {
         ),
         (
             "sheet one 4 4\na 4 4\nb 4 4\n",
+            "no sheet that is allowed takes all sprites",
+        ),
+        // By height they come as 10 x 6, 6 x 4, 4 x 2 and 4 x 2.
+        (
+            "sheet squares 1 20 dense\na 4 2\nb 10 6\nc 4 2\nd 6 4\n",
+            "sheet 10 10\na 6 6 4 2\nb 0 0 10 6\nc 6 8 4 2\nd 0 6 6 4\nfull 1000\n",
+        ),
+        (
+            "sheet one 5 3 dense\na 3 3\nb 3 2\n",
             "no sheet that is allowed takes all sprites",
         ),
         ("a 1 1\nb 0 1\n", "line 2: a side is below 1"),

@@ -5,7 +5,7 @@ use Rattle.atlas_words.specs.Words.{IsEmptyOrSpaced, BeginsWithWord, BeginsWithN
 use Rattle.atlas_words.proofs.Keywords.{has_no_space, no_space_by_test}
 use Rattle.atlas_words.proofs.Parting.{one_word}
 use Rattle.pack_lines.specs.declared.settings.Setting.{Setting}
-use Rattle.pack_lines.specs.declared.settings.Setting.TheVariants.{Allowed, Padding, Align, Turn, Effort, Seed, Fill, Json}
+use Rattle.pack_lines.specs.declared.settings.Setting.TheVariants.{Allowed, Padding, Align, Turn, Effort, Seed, Fill, Dense, Json}
 use Rattle.pack_lines.specs.declared.settings.Sheets.TheVariants.{One, Squares, Powers, Heights}
 use Rattle.pack_lines.specs.Settings.{setting_name, arguments, BeginsWithNumbers, BeginsWithSetting, IsSmall, padding_of, setting_alone, setting_with_number, setting_with_numbers}
 
@@ -21,6 +21,7 @@ keyword_test Turn = refl
 keyword_test (Effort n) = refl
 keyword_test (Seed n) = refl
 keyword_test Fill = refl
+keyword_test Dense = refl
 keyword_test Json = refl
 
 numbers_spaced : (zs : List ℤ) (text rest : List ℕ) → BeginsWithNumbers zs text rest → IsEmptyOrSpaced text
@@ -48,6 +49,7 @@ by_count Turn = omega arith
 by_count (Effort n) = omega arith
 by_count (Seed n) = omega arith
 by_count Fill = omega arith
+by_count Dense = omega arith
 by_count Json = omega arith
 
 none_alone : (s : Setting) (z : ℤ) (zs : List ℤ) → arguments s ≡ z ∷ zs → setting_alone (setting_name s) ≡ None
@@ -61,6 +63,7 @@ none_alone Turn z zs e = absurd (cc)
 none_alone (Effort n) z zs e = refl
 none_alone (Seed n) z zs e = refl
 none_alone Fill z zs e = absurd (cc)
+none_alone Dense z zs e = absurd (cc)
 none_alone Json z zs e = absurd (cc)
 
 some_alone : (s : Setting) → arguments s ≡ [] → setting_alone (setting_name s) ≡ Some s
@@ -74,6 +77,7 @@ some_alone Turn e = refl
 some_alone (Effort n) e = absurd (cc)
 some_alone (Seed n) e = absurd (cc)
 some_alone Fill e = refl
+some_alone Dense e = refl
 some_alone Json e = refl
 
 small_padding : (n : ℕ) → n < 65536 → padding_of (Some n) ≡ Some (Padding n)
@@ -90,6 +94,7 @@ some_with_number Turn z h e = absurd (cc)
 some_with_number (Effort n) z h e = let same : pos n ≡ z = cc in subst (λ (y : ℤ). setting_with_number (codes "effort") y ≡ Some (Effort n)) same refl
 some_with_number (Seed n) z h e = let same : pos n ≡ z = cc in subst (λ (y : ℤ). setting_with_number (codes "seed") y ≡ Some (Seed n)) same refl
 some_with_number Fill z h e = absurd (cc)
+some_with_number Dense z h e = absurd (cc)
 some_with_number Json z h e = absurd (cc)
 
 none_with_number : (s : Setting) (z y : ℤ) (zs : List ℤ) → arguments s ≡ z ∷ y ∷ zs → setting_with_number (setting_name s) z ≡ None
@@ -103,6 +108,7 @@ none_with_number Turn z y zs e = absurd (cc)
 none_with_number (Effort n) z y zs e = absurd (cc)
 none_with_number (Seed n) z y zs e = absurd (cc)
 none_with_number Fill z y zs e = absurd (cc)
+none_with_number Dense z y zs e = absurd (cc)
 none_with_number Json z y zs e = absurd (cc)
 
 some_with_numbers : (s : Setting) (z y : ℤ) → arguments s ≡ z ∷ y ∷ [] → setting_with_numbers (setting_name s) z y ≡ Some s
@@ -116,6 +122,7 @@ some_with_numbers Turn z y e = absurd (cc)
 some_with_numbers (Effort n) z y e = absurd (cc)
 some_with_numbers (Seed n) z y e = absurd (cc)
 some_with_numbers Fill z y e = absurd (cc)
+some_with_numbers Dense z y e = absurd (cc)
 some_with_numbers Json z y e = absurd (cc)
 
 -- How a word and the numbers after it are a setting.

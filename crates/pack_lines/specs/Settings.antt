@@ -20,6 +20,7 @@ setting_name setting.Turn = codes "turn"
 setting_name (setting.Effort changes) = codes "effort"
 setting_name (setting.Seed start) = codes "seed"
 setting_name setting.Fill = codes "fill"
+setting_name setting.Dense = codes "dense"
 setting_name setting.Json = codes "json"
 
 -- The numbers after that word.
@@ -34,6 +35,7 @@ arguments setting.Turn = []
 arguments (setting.Effort changes) = pos changes ∷ []
 arguments (setting.Seed start) = pos start ∷ []
 arguments setting.Fill = []
+arguments setting.Dense = []
 arguments setting.Json = []
 
 -- Numbers, each after one space, and what follows them.
@@ -68,6 +70,7 @@ changed old setting.Turn = record old { turn = true }
 changed old (setting.Effort changes) = record old { effort = changes }
 changed old (setting.Seed start) = record old { seed = start }
 changed old setting.Fill = record old { fill = true }
+changed old setting.Dense = record old { dense = true }
 changed old setting.Json = record old { json = true }
 
 -- Settings with several changed, one after another.
@@ -80,7 +83,8 @@ abbrev pub setting_alone : (word : List ℕ) → Option Setting
 setting_alone word =
     if bytes_eq word (codes "turn") then Some setting.Turn
     else (if bytes_eq word (codes "fill") then Some setting.Fill
-    else (if bytes_eq word (codes "json") then Some setting.Json else None))
+    else (if bytes_eq word (codes "dense") then Some setting.Dense
+    else (if bytes_eq word (codes "json") then Some setting.Json else None)))
 
 abbrev pub from_zero : ℤ → Option ℕ
 from_zero (pos n) = Some n

@@ -38,6 +38,8 @@ pub enum Setting {
     Seed(u32),
     /// `fill`: as many sprites are placed as the greatest sheet takes.
     Fill,
+    /// `dense`: smaller sheets with no whole cuts are tried as well.
+    Dense,
     /// `json`: the sheet is written as JSON.
     Json,
 }
@@ -59,6 +61,8 @@ pub struct Settings {
     pub seed: u32,
     /// Whether as many sprites are placed as the greatest sheet takes, in place of all in a small one.
     pub fill: bool,
+    /// Whether smaller sheets with no whole cuts are tried as well, where all sprites are packed.
+    pub dense: bool,
     /// Whether the sheet is written as JSON.
     pub json: bool,
 }
@@ -75,6 +79,7 @@ pub const DEFAULT_SETTINGS: Settings = Settings {
     effort: 0,
     seed: 0,
     fill: false,
+    dense: false,
     json: false,
 };
 
@@ -90,6 +95,7 @@ fn change(settings: &mut Settings, setting: Setting)
         Setting::Effort(changes) => settings.effort = changes,
         Setting::Seed(start) => settings.seed = start,
         Setting::Fill => settings.fill = true,
+        Setting::Dense => settings.dense = true,
         Setting::Json => settings.json = true,
     }
 }
@@ -111,6 +117,9 @@ fn alone(word: &[u8]) -> Option<Setting>
     }
     if word == b"fill".as_slice() {
         return Some(Setting::Fill);
+    }
+    if word == b"dense".as_slice() {
+        return Some(Setting::Dense);
     }
     if word == b"json".as_slice() {
         return Some(Setting::Json);

@@ -102,7 +102,7 @@ fn sprites(rt: HostRuntime) {
 }
 
 // Each row: the words after `sheet`, and what they set.
-fn settings_rows() -> [(&'static str, Option<Settings>); 6] {
+fn settings_rows() -> [(&'static str, Option<Settings>); 7] {
     let usual = DEFAULT_SETTINGS;
     [
         ("", Some(usual)),
@@ -144,6 +144,13 @@ fn settings_rows() -> [(&'static str, Option<Settings>); 6] {
                     width: 5,
                     greatest: 90,
                 },
+                ..usual
+            }),
+        ),
+        (
+            " dense",
+            Some(Settings {
+                dense: true,
                 ..usual
             }),
         ),

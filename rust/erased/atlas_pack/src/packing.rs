@@ -3,7 +3,9 @@
 
 use pack_lines::{Frame, PackError, Settings, Sheets, Sprite};
 use wollemigo_core::atlas_model::Size;
-use wollemigo_core::atlas_sheet::{fill, pack_telling, Allowed, Placed, SheetError, SheetOptions};
+use wollemigo_core::atlas_sheet::{
+    fill, pack_dense, pack_telling, Allowed, Placed, SheetError, SheetOptions,
+};
 use wollemigo_support::alloc::{AllocError, Global};
 use wollemigo_support::io::Write;
 use wollemigo_support::prelude::{CollectIn, Vec};
@@ -95,9 +97,9 @@ fn tell<P: Write>(progress: &mut P, size: Size) {
     let _ = writeln!(progress, "sheet {} {}", size.width, size.height);
 }
 
-/// A sheet that takes all sprites, and their places. `NoSheet` where none is found. Where changes of the order are
-/// tried, `progress` has a line for each sheet as soon as it is found.
-pub fn pack_all<P: Write>(
+// A sheet that takes all sprites, and their places. `NoSheet` where none is found. Where changes of the order are tried,
+// `progress` has a line for each sheet as soon as it is found.
+fn pack_all<P: Write>(
     alloc: Global,
     sizes: &[Size],
     options: &SheetOptions,
@@ -118,6 +120,40 @@ pub fn pack_all<P: Write>(
         Ok(None) => Err(PackError::NoSheet),
         Err(error) => Err(fault_of(error, sizes, options, before)),
     }
+}
+
+// The same, or a smaller sheet with no whole cuts.
+fn pack_all_dense(
+    alloc: Global,
+    sizes: &[Size],
+    options: &SheetOptions,
+    before: usize,
+) -> Result<(Size, Vec<Option<Placed>>), PackError> {
+    match pack_dense(alloc, sizes, options) {
+        Ok(Some(sheet)) => {
+            let places = all_of(alloc, &sheet.places)?;
+            Ok((sheet.size, places))
+        }
+        Ok(None) => Err(PackError::NoSheet),
+        Err(error) => Err(fault_of(error, sizes, options, before)),
+    }
+}
+
+/// A sheet that takes all sprites, and their places: with `dense` one with no whole cuts, where that is smaller. `NoSheet`
+/// where none is found. Without `dense`, where changes of the order are tried, `progress` has a line for each sheet as soon
+/// as it is found.
+pub fn pack_whole<P: Write>(
+    alloc: Global,
+    sizes: &[Size],
+    options: &SheetOptions,
+    dense: bool,
+    before: usize,
+    progress: &mut P,
+) -> Result<(Size, Vec<Option<Placed>>), PackError> {
+    if dense {
+        return pack_all_dense(alloc, sizes, options, before);
+    }
+    pack_all(alloc, sizes, options, before, progress)
 }
 
 /// The greatest sheet that is allowed, and a place or none for each sprite.
