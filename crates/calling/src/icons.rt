@@ -1,5 +1,5 @@
 //! Icons in one texture to which none is added later.
-ghost use Rattle.std.specs.Prelude.{◌≡◌, length, map, All, IfOk, IfSome};
+ghost use Rattle.std.specs.Prelude.{map, All, IfOk, IfSome};
 ghost use Rattle.guillotiere.specs.Boxes.{AreDisjoint, IsWithin};
 ghost use Rattle.guillotiere.specs.Pixels.{box_of, sides_of};
 
@@ -13,7 +13,6 @@ pub fn icons<A: Allocator + Copy>(
     icons: &[Size],
     side: i32,
 ) -> Result<Option<Sheet<A>>, SheetError>
-    ensures count { IfOk result (λ found. IfSome found (λ s. length s.places.items ≡ length icons.now)) }
     ensures inside { IfOk result (λ found. IfSome found (λ s.
         All (λ p. IsWithin (sides_of s.size) (box_of p.area)) s.places.items)) }
     ensures apart { IfOk result (λ found. IfSome found (λ s.

@@ -12,6 +12,7 @@ mod boxes;
 mod first;
 mod frames;
 mod glyphs;
+mod icons;
 mod keep;
 mod lists;
 mod moves;
