@@ -57,8 +57,8 @@ def processor_time():
     return used.ru_utime + used.ru_stime
 
 
-def run(program, lines, **more):
-    """The seconds that a process takes over these lines, and what it writes."""
+def run(program, lines, allowed=(0,), **more):
+    """The seconds that a process takes over these lines, and what it writes. It may end with these statuses."""
     with tempfile.TemporaryFile('w+') as source:
         source.write(''.join(line + '\n' for line in lines))
         source.flush()
@@ -66,7 +66,7 @@ def run(program, lines, **more):
         start = processor_time()
         done = subprocess.run([program], stdin=source, stdout=subprocess.PIPE, text=True, **more)
         seconds = processor_time() - start
-    if done.returncode != 0:
+    if done.returncode not in allowed:
         raise Failure('%s ended with status %d' % (program, done.returncode))
     return seconds, done.stdout
 
